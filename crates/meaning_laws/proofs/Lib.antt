@@ -1,0 +1,12 @@
+pub mod Known
+pub mod Stays
+pub mod Verdicts
+pub mod Keys
+pub mod Decided
+pub mod Unfolded
+pub mod Obliged
+pub mod Refuses
+pub mod Traced
+pub mod Texts
+pub mod Certified
+pub mod MatchLemmas

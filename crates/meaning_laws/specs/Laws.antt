@@ -1,0 +1,47 @@
+-- What is proved of the readings of schemas. Each statement is the contract of a function of this crate.
+use Rattle.std.specs.Prelude.{◌≡◌, ◌+◌, ℕ, List, [], Bool, false, Some, option_map, length}
+use Rattle.serde_json.specs.Data.{Data}
+use Rattle.schema_meaning.specs.Places.{Part, Spot, Key}
+use Rattle.schema_meaning.specs.Faults.{Fault, Faults, is_none, instance_path, evaluation_path, Told}
+use Rattle.schema_meaning.specs.Keywords.{Shape, rule}
+use Rattle.schema_meaning.specs.Matches.{match_sites, ReadAlike}
+use Rattle.schema_meaning.specs.Readings.{Reading, Telling, verdicts, bags, told, unfolded, IsTold, IsNested}
+use Rattle.schema_meaning.specs.Circular.{IsCircular}
+use Rattle.schema_meaning.specs.Cut.{cut, AreAll}
+use Rattle.schema_meaning.specs.Certificates.{Certificate}
+
+-- a decided answer stays with more unfoldings
+abbrev pub DecidedStays : (S A : Type 0) → Type 0
+DecidedStays S A = (t : Telling S A) (r : Reading S) (more n : ℕ) (s : S) (w : Spot) (x : A) → told t r n s w ≡ Some x → told t r (more + n) s w ≡ Some x
+
+-- the bag of faults is empty exactly where the verdict is yes, and both are out together
+abbrev pub FaultsTellVerdict : (S : Type 0) → Type 0
+FaultsTellVerdict S = (r : Reading S) (n : ℕ) (s : S) (w : Spot) → option_map is_none (told bags r n s w) ≡ told verdicts r n s w
+
+-- where a reading is not circular it is decided, by as many unfoldings as there are keys, and the cut reading gives the decided answer
+abbrev pub CutIsDecided : (S A : Type 0) → Type 0
+CutIsDecided S A = (t : Telling S A) (r : Reading S) (s : S) (w : Spot) (all : List Key) → IsNested r → AreAll r s w all → (IsCircular r s w → ⊥)
+    → told t r (length all) s w ≡ Some (cut t r all [] s w)
+
+-- the cut reading's verdict and faults agree on every value
+abbrev pub CutAgrees : (S : Type 0) → Type 0
+CutAgrees S = (r : Reading S) (all keys : List Key) (s : S) (w : Spot) → is_none (cut bags r all keys s w) ≡ cut verdicts r all keys s w
+
+-- unfoldings spent at every question decide the same, with the same answer
+abbrev pub UnfoldedIsTold : (S A : Type 0) → Type 0
+UnfoldedIsTold S A = (t : Telling S A) (r : Reading S) (n : ℕ) (s : S) (w : Spot) (x : A)
+    → (told t r n s w ≡ Some x → (m : ℕ) × (unfolded t r m s w ≡ Some x))
+    × (IsNested r → unfolded t r n s w ≡ Some x → told t r n s w ≡ Some x)
+
+-- a certificate implies refusal
+abbrev pub CertificateRefuses : (S : Type 0) → Type 0
+CertificateRefuses S = (r : Reading S) (s : S) (w : Spot) (i e : List Part) (b : Bool) → Certificate r s w i e → IsTold verdicts r s w b → b ≡ false
+
+-- every fault has a certificate with its two paths
+abbrev pub FaultsAreCertified : (S : Type 0) → Type 0
+FaultsAreCertified S = (r : Reading S) (s : S) (w : Spot) (fs : Faults) → IsTold bags r s w fs → (f : Fault) → Told f fs
+    → Certificate r s w (instance_path f) (evaluation_path f)
+
+-- a keyword reads no match but those that it asks for
+abbrev pub RulesReadTheirMatches : (S : Type 0) → Type 0
+RulesReadTheirMatches S = (read other : List ℕ → List ℕ → Bool) (d : Data) (k : Shape S) → ReadAlike read other (match_sites d k) → rule read d k ≡ rule other d k

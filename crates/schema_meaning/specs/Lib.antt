@@ -1,0 +1,13 @@
+pub mod Members
+pub mod Places
+pub mod Faults
+pub mod Questions
+pub mod Rules
+pub mod Keywords
+pub mod Matches
+pub mod Readings
+pub mod Circular
+pub mod Cut
+pub mod Certificates
+pub mod Order
+pub mod Linked

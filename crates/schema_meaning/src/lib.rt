@@ -1,0 +1,2 @@
+//! What the keywords of JSON Schema mean: definitions alone, in `specs/`.
+#![tactic(auto)]

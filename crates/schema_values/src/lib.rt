@@ -1,0 +1,2 @@
+// What keywords compare.
+#![tactic(auto)]
