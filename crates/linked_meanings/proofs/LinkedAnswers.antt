@@ -3,7 +3,8 @@ use Rattle.std.proofs.Common.{◌≡◌, ◌==◌, ℕ, zero, suc, List, [], ◌
 use Rattle.std.specs.List.{AllZip}
 use Rattle.serde_json.specs.Data.{Data}
 use Rattle.schema_meaning.specs.Members.{all_true, some_true, count_true, known_too, all_known, Reordered, nothing_left, kept, exchanged, in_turn}
-use Rattle.schema_meaning.specs.Places.{Part, Spot}
+use Rattle.json_pointers.specs.Parts.{Part}
+use Rattle.schema_meaning.specs.Places.{Spot}
 use Rattle.schema_meaning.specs.Faults.{Fault, Contains, OneOfMultipleValid, OneOfNotValid, Faults, join, is_none, Branches, branches_of}
 use Rattle.schema_meaning.specs.Questions.{Question, asked_at, at}
 use Rattle.schema_meaning.specs.Rules.{Rule, asks, accepts, faults, own_fault, own_faults, one_fault, of_object, each_of_object, one_of_kind, is_enough, is_few, count_refused_at, chosen, if_same, faults_chosen}

@@ -1,7 +1,8 @@
 -- Where a keyword's faults come from.
 use Rattle.std.proofs.Common.{◌≡◌, ◌++◌, ℕ, List, [], ◌∷◌, Bool, true, false, ◌&&◌, map, refl, sym, ap, ◌∙◌, subst, ◌⊎◌, inl, inr}
 use Rattle.schema_meaning.specs.Members.{In, first, later, is_empty}
-use Rattle.schema_meaning.specs.Places.{Part, Spot, to_name}
+use Rattle.json_pointers.specs.Parts.{Part}
+use Rattle.schema_meaning.specs.Places.{Spot, to_name}
 use Rattle.schema_meaning.specs.Faults.{Fault, fault, Faults, none, also, joined, join, is_none, instance_path, evaluation_path, Told, told_first, told_later}
 use Rattle.schema_meaning.specs.Questions.{Question, at, each_name}
 use Rattle.schema_meaning.specs.Rules.{Note, Rule, every, together, each_named, some_branch, one_branch, refusal, counted, conditional, asks, accepts, refuses_at, obliged, faults, own_fault, own_faults, one_fault, of_object, each_of_object, chosen, if_same, consequents}

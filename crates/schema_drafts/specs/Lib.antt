@@ -1,0 +1,4 @@
+pub mod Drafts
+pub mod Vocabularies
+pub mod Counts
+pub mod Subschemas
