@@ -2,8 +2,8 @@
 use Rattle.std.specs.Prelude.{ℕ, List, [], ◌∷◌, ◌++◌, Bool, true, false, ◌||◌, ◌&&◌, not, codes, bytes_eq}
 use Rattle.schema_drafts.specs.Drafts.{is_listed, ignores_siblings}
 use Rattle.schema_drafts.specs.Vocabularies.{Vocabularies, has_some, is_applicator, is_validation, is_unevaluated}
-use Rattle.schema_drafts.specs.declared.Draft.{Draft}
-use Rattle.schema_drafts.specs.declared.Draft.TheVariants.{Draft4, Draft6, Draft7, Draft201909, Draft202012, Unknown}
+use Rattle.schema_drafts.specs.declared.draft.Draft.{Draft}
+use Rattle.schema_drafts.specs.declared.draft.Draft.TheVariants.{Draft4, Draft6, Draft7, Draft201909, Draft202012, Unknown}
 
 -- ---- the keywords of each draft
 

@@ -1,8 +1,10 @@
 -- Which members of a schema hold schemas, by draft (the applicators of Core 10, and `$defs` and its like of Core 8.2.4).
 use Rattle.std.specs.Prelude.{ℕ, List, [], ◌∷◌, ◌++◌, Bool, true, false, codes, bytes_eq, if◌then◌else◌}
 use Rattle.schema_drafts.specs.Drafts.{is_listed}
-use Rattle.schema_drafts.specs.declared.Draft.{Draft}
-use Rattle.schema_drafts.specs.declared.Draft.TheVariants.{Draft4, Draft6, Draft7, Draft201909, Draft202012, Unknown}
+use Rattle.schema_drafts.specs.declared.subschemas.Subschemas as held
+use Rattle.schema_drafts.specs.declared.subschemas.Subschemas.TheVariants as variants
+use Rattle.schema_drafts.specs.declared.draft.Draft.{Draft}
+use Rattle.schema_drafts.specs.declared.draft.Draft.TheVariants.{Draft4, Draft6, Draft7, Draft201909, Draft202012, Unknown}
 
 -- what a member holds: nothing, a schema, a list of schemas, one of the two, or schemas under names
 pub data Holds : Type 0 where
@@ -81,3 +83,11 @@ held_by draft hidden k =
     else (if is_listed k (lists draft) then several
     else (if is_listed k (either draft) then one_or_several
     else (if is_listed k (maps draft) then by_name else nothing))))
+
+-- the same as the program has it
+abbrev pub holds_of : held.Subschemas → Holds
+holds_of variants.None = nothing
+holds_of variants.One = one
+holds_of variants.Several = several
+holds_of variants.OneOrSeveral = one_or_several
+holds_of variants.ByName = by_name
