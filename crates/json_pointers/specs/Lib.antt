@@ -1,2 +1,2 @@
-pub mod Parts
-pub mod Pointers
+pub mod Buffers
+pub mod Lent

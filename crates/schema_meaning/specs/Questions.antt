@@ -5,7 +5,7 @@ use Rattle.serde_json.specs.Data.{Data, null, boolean, number, string, array, ob
 use Rattle.serde_json.specs.Find.{get}
 use Rattle.schema_values.specs.Patterns.{matched}
 use Rattle.schema_meaning.specs.Members.{is_listed}
-use Rattle.json_pointers.specs.Parts.{Part, name, index}
+use Rattle.json_paths.specs.Parts.{Part, name, index}
 use Rattle.schema_meaning.specs.Places.{Spot, Step, stay, to_item, to_member, to_name, after}
 
 -- One question: the site of the schema asked, the step to the value, what the keyword adds to the road,

@@ -1,10 +1,10 @@
 -- JSON Pointers (RFC 6901).
-use Rattle.std.specs.Prelude.{ℕ, ◌+◌, ◌-◌, ◌*◌, ◌^◌, nat_lt, List, [], ◌∷◌, ◌++◌, length, ◌==◌, ◌&&◌, Bool, true, false, if◌then◌else◌, Option, Some, None, option_and_then, Result, Ok, Err, codes, decimal, ⊤, ◌<◌}
+use Rattle.std.specs.Prelude.{ℕ, ◌+◌, ◌-◌, ◌*◌, ◌^◌, nat_lt, List, [], ◌∷◌, ◌++◌, length, ◌==◌, ◌&&◌, Bool, false, if◌then◌else◌, Option, Some, None, option_and_then, Result, Ok, Err, codes, decimal, ⊤, ◌<◌}
 use Rattle.std.specs.Char.{is_ascii_digit}
 use Rattle.std.specs.List.{flat_map, slice_split, list_all}
 use Rattle.serde_json.specs.Data.{Data, null, boolean, number, string, array, object, Items}
 use Rattle.serde_json.specs.Find.{get, at, get_item, get_member, unescape}
-use Rattle.json_pointers.specs.Parts.{Part, name, index}
+use Rattle.json_paths.specs.Parts.{Part, name, index}
 
 -- ---- escaping (sections 3 and 4); `unescape` is its undoing
 

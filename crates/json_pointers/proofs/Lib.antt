@@ -1,0 +1,6 @@
+pub mod EscapeLemmas
+pub mod GrowLemmas
+pub mod PointerLemmas
+pub mod PathLemmas
+pub mod NodeLemmas
+mod PointerExamples

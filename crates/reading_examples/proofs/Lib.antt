@@ -1,0 +1,5 @@
+pub mod CirclesRows
+pub mod CertifiedRows
+pub mod NotCertifiedRows
+pub mod StepsRows
+pub mod UnfoldingsRows

@@ -1,0 +1,4 @@
+pub mod Circles
+pub mod Certified
+pub mod Steps
+pub mod Unfoldings

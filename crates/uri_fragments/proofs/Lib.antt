@@ -1,0 +1,2 @@
+pub mod FragmentLemmas
+mod FragmentExamples
