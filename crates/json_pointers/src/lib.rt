@@ -7,8 +7,6 @@
 mod escapes;
 mod path;
 mod pointers;
-#[cfg(test)]
-mod tests;
 
 pub use escapes::{unescape_segment, write_escaped_str, write_index};
 pub use path::{JsonPointerNode, JsonPointerSegment};

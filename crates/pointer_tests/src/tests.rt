@@ -1,5 +1,5 @@
 // The tables of RFC 6901.
-use crate::{
+use json_pointers::{
     JsonPointerNode, JsonPointerSegment, PointerError, locate, parse_index, pointer, step,
     unescape_segment, write_escaped_str, write_index,
 };

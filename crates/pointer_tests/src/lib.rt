@@ -1,0 +1,5 @@
+//! Tests of JSON Pointers by the tables of RFC 6901.
+#![tactic(auto)]
+
+#[cfg(test)]
+mod tests;
