@@ -33,10 +33,22 @@ const KNOWN_SCHEMAS: [(&str, Draft); 10] = [
     ("http://json-schema.org/draft-06/schema#", Draft::Draft6),
     ("http://json-schema.org/draft-07/schema", Draft::Draft7),
     ("http://json-schema.org/draft-07/schema#", Draft::Draft7),
-    ("https://json-schema.org/draft/2019-09/schema", Draft::Draft201909),
-    ("https://json-schema.org/draft/2019-09/schema#", Draft::Draft201909),
-    ("https://json-schema.org/draft/2020-12/schema", Draft::Draft202012),
-    ("https://json-schema.org/draft/2020-12/schema#", Draft::Draft202012),
+    (
+        "https://json-schema.org/draft/2019-09/schema",
+        Draft::Draft201909,
+    ),
+    (
+        "https://json-schema.org/draft/2019-09/schema#",
+        Draft::Draft201909,
+    ),
+    (
+        "https://json-schema.org/draft/2020-12/schema",
+        Draft::Draft202012,
+    ),
+    (
+        "https://json-schema.org/draft/2020-12/schema#",
+        Draft::Draft202012,
+    ),
 ];
 
 fn draft_among(rows: &[(&str, Draft)], uri: &str) -> Option<Draft>

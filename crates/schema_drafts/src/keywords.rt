@@ -7,18 +7,65 @@ ghost use Rattle.schema_drafts.specs.Counts as tables;
 use crate::draft::Draft;
 
 const OF_DRAFT_4: [&str; 27] = [
-    "$ref", "type", "enum", "multipleOf", "maximum", "exclusiveMaximum", "minimum", "exclusiveMinimum", "maxLength", "minLength", "pattern", "items",
-    "additionalItems", "maxItems", "minItems", "uniqueItems", "maxProperties", "minProperties", "required", "properties", "patternProperties",
-    "additionalProperties", "dependencies", "allOf", "anyOf", "oneOf", "not",
+    "$ref",
+    "type",
+    "enum",
+    "multipleOf",
+    "maximum",
+    "exclusiveMaximum",
+    "minimum",
+    "exclusiveMinimum",
+    "maxLength",
+    "minLength",
+    "pattern",
+    "items",
+    "additionalItems",
+    "maxItems",
+    "minItems",
+    "uniqueItems",
+    "maxProperties",
+    "minProperties",
+    "required",
+    "properties",
+    "patternProperties",
+    "additionalProperties",
+    "dependencies",
+    "allOf",
+    "anyOf",
+    "oneOf",
+    "not",
 ];
+
 const NEW_IN_DRAFT_6: [&str; 3] = ["const", "contains", "propertyNames"];
+
 const NEW_IN_DRAFT_7: [&str; 3] = ["if", "then", "else"];
-const NEW_IN_2019: [&str; 7] =
-    ["dependentRequired", "dependentSchemas", "minContains", "maxContains", "$recursiveRef", "unevaluatedItems", "unevaluatedProperties"];
+
+const NEW_IN_2019: [&str; 7] = [
+    "dependentRequired",
+    "dependentSchemas",
+    "minContains",
+    "maxContains",
+    "$recursiveRef",
+    "unevaluatedItems",
+    "unevaluatedProperties",
+];
+
 const NEW_IN_2020: [&str; 2] = ["prefixItems", "$dynamicRef"];
+
 const GONE_IN_2020: [&str; 2] = ["additionalItems", "$recursiveRef"];
-const OTHER_KNOWN: [&str; 10] =
-    ["$schema", "$id", "id", "$anchor", "$dynamicAnchor", "$recursiveAnchor", "$vocabulary", "$comment", "$defs", "definitions"];
+
+const OTHER_KNOWN: [&str; 10] = [
+    "$schema",
+    "$id",
+    "id",
+    "$anchor",
+    "$dynamicAnchor",
+    "$recursiveAnchor",
+    "$vocabulary",
+    "$comment",
+    "$defs",
+    "definitions",
+];
 
 // Whether a name is listed, the name compared first.
 pub(crate) fn is_among(names: &[&str], name: &str) -> bool

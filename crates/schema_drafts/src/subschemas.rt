@@ -22,13 +22,49 @@ pub enum Subschemas {
     ByName,
 }
 
-const ONES_OF_DRAFT_7: [&str; 8] = ["additionalItems", "additionalProperties", "not", "contains", "propertyNames", "if", "then", "else"];
-const ONES_OF_DRAFT_6: [&str; 5] = ["additionalItems", "additionalProperties", "not", "contains", "propertyNames"];
+const ONES_OF_DRAFT_7: [&str; 8] = [
+    "additionalItems",
+    "additionalProperties",
+    "not",
+    "contains",
+    "propertyNames",
+    "if",
+    "then",
+    "else",
+];
+
+const ONES_OF_DRAFT_6: [&str; 5] = [
+    "additionalItems",
+    "additionalProperties",
+    "not",
+    "contains",
+    "propertyNames",
+];
+
 const ONES_OF_DRAFT_4: [&str; 3] = ["additionalItems", "additionalProperties", "not"];
+
 const NEW_ONES: [&str; 3] = ["unevaluatedItems", "unevaluatedProperties", "contentSchema"];
-const ONES_OF_2020: [&str; 8] = ["items", "additionalProperties", "not", "contains", "propertyNames", "if", "then", "else"];
+
+const ONES_OF_2020: [&str; 8] = [
+    "items",
+    "additionalProperties",
+    "not",
+    "contains",
+    "propertyNames",
+    "if",
+    "then",
+    "else",
+];
+
 const BRANCHES: [&str; 3] = ["allOf", "anyOf", "oneOf"];
-const MAPS_OF_DRAFT_4: [&str; 4] = ["definitions", "properties", "patternProperties", "dependencies"];
+
+const MAPS_OF_DRAFT_4: [&str; 4] = [
+    "definitions",
+    "properties",
+    "patternProperties",
+    "dependencies",
+];
+
 const NEW_MAPS: [&str; 2] = ["$defs", "dependentSchemas"];
 
 fn is_one(draft: Draft, name: &str) -> bool

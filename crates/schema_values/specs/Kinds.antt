@@ -1,5 +1,5 @@
 -- The types of JSON values, by the names of the keyword `type` (Validation 6.1.1).
-use Rattle.std.specs.Prelude.{ℕ, List, Bool, true, false, codes, is_some}
+use Rattle.std.specs.Prelude.{ℕ, List, Bool, codes, is_some}
 use Rattle.std.specs.List.{list_any}
 use Rattle.serde_json.specs.Data.{Data}
 use Rattle.serde_json.specs.Find.{as_null, as_bool, as_number, as_str, as_array, as_object}

@@ -1,5 +1,5 @@
 -- What follows from the definitions, each the promise of a function.
-use Rattle.std.specs.Prelude.{◌≡◌, ℕ, ◌<◌, ◌↔◌, ℤ, pos, ◌*ℤ◌, List, length, Bool, true, false, not, Option, Some, None}
+use Rattle.std.specs.Prelude.{◌≡◌, ℕ, ◌<◌, ◌↔◌, ℤ, pos, ◌*ℤ◌, List, length, true, false, not, Some}
 use Rattle.std.specs.List.{list_any}
 use Rattle.std.specs.Str.{encode_utf8_all, all_scalars}
 use Rattle.serde_json.specs.Data.{Data, object, Items, Members}
@@ -7,7 +7,6 @@ use Rattle.serde_json.specs.Find.{get_item, get_member}
 use Rattle.schema_values.specs.Equality.{equal, has_name, is_among, all_distinct, is_tree, is_kept}
 use Rattle.schema_values.specs.Numbers.{is_multiple}
 use Rattle.schema_values.specs.Texts.{code_points, is_ecma_space, has_no_space}
-use Rattle.schema_values.specs.Patterns.{Literal, literal_of, pattern_of, is_written, matched, known, Completion, reads_as, Completes}
 
 -- ---- equality (Core 4.2.2)
 
@@ -56,18 +55,3 @@ CodePointsAreCounted = (cs : List ℕ) → all_scalars cs ≡ true → code_poin
 
 abbrev pub SpacesAreCodePoints : Type 0
 SpacesAreCodePoints = (cs : List ℕ) → all_scalars cs ≡ true → has_no_space (encode_utf8_all cs) ≡ not (list_any is_ecma_space cs)
-
--- ---- patterns and matches (Validation 6.3.3)
-
-abbrev pub LiteralsAreReadBack : Type 0
-LiteralsAreReadBack = (l : Literal) → is_written l ≡ true → literal_of (pattern_of l) ≡ Some l
-
--- where a match is known, every completion reads it as it is
-abbrev pub CompletionsKeepKnownMatches : Type 0
-CompletionsKeepKnownMatches = (finished : List ℕ → List ℕ → Option Bool) (sites : List (List ℕ × List ℕ)) (c : Completion) → Completes finished sites c
-    → (pattern text : List ℕ) (answer : Bool) → reads_as sites pattern text ≡ true → known finished pattern text ≡ Some answer → matched (reads_as c) pattern text ≡ answer
-
--- the matches that are not known may be read in any way
-abbrev pub EveryChoiceIsACompletion : Type 0
-EveryChoiceIsACompletion = (finished : List ℕ → List ℕ → Option Bool) (sites : List (List ℕ × List ℕ)) (choice : List ℕ → List ℕ → Bool)
-    → (c : Completion) × Completes finished sites c × ((pattern text : List ℕ) → reads_as sites pattern text ≡ true → known finished pattern text ≡ None → reads_as c pattern text ≡ choice pattern text)

@@ -1,5 +1,5 @@
 -- Whole numbers from -2^63 to 2^64-1, and what the keywords for numbers ask of them (Validation 6.2).
-use Rattle.std.specs.Prelude.{◌≡◌, ℕ, ◌-◌, ◌^◌, ◌%◌, ◌==◌, ◌&&◌, ℤ, pos, negsuc, int_le, int_lt, unsigned_abs, Bool, true, Option, Some, None, option_and_then}
+use Rattle.std.specs.Prelude.{ℕ, ◌-◌, ◌^◌, ◌%◌, ◌==◌, ◌&&◌, ℤ, pos, negsuc, int_le, int_lt, unsigned_abs, Bool, true, Option, Some, None, option_and_then}
 use Rattle.serde_json.specs.Data.{Data}
 use Rattle.serde_json.specs.Find.{as_number, as_integer}
 
@@ -7,7 +7,7 @@ use Rattle.serde_json.specs.Find.{as_number, as_integer}
 abbrev pub whole : Data → Option ℤ
 whole d = option_and_then as_integer (as_number d)
 
--- whether a number is one of those that are read: -2^63 to 2^64-1 (Core 4.2.3 leaves the range open)
+-- whether a number is one of those that are read: -2^63 to 2^64-1 (RFC 8259 section 6 leaves the range open)
 abbrev pub is_whole_64 : ℤ → Bool
 is_whole_64 z = int_le (negsuc (2 ^ 63 - 1)) z && int_le z (pos (2 ^ 64 - 1))
 

@@ -1,4 +1,4 @@
--- Patterns with a plain meaning of their own, and completions of matches (Validation 6.3.3; ECMA-262 22.2).
+-- Patterns with a plain meaning of their own, and completions of matches (Validation 6.3.3; ECMA-262, Patterns).
 use Rattle.std.specs.Prelude.{◌≡◌, ℕ, ◌&&◌, ◌||◌, ◌==◌, nat_eq, nat_le, nat_lt, not, length, List, [], ◌∷◌, ◌++◌, map, bytes_eq, Bool, true, false, if◌then◌else◌, Option, Some, None, option_map, option_and_then}
 use Rattle.std.specs.List.{list_any, list_all, starts_with, join_with_byte, slice_split}
 use Rattle.schema_values.specs.Texts.{has_no_space}
@@ -12,7 +12,7 @@ pub data Literal : Type 0 where
   one_of : List (List ℕ) → Literal
   no_white_space : Literal
 
--- the texts that a literal form matches: `^` and `$` are the ends of the text, `|` is a choice (ECMA-262 22.2.2.3, 22.2.2.4)
+-- the texts that a literal form matches: `^` and `$` are the ends of the text, `|` is a choice (ECMA-262, Assertion, Disjunction)
 abbrev pub means : Literal → List ℕ → Bool
 means (prefix l) text = starts_with nat_eq text l
 means (exact l) text = bytes_eq text l
@@ -21,11 +21,11 @@ means no_white_space text = has_no_space text
 
 -- ---- how a pattern writes them
 
--- ASCII letters and digits, `_`, `-` and `/` stand for themselves (ECMA-262 22.2.1, PatternCharacter)
+-- ASCII letters and digits, `_`, `-` and `/` stand for themselves (ECMA-262, PatternCharacter)
 abbrev pub is_plain : ℕ → Bool
 is_plain c = nat_le 97 c && nat_le c 122 || nat_le 65 c && nat_le c 90 || nat_le 48 c && nat_le c 57 || c == 95 || c == 45 || c == 47
 
--- `/`, `$`, `.` and `-` stand for themselves behind a backslash (ECMA-262 22.2.1, IdentityEscape)
+-- `/`, `$`, `.` and `-` stand for themselves behind a backslash (ECMA-262, IdentityEscape)
 abbrev pub is_escapable : ℕ → Bool
 is_escapable c = c == 47 || c == 36 || c == 46 || c == 45
 
@@ -64,31 +64,34 @@ before c [] = None
 before c (x ∷ []) = if x == c then Some [] else None
 before c (x ∷ y ∷ xs) = option_map (λ t. x ∷ t) (before c (y ∷ xs))
 
--- `L`
-abbrev pub prefix_of : List ℕ → Option Literal
-prefix_of text = option_map prefix (word text)
-
--- `L$`
-abbrev pub exact_of : List ℕ → Option Literal
-exact_of text = option_map exact (option_and_then word (before 36 text))
-
--- `(A|B|..)$`, two or more
-abbrev pub choice_of : List ℕ → Option Literal
-choice_of text =
-    option_map one_of (option_and_then if_several (option_and_then (λ inner. words (slice_split (λ b. b == 124) inner))
-        (option_and_then (before 41) (option_and_then (behind 40) (before 36 text)))))
-
--- `\S*$`
-abbrev pub space_of : List ℕ → Option Literal
-space_of text = if bytes_eq text (92 ∷ 83 ∷ 42 ∷ 36 ∷ []) then Some no_white_space else None
-
 abbrev pub or_else : {X : Type 0} → Option X → Option X → Option X
 or_else (Some x) other = Some x
 or_else None other = other
 
--- the literal form that a pattern's text is: `^`, and then one of the four
+-- `L`
+abbrev pub exact_of : List ℕ → Option Literal
+exact_of text = option_map exact (word text)
+
+-- `\S*`
+abbrev pub space_of : List ℕ → Option Literal
+space_of text = if bytes_eq text (92 ∷ 83 ∷ 42 ∷ []) then Some no_white_space else None
+
+-- `(A|B|..)`, two or more
+abbrev pub choice_of : List ℕ → Option Literal
+choice_of text =
+    option_map one_of (option_and_then if_several (option_and_then (λ inner. words (slice_split (λ b. b == 124) inner)) (option_and_then (before 41) (behind 40 text))))
+
+-- what stands between `^` and `$`
+abbrev pub closed_of : List ℕ → Option Literal
+closed_of text = or_else (exact_of text) (or_else (space_of text) (choice_of text))
+
+-- what stands behind `^`
+abbrev pub opened_of : List ℕ → Option Literal
+opened_of text = or_else (option_map prefix (word text)) (option_and_then closed_of (before 36 text))
+
+-- the literal form that a pattern's text is
 abbrev pub literal_of : List ℕ → Option Literal
-literal_of pattern = option_and_then (λ text. or_else (prefix_of text) (or_else (exact_of text) (or_else (choice_of text) (space_of text)))) (behind 94 pattern)
+literal_of pattern = option_and_then opened_of (behind 94 pattern)
 
 -- a text as a pattern writes it: `$` and `.` behind a backslash
 abbrev pub escaped : List ℕ → List ℕ

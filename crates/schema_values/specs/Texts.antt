@@ -20,12 +20,12 @@ count_members ms = members_len ms
 abbrev is_within : ℕ → ℕ → ℕ → Bool
 is_within low high c = nat_le low c && nat_le c high
 
--- what `\s` matches: the white space and line ends of ECMA-262 (12.2, 12.3, 22.2.2.9), by code point
+-- what `\s` matches: WhiteSpace and LineTerminator (ECMA-262, CharacterClassEscape), by code point
 abbrev pub is_ecma_space : ℕ → Bool
 is_ecma_space c =
     is_within 0x0009 0x000d c || c == 0x0020 || c == 0x00a0 || c == 0x1680 || is_within 0x2000 0x200a c
-        || is_within 0x2028 0x2029 c || c == 0x202f || c == 0x205f || c == 0x3000 || c == 0xfeff
+    || is_within 0x2028 0x2029 c || c == 0x202f || c == 0x205f || c == 0x3000 || c == 0xfeff
 
--- no code point of a text is white space (ECMA-262 22.2.2.9, `\S`)
+-- no code point of a text is white space (ECMA-262, CharacterClassEscape `\S`)
 abbrev pub has_no_space : List ℕ → Bool
 has_no_space text = not (list_any is_ecma_space (chars text))

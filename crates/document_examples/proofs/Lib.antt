@@ -1,0 +1,6 @@
+pub mod References
+pub mod Scopes
+pub mod Vocabularies
+pub mod Neighbours
+pub mod Lookups
+pub mod Refusals

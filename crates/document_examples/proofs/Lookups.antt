@@ -1,0 +1,22 @@
+-- The rows compute.
+use Rattle.std.proofs.Common.{◌≡◌, List, refl}
+use Rattle.std.specs.List.{AllByRecursion}
+use Rattle.std.specs.Str.{is_utf8, chars}
+use Rattle.std.specs.Fmt.{digits}
+use Rattle.serde_json.proofs.OnLiterals.{serde_json_on_literals}
+use Rattle.percent_encoding.specs.Percent.{percent_decode}
+use Rattle.uri_grammar.specs.Parts.{split}
+use Rattle.uri_grammar.specs.Grammar.{is_reference}
+use Rattle.uri_resolution.specs.Resolution.{resolve}
+use Rattle.uri_resolution.specs.NormalForm.{normal}
+use Rattle.uri_resolution.specs.Dots.{remove_dots}
+use Rattle.json_paths.specs.Pointers.{escape}
+use Rattle.schema_documents.specs.Identifiers.{resolved}
+use Rattle.schema_documents.specs.Places.{places}
+use Rattle.schema_documents.specs.Bearers.{standings, dialects}
+use Rattle.schema_documents.specs.Lookup.{lookup}
+use Rattle.document_examples.specs.Lookups.{Answers, lookups}
+
+pub lookups_hold : AllByRecursion Answers lookups
+unfolding digits serde_json_on_literals lib.Utf8.encode is_utf8 chars percent_decode split is_reference resolve normal remove_dots escape resolved places standings dialects lookup
+lookups_hold = (refl, (refl, (refl, (refl, (refl, (refl, (refl, (refl, (refl, (refl, (refl, (refl, (refl, (refl, (refl, (refl, (refl, tt)))))))))))))))))

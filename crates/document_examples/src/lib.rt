@@ -1,0 +1,36 @@
+//! Documents, roots and instances whose faults are known, computed from the definitions.
+#![tactic(auto)]
+
+ghost use Rattle.std.specs.List.{AllByRecursion};
+ghost use Rattle.document_examples.specs.Lookups.{Answers, lookups, Refuses, refusals};
+ghost use Rattle.document_examples.specs.Rows.{Holds, references, scopes, vocabularies, neighbours};
+
+/// References within a document and between documents.
+pub fn references_hold()
+    ensures { AllByRecursion Holds references }
+{}
+
+/// Dynamic and recursive references.
+pub fn scopes_hold()
+    ensures { AllByRecursion Holds scopes }
+{}
+
+/// Drafts and vocabularies.
+pub fn vocabularies_hold()
+    ensures { AllByRecursion Holds vocabularies }
+{}
+
+/// Keywords that read their neighbours.
+pub fn neighbours_hold()
+    ensures { AllByRecursion Holds neighbours }
+{}
+
+/// References looked up: pointers, anchors, bases, and why others lead nowhere.
+pub fn lookups_hold()
+    ensures { AllByRecursion Answers lookups }
+{}
+
+/// Documents that are no registry, and why.
+pub fn refusals_hold()
+    ensures { AllByRecursion Refuses refusals }
+{}

@@ -1,0 +1,4 @@
+pub mod Grammar
+pub mod Literals
+pub mod Completions
+pub mod LawProofs

@@ -1,0 +1,69 @@
+-- Identifiers and anchors of schemas (Core 8.2; Draft 7, Core 8.2; Draft 4, Core 7.2).
+use Rattle.std.specs.Prelude.{ℕ, List, [], ◌∷◌, ◌++◌, ◌==◌, Bool, true, false, not, ◌&&◌, codes, if◌then◌else◌, Option, Some, None, option_map, option_and_then, is_some}
+use Rattle.std.specs.List.{flat_map}
+use Rattle.serde_json.specs.Data.{Data}
+use Rattle.serde_json.specs.Find.{get}
+use Rattle.uri_grammar.specs.Texts.{cut_at, is_empty, has}
+use Rattle.uri_grammar.specs.Parts.{split, recompose}
+use Rattle.uri_grammar.specs.Grammar.{is_reference}
+use Rattle.uri_resolution.specs.Resolution.{resolve}
+use Rattle.uri_resolution.specs.NormalForm.{normal}
+use Rattle.schema_drafts.specs.Drafts.{ignores_siblings, identifier_name}
+use Rattle.schema_drafts.specs.declared.draft.Draft.{Draft}
+use Rattle.schema_drafts.specs.declared.draft.Draft.TheVariants.{Draft4, Draft6, Draft7, Draft201909, Draft202012, Unknown}
+use Rattle.schema_documents.specs.Words.{text_at, listed}
+
+-- a reference against a base, in normal form (RFC 3986, sections 5.2 and 6.2.2); none where the text is no URI reference
+unfoldable pub resolved : List ℕ → List ℕ → Option (List ℕ)
+resolved base reference = if is_reference (split reference) then Some (recompose (normal (resolve (split base) (split reference)))) else None
+
+-- whether a `$ref` hides what stands beside it
+abbrev pub is_hidden : Draft → Data → Bool
+is_hidden draft d = ignores_siblings draft && is_some (get (codes "$ref") d)
+
+-- the text of the identifier's keyword
+abbrev pub identifier_text : Draft → Data → Option (List ℕ)
+identifier_text draft d = if is_hidden draft d then None else text_at (identifier_name draft) d
+
+abbrev pub begins_with_hash : List ℕ → Bool
+begins_with_hash [] = false
+begins_with_hash (b ∷ t) = b == 35
+
+-- the identifier, without its fragment; a fragment alone is none, the empty text is one
+abbrev pub without_fragment : List ℕ → Option (List ℕ)
+without_fragment t = if begins_with_hash t then None else Some (cut_at 35 t).0
+
+abbrev pub identifier : Draft → Data → Option (List ℕ)
+identifier draft d = option_and_then without_fragment (identifier_text draft d)
+
+-- ---- anchors
+
+-- a name of an anchor: not empty, and no `/` in it
+abbrev pub is_name : List ℕ → Bool
+is_name k = not (is_empty k) && not (has 47 k)
+
+-- the name of an identifier that is a fragment alone (Draft 7, Core 8.2.3)
+abbrev pub after_hash : List ℕ → List (List ℕ)
+after_hash [] = []
+after_hash (b ∷ t) = if b == 35 then t ∷ [] else []
+
+abbrev pub fragment_anchor : Draft → Data → List (List ℕ)
+fragment_anchor draft d = flat_map after_hash (listed (identifier_text draft d))
+
+-- by `$dynamicAnchor` (Core 8.2.2)
+abbrev pub dynamic_anchors : Draft → Data → List (List ℕ)
+dynamic_anchors Draft4 d = []
+dynamic_anchors Draft6 d = []
+dynamic_anchors Draft7 d = []
+dynamic_anchors Draft201909 d = []
+dynamic_anchors Draft202012 d = listed (text_at (codes "$dynamicAnchor") d)
+dynamic_anchors Unknown d = listed (text_at (codes "$dynamicAnchor") d)
+
+-- the anchors that a schema bears (Core 8.2.2; before 2019-09 by its identifier)
+abbrev pub anchors : Draft → Data → List (List ℕ)
+anchors Draft4 d = fragment_anchor Draft4 d
+anchors Draft6 d = fragment_anchor Draft6 d
+anchors Draft7 d = fragment_anchor Draft7 d
+anchors Draft201909 d = listed (text_at (codes "$anchor") d)
+anchors Draft202012 d = listed (text_at (codes "$anchor") d) ++ dynamic_anchors Draft202012 d
+anchors Unknown d = listed (text_at (codes "$anchor") d) ++ dynamic_anchors Unknown d

@@ -1,0 +1,6 @@
+pub mod Sites
+pub mod Values
+pub mod Rows
+pub mod Plain
+pub mod BuildCauses
+pub mod CompileKeys

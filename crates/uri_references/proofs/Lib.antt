@@ -1,0 +1,3 @@
+pub mod FragmentLemmas
+pub mod TextLemmas
+pub mod IdentityLemmas

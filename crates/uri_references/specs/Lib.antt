@@ -1,0 +1,5 @@
+pub mod Fragments
+pub mod Identity
+pub mod Lent
+pub mod Refusals
+pub mod Owned

@@ -1,0 +1,12 @@
+//! URIs and URI references (RFC 3986), owned and borrowed: parsing, resolving, normalising.
+#![tactic(auto)]
+
+mod borrowed;
+pub mod error;
+mod fragment;
+mod owned;
+mod refusal;
+#[cfg(test)]
+mod tests;
+mod traits;
+pub mod uri;

@@ -1,0 +1,15 @@
+pub mod Ups
+pub mod Segments
+pub mod Resolved
+pub mod Examples
+pub mod TripletSteps
+pub mod Characters
+pub mod NormalWritten
+pub mod Bools
+pub mod DotLemmas
+pub mod PathLemmas
+pub mod SettledLemmas
+pub mod ResolveLemmas
+pub mod AuthorityLemmas
+pub mod NormalLemmas
+pub mod LowerLemmas

@@ -1,0 +1,3 @@
+pub mod Dots
+pub mod Resolution
+pub mod NormalForm

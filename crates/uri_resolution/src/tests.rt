@@ -1,0 +1,113 @@
+//! The examples of RFC 3986.
+
+use crate::dots::remove_dot_segments;
+use crate::normal::normalize;
+use crate::resolution::resolve;
+use crate::triplets::normalize_triplets;
+use crate::writing::write_guarded;
+use std::alloc::AllocError;
+use uri_grammar::components::{Components, split_reference};
+
+/// Section 5.2.4.
+#[test]
+fn removes_dot_segments(rt: HostRuntime) -> Result<(), AllocError> {
+    for (path, want) in [
+        ("/a/b/c/./../../g", "/a/g"),
+        ("mid/content=5/../6", "mid/6"),
+    ] {
+        let path = remove_dot_segments(rt.alloc(), path)?;
+        assert_eq!(rt; path.as_str(), want);
+    }
+    Ok(())
+}
+
+/// Sections 5.4.1 and 5.4.2, against `http://a/b/c/d;p?q`.
+#[test]
+fn resolves(rt: HostRuntime) -> Result<(), AllocError> {
+    let base = split_reference("http://a/b/c/d;p?q");
+    for (reference, want) in EXAMPLES {
+        let target = resolve(rt.alloc(), &base, &split_reference(reference))?;
+        assert_eq!(rt; target.as_str(), want, "{reference}");
+    }
+    Ok(())
+}
+
+const EXAMPLES: [(&str, &str); 42] = [
+    ("g:h", "g:h"),
+    ("g", "http://a/b/c/g"),
+    ("./g", "http://a/b/c/g"),
+    ("g/", "http://a/b/c/g/"),
+    ("/g", "http://a/g"),
+    ("//g", "http://g"),
+    ("?y", "http://a/b/c/d;p?y"),
+    ("g?y", "http://a/b/c/g?y"),
+    ("#s", "http://a/b/c/d;p?q#s"),
+    ("g#s", "http://a/b/c/g#s"),
+    ("g?y#s", "http://a/b/c/g?y#s"),
+    (";x", "http://a/b/c/;x"),
+    ("g;x", "http://a/b/c/g;x"),
+    ("g;x?y#s", "http://a/b/c/g;x?y#s"),
+    ("", "http://a/b/c/d;p?q"),
+    (".", "http://a/b/c/"),
+    ("./", "http://a/b/c/"),
+    ("..", "http://a/b/"),
+    ("../", "http://a/b/"),
+    ("../g", "http://a/b/g"),
+    ("../..", "http://a/"),
+    ("../../", "http://a/"),
+    ("../../g", "http://a/g"),
+    ("../../../g", "http://a/g"),
+    ("../../../../g", "http://a/g"),
+    ("/./g", "http://a/g"),
+    ("/../g", "http://a/g"),
+    ("g.", "http://a/b/c/g."),
+    (".g", "http://a/b/c/.g"),
+    ("g..", "http://a/b/c/g.."),
+    ("..g", "http://a/b/c/..g"),
+    ("./../g", "http://a/b/g"),
+    ("./g/.", "http://a/b/c/g/"),
+    ("g/./h", "http://a/b/c/g/h"),
+    ("g/../h", "http://a/b/c/h"),
+    ("g;x=1/./y", "http://a/b/c/g;x=1/y"),
+    ("g;x=1/../y", "http://a/b/c/y"),
+    ("g?y/./x", "http://a/b/c/g?y/./x"),
+    ("g?y/../x", "http://a/b/c/g?y/../x"),
+    ("g#s/./x", "http://a/b/c/g#s/./x"),
+    ("g#s/../x", "http://a/b/c/g#s/../x"),
+    ("http:g", "http:g"),
+];
+
+/// Section 6.2.2.
+#[test]
+fn normalizes(rt: HostRuntime) -> Result<(), AllocError> {
+    for (text, want) in [
+        ("example://a/b/c/%7Bfoo%7D", "example://a/b/c/%7Bfoo%7D"),
+        (
+            "eXAMPLE://a/./b/../b/%63/%7bfoo%7d",
+            "example://a/b/c/%7Bfoo%7D",
+        ),
+        ("HTTP://www.EXAMPLE.com/", "http://www.example.com/"),
+        ("a://U%73er@H:80/%3a", "a://User@h:80/%3A"),
+    ] {
+        let normal = normalize(rt.alloc(), &split_reference(text))?;
+        assert_eq!(rt; normal.as_str(), want, "{text}");
+    }
+    let triplets = normalize_triplets(rt.alloc(), "%41%c3%bc%2E%")?;
+    assert_eq!(rt; triplets.as_str(), "A%C3%BC.%");
+    Ok(())
+}
+
+/// A path that would be read as an authority.
+#[test]
+fn guards(rt: HostRuntime) -> Result<(), AllocError> {
+    let parts = Components {
+        scheme: Some("a"),
+        authority: None,
+        path: "//b",
+        query: Some("c"),
+        fragment: None,
+    };
+    let text = write_guarded(rt.alloc(), &parts)?;
+    assert_eq!(rt; text.as_str(), "a:/.//b?c");
+    Ok(())
+}
