@@ -6,7 +6,5 @@ pub mod error;
 mod fragment;
 mod owned;
 mod refusal;
-#[cfg(test)]
-mod tests;
 mod traits;
 pub mod uri;
