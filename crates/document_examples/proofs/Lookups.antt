@@ -14,9 +14,9 @@ use Rattle.json_paths.specs.Pointers.{escape}
 use Rattle.schema_documents.specs.Identifiers.{resolved}
 use Rattle.schema_documents.specs.Places.{places}
 use Rattle.schema_documents.specs.Bearers.{standings, dialects}
-use Rattle.schema_documents.specs.Lookup.{lookup}
+use Rattle.schema_documents.specs.Lookup.{lookup_under}
 use Rattle.document_examples.specs.Lookups.{Answers, lookups}
 
 pub lookups_hold : AllByRecursion Answers lookups
-unfolding digits serde_json_on_literals lib.Utf8.encode is_utf8 chars percent_decode split is_reference resolve normal remove_dots escape resolved places standings dialects lookup
+unfolding digits serde_json_on_literals lib.Utf8.encode is_utf8 chars percent_decode split is_reference resolve normal remove_dots escape resolved places standings dialects lookup_under
 lookups_hold = (refl, (refl, (refl, (refl, (refl, (refl, (refl, (refl, (refl, (refl, (refl, (refl, (refl, (refl, (refl, (refl, (refl, tt)))))))))))))))))

@@ -15,11 +15,11 @@ use Rattle.schema_values.specs.Patterns.{unescaped}
 use Rattle.schema_documents.specs.Identifiers.{resolved}
 use Rattle.schema_documents.specs.Places.{places}
 use Rattle.schema_documents.specs.Bearers.{standings, dialects}
-use Rattle.schema_documents.specs.Lookup.{lookup}
+use Rattle.schema_documents.specs.Lookup.{lookup_under}
 use Rattle.schema_meaning.specs.Readings.{told, through}
 use Rattle.schema_reading.specs.Rows.{rows_at}
 use Rattle.document_examples.specs.Rows.{Holds, references}
 
 pub references_hold : AllByRecursion Holds references
-unfolding digits serde_json_on_literals is_utf8 chars percent_decode split is_reference resolve normal remove_dots escape unescaped resolved places standings dialects lookup told through rows_at
+unfolding digits serde_json_on_literals is_utf8 chars percent_decode split is_reference resolve normal remove_dots escape unescaped resolved places standings dialects lookup_under told through rows_at
 references_hold = (refl, (refl, (refl, (refl, (refl, (refl, (refl, tt)))))))

@@ -6,7 +6,7 @@ use Rattle.json_paths.specs.Parts.{Part}
 use Rattle.json_paths.specs.Pointers.{part_text}
 use Rattle.schema_drafts.specs.declared.draft.Draft.{Draft}
 use Rattle.schema_documents.specs.Words.{or}
-use Rattle.schema_documents.specs.Bearers.{Layer, Documents}
+use Rattle.schema_documents.specs.Bearers.{Document, Documents}
 use Rattle.schema_documents.specs.Lookup.{LookupCause, Target, lookup}
 use Rattle.schema_meaning.specs.Places.{whole}
 use Rattle.schema_meaning.specs.Faults.{Fault, fault, Faults, none, also}
@@ -18,12 +18,12 @@ use Rattle.schema_reading.specs.Plain.{plain}
 abbrev pub json : List ℕ → Data
 json text = or null (read text)
 
-abbrev pub document : List ℕ × List ℕ → List ℕ × Data
-document d = (d.0, json d.1)
+abbrev pub document : Draft → List ℕ × List ℕ → Document
+document draft d = record { uri = d.0; contents = json d.1; default = draft }
 
--- documents of one layer, each a URI and a text
+-- documents without parents, each a URI and a text
 abbrev pub documents : Draft → List (List ℕ × List ℕ) → Documents
-documents draft ds = record { documents = map document ds; default = draft } ∷ []
+documents draft ds = map (document draft) ds ∷ []
 
 -- the text of a path that has its last part first
 abbrev pub spelled : List Part → List ℕ

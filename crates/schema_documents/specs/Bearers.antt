@@ -10,25 +10,26 @@ use Rattle.schema_documents.specs.Words.{or_else, last_that, has_text}
 use Rattle.schema_documents.specs.Identifiers.{identifier, anchors, dynamic_anchors}
 use Rattle.schema_documents.specs.Places.{Dialect, SchemaPlace, places}
 
--- documents in their order, each with the URI under which it was added, and the draft of those that name none
-pub record Layer : Type 0 where
-  pub documents : List (List ℕ × Data)
+-- a document: the URI under which it was added, what it holds, and its draft where it names none
+pub record Document : Type 0 where
+  pub uri : List ℕ
+  pub contents : Data
   pub default : Draft
 
--- a registry's own documents, and then those of its parents, the nearest first
+-- a registry's own documents in their order, and then those of its parents, the nearest first
 abbrev pub Documents : Type 0
-Documents = List Layer
+Documents = List (List Document)
 
 -- a schema place of a document
 pub record Standing : Type 0 where
   pub document : List ℕ
   pub place : SchemaPlace
 
-abbrev pub standing_in : (List ℕ → Option Dialect) → Draft → List ℕ × Data → List Standing
-standing_in meta default d = map (λ p. record { document = d.0; place = p }) (places meta d.0 default d.1)
+abbrev pub standing_in : (List ℕ → Option Dialect) → Document → List Standing
+standing_in meta d = map (λ p. record { document = d.uri; place = p }) (places meta d.uri d.default d.contents)
 
-unfoldable pub standings : (List ℕ → Option Dialect) → Layer → List Standing
-standings meta layer = flat_map (standing_in meta layer.default) layer.documents
+unfoldable pub standings : (List ℕ → Option Dialect) → List Document → List Standing
+standings meta documents = flat_map (standing_in meta) documents
 
 abbrev pub is_root : List Part → Bool
 is_root [] = true
@@ -43,7 +44,7 @@ bears uri s =
 -- of several bearers the last counts, and own documents before a parent's
 abbrev pub last_standing : (Standing → Bool) → (List ℕ → Option Dialect) → Documents → Option Standing
 last_standing test meta [] = None
-last_standing test meta (layer ∷ parents) = or_else (last_that test (standings meta layer)) (last_standing test meta parents)
+last_standing test meta (own ∷ parents) = or_else (last_that test (standings meta own)) (last_standing test meta parents)
 
 -- ---- meta-schemas of one's own (Core 8.1.1, 8.1.2)
 
@@ -94,29 +95,35 @@ abbrev mutual
   schemas_named_among no_members = 0
   schemas_named_among (member k d ms) = (if bytes_eq k (codes "$schema") then 1 else 0) + schemas_named d + schemas_named_among ms
 
-abbrev pub schemas_of_each : List (List ℕ × Data) → ℕ
+abbrev pub schemas_of_each : List Document → ℕ
 schemas_of_each [] = 0
-schemas_of_each (d ∷ ds) = schemas_named d.1 + schemas_of_each ds
+schemas_of_each (d ∷ ds) = schemas_named d.contents + schemas_of_each ds
 
 abbrev pub how_many : Documents → ℕ
 how_many [] = 0
-how_many (layer ∷ parents) = schemas_of_each layer.documents + how_many parents
+how_many (own ∷ parents) = schemas_of_each own + how_many parents
 
 -- what the documents tell of meta-schemas: each stands above others at most as often as one is named
 abbrev pub meta : Documents → List ℕ → Option Dialect
 meta docs uri = dialects docs (how_many docs) uri
 
--- ---- bearers
+-- ---- bearers, under what is told of meta-schemas, and by the documents alone
+
+abbrev pub bearer_under : (List ℕ → Option Dialect) → Documents → List ℕ → Option Standing
+bearer_under meta docs uri = last_standing (bears uri) meta docs
 
 abbrev pub bearer : Documents → List ℕ → Option Standing
-bearer docs uri = last_standing (bears uri) (meta docs) docs
+bearer docs uri = bearer_under (meta docs) docs uri
 
 abbrev pub bears_anchor : (Draft → Data → List (List ℕ)) → List ℕ → List ℕ → Standing → Bool
 bears_anchor of base k s = not (is_some s.place.awaits) && bytes_eq s.place.base base && has_text k (of s.place.dialect.draft s.place.contents)
 
 -- an anchor is a name under a base
+abbrev pub anchored_under : (List ℕ → Option Dialect) → Documents → List ℕ → List ℕ → Option Standing
+anchored_under meta docs base k = last_standing (bears_anchor anchors base k) meta docs
+
 abbrev pub anchored : Documents → List ℕ → List ℕ → Option Standing
-anchored docs base k = last_standing (bears_anchor anchors base k) (meta docs) docs
+anchored docs base k = anchored_under (meta docs) docs base k
 
 abbrev pub dynamically_anchored : Documents → List ℕ → List ℕ → Option Standing
 dynamically_anchored docs base k = last_standing (bears_anchor dynamic_anchors base k) (meta docs) docs

@@ -10,7 +10,7 @@ use Rattle.schema_drafts.specs.declared.draft.Draft.TheVariants.{Unknown}
 use Rattle.schema_documents.specs.Words.{or, or_else, last_that, listed, text_at}
 use Rattle.schema_documents.specs.Identifiers.{resolved, identifier_text, identifier}
 use Rattle.schema_documents.specs.Places.{schema_in_force}
-use Rattle.schema_documents.specs.Bearers.{Layer, Documents, Standing, standings, is_root, meta, bearer}
+use Rattle.schema_documents.specs.Bearers.{Document, Documents, Standing, standings, is_root, meta, bearer}
 
 pub data DocumentCause : Type 0 where
   no_reference : List ℕ → DocumentCause
@@ -31,7 +31,7 @@ would_bear uri s =
 
 abbrev pub waiting : Documents → Documents → List ℕ → Option Standing
 waiting docs [] uri = None
-waiting docs (layer ∷ parents) uri = or_else (last_that (would_bear uri) (standings (meta docs) layer)) (waiting docs parents uri)
+waiting docs (own ∷ parents) uri = or_else (last_that (would_bear uri) (standings (meta docs) own)) (waiting docs parents uri)
 
 -- the URI that it awaits in turn
 abbrev pub next_awaited : Documents → List ℕ → Option (List ℕ)
@@ -44,7 +44,7 @@ awaited_cause docs (suc n) uri = elim (next_awaited docs uri) [ None ↦ unknown
 
 abbrev pub how_many_await : Documents → Documents → ℕ
 how_many_await docs [] = 0
-how_many_await docs (layer ∷ parents) = length (filter (λ s. is_some s.place.awaits) (standings (meta docs) layer)) + how_many_await docs parents
+how_many_await docs (own ∷ parents) = length (filter (λ s. is_some s.place.awaits) (standings (meta docs) own)) + how_many_await docs parents
 
 -- ---- the causes of a place
 
@@ -63,7 +63,7 @@ place_causes docs s =
     else flat_map unless_reference (listed (identifier_text s.place.dialect.draft s.place.contents))
     ++ flat_map (λ t. wanted_by docs s.place.base (cut_at 35 t).0) (listed (text_at (codes "$ref") s.place.contents)))
 
--- the causes of all documents of the first layer; its parents were prepared before it
+-- the causes of a registry's own documents; its parents were prepared before it
 abbrev pub document_causes : Documents → List DocumentCause
 document_causes [] = []
-document_causes (layer ∷ parents) = flat_map (place_causes (layer ∷ parents)) (standings (meta (layer ∷ parents)) layer)
+document_causes (own ∷ parents) = flat_map (place_causes (own ∷ parents)) (standings (meta (own ∷ parents)) own)

@@ -4,10 +4,9 @@ use Rattle.std.specs.List.{flat_map}
 use Rattle.serde_json.specs.Data.{Data}
 use Rattle.serde_json.specs.Find.{get}
 use Rattle.uri_grammar.specs.Texts.{cut_at, is_empty, has}
-use Rattle.uri_grammar.specs.Parts.{split, recompose}
+use Rattle.uri_grammar.specs.Parts.{split}
 use Rattle.uri_grammar.specs.Grammar.{is_reference}
-use Rattle.uri_resolution.specs.Resolution.{resolve}
-use Rattle.uri_resolution.specs.NormalForm.{normal}
+use Rattle.uri_references.specs.Identity.{identity_against}
 use Rattle.schema_drafts.specs.Drafts.{ignores_siblings, identifier_name}
 use Rattle.schema_drafts.specs.declared.draft.Draft.{Draft}
 use Rattle.schema_drafts.specs.declared.draft.Draft.TheVariants.{Draft4, Draft6, Draft7, Draft201909, Draft202012, Unknown}
@@ -15,7 +14,7 @@ use Rattle.schema_documents.specs.Words.{text_at, listed}
 
 -- a reference against a base, in normal form (RFC 3986, sections 5.2 and 6.2.2); none where the text is no URI reference
 unfoldable pub resolved : List ℕ → List ℕ → Option (List ℕ)
-resolved base reference = if is_reference (split reference) then Some (recompose (normal (resolve (split base) (split reference)))) else None
+resolved base reference = if is_reference (split reference) then Some (identity_against base reference) else None
 
 -- whether a `$ref` hides what stands beside it
 abbrev pub is_hidden : Draft → Data → Bool

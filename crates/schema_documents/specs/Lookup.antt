@@ -11,7 +11,7 @@ use Rattle.schema_drafts.specs.Subschemas.{Holds, nothing, one, several, one_or_
 use Rattle.schema_documents.specs.Words.{or, result_map, ok_or, and_then}
 use Rattle.schema_documents.specs.Identifiers.{resolved, is_hidden}
 use Rattle.schema_documents.specs.Places.{Dialect, SchemaPlace, is_schema, entered}
-use Rattle.schema_documents.specs.Bearers.{Documents, Standing, bearer, anchored, meta}
+use Rattle.schema_documents.specs.Bearers.{Documents, Standing, bearer_under, anchored_under, meta}
 
 -- why a reference leads nowhere, with the texts that the refusal names
 pub data LookupCause : Type 0 where
@@ -71,34 +71,34 @@ in_member p (part_of one_or_several) k = nothing
 in_member p (part_of by_name) k = one
 
 -- one part further: a schema place below changes the base by its identifier, once
-abbrev pub arrived : Documents → Walk → Holds → Part → Data → Walk
-arrived docs w h part e =
+abbrev pub arrived : (List ℕ → Option Dialect) → Walk → Holds → Part → Data → Walk
+arrived meta w h part e =
     if holds_schema h e
-    then record { path = part ∷ w.path; contents = e; last = entered (meta docs) w.last.base w.last.dialect (part ∷ w.path) e; within = at_place }
+    then record { path = part ∷ w.path; contents = e; last = entered meta w.last.base w.last.dialect (part ∷ w.path) e; within = at_place }
     else record { path = part ∷ w.path; contents = e; last = w.last; within = part_of h }
 
-abbrev pub item_at : Documents → List ℕ → List ℕ → Walk → Data → Option ℕ → Result Walk LookupCause
-item_at docs written token w d None = Err (invalid_array_index token written)
-item_at docs written token w null (Some i) = Err (pointer_to_nowhere written)
-item_at docs written token w (boolean b) (Some i) = Err (pointer_to_nowhere written)
-item_at docs written token w (number n) (Some i) = Err (pointer_to_nowhere written)
-item_at docs written token w (string s) (Some i) = Err (pointer_to_nowhere written)
-item_at docs written token w (array ds) (Some i) = result_map (arrived docs w (in_element w.within) (index i)) (ok_or (pointer_to_nowhere written) (get_item i ds))
-item_at docs written token w (object ms) (Some i) = Err (pointer_to_nowhere written)
+abbrev pub item_at : (List ℕ → Option Dialect) → List ℕ → List ℕ → Walk → Data → Option ℕ → Result Walk LookupCause
+item_at meta written token w d None = Err (invalid_array_index token written)
+item_at meta written token w null (Some i) = Err (pointer_to_nowhere written)
+item_at meta written token w (boolean b) (Some i) = Err (pointer_to_nowhere written)
+item_at meta written token w (number n) (Some i) = Err (pointer_to_nowhere written)
+item_at meta written token w (string s) (Some i) = Err (pointer_to_nowhere written)
+item_at meta written token w (array ds) (Some i) = result_map (arrived meta w (in_element w.within) (index i)) (ok_or (pointer_to_nowhere written) (get_item i ds))
+item_at meta written token w (object ms) (Some i) = Err (pointer_to_nowhere written)
 
 -- one part of a pointer, as it is written, or what is wrong with it
-abbrev pub step_to : Documents → List ℕ → List ℕ → Walk → Data → Result Walk LookupCause
-step_to docs written token w null = Err (pointer_to_nowhere written)
-step_to docs written token w (boolean b) = Err (pointer_to_nowhere written)
-step_to docs written token w (number n) = Err (pointer_to_nowhere written)
-step_to docs written token w (string s) = Err (pointer_to_nowhere written)
-step_to docs written token w (array ds) = item_at docs written token w (array ds) (index_of token)
-step_to docs written token w (object ms) =
-    result_map (arrived docs w (in_member w.last w.within (unescape token)) (name (unescape token))) (ok_or (pointer_to_nowhere written) (get_member (unescape token) ms))
+abbrev pub step_to : (List ℕ → Option Dialect) → List ℕ → List ℕ → Walk → Data → Result Walk LookupCause
+step_to meta written token w null = Err (pointer_to_nowhere written)
+step_to meta written token w (boolean b) = Err (pointer_to_nowhere written)
+step_to meta written token w (number n) = Err (pointer_to_nowhere written)
+step_to meta written token w (string s) = Err (pointer_to_nowhere written)
+step_to meta written token w (array ds) = item_at meta written token w (array ds) (index_of token)
+step_to meta written token w (object ms) =
+    result_map (arrived meta w (in_member w.last w.within (unescape token)) (name (unescape token))) (ok_or (pointer_to_nowhere written) (get_member (unescape token) ms))
 
-abbrev pub walk : Documents → List ℕ → List (List ℕ) → Walk → Result Walk LookupCause
-walk docs written [] w = Ok w
-walk docs written (token ∷ tokens) w = and_then (step_to docs written token w w.contents) (walk docs written tokens)
+abbrev pub walk : (List ℕ → Option Dialect) → List ℕ → List (List ℕ) → Walk → Result Walk LookupCause
+walk meta written [] w = Ok w
+walk meta written (token ∷ tokens) w = and_then (step_to meta written token w w.contents) (walk meta written tokens)
 
 abbrev pub is_at_place : Within → Bool
 is_at_place at_place = true
@@ -112,27 +112,30 @@ behind_first [] = []
 behind_first (t ∷ ts) = ts
 
 -- a fragment that begins with `/` is percent-decoded whole and then split (RFC 6901, section 6)
-abbrev pub by_pointer : Documents → Standing → List ℕ → List ℕ → Result Target LookupCause
-by_pointer docs s written decoded =
+abbrev pub by_pointer : (List ℕ → Option Dialect) → Standing → List ℕ → List ℕ → Result Target LookupCause
+by_pointer meta s written decoded =
     if is_utf8 decoded
-    then result_map (ended s) (walk docs written (behind_first (pieces 47 decoded)) (record { path = s.place.path; contents = s.place.contents; last = s.place; within = at_place }))
+    then result_map (ended s) (walk meta written (behind_first (pieces 47 decoded)) (record { path = s.place.path; contents = s.place.contents; last = s.place; within = at_place }))
     else Err (invalid_percent_encoding written)
 
 abbrev pub target_of : Standing → Target
 target_of s = record { document = s.document; path = s.place.path; contents = s.place.contents; base = s.place.base; dialect = s.place.dialect; is_place = true }
 
 -- any other fragment is an anchor, which is never decoded
-abbrev pub by_anchor : Documents → Standing → List ℕ → Result Target LookupCause
-by_anchor docs s k = if has 47 k then Err (invalid_anchor k) else result_map target_of (ok_or (no_such_anchor k) (anchored docs s.place.base k))
+abbrev pub by_anchor : (List ℕ → Option Dialect) → Documents → Standing → List ℕ → Result Target LookupCause
+by_anchor meta docs s k = if has 47 k then Err (invalid_anchor k) else result_map target_of (ok_or (no_such_anchor k) (anchored_under meta docs s.place.base k))
 
-abbrev pub by_fragment : Documents → Standing → List ℕ → Result Target LookupCause
-by_fragment docs s [] = Ok (target_of s)
-by_fragment docs s (b ∷ f) = if b == 47 then by_pointer docs s (b ∷ f) (percent_decode (b ∷ f)) else by_anchor docs s (b ∷ f)
+abbrev pub by_fragment : (List ℕ → Option Dialect) → Documents → Standing → List ℕ → Result Target LookupCause
+by_fragment meta docs s [] = Ok (target_of s)
+by_fragment meta docs s (b ∷ f) = if b == 47 then by_pointer meta s (b ∷ f) (percent_decode (b ∷ f)) else by_anchor meta docs s (b ∷ f)
 
 -- ---- lookup: the reference is cut at its first `#`, the part before resolved against the base, its bearer found, and the fragment followed
 
-unfoldable pub lookup : Documents → List ℕ → List ℕ → Result Target LookupCause
-lookup docs base reference =
+unfoldable pub lookup_under : (List ℕ → Option Dialect) → Documents → List ℕ → List ℕ → Result Target LookupCause
+lookup_under meta docs base reference =
     let c = cut_at 35 reference in
     and_then (ok_or (invalid_uri c.0) (resolved base c.0)) (λ uri.
-    and_then (ok_or (unretrievable uri) (bearer docs uri)) (λ s. by_fragment docs s (or [] c.1)))
+    and_then (ok_or (unretrievable uri) (bearer_under meta docs uri)) (λ s. by_fragment meta docs s (or [] c.1)))
+
+abbrev pub lookup : Documents → List ℕ → List ℕ → Result Target LookupCause
+lookup docs base reference = lookup_under (meta docs) docs base reference

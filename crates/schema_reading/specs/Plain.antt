@@ -5,17 +5,17 @@ use Rattle.serde_json.specs.Data.{Data, depth}
 use Rattle.schema_meaning.specs.Places.{SchemaPlace}
 use Rattle.schema_meaning.specs.Keywords.{Shape}
 use Rattle.schema_meaning.specs.Readings.{Reading}
-use Rattle.schema_documents.specs.Bearers.{Layer, Documents}
+use Rattle.schema_documents.specs.Bearers.{Document, Documents}
 use Rattle.schema_reading.specs.Sites.{Site}
 use Rattle.schema_reading.specs.Rows.{rows_at}
 
-abbrev pub deepest_of : List (List ℕ × Data) → ℕ
+abbrev pub deepest_of : List Document → ℕ
 deepest_of [] = 0
-deepest_of (d ∷ ds) = max (depth d.1) (deepest_of ds)
+deepest_of (d ∷ ds) = max (depth d.contents) (deepest_of ds)
 
 abbrev pub deepest : Documents → ℕ
 deepest [] = 0
-deepest (layer ∷ parents) = max (deepest_of layer.documents) (deepest parents)
+deepest (own ∷ parents) = max (deepest_of own) (deepest parents)
 
 abbrev pub keywords_at : Documents → (List ℕ → Bool) → Site → List (Shape Site)
 keywords_at docs makes s = flat_map (λ r. r.shapes) (rows_at docs makes s)
