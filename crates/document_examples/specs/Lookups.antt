@@ -1,7 +1,7 @@
 -- References looked up in documents: the document and the path that each leads to with the base URI there, or why it leads nowhere.
 use Rattle.std.specs.Prelude.{◌≡◌, ℕ, List, [], ◌∷◌, Option, Some, None, codes, Result, Ok, Err}
 use Rattle.schema_drafts.specs.declared.draft.Draft.{Draft}
-use Rattle.schema_drafts.specs.declared.draft.Draft.TheVariants.{Draft4, Draft6, Draft7, Draft201909, Draft202012}
+use Rattle.schema_drafts.specs.declared.draft.Draft.TheVariants.{Draft7, Draft202012}
 use Rattle.schema_documents.specs.Words.{result_map}
 use Rattle.schema_documents.specs.Lookup.{LookupCause, unretrievable, pointer_to_nowhere, invalid_percent_encoding, invalid_array_index, no_such_anchor, invalid_anchor, invalid_uri, Target, lookup}
 use Rattle.schema_documents.specs.Scopes.{dynamic_lookup}

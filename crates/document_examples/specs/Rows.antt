@@ -1,7 +1,7 @@
 -- Documents, a root and an instance, with the paths of the faults that the standard gives them.
-use Rattle.std.specs.Prelude.{◌≡◌, ℕ, List, [], ◌∷◌, Option, Some, codes}
+use Rattle.std.specs.Prelude.{◌≡◌, ℕ, List, [], ◌∷◌, Some, codes}
 use Rattle.schema_drafts.specs.declared.draft.Draft.{Draft}
-use Rattle.schema_drafts.specs.declared.draft.Draft.TheVariants.{Draft4, Draft6, Draft7, Draft201909, Draft202012}
+use Rattle.schema_drafts.specs.declared.draft.Draft.TheVariants.{Draft4, Draft7, Draft201909, Draft202012}
 use Rattle.document_examples.specs.Texts.{documents, line}
 
 pub record Row : Type 0 where

@@ -1,5 +1,5 @@
 -- Documents written as JSON texts, and what a root among them tells of an instance.
-use Rattle.std.specs.Prelude.{◌≡◌, ℕ, List, [], ◌∷◌, ◌++◌, map, Bool, true, false, Option, Some, None, codes, Result, Ok, Err, option_map}
+use Rattle.std.specs.Prelude.{ℕ, List, [], ◌∷◌, ◌++◌, map, Bool, true, false, Option, None, codes, Result, Ok, Err, option_map}
 use Rattle.serde_json.specs.Data.{Data, null}
 use Rattle.serde_json.specs.Read.{read}
 use Rattle.json_paths.specs.Parts.{Part}
@@ -9,7 +9,7 @@ use Rattle.schema_documents.specs.Words.{or}
 use Rattle.schema_documents.specs.Bearers.{Document, Documents}
 use Rattle.schema_documents.specs.Lookup.{LookupCause, Target, lookup}
 use Rattle.schema_meaning.specs.Places.{whole}
-use Rattle.schema_meaning.specs.Faults.{Fault, fault, Faults, none, also}
+use Rattle.schema_meaning.specs.Faults.{fault, Faults, none, also}
 use Rattle.schema_meaning.specs.Readings.{bags, told}
 use Rattle.schema_reading.specs.Sites.{root_site}
 use Rattle.schema_reading.specs.Plain.{plain}

@@ -1,16 +1,14 @@
 -- What makes documents no registry: a bad URI at a schema place, a document that is wanted and not there, a meta-schema that is not known or is circular.
-use Rattle.std.specs.Prelude.{ℕ, zero, suc, ◌+◌, length, map, List, [], ◌∷◌, ◌++◌, Bool, true, false, not, ◌&&◌, ◌||◌, codes, bytes_eq, if◌then◌else◌, Option, Some, None, option_map, option_and_then, is_some}
+use Rattle.std.specs.Prelude.{ℕ, zero, suc, ◌+◌, length, map, List, [], ◌∷◌, ◌++◌, Bool, ◌&&◌, ◌||◌, codes, bytes_eq, if◌then◌else◌, Option, Some, None, option_and_then, is_some}
 use Rattle.std.specs.List.{filter, flat_map}
-use Rattle.serde_json.specs.Data.{Data}
 use Rattle.uri_grammar.specs.Texts.{cut_at}
 use Rattle.uri_grammar.specs.Parts.{split}
 use Rattle.uri_grammar.specs.Grammar.{is_reference}
-use Rattle.schema_drafts.specs.Drafts.{draft_named}
 use Rattle.schema_drafts.specs.declared.draft.Draft.TheVariants.{Unknown}
 use Rattle.schema_documents.specs.Words.{or, or_else, last_that, listed, text_at}
 use Rattle.schema_documents.specs.Identifiers.{resolved, identifier_text, identifier}
 use Rattle.schema_documents.specs.Places.{schema_in_force}
-use Rattle.schema_documents.specs.Bearers.{Document, Documents, Standing, standings, is_root, meta, bearer}
+use Rattle.schema_documents.specs.Bearers.{Documents, Standing, standings, is_root, meta, bearer}
 
 pub data DocumentCause : Type 0 where
   no_reference : List ℕ → DocumentCause

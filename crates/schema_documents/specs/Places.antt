@@ -1,7 +1,6 @@
 -- Schema places: the parts of a document that are schemas, each with its base URI, its draft and its vocabularies.
-use Rattle.std.specs.Prelude.{ℕ, zero, suc, List, [], ◌∷◌, ◌++◌, Bool, true, false, not, ◌&&◌, ◌||◌, codes, if◌then◌else◌, Option, Some, None, option_map, option_and_then, is_some}
+use Rattle.std.specs.Prelude.{ℕ, suc, List, [], ◌∷◌, ◌++◌, Bool, true, false, ◌||◌, codes, if◌then◌else◌, Option, Some, None, option_and_then, is_some}
 use Rattle.serde_json.specs.Data.{Data, null, boolean, number, string, array, object, Items, no_items, item, Members, no_members, member, depth}
-use Rattle.serde_json.specs.Find.{get}
 use Rattle.uri_grammar.specs.Texts.{cut_at}
 use Rattle.json_paths.specs.Parts.{Part, name, index}
 use Rattle.schema_drafts.specs.Drafts.{draft_named}

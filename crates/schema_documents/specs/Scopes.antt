@@ -1,6 +1,5 @@
 -- The dynamic scope: the resources entered, the innermost first (Core 7.1, 8.2.3.2; 2019-09, Core 8.2.4.2).
-use Rattle.std.specs.Prelude.{ℕ, List, [], ◌∷◌, Bool, true, false, ◌&&◌, codes, bytes_eq, if◌then◌else◌, Option, Some, None, option_and_then, is_some, Result, Ok, Err}
-use Rattle.serde_json.specs.Data.{Data}
+use Rattle.std.specs.Prelude.{ℕ, List, [], ◌∷◌, Bool, false, ◌&&◌, codes, bytes_eq, if◌then◌else◌, option_and_then, is_some, Result, Ok}
 use Rattle.serde_json.specs.Find.{get, as_bool}
 use Rattle.uri_grammar.specs.Texts.{cut_at}
 use Rattle.schema_documents.specs.Words.{or, last_that, has_text, result_map, ok_or, and_then}

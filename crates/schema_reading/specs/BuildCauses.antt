@@ -1,10 +1,8 @@
 -- Why a build refuses: the places reached from a root, and what is wrong at them.
-use Rattle.std.specs.Prelude.{◌≡◌, ℕ, List, Bool, Result, Ok, Err, ◌⊎◌}
-use Rattle.std.specs.List.{flat_map}
+use Rattle.std.specs.Prelude.{ℕ, List, Bool}
 use Rattle.schema_meaning.specs.Members.{In}
 use Rattle.schema_documents.specs.Bearers.{Documents}
-use Rattle.schema_documents.specs.Lookup.{LookupCause, Target, lookup}
-use Rattle.schema_reading.specs.Sites.{Site, root_site}
+use Rattle.schema_reading.specs.Sites.{Site}
 use Rattle.schema_reading.specs.Rows.{BuildCause, Row, rows_at}
 
 -- the sites reached from a root: by the keywords that count and have no cause of their own

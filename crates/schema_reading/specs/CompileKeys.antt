@@ -1,5 +1,5 @@
 -- Compile keys: what a compiled schema is found again by.
-use Rattle.std.specs.Prelude.{ℕ, List, [], ◌∷◌, ◌++◌, Bool, true, false, bytes_eq, if◌then◌else◌}
+use Rattle.std.specs.Prelude.{ℕ, List, [], ◌∷◌, bytes_eq, if◌then◌else◌}
 use Rattle.std.specs.List.{list_any}
 use Rattle.json_paths.specs.Parts.{Part}
 use Rattle.schema_documents.specs.Places.{Dialect}

@@ -1,8 +1,7 @@
 -- The plain reading of documents: each reference looked up anew.
-use Rattle.std.specs.Prelude.{◌≡◌, ℕ, suc, max, List, [], ◌∷◌, map, Bool, Option, Some, None}
+use Rattle.std.specs.Prelude.{ℕ, max, List, [], ◌∷◌, Bool}
 use Rattle.std.specs.List.{flat_map}
-use Rattle.serde_json.specs.Data.{Data, depth}
-use Rattle.schema_meaning.specs.Places.{SchemaPlace}
+use Rattle.serde_json.specs.Data.{depth}
 use Rattle.schema_meaning.specs.Keywords.{Shape}
 use Rattle.schema_meaning.specs.Readings.{Reading}
 use Rattle.schema_documents.specs.Bearers.{Document, Documents}

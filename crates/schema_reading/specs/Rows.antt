@@ -1,8 +1,8 @@
 -- What each keyword is, read from its value and its neighbours: its causes, the sites of its subschemas, and its shapes.
-use Rattle.std.specs.Prelude.{ℕ, ℤ, suc, List, [], ◌∷◌, ◌++◌, map, Bool, true, false, not, ◌&&◌, ◌||◌, length, bytes_eq, codes, if◌then◌else◌, Option, Some, None, option_map, option_and_then, is_some, Result, Ok, Err}
-use Rattle.std.specs.List.{flat_map, list_any}
+use Rattle.std.specs.Prelude.{ℕ, ℤ, suc, List, [], ◌∷◌, ◌++◌, map, Bool, true, false, not, ◌&&◌, ◌||◌, bytes_eq, codes, if◌then◌else◌, Option, Some, None, option_map, option_and_then, is_some, Result, Ok, Err}
+use Rattle.std.specs.List.{flat_map}
 use Rattle.serde_json.specs.Data.{Data, null, boolean, number, string, array, object, Items, no_items, item, Members, no_members, member}
-use Rattle.serde_json.specs.Find.{get, get_member, as_str, as_array, as_object, as_bool}
+use Rattle.serde_json.specs.Find.{get_member, as_str, as_array, as_object, as_bool}
 use Rattle.uri_grammar.specs.Parts.{split}
 use Rattle.uri_grammar.specs.Grammar.{is_reference}
 use Rattle.json_paths.specs.Parts.{Part, name, index}
@@ -11,7 +11,7 @@ use Rattle.schema_drafts.specs.declared.draft.Draft.{Draft}
 use Rattle.schema_drafts.specs.declared.draft.Draft.TheVariants.{Draft4, Draft6, Draft7, Draft201909, Draft202012, Unknown}
 use Rattle.schema_values.specs.Patterns.{literal_of}
 use Rattle.schema_values.specs.Texts.{count_items}
-use Rattle.schema_documents.specs.Words.{or, or_else, listed, result_map}
+use Rattle.schema_documents.specs.Words.{or, listed, result_map}
 use Rattle.schema_documents.specs.Identifiers.{identifier_text}
 use Rattle.schema_documents.specs.Places.{is_schema}
 use Rattle.schema_documents.specs.Bearers.{Documents}
@@ -20,7 +20,7 @@ use Rattle.schema_documents.specs.Scopes.{dynamic_lookup, recursive_lookup}
 use Rattle.schema_meaning.specs.Questions.{Declared}
 use Rattle.schema_meaning.specs.Keywords.{Assertion, types, constant, enumeration, multiple_of, maximum, exclusive_maximum, minimum, exclusive_minimum, maximum_of_draft_4, minimum_of_draft_4, max_length, min_length, pattern, max_items, min_items, unique_items, max_properties, min_properties, required, dependent_required, Reference, static, dynamic, recursive, Dependency, needs, applies, Shape, never, asserts, items, item_list, prefix_items, additional_items, no_additional_items, contains, properties, pattern_properties, additional_properties, no_additional_properties, no_properties, property_names, no_property_names, dependent_schemas, dependencies, all_of, any_of, one_of, negation, condition, reference}
 use Rattle.schema_reading.specs.Sites.{Site, below, target_site}
-use Rattle.schema_reading.specs.Values.{first_and, type_names, whole_number, count_of, positive_of, names_in, if_none_twice, unique_names}
+use Rattle.schema_reading.specs.Values.{type_names, whole_number, count_of, positive_of, names_in, if_none_twice, unique_names}
 
 -- a document and a path in it, last part first
 pub record Place : Type 0 where

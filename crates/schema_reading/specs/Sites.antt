@@ -1,12 +1,10 @@
 -- Sites: a schema's place together with all that a reference inside it depends on.
-use Rattle.std.specs.Prelude.{ℕ, List, [], ◌∷◌, ◌++◌, ◌==◌, map, Bool, true, false, if◌then◌else◌, Option, Some, None, codes}
+use Rattle.std.specs.Prelude.{ℕ, List, [], ◌∷◌, ◌++◌, ◌==◌, if◌then◌else◌}
 use Rattle.serde_json.specs.Data.{Data}
 use Rattle.serde_json.specs.Find.{unescape}
 use Rattle.percent_encoding.specs.Percent.{percent_decode}
 use Rattle.uri_grammar.specs.Texts.{cut_at, pieces}
-use Rattle.json_paths.specs.Parts.{Part, name, index}
-use Rattle.schema_drafts.specs.Vocabularies.{Vocabularies}
-use Rattle.schema_drafts.specs.declared.draft.Draft.{Draft}
+use Rattle.json_paths.specs.Parts.{Part, name}
 use Rattle.schema_documents.specs.Words.{or}
 use Rattle.schema_documents.specs.Places.{Dialect, SchemaPlace, entered}
 use Rattle.schema_documents.specs.Bearers.{Documents, meta}
