@@ -1,4 +1,4 @@
--- Identifiers and anchors of schemas (Core 8.2; Draft 7, Core 8.2; Draft 4, Core 7.2).
+-- References against a base, and the anchors of schemas (Core 8.2; Draft 7, Core 8.2; Draft 4, Core 7.2).
 use Rattle.std.specs.Prelude.{ℕ, List, [], ◌∷◌, ◌++◌, ◌==◌, Bool, false, not, ◌&&◌, codes, if◌then◌else◌, Option, Some, None, option_and_then, is_some}
 use Rattle.std.specs.List.{flat_map}
 use Rattle.serde_json.specs.Data.{Data}
@@ -7,7 +7,7 @@ use Rattle.uri_grammar.specs.Texts.{cut_at, is_empty, has}
 use Rattle.uri_grammar.specs.Parts.{split}
 use Rattle.uri_grammar.specs.Grammar.{is_reference}
 use Rattle.uri_references.specs.Identity.{identity_against}
-use Rattle.schema_drafts.specs.Drafts.{ignores_siblings, identifier_name}
+pub use Rattle.schema_drafts.specs.Identifiers.{is_hidden, identifier_text, begins_with_hash, without_fragment, identifier}
 use Rattle.schema_drafts.specs.declared.draft.Draft.{Draft}
 use Rattle.schema_drafts.specs.declared.draft.Draft.TheVariants.{Draft4, Draft6, Draft7, Draft201909, Draft202012, Unknown}
 use Rattle.schema_documents.specs.Words.{text_at, listed}
@@ -15,25 +15,6 @@ use Rattle.schema_documents.specs.Words.{text_at, listed}
 -- a reference against a base, in normal form (RFC 3986, sections 5.2 and 6.2.2); none where the text is no URI reference
 unfoldable pub resolved : List ℕ → List ℕ → Option (List ℕ)
 resolved base reference = if is_reference (split reference) then Some (identity_against base reference) else None
-
--- whether a `$ref` hides what stands beside it
-abbrev pub is_hidden : Draft → Data → Bool
-is_hidden draft d = ignores_siblings draft && is_some (get (codes "$ref") d)
-
--- the text of the identifier's keyword
-abbrev pub identifier_text : Draft → Data → Option (List ℕ)
-identifier_text draft d = if is_hidden draft d then None else text_at (identifier_name draft) d
-
-abbrev pub begins_with_hash : List ℕ → Bool
-begins_with_hash [] = false
-begins_with_hash (b ∷ t) = b == 35
-
--- the identifier, without its fragment; a fragment alone is none, the empty text is one
-abbrev pub without_fragment : List ℕ → Option (List ℕ)
-without_fragment t = if begins_with_hash t then None else Some (cut_at 35 t).0
-
-abbrev pub identifier : Draft → Data → Option (List ℕ)
-identifier draft d = option_and_then without_fragment (identifier_text draft d)
 
 -- ---- anchors
 

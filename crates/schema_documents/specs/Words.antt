@@ -1,8 +1,7 @@
 -- Words on lists and results that definitions share.
 use Rattle.std.specs.Prelude.{ℕ, zero, suc, List, [], ◌∷◌, ◌++◌, Bool, bytes_eq, if◌then◌else◌, Option, Some, None, option_and_then, Result, Ok, Err}
 use Rattle.std.specs.List.{list_any, flat_map}
-use Rattle.serde_json.specs.Data.{Data}
-use Rattle.serde_json.specs.Find.{get, as_str}
+pub use Rattle.schema_drafts.specs.Identifiers.{text_at}
 
 abbrev pub or : {X : Type 0} → X → Option X → X
 or x None = x
@@ -35,10 +34,6 @@ ok_or e (Some x) = Ok x
 abbrev pub and_then : {X Y E : Type 0} → Result X E → (X → Result Y E) → Result Y E
 and_then (Ok x) f = f x
 and_then (Err e) f = Err e
-
--- the text of a member; a member that is no text is as if absent
-abbrev pub text_at : List ℕ → Data → Option (List ℕ)
-text_at k d = option_and_then as_str (get k d)
 
 -- those given, then their children, then theirs, down to a depth
 abbrev pub levels : {P : Type 0} → (P → List P) → ℕ → List P → List P

@@ -2,3 +2,4 @@ pub mod Drafts
 pub mod Vocabularies
 pub mod Counts
 pub mod Subschemas
+pub mod Identifiers

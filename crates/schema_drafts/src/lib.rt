@@ -2,6 +2,8 @@
 #![tactic(auto)]
 
 pub mod draft;
+pub mod identifiers;
 pub mod keywords;
+pub mod resource;
 pub mod subschemas;
 mod tests;

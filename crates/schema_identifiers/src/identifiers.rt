@@ -1,4 +1,4 @@
-//! Identifiers and anchors (Core 8.2; Draft 7, Core 8.2; Draft 4, Core 7.2).
+//! Identifiers, anchors and the `$schema` that counts (Core 8.2; Draft 7, Core 8.2; Draft 4, Core 7.2).
 
 ghost use Rattle.std.specs.Prelude.{◌≡◌, ◌++◌, codes, option_map};
 ghost use Rattle.serde_json.specs.View.{view};
@@ -7,58 +7,8 @@ ghost use Rattle.schema_documents.specs.Identifiers as spec;
 ghost use Rattle.schema_documents.specs.Places as places;
 
 use schema_drafts::draft::Draft;
+pub use schema_drafts::identifiers::{identifier, identifier_text, is_hidden, text_at};
 use serde_json::Value;
-use uri_grammar::components::split_fragment;
-
-/// The text of a member. A member that is no text is as if absent.
-pub fn text_at<'d>(contents: &'d Value, name: &str) -> Option<&'d str>
-    ensures { option_map (λ t. t.now) result ≡ words.text_at name.now (view contents.now) }
-{
-    contents.get(name).and_then(Value::as_str)
-}
-
-/// Whether a `$ref` hides what stands beside it, as in Drafts 4 to 7.
-pub fn is_hidden(draft: Draft, contents: &Value) -> bool
-    ensures { result ≡ spec.is_hidden draft (view contents.now) }
-{
-    draft.ignores_siblings() && contents.get("$ref").is_some()
-}
-
-/// The text of the identifier's keyword, where it counts.
-pub fn identifier_text(draft: Draft, contents: &Value) -> Option<&str>
-    ensures { option_map (λ t. t.now) result ≡ spec.identifier_text draft (view contents.now) }
-{
-    if is_hidden(draft, contents) {
-        return None;
-    }
-    text_at(contents, draft.id_keyword())
-}
-
-fn begins_with_hash(text: &str) -> bool
-    ensures { result ≡ spec.begins_with_hash text.now }
-{
-    match text.as_bytes() {
-        [] => false,
-        [first, ..] => *first == b'#',
-    }
-}
-
-// A text without its fragment, where it is no fragment alone.
-fn without_fragment(text: &str) -> Option<&str>
-    ensures { option_map (λ t. t.now) result ≡ spec.without_fragment text.now }
-{
-    if begins_with_hash(text) {
-        return None;
-    }
-    Some(split_fragment(text).0)
-}
-
-/// The identifier of a schema, without its fragment: a reference that gives the base URI. A fragment alone is none.
-pub fn identifier(draft: Draft, contents: &Value) -> Option<&str>
-    ensures { option_map (λ t. t.now) result ≡ spec.identifier draft (view contents.now) }
-{
-    without_fragment(identifier_text(draft, contents)?)
-}
 
 // The name that an identifier is which is a fragment alone.
 fn after_hash(text: &str) -> Option<&str>
