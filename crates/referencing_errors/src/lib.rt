@@ -1,0 +1,5 @@
+//! What the calls on documents and references refuse.
+#![tactic(auto)]
+
+pub mod error;
+pub mod named;
