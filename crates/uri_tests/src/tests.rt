@@ -161,13 +161,21 @@ fn hash_of<T: Hash>(value: &T) -> u64 {
     hasher.finish()
 }
 
+/// The text that an error names.
+fn named(error: &Error) -> &str {
+    match error {
+        Error::InvalidUri(UriError::Parse { uri }) => uri.as_str(),
+        _ => "",
+    }
+}
+
 /// What is refused is named.
 #[test]
 fn names_what_it_refuses(rt: HostRuntime) -> Result<(), Error> {
     for text in ["%zz", "a b", "1:2"] {
         match UriRef::parse(rt.alloc(), text) {
-            Err(Error::InvalidUri(UriError::Parse { uri })) => assert_eq!(rt; uri.as_str(), text),
-            _ => assert!(rt; false),
+            Err(error) => assert_eq!(rt; named(&error), text),
+            Ok(_) => assert!(rt; false),
         }
     }
     match Uri::parse(rt.alloc(), "a/b") {
