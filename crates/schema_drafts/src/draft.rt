@@ -22,7 +22,7 @@ impl Default for Draft {
     fn default() -> Self
         ensures { result ≡ drafts.newest }
     {
-        Draft::Draft202012
+        Self::Draft202012
     }
 }
 

@@ -5,7 +5,7 @@ ghost use Rattle.uri_grammar.specs.Parts.{behind};
 ghost use Rattle.uri_grammar.specs.Texts.{all_or_none};
 ghost use Rattle.uri_grammar.specs.Grammar as grammar;
 ghost use Rattle.uri_references.specs.Fragments as spec;
-ghost use Rattle.uri_references.specs.Fragments.{fragment_of, without_fragment};
+ghost use Rattle.uri_references.specs.Fragments.{fragment_of};
 
 use std::alloc::{AllocError, Global};
 use uri_grammar::components::split_fragment;
@@ -26,15 +26,6 @@ pub fn is_fragment_or_none(fragment: Option<&str>) -> bool
     match fragment {
         Some(fragment) => is_fragment(fragment),
         None => true,
-    }
-}
-
-/// Cuts the fragment off.
-pub fn cut_fragment(text: &mut String)
-    ensures { string_bytes text.new ≡ without_fragment (string_bytes text.old) }
-{
-    if let Some(at) = text.find('#') {
-        text.truncate(at);
     }
 }
 

@@ -2,7 +2,7 @@
 
 use crate::borrowed::UriRef;
 use crate::error::Error;
-use crate::fragment::{cut_fragment, has_fragment, is_fragment_or_none, with_fragment};
+use crate::fragment::{has_fragment, is_fragment_or_none, with_fragment};
 use crate::refusal::refusal;
 use std::alloc::{AllocError, Global};
 use std::marker::Model;

@@ -8,7 +8,7 @@ ghost use Rattle.uri_resolution.specs.Dots.{remove_dots, after_segment, after_se
 use std::alloc::{AllocError, Global};
 
 /// Takes the last segment of a path away, with the slash before it.
-pub fn go_up(path: &mut String)
+pub(crate) fn go_up(path: &mut String)
     ensures { string_bytes path.new ≡ up (string_bytes path.old) }
 {
     match path.rfind('/') {

@@ -74,7 +74,7 @@ fn take_digits(text: &str) -> Option<(u8, u8, &str)>
 }
 
 /// Writes a text with its triplets in normal form.
-pub fn push_with_triplets(output: &mut String, text: &str) -> Result<(), AllocError>
+pub(crate) fn push_with_triplets(output: &mut String, text: &str) -> Result<(), AllocError>
     ensures { OnOk result (string_bytes output.new ≡ string_bytes output.old ++ with_triplets text.now) }
 {
     let mut rest = text;

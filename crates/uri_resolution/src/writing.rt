@@ -39,7 +39,7 @@ fn begins_doubly(path: &str) -> bool
 }
 
 /// Writes a path, behind `/.` where it stands behind no authority and begins with two slashes.
-pub fn push_guarded(
+pub(crate) fn push_guarded(
     output: &mut String,
     authority: Option<&str>,
     path: &str,
