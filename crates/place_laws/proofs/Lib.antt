@@ -1,0 +1,9 @@
+pub mod Lists
+pub mod Walked
+pub mod Leading
+pub mod Unmoved
+pub mod Alone
+pub mod Depths
+pub mod Lasting
+pub mod Walks
+pub mod Looked

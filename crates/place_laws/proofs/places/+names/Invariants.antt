@@ -1,0 +1,10 @@
+use Rattle.std.proofs.Common.{◌≡◌, drop}
+use Rattle.serde_json.specs.View.{items_view, members_view}
+use Rattle.place_laws.specs.Rising.{items_rise, members_rise}
+use Rattle.place_laws.proofs.places.+names.Given as goal
+
+abbrev pub invariant-items_rise-loop-item : goal.invariant-items_rise-loop-item
+invariant-items_rise-loop-item l = items_rise (items_view l.items) ≡ items_rise (items_view (drop l.item-index l.items))
+
+abbrev pub invariant-members_rise-loop-member : goal.invariant-members_rise-loop-member
+invariant-members_rise-loop-member l = members_rise (members_view l.members.entries) ≡ members_rise (members_view l.member-iterator)

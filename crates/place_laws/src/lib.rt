@@ -1,0 +1,5 @@
+//! Laws on schema places and lookup: each is the contract of a function.
+#![tactic(auto)]
+
+pub mod lookups;
+pub mod places;
