@@ -1,0 +1,4 @@
+pub mod AnswerLemmas
+pub mod LastLemmas
+pub mod LocatedLemmas
+pub mod NamedLemmas

@@ -1,0 +1,7 @@
+use Rattle.std.proofs.Common.{◌≡◌, map, take}
+use Rattle.document_index.specs.Located.{located_standings}
+use Rattle.document_index.specs.Seen.{document_of, located_of}
+use Rattle.document_index.proofs.standing.standings.Given as goal
+
+abbrev pub invariant-loop-position : goal.invariant-loop-position
+invariant-loop-position l = map located_of l.found.items ≡ located_standings (map document_of (take l.position l.documents))

@@ -1,0 +1,33 @@
+-- What an index says.
+use Rattle.std.specs.Prelude.{◌≡◌, ℕ, List, Option, option_map, option_and_then, String}
+use Rattle.std.specs.Global.{Global}
+use Rattle.std.specs.BTreeMap.{BTreeMap, get_by_text}
+use Rattle.schema_documents.specs.Places.{standard}
+use Rattle.schema_documents.specs.Identifiers.{anchors}
+use Rattle.schema_documents.specs.Bearers.{bears, bears_anchor}
+use Rattle.document_index.specs.Located.{Located, Kept, kept_of, last_located}
+use Rattle.document_index.specs.declared.index.Bearer.{Bearer}
+use Rattle.document_index.specs.declared.index.Index.{Index}
+
+abbrev pub bearer_of : Bearer → Kept
+bearer_of b = record { document = b.document; path = b.path; base = b.base.value; dialect = standard b.draft }
+
+-- the bearer under a name
+abbrev pub named : BTreeMap (String Global) Bearer → List ℕ → Option Kept
+named bearers name = option_map bearer_of (get_by_text bearers name)
+
+-- the bearer under a base and a name
+abbrev pub anchor_named : BTreeMap (String Global) (BTreeMap (String Global) Bearer) → List ℕ → List ℕ → Option Kept
+anchor_named bases base name = option_and_then (λ names. named names name) (get_by_text bases base)
+
+-- what an index has under a URI, and under a base and the name of an anchor
+unfoldable pub bearer_in : Index → List ℕ → Option Kept
+bearer_in index uri = named index.by_uri uri
+
+unfoldable pub anchored_in : Index → List ℕ → List ℕ → Option Kept
+anchored_in index base name = anchor_named index.by_anchor base name
+
+-- an index has the last bearer of each URI and of each anchor among the schema places, and nothing else
+pub record Indexes (index : Index) (all : List Located) : Type 0 where
+  pub by_uri : (uri : List ℕ) → bearer_in index uri ≡ option_map kept_of (last_located (bears uri) all)
+  pub by_anchor : (base name : List ℕ) → anchored_in index base name ≡ option_map kept_of (last_located (bears_anchor anchors base name) all)

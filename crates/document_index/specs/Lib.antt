@@ -1,0 +1,4 @@
+pub mod Located
+pub mod Seen
+pub mod Indexes
+pub mod Answers

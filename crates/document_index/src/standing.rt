@@ -1,0 +1,69 @@
+//! The schema places of several documents.
+
+ghost use Rattle.std.specs.Prelude.{◌≡◌, ◌++◌, map, IfOk, OnOk};
+ghost use Rattle.schema_documents.specs.Bearers as bearers;
+ghost use Rattle.schema_identifiers.specs.Unknown.{no_meta};
+ghost use Rattle.document_index.specs.Located.{located_standings, standings_at};
+ghost use Rattle.document_index.specs.Seen.{document_of, standing_of, located_of};
+
+use crate::document::Document;
+use schema_places::document::places;
+use schema_places::place::Place;
+use std::alloc::{AllocError, Global};
+use std::rc::Rc;
+use uri_references::uri::Uri;
+
+/// A schema place of one of several documents.
+#[derive(Drop)]
+pub struct Standing<'d> {
+    /// The document's position among them.
+    pub document: usize,
+    /// The document's URI.
+    pub uri: Rc<Uri>,
+    /// The place in the document.
+    pub place: Place<'d>,
+}
+
+fn push_standings<'d>(
+    alloc: Global,
+    found: &mut Vec<Standing<'d>>,
+    position: usize,
+    document: &'d Document<'_>,
+) -> Result<(), AllocError>
+    ensures { OnOk result (map located_of found.new.items ≡ map located_of found.old.items ++ standings_at (position, document_of document.now)) }
+{
+    for place in places(
+        alloc,
+        &document.uri,
+        document.default,
+        document.contents.value(),
+    )? {
+        found.push(Standing {
+            document: position,
+            uri: document.uri.clone()?,
+            place,
+        })?;
+    }
+    Ok(())
+}
+
+/// The schema places of the documents in their order, those of each by levels from its root.
+///
+/// It costs what the places of each document cost. The standings of a document share its URI.
+///
+/// # Errors
+///
+/// Where memory was refused, or a count of owners is full.
+pub fn standings<'d>(
+    alloc: Global,
+    documents: &'d [Document<'_>],
+) -> Result<Vec<Standing<'d>>, AllocError>
+    ensures stand { IfOk result (λ v. map standing_of v.items ≡ bearers.standings no_meta (map document_of documents.now)) }
+    ensures located { IfOk result (λ v. map located_of v.items ≡ located_standings (map document_of documents.now)) }
+{
+    let mut found = Vec::new(alloc);
+    for (position, document) in documents.iter().enumerate() {
+        push_standings(alloc, &mut found, position, document)?;
+    }
+    Ok(found)
+}

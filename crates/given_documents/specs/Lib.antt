@@ -1,0 +1,4 @@
+pub mod Given
+pub mod Seen
+pub mod Listed
+pub mod Uris

@@ -1,0 +1,17 @@
+//! Documents in their order, each once.
+
+ghost use Rattle.std.specs.Prelude.{◌≡◌, ℕ, List, map};
+ghost use Rattle.std.specs.BTreeMap.{get_by_text};
+ghost use Rattle.given_documents.specs.Given.{position_in};
+ghost use Rattle.given_documents.specs.Seen.{given_of};
+
+use crate::document::Document;
+use std::collections::BTreeMap;
+
+/// Documents in the order in which their URIs were first added.
+#[derive(Drop)]
+pub struct DocumentList<'a> {
+    pub(crate) documents: Vec<Document<'a>>,
+    pub(crate) positions: BTreeMap<String, usize>,
+    ghost placed: { ∥ ((q : List ℕ) → get_by_text positions q ≡ position_in (map given_of documents.items) q) ∥₁ },
+}

@@ -1,0 +1,4 @@
+pub mod Causes
+pub mod Held
+pub mod Walks
+pub mod Reached

@@ -1,0 +1,9 @@
+//! Walks from a schema place along a JSON pointer (RFC 6901), with the base URI and the draft of what they reach.
+#![tactic(auto)]
+
+pub mod error;
+pub mod reached;
+#[cfg(test)]
+mod tests;
+mod walk;
+mod within;

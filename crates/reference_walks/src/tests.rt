@@ -1,0 +1,207 @@
+// What pointers lead to from the root of a document: the pointer of the value, its base, its draft, and whether it is a schema place.
+use crate::reached::{Reached, follow_pointer};
+use schema_drafts::draft::Draft;
+use schema_places::place::{Place, enter, root};
+use schema_steps::Path;
+use serde_json::Value;
+use std::alloc::Global;
+use std::process::Abort;
+use std::rc::Rc;
+use std::test::Fail;
+use uri_references::uri::Uri;
+
+fn written(alloc: Global, from: &Place<'_>, fragment: &str) -> Result<String, Fail> {
+    let reached = match follow_pointer(alloc, from, fragment) {
+        Ok(reached) => reached,
+        Err(error) => return Ok(format!(in alloc; "{error}")?),
+    };
+    let Reached {
+        path,
+        base,
+        draft,
+        is_place,
+        ..
+    } = reached;
+    let pointer = path.to_pointer(alloc)?;
+    let what = if is_place { "place" } else { "part" };
+    Ok(format!(in alloc; "{what} #{pointer} {} {draft:?}", base.as_str())?)
+}
+
+// By 2020-12 where the document names no draft.
+fn root_of<'d>(alloc: Global, contents: &'d Value) -> Result<Place<'d>, Fail> {
+    let uri = Rc::new(alloc, Uri::parse(alloc, "http://a.test/root.json")?)?;
+    Ok(root(alloc, &uri, Draft::Draft202012, contents)?)
+}
+
+fn assert_leads(
+    rt: &impl Abort,
+    alloc: Global,
+    text: &str,
+    rows: &[(&str, &str)],
+) -> Result<(), Fail> {
+    let contents = Value::from_str(alloc, text)?;
+    let from = root_of(alloc, &contents)?;
+    for (fragment, want) in rows {
+        assert_eq!(rt; written(alloc, &from, fragment)?.as_str(), *want);
+    }
+    Ok(())
+}
+
+// JSON Schema 2020-12, Core, appendix A.
+#[test]
+fn embedded_resources_change_the_base(rt: HostRuntime) -> Result<(), Fail> {
+    let text = "{\"$id\": \"https://example.com/root.json\", \"$defs\": {
+        \"A\": {\"$anchor\": \"foo\"},
+        \"B\": {\"$id\": \"other.json\", \"$defs\": {
+            \"X\": {\"$anchor\": \"bar\"},
+            \"Y\": {\"$id\": \"t/inner.json\", \"$anchor\": \"bar\"}}},
+        \"C\": {\"$id\": \"urn:uuid:ee564b8a-7a87-4125-8c96-e9f123d6766f\"}}}";
+    assert_leads(
+        &rt,
+        rt.alloc(),
+        text,
+        &[
+            (
+                "/$defs/A",
+                "place #/$defs/A https://example.com/root.json Draft202012",
+            ),
+            (
+                "/$defs/B",
+                "place #/$defs/B https://example.com/other.json Draft202012",
+            ),
+            (
+                "/$defs/B/$defs",
+                "part #/$defs/B/$defs https://example.com/other.json Draft202012",
+            ),
+            (
+                "/$defs/B/$defs/X",
+                "place #/$defs/B/$defs/X https://example.com/other.json Draft202012",
+            ),
+            (
+                "/$defs/B/$defs/Y",
+                "place #/$defs/B/$defs/Y https://example.com/t/inner.json Draft202012",
+            ),
+            (
+                "/%24defs/C",
+                "place #/$defs/C urn:uuid:ee564b8a-7a87-4125-8c96-e9f123d6766f Draft202012",
+            ),
+            (
+                "/$defs/C/$id",
+                "part #/$defs/C/$id urn:uuid:ee564b8a-7a87-4125-8c96-e9f123d6766f Draft202012",
+            ),
+        ],
+    )
+}
+
+// The percent-coded pointers are of RFC 6901, section 6.
+#[test]
+fn pointers_are_decoded_and_then_split(rt: HostRuntime) -> Result<(), Fail> {
+    let text =
+        "{\"foo\": [\"bar\", \"baz\"], \"\": 0, \"a/b\": 1, \"c%d\": 2, \"k\\\"l\": 6, \" \": 7, \"m~n\": 8, \"oneOf\": [{}, {\"$id\": \"one\"}]}";
+    assert_leads(
+        &rt,
+        rt.alloc(),
+        text,
+        &[
+            ("/foo/0", "part #/foo/0 http://a.test/root.json Draft202012"),
+            ("/", "part #/ http://a.test/root.json Draft202012"),
+            ("/a~1b", "part #/a~1b http://a.test/root.json Draft202012"),
+            ("/c%25d", "part #/c%d http://a.test/root.json Draft202012"),
+            ("/k%22l", "part #/k\"l http://a.test/root.json Draft202012"),
+            ("/%20", "part #/  http://a.test/root.json Draft202012"),
+            ("/m~0n", "part #/m~0n http://a.test/root.json Draft202012"),
+            (
+                "/foo%2F1",
+                "part #/foo/1 http://a.test/root.json Draft202012",
+            ),
+            ("/oneOf/1", "place #/oneOf/1 http://a.test/one Draft202012"),
+            ("/a%2Fb", "Pointer '/a%2Fb' does not exist"),
+            ("/foo/2", "Pointer '/foo/2' does not exist"),
+            ("/foo/0/x", "Pointer '/foo/0/x' does not exist"),
+            (
+                "/foo/18446744073709551616",
+                "Pointer '/foo/18446744073709551616' does not exist",
+            ),
+            ("/foo/01", "Invalid array index '01' in pointer '/foo/01'"),
+            (
+                "/f%6Fo/-/x",
+                "Invalid array index '-' in pointer '/f%6Fo/-/x'",
+            ),
+            (
+                "/%FF",
+                "Invalid percent encoding in pointer '/%FF': the decoded bytes do not represent valid UTF-8",
+            ),
+        ],
+    )
+}
+
+#[test]
+fn a_reference_of_draft_7_hides_what_stands_beside_it(rt: HostRuntime) -> Result<(), Fail> {
+    let text =
+        "{\"$schema\": \"http://json-schema.org/draft-07/schema#\", \"$ref\": \"#/definitions/a\",
+        \"not\": {\"$id\": \"hidden\"}, \"definitions\": {\"a\": {\"$id\": \"a\", \"items\": [{\"$id\": \"i\"}]}},
+        \"const\": {\"$id\": \"value\"}}";
+    assert_leads(
+        &rt,
+        rt.alloc(),
+        text,
+        &[
+            ("/not", "part #/not http://a.test/root.json Draft7"),
+            (
+                "/definitions/a",
+                "place #/definitions/a http://a.test/a Draft7",
+            ),
+            (
+                "/definitions/a/items/0",
+                "place #/definitions/a/items/0 http://a.test/i Draft7",
+            ),
+            (
+                "/const/$id",
+                "part #/const/$id http://a.test/root.json Draft7",
+            ),
+        ],
+    )?;
+    let text = "{\"$defs\": {
+        \"old\": {\"$schema\": \"http://json-schema.org/draft-07/schema#\", \"$id\": \"old\", \"items\": [{}]},
+        \"own\": {\"$schema\": \"http://m.test/own#\", \"$id\": \"own\", \"not\": {}}}}";
+    assert_leads(
+        &rt,
+        rt.alloc(),
+        text,
+        &[
+            (
+                "/$defs/old/items/0",
+                "place #/$defs/old/items/0 http://a.test/old Draft7",
+            ),
+            (
+                "/$defs/own/not",
+                "place #/$defs/own/not http://a.test/root.json Draft202012",
+            ),
+        ],
+    )
+}
+
+#[test]
+fn paths_go_on_from_the_place(rt: HostRuntime) -> Result<(), Fail> {
+    let contents = Value::from_str(
+        rt.alloc(),
+        "{\"$id\": \"sub/\", \"not\": {\"type\": \"null\"}}",
+    )?;
+    let uri = Rc::new(rt.alloc(), Uri::parse(rt.alloc(), "http://a.test/")?)?;
+    let path = Path::root()
+        .push_name(rt.alloc(), "$defs")?
+        .push_name(rt.alloc(), "s")?;
+    let from = enter(rt.alloc(), &uri, Draft::Draft6, path, &contents)?;
+    let fragment = "/not";
+    assert_eq!(rt;
+        written(rt.alloc(), &from, fragment)?.as_str(),
+        "place #/$defs/s/not http://a.test/sub/ Draft6"
+    );
+    let reached = follow_pointer(rt.alloc(), &from, fragment)?;
+    assert!(rt; Rc::ptr_eq(&from.base, &reached.base));
+    assert_eq!(rt;
+        reached.contents.to_string(rt.alloc())?.as_str(),
+        "{\"type\":\"null\"}"
+    );
+    Ok(())
+}

@@ -1,0 +1,13 @@
+-- The schema place that an index keeps something of.
+use Rattle.std.specs.Prelude.{List, reverse, Option, None, option_map}
+use Rattle.serde_json.specs.Data.{Data}
+use Rattle.json_paths.specs.Pointers.{value_at}
+use Rattle.schema_documents.specs.Bearers.{Document, Standing}
+use Rattle.document_index.specs.Located.{Kept}
+
+-- what lies in a document at a path that was kept
+abbrev pub kept_at : Document → Kept → Data → Standing
+kept_at d k contents = record { document = d.uri; place = record { path = k.path; contents = contents; base = k.base; dialect = k.dialect; awaits = None } }
+
+abbrev pub kept_standing : Document → Kept → Option Standing
+kept_standing d k = option_map (kept_at d k) (value_at (reverse k.path) d.contents)

@@ -1,0 +1,159 @@
+//! Documents gathered, to be prepared.
+
+ghost use Rattle.std.specs.Prelude.{◌≡◌, List, [], map, Some, IfOk, IfErr, OnOk, IsTrue};
+ghost use Rattle.std.specs.Iterator.{IsFiniteIterable, Drains, YieldsThen};
+ghost use Rattle.schema_drafts.specs.Drafts as drafts;
+ghost use Rattle.referencing_errors.specs.Causes.{IsMemory};
+ghost use Rattle.given_documents.specs.Given.{with_given};
+ghost use Rattle.given_documents.specs.Seen.{given_of};
+ghost use Rattle.given_documents.specs.Uris.{is_document_uri, RefusesUri};
+ghost use Rattle.referencing.specs.Built.{given_in, given_by, Adds};
+
+use given_documents::document::Document;
+use given_documents::list::DocumentList;
+use given_documents::resource::IntoRegistryResource;
+use given_documents::uri::document_uri;
+use referencing_errors::error::Error;
+use schema_drafts::draft::Draft;
+use std::alloc::Global;
+use std::convert::AsStr;
+
+/// Documents to be prepared, and the draft of those that name none: 2020-12 at first.
+#[derive(Drop)]
+pub struct RegistryBuilder<'a> {
+    alloc: Global,
+    draft: Draft,
+    list: DocumentList<'a>,
+}
+
+/// A call that was refused: the builder as it was left, and why.
+#[derive(Drop)]
+pub struct Refused<'a> {
+    pub builder: RegistryBuilder<'a>,
+    pub error: Error,
+}
+
+impl<'a> From<Refused<'a>> for Error {
+    ghost from_gives = { λ r e. e ≡ r.error };
+
+    fn from(refused: Refused<'a>) -> Error {
+        refused.error
+    }
+}
+
+impl<'a> RegistryBuilder<'a> {
+    /// No documents. It allocates nothing.
+    pub fn new(alloc: Global) -> RegistryBuilder<'a>
+        ensures documents { given_in result ≡ [] }
+        ensures draft { result.draft ≡ drafts.newest }
+    {
+        RegistryBuilder {
+            alloc,
+            draft: Draft::default(),
+            list: DocumentList::new(alloc),
+        }
+    }
+
+    /// Sets the draft of the documents that name none, those added before among them.
+    pub fn draft(self, draft: Draft) -> RegistryBuilder<'a>
+        ensures documents { given_in result ≡ given_in self.entry }
+        ensures draft { result.draft ≡ draft }
+    {
+        RegistryBuilder { draft, ..self }
+    }
+
+    /// Adds a document under a URI; one added before under the same gives it its place.
+    ///
+    /// The text is read as a URI reference in normal form, against `json-schema:///` where it has no scheme, and an empty fragment
+    /// equals none. It takes time in the length of the text times the logarithm of the number of documents, and copies no document.
+    ///
+    /// # Errors
+    ///
+    /// Where the text is no URI reference or has a fragment that is not empty, which is then named, or where memory was refused. The
+    /// builder comes back as it was, and the document is dropped.
+    pub fn add<R: IntoRegistryResource<'a> + Drop>(
+        self,
+        uri: &str,
+        resource: R,
+    ) -> Result<RegistryBuilder<'a>, Refused<'a>>
+        ensures ok { IfOk result (λ b. given_in b ≡ with_given (given_in self.entry) (given_by R.contents R.draft uri.now resource)) }
+        ensures draft { IfOk result (λ b. b.draft ≡ self.entry.draft) }
+        ensures accepted { OnOk result (IsTrue (is_document_uri uri.now)) }
+        ensures refused { IfErr result (λ r. RefusesUri uri.now r.error) }
+        ensures unchanged { IfErr result (λ r. given_in r.builder ≡ given_in self.entry) }
+        ensures same_draft { IfErr result (λ r. r.builder.draft ≡ self.entry.draft) }
+    {
+        match document_uri(self.alloc, uri) {
+            Ok(uri) => {
+                let (contents, draft) = resource.into_registry_resource();
+                self.with_document(Document {
+                    uri,
+                    contents,
+                    draft,
+                })
+            }
+            Err(error) => Err(Refused {
+                builder: self,
+                error,
+            }),
+        }
+    }
+
+    // Adds a document, or gives the builder back.
+    fn with_document(self, document: Document<'a>) -> Result<RegistryBuilder<'a>, Refused<'a>>
+        ensures ok { IfOk result (λ b. given_in b ≡ with_given (given_in self.entry) (given_of document.entry)) }
+        ensures draft { IfOk result (λ b. b.draft ≡ self.entry.draft) }
+        ensures refused { IfErr result (λ r. IsMemory r.error) }
+        ensures unchanged { IfErr result (λ r. given_in r.builder ≡ given_in self.entry) }
+        ensures same_draft { IfErr result (λ r. r.builder.draft ≡ self.entry.draft) }
+    {
+        let RegistryBuilder { alloc, draft, list } = self;
+        match list.put(alloc, document) {
+            Ok(list) => Ok(RegistryBuilder { alloc, draft, list }),
+            Err(list) => Err(Refused {
+                builder: RegistryBuilder { alloc, draft, list },
+                error: Error::Memory,
+            }),
+        }
+    }
+
+    /// Adds pairs of a URI and a document in their order, each as `add` does, until one is refused.
+    ///
+    /// # Errors
+    ///
+    /// Those of `add` at the first pair that is refused. The pairs before it stay added; it and those behind it are not.
+    pub fn extend<
+        U: AsStr + Drop,
+        R: IntoRegistryResource<'a> + Drop,
+        I: IntoIterator<Item = (U, R)>,
+    >(self, pairs: I) -> Result<RegistryBuilder<'a>, Refused<'a>>
+    where
+        I::IntoIter: Drop,
+        requires { IsFiniteIterable I.into_iter_gives I.IntoIter.can_next I.IntoIter.remaining pairs }
+        ensures ok { IfOk result (λ b. (it : I.IntoIter) × (xs : List (U × R)) × I.into_iter_gives pairs it × Drains I.IntoIter.next_gives it xs × Adds U.text R.contents R.draft self.entry xs b) }
+        ensures draft { IfOk result (λ b. b.draft ≡ self.entry.draft) }
+        ensures refused { IfErr result (λ r. (it : I.IntoIter) × (before : List (U × R)) × (x : U × R) × (rest : I.IntoIter) × I.into_iter_gives pairs it × YieldsThen I.IntoIter.next_gives it before (Some x) rest × Adds U.text R.contents R.draft self.entry before r.builder × RefusesUri (U.text x.0) r.error) }
+        ensures same_draft { IfErr result (λ r. r.builder.draft ≡ self.entry.draft) }
+    {
+        let mut builder = self;
+        for (uri, resource) in pairs {
+            builder = builder.add(uri.as_str(), resource)?;
+        }
+        Ok(builder)
+    }
+
+    /// The allocator of the calls.
+    pub fn allocator(&self) -> Global
+        ensures { result ≡ self.now.alloc }
+    {
+        self.alloc
+    }
+
+    /// The documents in the order in which their URIs were first added, and the draft of those that name none.
+    pub fn into_parts(self) -> (Vec<Document<'a>>, Draft)
+        ensures documents { map given_of result.0.items ≡ given_in self.entry }
+        ensures draft { result.1 ≡ self.entry.draft }
+    {
+        (self.list.into_documents(), self.draft)
+    }
+}

@@ -1,0 +1,82 @@
+//! Who bears a URI or an anchor.
+
+ghost use Rattle.std.specs.Prelude.{◌≡◌, ◌∷◌, [], IfOk, option_map, is_some};
+ghost use Rattle.schema_documents.specs.Bearers as bearers;
+ghost use Rattle.schema_identifiers.specs.Unknown.{no_meta};
+ghost use Rattle.document_index.specs.Seen.{document_of, standing_of};
+ghost use Rattle.document_index.specs.Indexes.{bearer_of};
+ghost use Rattle.referencing.specs.Kept.{kept_standing};
+ghost use Rattle.referencing.specs.Seen.{documents_of};
+
+use crate::registry::Registry;
+use document_index::answers;
+use document_index::document::Document;
+use document_index::index::Bearer;
+use document_index::standing::Standing;
+use schema_places::place::Place;
+use std::alloc::{AllocError, Global};
+
+fn standing_at<'r>(document: &'r Document<'_>, bearer: &Bearer) -> Result<Option<Standing<'r>>, AllocError>
+    ensures { IfOk result (λ s. option_map standing_of s ≡ kept_standing (document_of document.now) (bearer_of bearer.now)) }
+{
+    let Some(contents) = bearer.path.find_in(document.contents.value()) else {
+        return Ok(None);
+    };
+    Ok(Some(Standing {
+        document: bearer.document,
+        uri: document.uri.clone()?,
+        place: Place {
+            path: bearer.path.clone()?,
+            contents,
+            base: bearer.base.clone()?,
+            draft: bearer.draft,
+            awaits: None,
+        },
+    }))
+}
+
+impl<'a> Registry<'a> {
+    /// The allocator of what is made from the registry.
+    pub fn allocator(&self) -> Global {
+        self.alloc
+    }
+
+    /// The last schema place that bears a URI.
+    ///
+    /// One search by the URI, and a look-up for each step of the place's path. It copies nothing.
+    ///
+    /// # Errors
+    ///
+    /// Where a count of owners is full.
+    pub fn bearer(&self, uri: &str) -> Result<Option<Standing<'_>>, AllocError>
+        ensures { IfOk result (λ s. option_map standing_of s ≡ bearers.bearer_under no_meta (documents_of self.now ∷ []) uri.now) }
+    {
+        match answers::bearer(&self.documents, &self.index, uri) {
+            Some((document, bearer)) => standing_at(document, bearer),
+            None => Ok(None),
+        }
+    }
+
+    /// The last schema place that bears an anchor under a base.
+    ///
+    /// Two searches, and a look-up for each step of the place's path. It copies nothing.
+    ///
+    /// # Errors
+    ///
+    /// Where a count of owners is full.
+    pub fn anchored(&self, base: &str, name: &str) -> Result<Option<Standing<'_>>, AllocError>
+        ensures { IfOk result (λ s. option_map standing_of s ≡ bearers.anchored_under no_meta (documents_of self.now ∷ []) base.now name.now) }
+    {
+        match answers::anchored(&self.documents, &self.index, base, name) {
+            Some((document, bearer)) => standing_at(document, bearer),
+            None => Ok(None),
+        }
+    }
+
+    /// Whether a schema place bears a URI. One search by the URI.
+    pub fn contains_resource(&self, uri: &str) -> bool
+        ensures { result ≡ is_some (bearers.bearer_under no_meta (documents_of self.now ∷ []) uri.now) }
+    {
+        answers::bearer(&self.documents, &self.index, uri).is_some()
+    }
+}

@@ -1,0 +1,123 @@
+//! Documents prepared.
+
+ghost use Rattle.std.specs.Prelude.{◌≡◌, [], map, true, IfOk, IfErr, OnOk};
+ghost use Rattle.std.specs.List.{list_all};
+ghost use Rattle.document_index.specs.Seen.{document_of};
+ghost use Rattle.document_index.specs.Located.{located_standings};
+ghost use Rattle.document_index.specs.Indexes.{Indexes};
+ghost use Rattle.referencing.specs.Causes.{causes_of};
+ghost use Rattle.referencing.specs.Named.{NamesOne};
+ghost use Rattle.referencing.specs.Stands.{contents_rise};
+ghost use Rattle.referencing.specs.Seen.{documents_of};
+ghost use Rattle.schema_drafts.specs.Drafts.{newest};
+ghost use Rattle.given_documents.specs.Given.{document_by, documents_by};
+ghost use Rattle.given_documents.specs.Seen.{given_of};
+ghost use Rattle.referencing.specs.Built.{given_in};
+
+use crate::builder::RegistryBuilder;
+use crate::causes::check_places;
+use crate::registry::Registry;
+use document_index::document::Document;
+use document_index::index::Index;
+use document_index::standing::standings;
+use given_documents::document::Document as GivenDocument;
+use place_laws::places::names_rise;
+use referencing_errors::error::Error;
+use schema_drafts::draft::Draft;
+use std::alloc::{AllocError, Global};
+
+fn checked_index(alloc: Global, documents: &[Document<'_>]) -> Result<Index, Error>
+    ensures indexed { IfOk result (λ i. Indexes i (located_standings (map document_of documents.now))) }
+    ensures accepted { OnOk result (causes_of (map document_of documents.now) ≡ []) }
+    ensures refused { IfErr result (NamesOne (causes_of (map document_of documents.now))) }
+{
+    let places = standings(alloc, documents)?;
+    let index = Index::of(alloc, &places)?;
+    check_places(alloc, &index, &places)?;
+    Ok(index)
+}
+
+// Each object has its names in their order, each once.
+fn check_names(documents: &[Document<'_>])
+    ensures { list_all contents_rise (map document_of documents.now) ≡ true }
+{
+    for document in documents {
+        names_rise(document.contents.value());
+    }
+}
+
+impl<'a> Registry<'a> {
+    /// The registry of documents, where they have no cause to be refused. The last document of a URI counts.
+    ///
+    /// It walks the schema places of each document twice, with a look-up in a map for each URI and each anchor borne and for each
+    /// `$ref`. What is copied are URIs, the names of anchors, and the names of the members that lead to schemas.
+    ///
+    /// # Errors
+    ///
+    /// A cause that the documents have, or want of memory. Nothing of the registry is left then.
+    pub fn of(alloc: Global, documents: Vec<Document<'a>>) -> Result<Registry<'a>, Error>
+        ensures documents { IfOk result (λ r. documents_of r ≡ map document_of documents.entry.items) }
+        ensures accepted { OnOk result (causes_of (map document_of documents.entry.items) ≡ []) }
+        ensures refused { IfErr result (NamesOne (causes_of (map document_of documents.entry.items))) }
+    {
+        let index = checked_index(alloc, &documents)?;
+        check_names(&documents);
+        Ok(Registry {
+            alloc,
+            documents,
+            index,
+        })
+    }
+}
+
+// A document with the draft by default where none was given with it.
+fn with_draft<'a>(given: GivenDocument<'a>, default: Draft) -> Document<'a>
+    ensures { document_of result ≡ document_by default (given_of given.entry) }
+{
+    Document {
+        uri: given.uri,
+        contents: given.contents,
+        default: given.draft.unwrap_or(default),
+    }
+}
+
+fn with_drafts<'a>(alloc: Global, given: Vec<GivenDocument<'a>>, default: Draft) -> Result<Vec<Document<'a>>, AllocError>
+    ensures { IfOk result (λ v. map document_of v.items ≡ documents_by default (map given_of given.entry.items)) }
+{
+    let mut documents = Vec::new(alloc);
+    for document in given {
+        documents.push(with_draft(document, default))?;
+    }
+    Ok(documents)
+}
+
+impl<'a> Registry<'a> {
+    /// A builder with no documents.
+    pub fn new(alloc: Global) -> RegistryBuilder<'a>
+        ensures documents { given_in result ≡ [] }
+        ensures draft { result.draft ≡ newest }
+    {
+        RegistryBuilder::new(alloc)
+    }
+}
+
+impl<'a> RegistryBuilder<'a> {
+    /// The registry of the documents added, where they have no cause to be refused: an identifier, a `$schema` that counts or a `$ref` that is
+    /// no URI reference, a `$ref` to a document that was not added, a `$schema` that names none of the drafts.
+    ///
+    /// It costs what [`Registry::of`] costs.
+    ///
+    /// # Errors
+    ///
+    /// A cause that the documents have, or want of memory. Nothing of the registry is left then.
+    pub fn prepare(self) -> Result<Registry<'a>, Error>
+        ensures documents { IfOk result (λ r. documents_of r ≡ documents_by self.entry.draft (given_in self.entry)) }
+        ensures accepted { OnOk result (causes_of (documents_by self.entry.draft (given_in self.entry)) ≡ []) }
+        ensures refused { IfErr result (NamesOne (causes_of (documents_by self.entry.draft (given_in self.entry)))) }
+    {
+        let alloc = self.allocator();
+        let (given, draft) = self.into_parts();
+        let documents = with_drafts(alloc, given, draft)?;
+        Registry::of(alloc, documents)
+    }
+}

@@ -1,0 +1,18 @@
+//! Registries.
+
+ghost use Rattle.std.specs.Prelude.{map};
+ghost use Rattle.document_index.specs.Seen.{document_of};
+ghost use Rattle.referencing.specs.Stands.{Stands};
+
+use document_index::document::Document;
+use document_index::index::Index;
+use std::alloc::Global;
+
+/// Documents that were prepared: each reference in them to a document leads to a schema place. Contracts see the list of the documents.
+#[derive(Drop)]
+pub struct Registry<'a> {
+    pub(crate) alloc: Global,
+    pub(crate) documents: Vec<Document<'a>>,
+    pub(crate) index: Index,
+    ghost stands: { Stands index (map document_of documents.items) },
+}

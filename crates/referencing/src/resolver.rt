@@ -1,0 +1,28 @@
+//! Resolvers.
+
+use crate::registry::Registry;
+use schema_drafts::draft::Draft;
+use schema_steps::Path;
+use serde_json::Value;
+use shared_lists::List;
+use std::rc::Rc;
+use uri_references::uri::Uri;
+
+/// A base URI and the resources entered, the present one first, over the documents of a registry.
+#[derive(Drop)]
+pub struct Resolver<'r> {
+    pub(crate) registry: &'r Registry<'r>,
+    pub(crate) base: Rc<Uri>,
+    pub(crate) scope: List<Rc<Uri>>,
+}
+
+/// What a reference leads to: a value of a document, lent, with its draft, the document's URI, the path in it, and a resolver there.
+#[derive(Drop)]
+pub struct Resolved<'r> {
+    pub(crate) contents: &'r Value,
+    pub(crate) resolver: Resolver<'r>,
+    pub(crate) draft: Draft,
+    pub(crate) document: Rc<Uri>,
+    pub(crate) path: Path,
+    pub(crate) is_place: bool,
+}

@@ -1,0 +1,5 @@
+pub mod Levels
+pub mod Queues
+pub mod Entered
+pub mod Weights
+pub mod Depths

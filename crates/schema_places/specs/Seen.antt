@@ -1,0 +1,7 @@
+-- The schema place that the code's place is.
+use Rattle.serde_json.specs.View.{view}
+use Rattle.schema_documents.specs.Places.{SchemaPlace, standard}
+use Rattle.schema_places.specs.declared.place.Place.{Place}
+
+abbrev pub place_of : Place → SchemaPlace
+place_of p = record { path = p.path; contents = view p.contents.now; base = p.base.value; dialect = standard p.draft; awaits = p.awaits }

@@ -1,0 +1,7 @@
+//! The schema places of a document: the parts of it that are schemas, each with its base URI and its draft.
+#![tactic(auto)]
+
+pub mod document;
+pub mod place;
+#[cfg(test)]
+mod tests;

@@ -1,0 +1,109 @@
+//! One schema place.
+
+ghost use Rattle.std.specs.Prelude.{◌≡◌, IfOk};
+ghost use Rattle.serde_json.specs.View.{view};
+ghost use Rattle.schema_documents.specs.Places as places;
+ghost use Rattle.schema_identifiers.specs.Seen.{place_at};
+ghost use Rattle.schema_identifiers.specs.Unknown.{no_meta};
+ghost use Rattle.schema_places.specs.Seen.{place_of};
+
+use schema_drafts::draft::Draft;
+use schema_identifiers::bases::{Settled, settle};
+use schema_steps::Path;
+use serde_json::Value;
+use std::alloc::{AllocError, Global};
+use std::rc::Rc;
+use uri_references::uri::Uri;
+
+/// A place in a document where a schema stands.
+#[derive(Drop)]
+pub struct Place<'d> {
+    /// The path from the document's root.
+    pub path: Path,
+    /// The schema itself.
+    pub contents: &'d Value,
+    /// The URI against which references in the schema are resolved.
+    pub base: Rc<Uri>,
+    /// The draft by which the schema is read.
+    pub draft: Draft,
+    /// The meta-schema that the schema names, where it is none of the drafts' own. Such a schema has no identifier, and no places
+    /// below it.
+    pub awaits: Option<Uri>,
+}
+
+/// A clone shares the path and the base. The error comes where one of their counts of owners is full, or where there is no memory for
+/// the text of what is awaited.
+impl<'d> Clone for Place<'d> {
+    ghost use Rattle.schema_places.specs.Seen.{place_of};
+
+    ghost is_clone = { λ place copy. place_of copy ≡ place_of place };
+
+    fn clone(&self) -> Result<Place<'d>, AllocError> {
+        Ok(Place {
+            path: self.path.clone()?,
+            contents: self.contents,
+            base: self.base.clone()?,
+            draft: self.draft,
+            awaits: self.awaits.clone()?,
+        })
+    }
+}
+
+/// Whether a value is a schema: an object or a boolean (Core 4.3).
+pub fn is_schema(value: &Value) -> bool
+    ensures { result ≡ places.is_schema (view value.now) }
+{
+    match value {
+        Value::Bool(_) | Value::Object(_) => true,
+        _ => false,
+    }
+}
+
+fn settled_place<'d>(path: Path, contents: &'d Value, settled: Settled) -> Place<'d>
+    ensures { place_of result ≡ place_at path (view contents.now) settled }
+{
+    Place {
+        path,
+        contents,
+        base: settled.base,
+        draft: settled.draft,
+        awaits: settled.awaits,
+    }
+}
+
+/// The place of a schema inside another, whose base and draft are given.
+///
+/// It shares the base where the schema has no identifier of its own. It takes time in the length of the identifier and of the base.
+///
+/// # Errors
+///
+/// Where memory was refused, or the base's count of owners is full.
+pub fn enter<'d>(
+    alloc: Global,
+    base: &Rc<Uri>,
+    draft: Draft,
+    path: Path,
+    contents: &'d Value,
+) -> Result<Place<'d>, AllocError>
+    ensures { IfOk result (λ p. place_of p ≡ places.entered no_meta base.now.value (places.standard draft) path (view contents.now)) }
+{
+    let settled = settle(alloc, base, draft, false, contents)?;
+    Ok(settled_place(path, contents, settled))
+}
+
+/// The place of a document's root, under the document's URI. `default` is the draft where the root names none.
+///
+/// # Errors
+///
+/// As [`enter`].
+pub fn root<'d>(
+    alloc: Global,
+    uri: &Rc<Uri>,
+    default: Draft,
+    contents: &'d Value,
+) -> Result<Place<'d>, AllocError>
+    ensures { IfOk result (λ p. place_of p ≡ places.root_place no_meta uri.now.value default (view contents.now)) }
+{
+    let settled = settle(alloc, uri, default, true, contents)?;
+    Ok(settled_place(Path::root(), contents, settled))
+}
