@@ -7,3 +7,4 @@ pub mod Depths
 pub mod Lasting
 pub mod Walks
 pub mod Looked
+pub mod Contents

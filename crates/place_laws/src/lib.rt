@@ -3,3 +3,4 @@
 
 pub mod lookups;
 pub mod places;
+pub mod subschemas;

@@ -5,6 +5,7 @@ use Rattle.uri_grammar.specs.Texts.{cut_at}
 use Rattle.json_paths.specs.Parts.{Part, name, index}
 use Rattle.schema_drafts.specs.Drafts.{draft_named}
 use Rattle.schema_drafts.specs.Vocabularies.{Vocabularies, all_of_draft}
+pub use Rattle.schema_drafts.specs.Children.{is_schema}
 use Rattle.schema_drafts.specs.Subschemas.{Holds, nothing, one, several, one_or_several, by_name, held_by}
 use Rattle.schema_drafts.specs.declared.draft.Draft.{Draft}
 use Rattle.schema_drafts.specs.declared.draft.Draft.TheVariants.{Unknown}
@@ -75,15 +76,6 @@ entered meta outer around path d = placed outer around path d (by_schema meta ar
 
 abbrev pub root_place : (List ℕ → Option Dialect) → List ℕ → Draft → Data → SchemaPlace
 root_place meta uri default d = placed uri (standard default) [] d (by_schema meta (standard default) (schema_in_force true d))
-
--- objects and booleans are schemas (Core 4.3)
-abbrev pub is_schema : Data → Bool
-is_schema null = false
-is_schema (boolean b) = true
-is_schema (number n) = false
-is_schema (string s) = false
-is_schema (array ds) = false
-is_schema (object ms) = true
 
 -- ---- the places below a place, in the order of its members and their items
 

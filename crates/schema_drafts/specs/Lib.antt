@@ -3,3 +3,5 @@ pub mod Vocabularies
 pub mod Counts
 pub mod Subschemas
 pub mod Identifiers
+pub mod Children
+pub mod Left

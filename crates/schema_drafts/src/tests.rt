@@ -2,6 +2,8 @@
 
 use crate::draft::Draft;
 use crate::subschemas::{Subschemas, held_by};
+use serde_json::Value;
+use std::test::Fail;
 
 #[test]
 fn drafts_are_named_by_their_meta_schemas(rt: HostRuntime) {
@@ -47,4 +49,70 @@ fn members_hold_schemas_by_draft(rt: HostRuntime) {
         held_by(Draft::Draft7, true, "definitions"),
         Subschemas::ByName
     );
+}
+
+// A schema with members of several drafts, each with some values that are no schemas.
+const WITH_MANY: &str = r#"{"type": "object", "not": false, "items": [{"a": 1}, true, 3, {"b": 2}],
+    "properties": {"x": {"c": 3}, "y": [], "z": true}, "allOf": [{"d": 4}, "s"], "$defs": {"e": {"f": 5}},
+    "definitions": {"g": {"h": 6}}, "prefixItems": [{"i": 7}], "if": {"j": 8}, "contains": {"k": 9},
+    "unevaluatedItems": {"l": 10}, "const": {"m": 11}, "additionalProperties": null}"#;
+
+#[test]
+fn children_go_by_draft(rt: HostRuntime) -> Result<(), Fail> {
+    let schema = Value::from_str(rt.alloc(), WITH_MANY)?;
+    for (draft, want) in [
+        (
+            Draft::Draft4,
+            r#"{"d":4} {"h":6} {"a":1} true {"b":2} false {"c":3} true "#,
+        ),
+        (
+            Draft::Draft6,
+            r#"{"d":4} {"k":9} {"h":6} {"a":1} true {"b":2} false {"c":3} true "#,
+        ),
+        (
+            Draft::Draft7,
+            r#"{"d":4} {"k":9} {"h":6} {"j":8} {"a":1} true {"b":2} false {"c":3} true "#,
+        ),
+        (
+            Draft::Draft201909,
+            r#"{"f":5} {"d":4} {"k":9} {"h":6} {"j":8} {"a":1} true {"b":2} false {"c":3} true {"l":10} "#,
+        ),
+        (
+            Draft::Draft202012,
+            r#"{"f":5} {"d":4} {"k":9} {"h":6} {"j":8} false {"i":7} {"c":3} true {"l":10} "#,
+        ),
+    ] {
+        let mut found = String::new(rt.alloc());
+        for child in draft.subresources_of(&schema) {
+            found.push_str(child.to_string(rt.alloc())?.as_str())?;
+            found.push(' ')?;
+        }
+        assert_eq!(rt; found.as_str(), want);
+    }
+    Ok(())
+}
+
+#[test]
+fn references_hide_children(rt: HostRuntime) -> Result<(), Fail> {
+    let schema = Value::from_str(
+        rt.alloc(),
+        r##"{"$ref": "#/definitions/g", "definitions": {"g": {"h": 6}}, "items": {"a": 1}}"##,
+    )?;
+    let mut hidden = Draft::Draft7.subresources_of(&schema);
+    assert!(rt; hidden.next().is_some_and(|child| child.get("h").is_some()));
+    assert!(rt; hidden.next().is_none());
+    assert!(rt; hidden.next().is_none());
+    let mut beside = Draft::Draft201909.subresources_of(&schema);
+    assert!(rt; beside.next().is_some_and(|child| child.get("h").is_some()));
+    assert!(rt; beside.next().is_some_and(|child| child.get("a").is_some()));
+    assert!(rt; beside.next().is_none());
+    let list = Value::from_str(rt.alloc(), r#"[{"a": 1}]"#)?;
+    assert!(rt; Draft::Draft7.subresources_of(&list).next().is_none());
+    assert!(rt;
+        Draft::Draft7
+            .subresources_of(&Value::Bool(true))
+            .next()
+            .is_none()
+    );
+    Ok(())
 }

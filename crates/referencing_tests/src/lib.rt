@@ -1,0 +1,9 @@
+//! Tests of documents prepared and of references looked up in them.
+#![tactic(auto)]
+
+#[cfg(test)]
+mod adding;
+#[cfg(test)]
+mod lookups;
+#[cfg(test)]
+mod refusals;

@@ -1,0 +1,8 @@
+use Rattle.std.proofs.Common.{◌≡◌}
+use Rattle.std.specs.Slice.Iter.{iter_rest}
+use Rattle.serde_json.specs.View.{items_view}
+use Rattle.schema_drafts.specs.Children.{among_items}
+use Rattle.schema_drafts.proofs.children.next_listed.Given as goal
+
+abbrev pub invariant-loop-value : goal.invariant-loop-value
+invariant-loop-value l = among_items (items_view (iter_rest l.fn.values)) ≡ among_items (items_view (iter_rest l.values))
