@@ -2,6 +2,7 @@
 #![tactic(auto)]
 
 ghost use Rattle.std.specs.List.{AllByRecursion};
+ghost use Rattle.document_examples.specs.Lines.{Written, lines, InputsAreCut};
 ghost use Rattle.document_examples.specs.Lookups.{Answers, lookups, Refuses, refusals};
 ghost use Rattle.document_examples.specs.Rows.{Holds, references, scopes, vocabularies, neighbours};
 
@@ -33,4 +34,14 @@ pub fn lookups_hold()
 /// Documents that are no registry, and why.
 pub fn refusals_hold()
     ensures { AllByRecursion Refuses refusals }
+{}
+
+/// Lines and the texts that are written for them.
+pub fn lines_are_written()
+    ensures { AllByRecursion Written lines }
+{}
+
+/// Inputs cut into lines.
+pub fn inputs_are_cut()
+    ensures { InputsAreCut }
 {}

@@ -4,3 +4,5 @@ pub mod Rows
 pub mod Plain
 pub mod BuildCauses
 pub mod CompileKeys
+pub mod PathTexts
+pub mod Lines

@@ -1,0 +1,28 @@
+-- The rows compute.
+use Rattle.std.proofs.Common.{refl}
+use Rattle.std.specs.List.{AllByRecursion}
+use Rattle.std.specs.Str.{is_utf8, chars}
+use Rattle.std.specs.Fmt.{digits}
+use Rattle.serde_json.proofs.OnLiterals.{serde_json_on_literals}
+use Rattle.percent_encoding.specs.Percent.{percent_decode}
+use Rattle.uri_grammar.specs.Parts.{split}
+use Rattle.uri_grammar.specs.Grammar.{is_reference}
+use Rattle.uri_resolution.specs.Resolution.{resolve}
+use Rattle.uri_resolution.specs.NormalForm.{normal}
+use Rattle.uri_resolution.specs.Dots.{remove_dots}
+use Rattle.json_paths.specs.Pointers.{escape}
+use Rattle.schema_values.specs.Patterns.{unescaped}
+use Rattle.schema_documents.specs.Identifiers.{resolved}
+use Rattle.schema_documents.specs.Places.{places}
+use Rattle.schema_documents.specs.Bearers.{standings, dialects}
+use Rattle.schema_documents.specs.Lookup.{lookup_under}
+use Rattle.schema_meaning.specs.Readings.{told, through}
+use Rattle.schema_reading.specs.Rows.{rows_at}
+use Rattle.document_examples.specs.Lines.{Written, lines, InputsAreCut}
+
+pub lines_are_written : AllByRecursion Written lines
+unfolding digits serde_json_on_literals is_utf8 chars percent_decode split is_reference resolve normal remove_dots escape unescaped resolved places standings dialects lookup_under told through rows_at
+lines_are_written = (refl, (refl, (refl, (refl, tt))))
+
+pub inputs_are_cut : InputsAreCut
+inputs_are_cut = (refl, refl, refl)
