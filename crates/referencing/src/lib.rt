@@ -1,4 +1,7 @@
-//! Registries: documents with the index of who bears a URI or an anchor.
+//! Documents with their schema places, and what references in them lead to.
+//!
+//! A [`RegistryBuilder`] gathers documents, lent, owned or shared, each under its URI, and prepares them; a [`Registry`] is what was
+//! prepared; a [`Resolver`] looks references up from a base URI, and lends what they lead to.
 #![tactic(auto)]
 
 pub mod builder;
@@ -9,3 +12,15 @@ mod prepare;
 pub mod registry;
 pub mod resolver;
 mod resolving;
+
+pub use builder::{Refused, RegistryBuilder};
+pub use given_documents::resource::IntoRegistryResource;
+pub use json_pointers::{JsonPointerNode, JsonPointerSegment, parse_index, pointer, unescape_segment, write_escaped_str, write_index};
+pub use referencing_errors::error::{Error, RetrieveError, UriError};
+pub use registry::Registry;
+pub use resolver::{Resolved, Resolver};
+pub use schema_drafts::children::ChildIter;
+pub use schema_drafts::draft::Draft;
+pub use schema_drafts::resource::{Resource, ResourceRef};
+pub use shared_lists::{Iter, List};
+pub use uri_references::uri;
