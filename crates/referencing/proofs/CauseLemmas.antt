@@ -1,18 +1,18 @@
 -- The causes of documents, by what an index has.
-use Rattle.std.proofs.Common.{◌≡◌, ◌∙◌, refl, sym, ap, ℕ, List, [], ◌∷◌, ◌++◌, Bool, Option, Some, None, map, is_some, option_map, if◌then◌else◌, codes}
+use Rattle.std.proofs.Common.{◌≡◌, ◌∙◌, refl, sym, ap, ℕ, List, [], ◌∷◌, ◌++◌, Bool, Option, Some, None, is_some, if◌then◌else◌, codes}
 use Rattle.std.specs.List.{flat_map}
 use Rattle.uri_grammar.specs.Texts.{cut_at}
 use Rattle.schema_documents.specs.Words.{text_at}
 use Rattle.schema_documents.specs.Identifiers.{resolved, identifier_text}
 use Rattle.schema_documents.specs.Places.{schema_in_force}
 use Rattle.schema_documents.specs.Bearers.{Document, Standing, standings, is_root, bears, bearer_under}
-use Rattle.schema_documents.specs.DocumentCauses.{DocumentCause, unretrieved, unless_reference}
+use Rattle.schema_documents.specs.DocumentCauses.{unretrieved, unless_reference}
 use Rattle.schema_identifiers.specs.Unknown.{no_meta}
-use Rattle.document_index.specs.Located.{Located, Kept, kept_of, located_standings, last_located}
-use Rattle.document_index.specs.Indexes.{Indexes, bearer_in}
+use Rattle.document_index.specs.Located.{Located, kept_of, located_standings, last_located}
+use Rattle.document_index.specs.Indexes.{Indexes}
 use Rattle.document_index.specs.declared.index.Index.{Index}
 use Rattle.document_index.proofs.AnswerLemmas.{last-of-own}
-use Rattle.referencing.specs.Causes.{unless_borne, wanted_from, wanted_at, of_text, settled_causes, awaited_from, causes_at, causes_of}
+use Rattle.referencing.specs.Causes.{wanted_from, wanted_at, of_text, awaited_from, causes_at, causes_of}
 use Rattle.referencing.specs.Seen.{borne_in}
 use Rattle.referencing.proofs.NamedLemmas.{is_some-map}
 

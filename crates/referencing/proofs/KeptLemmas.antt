@@ -1,13 +1,13 @@
 -- What an index keeps of a schema place leads to it again.
-use Rattle.std.proofs.Common.{◌≡◌, ◌∙◌, refl, sym, ap, subst, ℕ, zero, suc, List, [], ◌∷◌, Bool, true, false, ◌&&◌, Option, Some, None, map, reverse, option_map, length, ◌<◌, Result, Ok, Err, IfOk, slice_get, slice_index_or, IsSomeAnd, Contains, ◌+◌, arith}
-use Rattle.std.specs.List.{AllByRecursion, All, list_all}
+use Rattle.std.proofs.Common.{◌≡◌, ◌∙◌, refl, sym, ap, subst, ℕ, zero, suc, List, [], ◌∷◌, Bool, true, false, ◌&&◌, Option, Some, None, map, reverse, option_map, length, ◌<◌, Result, Ok, Err, IfOk, slice_get, slice_index_or, IsSomeAnd, Contains, arith}
+use Rattle.std.specs.List.{list_all}
 use Rattle.json_paths.specs.Pointers.{value_at}
 use Rattle.schema_documents.specs.Places.{SchemaPlace, places}
 use Rattle.schema_documents.specs.Bearers.{Document, Standing, standing_in}
 use Rattle.schema_identifiers.specs.Unknown.{no_meta}
 use Rattle.document_index.specs.Located.{Kept}
-use Rattle.document_index.specs.Answers.{IsKeptOf, IsAnswer}
-use Rattle.place_laws.specs.Laws.{Leads, PlacesLead}
+use Rattle.document_index.specs.Answers.{IsAnswer}
+use Rattle.place_laws.specs.Laws.{Leads}
 use Rattle.place_laws.proofs.Leading.{places_lead}
 use Rattle.referencing.specs.Kept.{kept_at, kept_standing}
 use Rattle.referencing.specs.Stands.{contents_rise}

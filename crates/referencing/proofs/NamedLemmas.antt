@@ -4,7 +4,6 @@ use Rattle.json_paths.specs.Parts.{Part}
 use Rattle.schema_documents.specs.Bearers.{is_root}
 use Rattle.std.specs.Result.{IsErrAnd}
 use Rattle.std.proofs.Math.Dec.{eqb-suc-zero}
-use Rattle.std.specs.List.{flat_map}
 use Rattle.schema_meaning.specs.Members.{In, first, later}
 use Rattle.schema_documents.specs.DocumentCauses.{DocumentCause}
 use Rattle.referencing_errors.specs.Causes.{IsMemory, NamesDocument}

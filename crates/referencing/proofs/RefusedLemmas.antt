@@ -1,10 +1,10 @@
 -- Answers and refusals of lookups.
-use Rattle.std.proofs.Common.{◌≡◌, ◌∙◌, refl, sym, ap, subst, ℕ, List, [], ◌∷◌, Option, Some, None, Result, Ok, Err, IfOk, IfErr, IfSome, MatchOption, ◌⊎◌, inl, inr}
+use Rattle.std.proofs.Common.{◌≡◌, refl, ap, ℕ, List, [], ◌∷◌, Option, Some, None, Result, Ok, Err, IfErr, IfSome, MatchOption, ◌⊎◌, inl, inr}
 use Rattle.uri_grammar.specs.Texts.{cut_at}
 use Rattle.schema_documents.specs.Words.{or, ok_or, and_then}
 use Rattle.schema_documents.specs.Identifiers.{resolved}
-use Rattle.schema_documents.specs.Bearers.{Document, Standing, bearer_under}
-use Rattle.schema_documents.specs.Lookup.{LookupCause, invalid_uri, unretrievable, Target, by_fragment, lookup_under}
+use Rattle.schema_documents.specs.Bearers.{Document}
+use Rattle.schema_documents.specs.Lookup.{LookupCause, invalid_uri, by_fragment, lookup_under}
 use Rattle.schema_identifiers.specs.Unknown.{no_meta}
 use Rattle.referencing_errors.specs.Causes.{IsMemory, NamesLookup, RefusesLookup}
 use Rattle.referencing_errors.specs.declared.error.Error.{Error}

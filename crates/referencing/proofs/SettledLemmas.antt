@@ -1,13 +1,12 @@
 -- Documents without a cause await no meta-schema, so they alone tell what a reference leads to.
-use Rattle.std.proofs.Common.{◌≡◌, refl, ap, ℕ, zero, suc, List, [], ◌∷◌, ◌++◌, Bool, true, false, Option, Some, None, length, ◌<◌, slice_index_or, ◌+◌, arith}
-use Rattle.std.specs.List.{flat_map, All}
+use Rattle.std.proofs.Common.{◌≡◌, refl, ℕ, zero, suc, List, [], ◌∷◌, ◌++◌, Bool, true, Option, Some, None, length, ◌<◌, slice_index_or, arith}
+use Rattle.std.specs.List.{flat_map}
 use Rattle.schema_meaning.specs.Members.{is_empty}
-use Rattle.schema_documents.specs.Bearers.{Document, Standing, standings, is_root, bearer_under, meta}
+use Rattle.schema_documents.specs.Bearers.{Document, Standing, standings, is_root, meta}
 use Rattle.schema_documents.specs.Lookup.{lookup, lookup_under}
 use Rattle.schema_documents.specs.Places.{schema_in_force}
 use Rattle.schema_documents.specs.DocumentCauses.{DocumentCause, unless_reference}
 use Rattle.schema_identifiers.specs.Unknown.{no_meta}
-use Rattle.place_laws.specs.Laws.{NothingAwaits}
 use Rattle.place_laws.proofs.Looked.{lookups_alone_tell}
 use Rattle.referencing.specs.Causes.{of_text, awaited_from, awaited_causes, causes_at, causes_of}
 

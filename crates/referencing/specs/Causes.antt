@@ -1,5 +1,5 @@
 -- What makes documents no registry where no meta-schema of one's own is read: a bad URI at a schema place, a document that is wanted and not there, a meta-schema that is not known.
-use Rattle.std.specs.Prelude.{ℕ, List, [], ◌∷◌, ◌++◌, map, Bool, if◌then◌else◌, codes, Option, Some, None, is_some}
+use Rattle.std.specs.Prelude.{ℕ, List, [], ◌∷◌, ◌++◌, Bool, if◌then◌else◌, codes, Option, Some, None, is_some}
 use Rattle.std.specs.List.{flat_map}
 use Rattle.uri_grammar.specs.Texts.{cut_at}
 use Rattle.schema_documents.specs.Words.{text_at}

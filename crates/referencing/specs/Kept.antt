@@ -1,5 +1,5 @@
 -- The schema place that an index keeps something of.
-use Rattle.std.specs.Prelude.{List, reverse, Option, None, option_map}
+use Rattle.std.specs.Prelude.{reverse, Option, None, option_map}
 use Rattle.serde_json.specs.Data.{Data}
 use Rattle.json_paths.specs.Pointers.{value_at}
 use Rattle.schema_documents.specs.Bearers.{Document, Standing}

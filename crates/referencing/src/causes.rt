@@ -61,7 +61,12 @@ fn check_wanted(alloc: Global, index: &Index, base: &Uri, text: &str) -> Result<
     }
 }
 
-fn check_reference(alloc: Global, index: &Index, base: &Uri, reference: Option<&str>) -> Result<(), Error>
+fn check_reference(
+    alloc: Global,
+    index: &Index,
+    base: &Uri,
+    reference: Option<&str>,
+) -> Result<(), Error>
     ensures ok { OnOk result (spec.of_text (spec.wanted_at (borne_in index.now) base.now) (option_map (λ t. t.now) reference.entry) ≡ []) }
     ensures refused { IfErr result (NamesOne (spec.of_text (spec.wanted_at (borne_in index.now) base.now) (option_map (λ t. t.now) reference.entry))) }
 {

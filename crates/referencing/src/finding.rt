@@ -16,7 +16,10 @@ use document_index::standing::Standing;
 use schema_places::place::Place;
 use std::alloc::{AllocError, Global};
 
-fn standing_at<'r>(document: &'r Document<'_>, bearer: &Bearer) -> Result<Option<Standing<'r>>, AllocError>
+fn standing_at<'r>(
+    document: &'r Document<'_>,
+    bearer: &Bearer,
+) -> Result<Option<Standing<'r>>, AllocError>
     ensures { IfOk result (λ s. option_map standing_of s ≡ kept_standing (document_of document.now) (bearer_of bearer.now)) }
 {
     let Some(contents) = bearer.path.find_in(document.contents.value()) else {

@@ -15,7 +15,10 @@ mod resolving;
 
 pub use builder::{Refused, RegistryBuilder};
 pub use given_documents::resource::IntoRegistryResource;
-pub use json_pointers::{JsonPointerNode, JsonPointerSegment, parse_index, pointer, unescape_segment, write_escaped_str, write_index};
+pub use json_pointers::{
+    JsonPointerNode, JsonPointerSegment, parse_index, pointer, unescape_segment, write_escaped_str,
+    write_index,
+};
 pub use referencing_errors::error::{Error, RetrieveError, UriError};
 pub use registry::Registry;
 pub use resolver::{Resolved, Resolver};

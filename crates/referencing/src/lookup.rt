@@ -45,7 +45,12 @@ impl<'a> Registry<'a> {
 }
 
 // The scope with a resource entered, where it is not the present one.
-fn enter(alloc: Global, scope: &List<Rc<Uri>>, present: &Rc<Uri>, base: &Rc<Uri>) -> Result<List<Rc<Uri>>, AllocError>
+fn enter(
+    alloc: Global,
+    scope: &List<Rc<Uri>>,
+    present: &Rc<Uri>,
+    base: &Rc<Uri>,
+) -> Result<List<Rc<Uri>>, AllocError>
     ensures { IfOk result (λ s. map (λ u. u.value) s ≡ entered_scope base.now.value present.now.value (map (λ u. u.value) scope.now)) }
 {
     if base.as_str() == present.as_str() {

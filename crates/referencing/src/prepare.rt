@@ -81,7 +81,11 @@ fn with_draft<'a>(given: GivenDocument<'a>, default: Draft) -> Document<'a>
     }
 }
 
-fn with_drafts<'a>(alloc: Global, given: Vec<GivenDocument<'a>>, default: Draft) -> Result<Vec<Document<'a>>, AllocError>
+fn with_drafts<'a>(
+    alloc: Global,
+    given: Vec<GivenDocument<'a>>,
+    default: Draft,
+) -> Result<Vec<Document<'a>>, AllocError>
     ensures { IfOk result (λ v. map document_of v.items ≡ documents_by default (map given_of given.entry.items)) }
 {
     let mut documents = Vec::new(alloc);

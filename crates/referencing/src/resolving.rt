@@ -78,7 +78,11 @@ fn has_slash(text: &str) -> bool
     text.contains('/')
 }
 
-fn by_anchor<'r>(registry: &'r Registry<'_>, standing: &Standing<'_>, name: &str) -> Result<Found<'r>, Error>
+fn by_anchor<'r>(
+    registry: &'r Registry<'_>,
+    standing: &Standing<'_>,
+    name: &str,
+) -> Result<Found<'r>, Error>
     ensures ok { IfOk result (λ f. spec.by_anchor no_meta (documents_of registry.now ∷ []) (standing_of standing.now) name.now ≡ Ok (found_target f)) }
     ensures refused { IfErr result (RefusesLookup (spec.by_anchor no_meta (documents_of registry.now ∷ []) (standing_of standing.now) name.now)) }
 {
@@ -91,7 +95,11 @@ fn by_anchor<'r>(registry: &'r Registry<'_>, standing: &Standing<'_>, name: &str
     }
 }
 
-fn by_fragment<'r>(registry: &'r Registry<'_>, standing: Standing<'r>, fragment: &str) -> Result<Found<'r>, Error>
+fn by_fragment<'r>(
+    registry: &'r Registry<'_>,
+    standing: Standing<'r>,
+    fragment: &str,
+) -> Result<Found<'r>, Error>
     ensures ok { IfOk result (λ f. spec.by_fragment no_meta (documents_of registry.now ∷ []) (standing_of standing.entry) fragment.now ≡ Ok (found_target f)) }
     ensures refused { IfErr result (RefusesLookup (spec.by_fragment no_meta (documents_of registry.now ∷ []) (standing_of standing.entry) fragment.now)) }
 {
@@ -130,7 +138,11 @@ fn fragment_or_empty(fragment: Option<&str>) -> &str
 }
 
 /// What a reference leads to from a base.
-pub fn look_up<'r>(registry: &'r Registry<'_>, base: &Uri, reference: &str) -> Result<Found<'r>, Error>
+pub fn look_up<'r>(
+    registry: &'r Registry<'_>,
+    base: &Uri,
+    reference: &str,
+) -> Result<Found<'r>, Error>
     ensures ok { IfOk result (λ f. spec.lookup_under no_meta (documents_of registry.now ∷ []) base.now reference.now ≡ Ok (found_target f)) }
     ensures refused { IfErr result (RefusesLookup (spec.lookup_under no_meta (documents_of registry.now ∷ []) base.now reference.now)) }
 {

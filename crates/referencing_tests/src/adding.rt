@@ -1,6 +1,6 @@
 // Documents added under their URIs. The normal forms are those of RFC 3986, sections 5.2.4 and 6.2.2.
-use referencing::builder::{Refused, RegistryBuilder};
 use given_documents::resource::IntoRegistryResource;
+use referencing::builder::{Refused, RegistryBuilder};
 use referencing_errors::error::Error;
 use schema_drafts::draft::Draft;
 use schema_drafts::resource::{Resource, ResourceRef};

@@ -59,7 +59,10 @@ fn between_documents(rt: HostRuntime) -> Result<(), Fail> {
         alloc,
         "{\"$id\":\"http://a.test/root.json\",\"type\":\"array\",\"minItems\":2,\"items\":{\"$ref\":\"leaf.json\"}}",
     )?;
-    let leaf = json(alloc, "{\"$id\":\"http://a.test/leaf.json\",\"type\":\"string\"}")?;
+    let leaf = json(
+        alloc,
+        "{\"$id\":\"http://a.test/leaf.json\",\"type\":\"string\"}",
+    )?;
     let builder = added(Registry::new(alloc), "http://a.test/root.json", &root)?;
     let registry = added(builder, "http://a.test/leaf.json", &leaf)?.prepare()?;
     assert!(rt; registry.contains_resource("http://a.test/leaf.json"));
@@ -121,7 +124,11 @@ fn pointers_and_anchors(rt: HostRuntime) -> Result<(), Fail> {
             "#/a%3Cb/c%20d",
             "http://a.test/d '/a<b/c d' http://a.test/d 1",
         ),
-        ("{\"a\":[1]}", "#/a/0", "http://a.test/d '/a/0' http://a.test/d 1"),
+        (
+            "{\"a\":[1]}",
+            "#/a/0",
+            "http://a.test/d '/a/0' http://a.test/d 1",
+        ),
         (
             "{\"$defs\":{\"s\":{\"$anchor\":\"n%41\"}}}",
             "#n%41",
@@ -133,7 +140,10 @@ fn pointers_and_anchors(rt: HostRuntime) -> Result<(), Fail> {
             "http://a.test/d '/definitions/s' http://a.test/d {\"$id\":\"#n\"}",
         ),
     ] {
-        assert_eq!(rt; found_in(rt.alloc(), "http://a.test/d", text, reference)?.as_str(), want);
+        assert_eq!(rt;
+            found_in(rt.alloc(), "http://a.test/d", text, reference)?.as_str(),
+            want
+        );
     }
     Ok(())
 }
@@ -152,7 +162,11 @@ fn references_to_nothing(rt: HostRuntime) -> Result<(), Fail> {
             "#/%FF",
             "Invalid percent encoding in pointer '/%FF': the decoded bytes do not represent valid UTF-8",
         ),
-        ("{}", "#unknownAnchor", "Anchor 'unknownAnchor' does not exist"),
+        (
+            "{}",
+            "#unknownAnchor",
+            "Anchor 'unknownAnchor' does not exist",
+        ),
         ("{}", "#a/b", "Anchor 'a/b' is invalid"),
         (
             "{}",
@@ -166,7 +180,10 @@ fn references_to_nothing(rt: HostRuntime) -> Result<(), Fail> {
             "Anchor 'n' does not exist",
         ),
     ] {
-        assert_eq!(rt; refused_in(rt.alloc(), "http://a.test/d", text, reference)?.as_str(), want);
+        assert_eq!(rt;
+            refused_in(rt.alloc(), "http://a.test/d", text, reference)?.as_str(),
+            want
+        );
     }
     Ok(())
 }

@@ -11,7 +11,11 @@ fn prepared<'a>(alloc: Global, text: &str) -> Result<Registry<'a>, Error> {
     let Ok(document) = Value::from_str(alloc, text) else {
         return Err(Error::Memory);
     };
-    Ok(Registry::new(alloc).add("http://a.test/d", document)?.prepare()?)
+    Ok(
+        Registry::new(alloc)
+            .add("http://a.test/d", document)?
+            .prepare()?,
+    )
 }
 
 fn refusal(alloc: Global, text: &str) -> Result<String, Fail> {

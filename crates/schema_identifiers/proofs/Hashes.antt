@@ -1,6 +1,6 @@
 -- What stands behind a `#` at the front of a text.
-use borrow.Author.Tests.{eqb-true, eq-eqb}
-use Rattle.std.proofs.Common.{◌≡◌, ◌≢◌, ◌∙◌, refl, sym, ap, ℕ, List, [], ◌∷◌, ◌==◌, Bool, true, false, Option, Some, None, option_map, Bor, MatchOption, if◌then◌else◌}
+use borrow.Author.Tests.{eqb-true}
+use Rattle.std.proofs.Common.{◌≡◌, ◌≢◌, refl, sym, ap, ℕ, List, [], ◌∷◌, ◌==◌, Bool, true, false, Option, Some, None, option_map, Bor, MatchOption, if◌then◌else◌}
 use Rattle.schema_documents.specs.Words.{listed}
 use Rattle.schema_documents.specs.Identifiers.{after_hash}
 

@@ -1,5 +1,5 @@
 -- A reference resolved, by whether it is one.
-use Rattle.std.proofs.Common.{◌≡◌, sym, ap, ℕ, List, Bool, true, false, Option, Some, None, if◌then◌else◌}
+use Rattle.std.proofs.Common.{◌≡◌, sym, ap, ℕ, List, true, false, Some, None, if◌then◌else◌}
 use Rattle.uri_grammar.specs.Parts.{split}
 use Rattle.uri_grammar.specs.Grammar.{is_reference}
 use Rattle.uri_references.specs.Identity.{identity_against}

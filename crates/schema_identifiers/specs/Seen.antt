@@ -1,5 +1,5 @@
 -- What the code's records of places stand for.
-use Rattle.std.specs.Prelude.{ℕ, List, Option, Some, None, option_map}
+use Rattle.std.specs.Prelude.{List}
 use Rattle.serde_json.specs.Data.{Data}
 use Rattle.json_paths.specs.Parts.{Part}
 use Rattle.schema_documents.specs.Places.{Named, settled, awaited, SchemaPlace, standard}

@@ -54,7 +54,12 @@ pub fn resolved(alloc: Global, base: &Uri, reference: &str) -> Result<Option<Uri
     }
 }
 
-fn own_base(alloc: Global, outer: &Rc<Uri>, draft: Draft, contents: &Value) -> Result<Rc<Uri>, AllocError>
+fn own_base(
+    alloc: Global,
+    outer: &Rc<Uri>,
+    draft: Draft,
+    contents: &Value,
+) -> Result<Rc<Uri>, AllocError>
     ensures { IfOk result (λ r. r.value ≡ places.own_base outer.now.value draft (view contents.now)) }
 {
     let Some(text) = identifier(draft, contents) else {

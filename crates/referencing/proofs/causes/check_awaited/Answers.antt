@@ -1,4 +1,4 @@
-use Rattle.std.proofs.Common.{◌∙◌, sym, ap, subst, [], ◌∷◌}
+use Rattle.std.proofs.Common.{sym, subst, [], ◌∷◌}
 use Rattle.schema_documents.specs.DocumentCauses.{unknown_specification}
 use Rattle.document_index.specs.Seen.{standing_of}
 use Rattle.referencing.specs.Causes.{awaited_from}

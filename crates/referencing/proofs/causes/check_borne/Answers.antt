@@ -1,6 +1,6 @@
 use Rattle.std.proofs.Common.{◌≡◌, ◌∙◌, sym, ap, subst, [], ◌∷◌, false, if◌then◌else◌, is_some}
 use Rattle.schema_documents.specs.DocumentCauses.{unretrieved}
-use Rattle.document_index.specs.Indexes.{bearer_of, bearer_in}
+use Rattle.document_index.specs.Indexes.{bearer_of}
 use Rattle.referencing.specs.Named.{NamesOne}
 use Rattle.referencing.specs.Seen.{borne_in}
 use Rattle.referencing.proofs.NamedLemmas.{named-one, is_some-map}

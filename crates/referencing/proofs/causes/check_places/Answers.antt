@@ -1,4 +1,4 @@
-use Rattle.std.proofs.Common.{◌≡◌, ◌∙◌, sym, ap, subst, map, drop, ◌+◌}
+use Rattle.std.proofs.Common.{◌∙◌, sym, subst, map, drop, ◌+◌}
 use Rattle.std.proofs.lemmas.List.{at_drop_more}
 use Rattle.std.specs.List.{flat_map}
 use Rattle.document_index.specs.Seen.{standing_of}

@@ -1,4 +1,4 @@
-use Rattle.std.proofs.Common.{◌≡◌, ◌∙◌, sym, ap, subst, map}
+use Rattle.std.proofs.Common.{◌∙◌, sym, ap, subst, map}
 use Rattle.std.specs.List.{flat_map}
 use Rattle.document_index.specs.Seen.{document_of, standing_of, located_of}
 use Rattle.document_index.specs.Located.{located_standings}

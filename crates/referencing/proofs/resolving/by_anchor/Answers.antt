@@ -1,4 +1,4 @@
-use Rattle.std.proofs.Common.{◌≡◌, ◌∙◌, sym, ap, subst, [], ◌∷◌, Option, None, Err, option_map, if◌then◌else◌}
+use Rattle.std.proofs.Common.{◌≡◌, ◌∙◌, sym, ap, [], ◌∷◌, Option, None, Err, option_map, if◌then◌else◌}
 use Rattle.schema_documents.specs.Words.{result_map, ok_or}
 use Rattle.schema_documents.specs.Bearers.{Standing, anchored_under}
 use Rattle.schema_documents.specs.Lookup.{by_anchor, invalid_anchor, no_such_anchor, target_of}

@@ -1,8 +1,8 @@
-use Rattle.std.proofs.Common.{◌≡◌, ◌∙◌, sym, ap, subst, ℕ, List, [], ◌∷◌, Ok, option_map}
+use Rattle.std.proofs.Common.{◌≡◌, ◌∙◌, sym, ap, subst, [], ◌∷◌, Ok}
 use Rattle.uri_grammar.specs.Texts.{cut_at}
 use Rattle.schema_documents.specs.Words.{or, and_then}
 use Rattle.schema_documents.specs.Bearers.{Standing}
-use Rattle.schema_documents.specs.Lookup.{by_fragment, lookup_under}
+use Rattle.schema_documents.specs.Lookup.{by_fragment}
 use Rattle.schema_identifiers.specs.Unknown.{no_meta}
 use Rattle.document_index.specs.Seen.{standing_of}
 use Rattle.referencing_errors.specs.Causes.{RefusesLookup}

@@ -1,4 +1,4 @@
-use Rattle.std.proofs.Common.{◌≡◌, ◌∙◌, sym, ap, subst, [], ◌∷◌, Some, None, Err, option_map, ◌⊎◌}
+use Rattle.std.proofs.Common.{◌≡◌, ◌∙◌, sym, ap, subst, [], ◌∷◌, Some, None, option_map, ◌⊎◌}
 use Rattle.schema_documents.specs.Words.{ok_or, and_then}
 use Rattle.schema_documents.specs.Identifiers.{resolved}
 use Rattle.schema_documents.specs.Bearers.{bearer_under}

@@ -24,7 +24,7 @@ returns-in_err-builder-clause-refused g c =
       c.into_iter-uri-iterator.ensures.into_iter_gives,
       (c.loop-uri.uri-iterator, c.loop-uri.yielded_by, c.in-Some.ensures.steps),
       (c.loop-uri.invariant.adds.0, unchanged ∙ c.loop-uri.invariant.adds.1),
-      subst (λ t. RefusesUri t refused.error) c.as_str.ensures named
+      subst (λ t. RefusesUri t refused.error) c.as_str.ensures named,
     )
 
 pub loop-uri-preserved : goal.loop-uri-preserved
@@ -44,7 +44,7 @@ loop-uri-preserved g c =
     record {
       adds = (
         are_document_uris-more text before u r c.loop-uri.invariant.adds.0 (ap is_document_uri (sym c.as_str.ensures) ∙ accepted),
-        givens_by-more text contents draft (given_in c.args.self) built (given_in new) before u r t c.loop-uri.invariant.adds.1 c.as_str.ensures added
+        givens_by-more text contents draft (given_in c.args.self) built (given_in new) before u r t c.loop-uri.invariant.adds.1 c.as_str.ensures added,
       );
       draft = same ∙ c.loop-uri.invariant.draft;
     }

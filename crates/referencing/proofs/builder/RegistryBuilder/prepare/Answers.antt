@@ -1,4 +1,4 @@
-use Rattle.std.proofs.Common.{◌≡◌, ◌∙◌, map, ap, sym, subst}
+use Rattle.std.proofs.Common.{◌≡◌, ◌∙◌, map, ap, subst}
 use Rattle.document_index.specs.Seen.{document_of}
 use Rattle.given_documents.specs.Given.{documents_by}
 use Rattle.given_documents.specs.Seen.{given_of}

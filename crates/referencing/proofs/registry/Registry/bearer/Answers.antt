@@ -1,10 +1,9 @@
-use Rattle.std.proofs.Common.{◌≡◌, ◌∙◌, sym, ap, subst, map, [], ◌∷◌, Some, option_map, slice_get}
-use Rattle.schema_documents.specs.Bearers.{bearer_under, anchored_under}
+use Rattle.std.proofs.Common.{◌≡◌, ◌∙◌, subst, map, [], ◌∷◌, Some, slice_get}
+use Rattle.schema_documents.specs.Bearers.{bearer_under}
 use Rattle.schema_identifiers.specs.Unknown.{no_meta}
-use Rattle.document_index.specs.Seen.{document_of, standing_of}
+use Rattle.document_index.specs.Seen.{document_of}
 use Rattle.document_index.specs.Indexes.{bearer_of}
 use Rattle.document_index.specs.Answers.{IsAnswer}
-use Rattle.referencing.specs.Kept.{kept_standing}
 use Rattle.referencing.specs.Seen.{documents_of}
 use Rattle.referencing.proofs.KeptLemmas.{kept-same, got-mapped, if-ok}
 use Rattle.referencing.proofs.registry.Registry.bearer.Goals as goal

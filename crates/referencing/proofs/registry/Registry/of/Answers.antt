@@ -1,4 +1,4 @@
-use Rattle.std.proofs.Common.{◌∙◌, sym, ap, subst, map}
+use Rattle.std.proofs.Common.{subst, map}
 use Rattle.document_index.specs.Seen.{document_of}
 use Rattle.referencing.specs.Causes.{causes_of}
 use Rattle.referencing.specs.Named.{NamesOne}

@@ -1,4 +1,4 @@
-use Rattle.std.proofs.Common.{◌≡◌, ◌∙◌, sym, ap, ℕ, List, Option, None, Some}
+use Rattle.std.proofs.Common.{◌≡◌, ◌∙◌, sym, ap, ℕ, List, Option, None}
 use Rattle.schema_documents.specs.Words.{ok_or, result_map}
 use Rattle.schema_documents.specs.Identifiers.{resolved}
 use Rattle.schema_documents.specs.Lookup.{invalid_uri}

@@ -1,9 +1,9 @@
 use Rattle.std.proofs.Common.{◌≡◌, ◌∙◌, sym, ap, subst, [], ◌∷◌, Ok}
-use Rattle.schema_documents.specs.Lookup.{lookup, lookup_under, Target}
+use Rattle.schema_documents.specs.Lookup.{lookup_under}
 use Rattle.schema_identifiers.specs.Unknown.{no_meta}
 use Rattle.referencing_errors.specs.Causes.{RefusesLookup}
 use Rattle.referencing.specs.Found.{found_target}
-use Rattle.referencing.specs.Resolved.{base_of, documents_in, target_in}
+use Rattle.referencing.specs.Resolved.{base_of, documents_in}
 use Rattle.referencing.proofs.NamedLemmas.{kept}
 use Rattle.referencing.proofs.SettledLemmas.{alone}
 use Rattle.referencing.proofs.resolver.Resolver.lookup.Goals as goal
