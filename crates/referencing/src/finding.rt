@@ -40,7 +40,9 @@ fn standing_at<'r>(
 
 impl<'a> Registry<'a> {
     /// The allocator of what is made from the registry.
-    pub fn allocator(&self) -> Global {
+    pub fn allocator(&self) -> Global
+        ensures { result ≡ self.now.alloc }
+    {
         self.alloc
     }
 
