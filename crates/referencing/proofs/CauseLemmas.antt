@@ -32,7 +32,7 @@ module _ (f g : List ℕ → Bool) (same : (u : List ℕ) → f u ≡ g u) where
   same_at : (s : Standing) → causes_at f s ≡ causes_at g s
   same_at s = ap (λ cs. of_text unless_reference (schema_in_force (is_root s.place.path) s.place.contents) ++ cs) (same_awaited s s.place.awaits)
 
-  same_causes : (ss : List Standing) → flat_map (causes_at f) ss ≡ flat_map (causes_at g) ss
+  pub same_causes : (ss : List Standing) → flat_map (causes_at f) ss ≡ flat_map (causes_at g) ss
   same_causes [] = refl
   same_causes (s ∷ ss) = ap (λ cs. cs ++ flat_map (causes_at f) ss) (same_at s) ∙ ap (λ cs. causes_at g s ++ cs) (same_causes ss)
 

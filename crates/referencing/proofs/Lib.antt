@@ -4,3 +4,4 @@ pub mod KeptLemmas
 pub mod RefusedLemmas
 pub mod SettledLemmas
 pub mod Extending
+pub mod DocumentLemmas

@@ -22,7 +22,7 @@ awaits-nothing : (borne : List ℕ → Bool) (s : Standing) (o : Option (List �
 awaits-nothing borne s None e = refl
 awaits-nothing borne s (Some uri) e = absurd (cc (e))
 
-settled : (borne : List ℕ → Bool) (ss : List Standing) → is_empty (flat_map (causes_at borne) ss) ≡ true → (k : ℕ) (d : Standing) → k < length ss → (slice_index_or ss k d).place.awaits ≡ None
+pub settled : (borne : List ℕ → Bool) (ss : List Standing) → is_empty (flat_map (causes_at borne) ss) ≡ true → (k : ℕ) (d : Standing) → k < length ss → (slice_index_or ss k d).place.awaits ≡ None
 settled borne [] e k d lt = absurd (omega (arith, lt))
 settled borne (s ∷ ss) e zero d lt =
     let here = empty-first (causes_at borne s) (flat_map (causes_at borne) ss) e in

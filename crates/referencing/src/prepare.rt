@@ -1,7 +1,8 @@
 //! Documents prepared.
 
-ghost use Rattle.std.specs.Prelude.{◌≡◌, [], map, true, IfOk, IfErr, OnOk};
+ghost use Rattle.std.specs.Prelude.{◌≡◌, ◌∷◌, [], map, true, IfOk, IfErr, OnOk};
 ghost use Rattle.std.specs.List.{list_all};
+ghost use Rattle.schema_documents.specs.DocumentCauses.{document_causes};
 ghost use Rattle.document_index.specs.Seen.{document_of};
 ghost use Rattle.document_index.specs.Located.{located_standings};
 ghost use Rattle.document_index.specs.Indexes.{Indexes};
@@ -58,6 +59,7 @@ impl<'a> Registry<'a> {
     pub fn of(alloc: Global, documents: Vec<Document<'a>>) -> Result<Registry<'a>, Error>
         ensures documents { IfOk result (λ r. documents_of r ≡ map document_of documents.entry.items) }
         ensures accepted { OnOk result (causes_of (map document_of documents.entry.items) ≡ []) }
+        ensures no_cause { OnOk result (document_causes (map document_of documents.entry.items ∷ []) ≡ []) }
         ensures refused { IfErr result (NamesOne (causes_of (map document_of documents.entry.items))) }
     {
         let index = checked_index(alloc, &documents)?;
@@ -117,6 +119,7 @@ impl<'a> RegistryBuilder<'a> {
     pub fn prepare(self) -> Result<Registry<'a>, Error>
         ensures documents { IfOk result (λ r. documents_of r ≡ documents_by self.entry.draft (given_in self.entry)) }
         ensures accepted { OnOk result (causes_of (documents_by self.entry.draft (given_in self.entry)) ≡ []) }
+        ensures no_cause { OnOk result (document_causes (documents_by self.entry.draft (given_in self.entry) ∷ []) ≡ []) }
         ensures refused { IfErr result (NamesOne (causes_of (documents_by self.entry.draft (given_in self.entry)))) }
     {
         let alloc = self.allocator();
