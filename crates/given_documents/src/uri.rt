@@ -23,7 +23,13 @@ fn lacks_fragment(text: &str) -> bool
     }
 }
 
-// Reads a text as the URI of a document.
+/// Reads a text as the URI of a document, as `uri_references::uri::from_str` does.
+///
+/// It takes time in the length of the text, and at most nine texts.
+///
+/// # Errors
+///
+/// Where the text is no URI reference, or has a fragment that is not empty, which is then named, or where memory was refused.
 pub fn document_uri(alloc: Global, text: &str) -> Result<Rc<Uri>, Error>
     ensures ok { IfOk result (λ u. u.value ≡ identity_of text.now) }
     ensures accepted { OnOk result (IsTrue (is_document_uri text.now)) }

@@ -2,11 +2,12 @@
 use Rattle.std.proofs.Common.{◌≡◌, refl, ℕ, zero, suc, List, [], ◌∷◌, ◌++◌, Bool, true, Option, Some, None, length, ◌<◌, slice_index_or, arith}
 use Rattle.std.specs.List.{flat_map}
 use Rattle.schema_meaning.specs.Members.{is_empty}
-use Rattle.schema_documents.specs.Bearers.{Document, Standing, standings, is_root, meta}
+use Rattle.schema_documents.specs.Bearers.{Document, Standing, standings, is_root, meta, bearer, bearer_under}
 use Rattle.schema_documents.specs.Lookup.{lookup, lookup_under}
 use Rattle.schema_documents.specs.Places.{schema_in_force}
 use Rattle.schema_documents.specs.DocumentCauses.{DocumentCause, unless_reference}
 use Rattle.schema_identifiers.specs.Unknown.{no_meta}
+use Rattle.place_laws.proofs.Alone.{documents_alone_tell}
 use Rattle.place_laws.proofs.Looked.{lookups_alone_tell}
 use Rattle.referencing.specs.Causes.{of_text, awaited_from, awaited_causes, causes_at, causes_of}
 
@@ -32,3 +33,6 @@ settled borne (s ∷ ss) e (suc k) d lt = settled borne ss (empty-second (causes
 pub alone : (documents : List Document) → is_empty (causes_of documents) ≡ true → (base reference : List ℕ)
     → lookup (documents ∷ []) base reference ≡ lookup_under no_meta (documents ∷ []) base reference
 alone documents accepted base reference = lookups_alone_tell documents (settled _ (standings no_meta documents) accepted) (meta (documents ∷ [])) base reference
+
+pub alone-bearer : (documents : List Document) → is_empty (causes_of documents) ≡ true → (uri : List ℕ) → bearer (documents ∷ []) uri ≡ bearer_under no_meta (documents ∷ []) uri
+alone-bearer documents accepted uri = (documents_alone_tell documents (settled _ (standings no_meta documents) accepted) (meta (documents ∷ []))).bearers uri

@@ -1,4 +1,4 @@
--- What the code's referencing stand for.
+-- What the code's registries stand for.
 use Rattle.std.specs.Prelude.{ℕ, List, Bool, map, is_some}
 use Rattle.schema_documents.specs.Bearers.{Document}
 use Rattle.document_index.specs.Seen.{document_of}

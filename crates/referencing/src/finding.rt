@@ -78,10 +78,17 @@ impl<'a> Registry<'a> {
         }
     }
 
-    /// Whether a schema place bears a URI. One search by the URI.
-    pub fn contains_resource(&self, uri: &str) -> bool
+    // Whether the index has a bearer.
+    fn has_bearer(&self, uri: &str) -> bool
         ensures { result ≡ is_some (bearers.bearer_under no_meta (documents_of self.now ∷ []) uri.now) }
     {
         answers::bearer(&self.documents, &self.index, uri).is_some()
+    }
+
+    /// Whether a schema place bears a URI. One search by the URI.
+    pub fn contains_resource(&self, uri: &str) -> bool
+        ensures { result ≡ is_some (bearers.bearer (documents_of self.now ∷ []) uri.now) }
+    {
+        self.has_bearer(uri)
     }
 }
