@@ -50,8 +50,9 @@ fn check_names(documents: &[Document<'_>])
 impl<'a> Registry<'a> {
     /// The registry of documents, where they have no cause to be refused. The last document of a URI counts.
     ///
-    /// It finds the schema places of each document once and goes over them twice, with a look-up in a map for each URI and each anchor borne and for each
-    /// `$ref`. What is copied are URIs, the names of anchors, and the names of the members that lead to schemas.
+    /// It finds the schema places of each document once and goes over them twice, with a look-up in a map for each URI and each
+    /// anchor borne and for each `$ref`; and it walks each document once more. What is copied are URIs, the names of anchors, and
+    /// the names of the members that lead to schemas.
     ///
     /// # Errors
     ///
