@@ -2,7 +2,10 @@ pub mod Known
 pub mod Stays
 pub mod Verdicts
 pub mod Keys
+pub mod Rooms
 pub mod Decided
+pub mod Enough
+pub mod Alike
 pub mod Unfolded
 pub mod Obliged
 pub mod Refuses

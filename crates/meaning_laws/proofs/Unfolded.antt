@@ -46,7 +46,7 @@ module _ {S A : Type 0} (t : Telling S A) (r : Reading S) where
   -- ---- and back
 
   module _ (nested : IsNested r) where
-    unfolded-through : (f : S → Spot → Option A) (m : ℕ) → ((s : S) (w : Spot) → Below (unfolded t r m s w) (f s w))
+    unfolded-through : (f : S → Spot → Option A) (m : ℕ) → ((s : S) (w : Spot) → nested.rank s ≤ r.nesting → Below (unfolded t r m s w) (f s w))
         → (n : ℕ) → n ≤ suc m → (l : ℕ) (s : S) (w : Spot) → nested.rank s < l → Below (unfolded t r n s w) (through t r f l s w)
     unfolding through unfolded
     unfolded-through f m h zero few l s w low x e = cc
@@ -58,14 +58,15 @@ module _ {S A : Type 0} (t : Telling S A) (r : Reading S) where
         one : ((s : S) (w : Spot) → nested.rank s < l → Below (unfolded t r n s w) (through t r f l s w))
             → (b : Bool) (q : Question S) → q.follows ≡ b → Asks r s w q
             → Below (unfolded t r n q.site (asked_at w q)) (by_kind b f (through t r f l) q.site (asked_at w q))
-        one again true q g i y d = h q.site (asked_at w q) y (unfolded-le n m (omega (arith, few)) q.site (asked_at w q) y d)
+        one again true q g i y d =
+            h q.site (asked_at w q) (nested.shallow s w q i g) y (unfolded-le n m (omega (arith, few)) q.site (asked_at w q) y d)
         one again false q g i y d = let less : nested.rank q.site < nested.rank s = nested.falls s w q i g in again q.site (asked_at w q) (omega (arith, less, low)) y d
 
-    pub unfolded-told : (n : ℕ) (s : S) (w : Spot) → Below (unfolded t r n s w) (told t r n s w)
+    pub unfolded-told : (n : ℕ) (s : S) (w : Spot) → nested.rank s ≤ r.nesting → Below (unfolded t r n s w) (told t r n s w)
     unfolding told unfolded
-    unfolded-told zero s w x e = cc
-    unfolded-told (suc n) s w x e =
-        unfolded-through (told t r n) n (unfolded-told n) (suc n) (omega arith) (suc r.nesting) s w (omega (arith, nested.shallow s)) x e
+    unfolded-told zero s w low x e = cc
+    unfolded-told (suc n) s w low x e =
+        unfolded-through (told t r n) n (unfolded-told n) (suc n) (omega arith) (suc r.nesting) s w (omega (arith, low)) x e
 
 pub unfolded_is_told : (S A : Type 0) → UnfoldedIsTold S A
-unfolded_is_told S A t r n s w x = (λ e. (enough t r n, told-unfolded t r n s w x e), λ nested e. unfolded-told t r nested n s w x e)
+unfolded_is_told S A t r n s w x = (λ e. (enough t r n, told-unfolded t r n s w x e), λ nested low e. unfolded-told t r nested n s w low x e)

@@ -1,7 +1,7 @@
 //! Laws of what the keywords of JSON Schema mean, over any reading of schemas: each is the contract of a function, and costs nothing to call.
 #![tactic(auto)]
 
-ghost use Rattle.meaning_laws.specs.Laws.{DecidedStays, FaultsTellVerdict, CutAgrees, CutIsDecided, UnfoldedIsTold, CertificateRefuses, FaultsAreCertified, RulesReadTheirMatches};
+ghost use Rattle.meaning_laws.specs.Laws.{DecidedStays, FaultsTellVerdict, CutAgrees, CutIsDecided, CutIsEnough, CutAlike, UnfoldedIsTold, CertificateRefuses, FaultsAreCertified, RulesReadTheirMatches};
 
 /// A decided answer stays with more unfoldings.
 pub fn decided_stays<S, A>()
@@ -16,6 +16,16 @@ pub fn faults_tell_verdict<S>()
 /// Where a value is not circular it is decided, and the cut reading gives the decided answer.
 pub fn cut_is_decided<S, A>()
     ensures { CutIsDecided S A }
+{}
+
+/// Deeper than `cut` goes nothing changes: each greater depth gives the same answer, on circular values too.
+pub fn cut_is_enough<S, A>()
+    ensures { CutIsEnough S A }
+{}
+
+/// Two readings that agree at each site that questions lead to are cut alike, at each depth; what they hold at other sites is not read.
+pub fn cut_alike<S, A>()
+    ensures { CutAlike S A }
 {}
 
 /// The verdict and the faults of the cut reading agree on every value, circular ones among them.

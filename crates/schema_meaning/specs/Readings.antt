@@ -10,7 +10,7 @@ use Rattle.schema_meaning.specs.Rules.{Rule, asks, accepts, faults}
 use Rattle.schema_meaning.specs.Keywords.{Shape, rule}
 
 -- What stands at each site: its keywords, its path in the schema (last part first) and its place in the documents.
--- `matches` tells which text matches which pattern, and no schema nests deeper than `nesting`.
+-- `matches` tells which text matches which pattern, and no target of a reference nests deeper than `nesting`.
 pub record Reading (S : Type 0) : Type 0 where
   pub keywords : S → List (Shape S)
   pub schema_path : S → List Part
@@ -77,8 +77,8 @@ pub record Asks {S : Type 0} (r : Reading S) (s : S) (w : Spot) (q : Question S)
   pub stands : In keyword (rules r s w.value)
   pub asked : In q (asks keyword)
 
--- subschemas nest: where no reference is followed, the site asked nests less
+-- subschemas nest: where no reference is followed, the site asked nests less; and no target of a reference nests deeper than the reading says
 pub record IsNested {S : Type 0} (r : Reading S) : Type 0 where
   pub rank : S → ℕ
-  pub shallow : (s : S) → rank s ≤ r.nesting
+  pub shallow : (s : S) (w : Spot) (q : Question S) → Asks r s w q → q.follows ≡ true → rank q.site ≤ r.nesting
   pub falls : (s : S) (w : Spot) (q : Question S) → Asks r s w q → q.follows ≡ false → rank q.site < rank s

@@ -4,5 +4,7 @@ pub mod Rows
 pub mod Plain
 pub mod BuildCauses
 pub mod CompileKeys
+pub mod AllKeys
+pub mod NotYet
 pub mod PathTexts
 pub mod Lines
