@@ -1,0 +1,6 @@
+pub mod Elements
+pub mod Steps
+pub mod Asked
+pub mod Rows
+pub mod Nested
+pub mod Keys
