@@ -10,7 +10,6 @@ use Rattle.schema_documents.specs.Bearers.{Documents}
 use Rattle.schema_reading.specs.Sites.{Site}
 use Rattle.schema_reading.specs.Plain.{plain}
 use Rattle.schema_reading.specs.AllKeys.{spots_in, places_of, keys_of}
-use Rattle.plain_laws.specs.Targets.{TargetsLie}
 use Rattle.plain_laws.specs.Laws.{KeysAreAll}
 use Rattle.plain_laws.proofs.Elements.{in_mapped, in_laid_flat}
 use Rattle.plain_laws.proofs.Steps.{Seen, Inside, Keeps, first_spot}
@@ -33,18 +32,18 @@ in_keys docs d place spot i j =
     in_laid_flat (λ p. map (λ s. record { target = p; path = s.0; called = s.1 }) (spots_in [] d)) place (record { target = place; path = spot.0; called = spot.1 }) (places_of docs) i
     (in_mapped (λ s. record { target = place; path = s.0; called = s.1 }) spot (spots_in [] d) j)
 
-module _ (docs : Documents) (makes : List ℕ → Bool) (matches : List ℕ → List ℕ → Bool) (lie : TargetsLie docs) (from : Site) (d : Data) where
+module _ (docs : Documents) (makes : List ℕ → Bool) (matches : List ℕ → List ℕ → Bool) (from : Site) (d : Data) where
   led_within : (keys : List Key) (s : Site) (w : Spot) → Leads (plain docs makes matches) from (whole d) keys s w → Within d w
   led_within keys s w starts = record { inside = λ x i. i; here = first_spot [] d }
-  led_within keys s w (inside {s = t} {w = v} chain q a e) = next_within d v q (led_within _ t v chain) (all_known docs makes matches lie t v q a).step
-  led_within keys s w (follows {keys = before} {s = t} {w = v} chain q a e) = next_within d v q (led_within before t v chain) (all_known docs makes matches lie t v q a).step
+  led_within keys s w (inside {s = t} {w = v} chain q a e) = next_within d v q (led_within _ t v chain) (all_known docs makes matches t v q a).step
+  led_within keys s w (follows {keys = before} {s = t} {w = v} chain q a e) = next_within d v q (led_within before t v chain) (all_known docs makes matches t v q a).step
 
   pub all_keys : AreAll (plain docs makes matches) from (whole d) (keys_of docs d)
   all_keys = record {
     key = λ keys s w chain q a e.
-        let next : Within d (asked_at w q) = next_within d w q (led_within keys s w chain) (all_known docs makes matches lie s w q a).step in
-        in_keys docs d (record { document = q.site.document; path = q.site.path }) ((asked_at w q).path, (asked_at w q).called) ((all_known docs makes matches lie s w q a).led e).place next.here;
+        let next : Within d (asked_at w q) = next_within d w q (led_within keys s w chain) (all_known docs makes matches s w q a).step in
+        in_keys docs d (record { document = q.site.document; path = q.site.path }) ((asked_at w q).path, (asked_at w q).called) ((all_known docs makes matches s w q a).led e).place next.here;
   }
 
 pub keys_are_all : KeysAreAll
-keys_are_all docs makes matches lie s d = all_keys docs makes matches lie s d
+keys_are_all docs makes matches s d = all_keys docs makes matches s d

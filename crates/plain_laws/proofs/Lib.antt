@@ -4,3 +4,4 @@ pub mod Asked
 pub mod Rows
 pub mod Nested
 pub mod Keys
+pub mod Roots

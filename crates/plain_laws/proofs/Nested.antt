@@ -13,7 +13,6 @@ use Rattle.schema_reading.specs.Sites.{Site}
 use Rattle.schema_reading.specs.Rows.{Row, rows_in, rows_at}
 use Rattle.schema_reading.specs.Plain.{deepest, keywords_at, plain}
 use Rattle.schema_reading.specs.AllKeys.{places_of}
-use Rattle.plain_laws.specs.Targets.{TargetsLie}
 use Rattle.plain_laws.specs.Laws.{PlainNests}
 use Rattle.plain_laws.proofs.Elements.{each_in, each_mapped, each_laid_flat}
 use Rattle.plain_laws.proofs.Asked.{Holds, Sound, all_sound}
@@ -24,7 +23,7 @@ pub record Led (docs : Documents) (s : Site) : Type 0 where
   pub place : In (record { document = s.document; path = s.path }) (places_of docs)
   pub shallow : depth s.contents ≤ deepest docs
 
-module _ (docs : Documents) (makes : List ℕ → Bool) (matches : List ℕ → List ℕ → Bool) (lie : TargetsLie docs) where
+module _ (docs : Documents) (makes : List ℕ → Bool) (matches : List ℕ → List ℕ → Bool) where
   -- what is known of each shape at a site whose schema is so deep
   abbrev KnownShape : ℕ → Shape Site → Type 0
   KnownShape n k = Holds (Under n) (Led docs) k
@@ -41,7 +40,7 @@ module _ (docs : Documents) (makes : List ℕ → Bool) (matches : List ℕ → 
   known_in s (array ds) = (tt, tt)
   known_in s (object ms) =
       known_rows (record { documents = docs; makes = makes; site = s; members = ms }) (suc (members_depth ms)) (omega arith) (Led docs)
-      (λ text t l. record { place = l.place; shallow = l.shallow }) lie ms (omega arith)
+      (λ text t l. record { place = l.place; shallow = l.shallow }) ms (omega arith)
 
   known_at : (s : Site) → AllByRecursion (KnownRow (depth s.contents)) (rows_at docs makes s)
   unfolding rows_at
@@ -63,7 +62,7 @@ module _ (docs : Documents) (makes : List ℕ → Bool) (matches : List ℕ → 
       a.keyword a.stands)
       q a.asked
 
-  nested : IsNested (plain docs makes matches)
+  unfoldable pub nested : IsNested (plain docs makes matches)
   nested = record {
     rank = λ s. depth s.contents;
     shallow = λ s w q a e. ((all_known s w q a).led e).shallow;
@@ -72,4 +71,4 @@ module _ (docs : Documents) (makes : List ℕ → Bool) (matches : List ℕ → 
 
 pub plain_nests : PlainNests
 unfolding nested
-plain_nests docs makes matches lie = (nested docs makes matches lie, λ s. refl)
+plain_nests docs makes matches = (nested docs makes matches, λ s. refl)

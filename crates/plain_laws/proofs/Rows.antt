@@ -18,7 +18,8 @@ use Rattle.schema_reading.specs.Sites.{Site, below, target_site}
 use Rattle.schema_reading.specs.Values.{type_names, whole_number, count_of, positive_of, names_in, unique_names}
 use Rattle.schema_reading.specs.Rows.{BuildCause, Row, nothing_read, reads, Context, counts_here, beside, at, bad_value, expected, subschema, and_more, each_subschema, named_result, each_named, row_of, one_schema, schema_list, sites_named, schema_map, asserted, assertion, counted, is_draft_4, is_true, limit, strict_limit, is_made, pattern_row, unique_row, unless_empty, length_of_list, takes_list, items_row, is_false, behind_items, contains_row, bound_row, declared_beside, is_alone, refuses_others, additional_properties_row, patterns_wrong, names_of_object, with_causes, pattern_properties_row, property_names_row, entry_names, required_entries, dependent_required_row, dependency_entry, dependency_entries, sites_applied, dependencies_row, schema_beside, if_row, consequent_row, target_causes, no_schema_there, led_to, ref_row, dynamic_row, is_hash, recursive_row, Reader, readers, read_among, row_at, rows_of}
 use Rattle.place_laws.proofs.Depths.{placed_contents}
-use Rattle.plain_laws.specs.Targets.{Lies, TargetsLie}
+use Rattle.target_laws.specs.Laws.{Lies}
+use Rattle.target_laws.proofs.Looked.{lookups_lie, dynamic_lookups_lie, recursive_lookups_lie}
 use Rattle.plain_laws.proofs.Elements.{◌&◌}
 use Rattle.plain_laws.proofs.Asked.{Holds, IsApplied}
 
@@ -293,7 +294,7 @@ module _ (c : Context) (n : ℕ) (fits : members_depth c.members < n) (R : Site 
 
   -- ---- references
 
-  module _ (led : (text : List ℕ) (t : Target) → Lies c.documents t → R (target_site c.site text t)) (lie : TargetsLie c.documents) where
+  module _ (led : (text : List ℕ) (t : Target) → Lies c.documents t → R (target_site c.site text t)) where
     known_led : (k : List ℕ) (r : Reference) (text : List ℕ) (answer : Result Target LookupCause) → ((t : Target) → answer ≡ Ok t → Lies c.documents t)
         → IsKnownRow (led_to c k r text answer)
     known_led k r text (Err cause) h = tt
@@ -302,17 +303,17 @@ module _ (c : Context) (n : ℕ) (fits : members_depth c.members < n) (R : Site 
 
     known_static : (k : List ℕ) (o : Option (List ℕ)) → IsKnownRow (ref_row c k o)
     known_static k None = tt
-    known_static k (Some text) = known_led k static text (lookup c.documents c.site.base text) (λ t e. lie.static c.site.base text t e)
+    known_static k (Some text) = known_led k static text (lookup c.documents c.site.base text) (λ t e. lookups_lie c.documents c.site.base text t e)
 
     known_dynamic : (k : List ℕ) (o : Option (List ℕ)) → IsKnownRow (dynamic_row c k o)
     known_dynamic k None = tt
     known_dynamic k (Some text) =
-        known_led k dynamic text (dynamic_lookup c.documents c.site.base c.site.scope text) (λ t e. lie.dynamic c.site.base c.site.scope text t e)
+        known_led k dynamic text (dynamic_lookup c.documents c.site.base c.site.scope text) (λ t e. dynamic_lookups_lie c.documents c.site.base c.site.scope text t e)
 
     known_recursive : (k : List ℕ) (d : Data) → IsKnownRow (recursive_row c k d)
     known_recursive k d =
         known_either (is_hash (as_str d)) (led_to c k recursive (codes "#") (recursive_lookup c.documents c.site.base c.site.scope)) (bad_value c k (codes "text #"))
-        (known_led k recursive (codes "#") (recursive_lookup c.documents c.site.base c.site.scope) (λ t e. lie.recursive c.site.base c.site.scope t e)) tt
+        (known_led k recursive (codes "#") (recursive_lookup c.documents c.site.base c.site.scope) (λ t e. recursive_lookups_lie c.documents c.site.base c.site.scope t e)) tt
 
     -- ---- the table
 
