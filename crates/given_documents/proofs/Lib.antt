@@ -1,1 +1,2 @@
 mod Positions
+mod Apart

@@ -1,5 +1,6 @@
 -- Documents as they are added, each under a URI; one added again under its URI takes the place of the first.
-use Rattle.std.specs.Prelude.{ℕ, suc, List, [], ◌∷◌, map, bytes_eq, if◌then◌else◌, Option, Some, None, option_map}
+use Rattle.std.specs.Prelude.{ℕ, suc, List, [], ◌∷◌, map, Bool, true, not, ◌&&◌, bytes_eq, if◌then◌else◌, Option, Some, None, option_map}
+use Rattle.std.specs.List.{list_any}
 use Rattle.serde_json.specs.Data.{Data}
 use Rattle.schema_drafts.specs.declared.draft.Draft.{Draft}
 use Rattle.schema_documents.specs.Words.{or}
@@ -31,3 +32,8 @@ documents_by default gs = map (document_by default) gs
 abbrev pub position_in : List Given → List ℕ → Option ℕ
 position_in [] uri = None
 position_in (g ∷ gs) uri = if bytes_eq g.uri uri then Some 0 else option_map suc (position_in gs uri)
+
+-- no URI is given twice
+abbrev pub are_given_apart : List Given → Bool
+are_given_apart [] = true
+are_given_apart (g ∷ gs) = not (list_any (λ h. bytes_eq g.uri h.uri) gs) && are_given_apart gs

@@ -1,7 +1,7 @@
 //! Documents added to a list.
 
-ghost use Rattle.std.specs.Prelude.{◌≡◌, [], ◌∷◌, ◌++◌, IfOk, IfErr, map, Some, None};
-ghost use Rattle.given_documents.specs.Given.{with_given, position_in};
+ghost use Rattle.std.specs.Prelude.{◌≡◌, [], ◌∷◌, ◌++◌, IfOk, IfErr, map, true, Some, None};
+ghost use Rattle.given_documents.specs.Given.{with_given, position_in, are_given_apart};
 ghost use Rattle.given_documents.specs.Seen.{given_of};
 ghost use Rattle.given_documents.specs.Listed.{givens_of};
 
@@ -20,6 +20,18 @@ impl<'a> DocumentList<'a> {
             positions: BTreeMap::new(alloc),
         }
     }
+
+    /// The documents in their order.
+    pub fn documents(&self) -> &[Document<'a>]
+        ensures { map given_of result.now ≡ givens_of self.now }
+    {
+        self.documents.as_slice()
+    }
+
+    /// No two of the documents have one URI. It does nothing.
+    pub fn uris_are_apart(&self)
+        ensures { are_given_apart (givens_of self.now) ≡ true }
+    {}
 
     /// The documents in their order.
     pub fn into_documents(self) -> Vec<Document<'a>>

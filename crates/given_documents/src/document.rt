@@ -1,10 +1,11 @@
 //! Documents.
 
-ghost use Rattle.std.specs.Prelude.{◌≡◌};
+ghost use Rattle.std.specs.Prelude.{◌≡◌, IfOk};
 ghost use Rattle.serde_json.specs.View.{view};
 
 use schema_drafts::draft::Draft;
 use serde_json::Value;
+use std::alloc::AllocError;
 use std::rc::Rc;
 use uri_references::uri::Uri;
 
@@ -27,6 +28,21 @@ impl<'a> Contents<'a> {
             Contents::Lent(value) => value,
             Contents::Owned(value) => value,
             Contents::Shared(value) => value,
+        }
+    }
+
+    /// The same contents once more: what is lent is lent again, what is shared has one more owner, and what is owned is copied.
+    ///
+    /// # Errors
+    ///
+    /// Where memory is out or the count of owners is full.
+    pub fn share(&self) -> Result<Contents<'a>, AllocError>
+        ensures { IfOk result (λ c. contents_view c ≡ contents_view self.now) }
+    {
+        match self {
+            Contents::Lent(value) => Ok(Contents::Lent(*value)),
+            Contents::Owned(value) => Ok(Contents::Owned(value.clone()?)),
+            Contents::Shared(value) => Ok(Contents::Shared(value.clone()?)),
         }
     }
 }

@@ -83,8 +83,12 @@ impl<'r> Resolver<'r> {
         self.scope.clone()
     }
 
-    // The resolver at another base.
-    fn at(&self, base: Rc<Uri>) -> Result<Resolver<'r>, AllocError>
+    /// The resolver at another base, which is entered in the scope where it is not the present one.
+    ///
+    /// # Errors
+    ///
+    /// Where memory was refused or a count of owners is full.
+    pub fn at(&self, base: Rc<Uri>) -> Result<Resolver<'r>, AllocError>
         ensures documents { IfOk result (λ r. documents_in r ≡ documents_in self.now) }
         ensures base { IfOk result (λ r. base_of r ≡ base.value) }
         ensures scope { IfOk result (λ r. scope_of r ≡ entered_scope base.value (base_of self.now) (scope_of self.now)) }
@@ -93,6 +97,40 @@ impl<'r> Resolver<'r> {
             registry: self.registry,
             scope: enter(self.registry.alloc, &self.scope, &self.base, &base)?,
             base,
+        })
+    }
+
+    /// The resolver at this base with no other resource in its scope, as a root has it.
+    ///
+    /// # Errors
+    ///
+    /// Where memory was refused or a count of owners is full.
+    pub fn alone(&self) -> Result<Resolver<'r>, AllocError>
+        ensures documents { IfOk result (λ r. documents_in r ≡ documents_in self.now) }
+        ensures base { IfOk result (λ r. base_of r ≡ base_of self.now) }
+        ensures scope { IfOk result (λ r. scope_of r ≡ base_of self.now ∷ []) }
+    {
+        Ok(Resolver {
+            registry: self.registry,
+            base: self.base.clone()?,
+            scope: List::new().push_front(self.registry.alloc, self.base.clone()?)?,
+        })
+    }
+
+    /// A copy, which shares the base and the scope.
+    ///
+    /// # Errors
+    ///
+    /// Where a count of owners is full.
+    pub fn share(&self) -> Result<Resolver<'r>, AllocError>
+        ensures documents { IfOk result (λ r. documents_in r ≡ documents_in self.now) }
+        ensures base { IfOk result (λ r. base_of r ≡ base_of self.now) }
+        ensures scope { IfOk result (λ r. scope_of r ≡ scope_of self.now) }
+    {
+        Ok(Resolver {
+            registry: self.registry,
+            base: self.base.clone()?,
+            scope: self.scope.clone()?,
         })
     }
 
@@ -154,11 +192,7 @@ impl<'r> Resolver<'r> {
     {
         match subresource.id() {
             Some(id) => self.at_identifier(id),
-            None => Ok(Resolver {
-                registry: self.registry,
-                base: self.base.clone()?,
-                scope: self.scope.clone()?,
-            }),
+            None => Ok(self.share()?),
         }
     }
 }

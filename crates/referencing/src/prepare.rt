@@ -71,6 +71,11 @@ impl<'a> Registry<'a> {
             index,
         })
     }
+
+    /// In each object of each document the names stand in the order of their bytes, each once. It does nothing.
+    pub fn names_rise(&self)
+        ensures { list_all contents_rise (documents_of self.now) ≡ true }
+    {}
 }
 
 // A document with the draft by default where none was given with it.

@@ -5,23 +5,30 @@ use Rattle.std.proofs.lemmas.List.{length-map, map-append}
 use Rattle.std.proofs.lemmas.Map.Text.{btree_map_updates_text}
 use Rattle.std.specs.BTreeMap.{get_by_text, Updates}
 use Rattle.std.specs.String.{string_cmp}
-use Rattle.given_documents.specs.Given.{position_in}
+use Rattle.given_documents.specs.Given.{position_in, are_given_apart}
 use Rattle.given_documents.specs.Seen.{given_of}
 use Rattle.given_documents.specs.Listed.{givens_of}
 use Rattle.given_documents.proofs.Positions.{with_given-appended, position_in-appended}
+use Rattle.given_documents.proofs.Apart.{with_given-apart}
 use Rattle.given_documents.proofs.list.DocumentList.appended.Goals as goal
 
 pub invariant_of-result : goal.invariant_of-result
 invariant_of-result c =
     let items : c.push.new.self.items ≡ c.args.self.documents.items = search rules in
-    record { placed = ∥∥₁_map c.args.self.placed (λ known. λ q. known q ∙ ap (λ ds. position_in (map given_of ds) q) (sym items)) }
+    record {
+      placed = ∥∥₁_map c.args.self.placed (λ known. λ q. known q ∙ ap (λ ds. position_in (map given_of ds) q) (sym items));
+      apart = ap (λ ds. are_given_apart (map given_of ds)) items ∙ c.args.self.apart;
+    }
 
 pub invariant_of-result-then-is_err-2 : goal.invariant_of-result-then-is_err-2
 invariant_of-result-then-is_err-2 c =
     let items : c.push.new.self.items ≡ c.args.self.documents.items ++ c.args.document ∷ [] = search rules in
     let rest : c.pop.new.self.items ≡ c.args.self.documents.items = grind (arith, common_steps) in
     let same : c.insert.new.self.entries ≡ c.args.self.positions.entries = search rules in
-    record { placed = ∥∥₁_map c.args.self.placed (λ known. λ q. rw same (known q ∙ ap (λ ds. position_in (map given_of ds) q) (sym rest))) }
+    record {
+      placed = ∥∥₁_map c.args.self.placed (λ known. λ q. rw same (known q ∙ ap (λ ds. position_in (map given_of ds) q) (sym rest)));
+      apart = ap (λ ds. are_given_apart (map given_of ds)) rest ∙ c.args.self.apart;
+    }
 
 pub invariant_of-result-2 : goal.invariant_of-result-2
 invariant_of-result-2 c =
@@ -42,6 +49,7 @@ invariant_of-result-2 c =
           ∙ ap (λ o. if bytes_eq g.uri q then Some (length gs) else o) (known q)
           ∙ sym (position_in-appended gs g q c.requires)
           ∙ ap (λ hs. position_in hs q) (sym grown));
+      apart = ap are_given_apart (grown ∙ sym (with_given-appended gs g c.requires)) ∙ with_given-apart gs g c.args.self.apart;
     }
 
 pub returns-clause-ok : goal.returns-clause-ok

@@ -1,10 +1,11 @@
 use Rattle.std.proofs.Common.{◌≡◌, ◌∙◌, map, ap, arith, slice_set, sym}
 use Rattle.std.proofs.Math.Logic.{∥∥₁_map}
 use Rattle.std.proofs.lemmas.List.{length-map, map-set}
-use Rattle.given_documents.specs.Given.{with_given, position_in}
+use Rattle.given_documents.specs.Given.{with_given, position_in, are_given_apart}
 use Rattle.given_documents.specs.Seen.{given_of}
 use Rattle.given_documents.specs.Listed.{givens_of}
 use Rattle.given_documents.proofs.Positions.{position-within, with_given-placed, position_in-placed}
+use Rattle.given_documents.proofs.Apart.{with_given-apart}
 use Rattle.given_documents.proofs.list.DocumentList.replaced.Goals as goal
 
 pub index_mut-requires : goal.index_mut-requires
@@ -20,7 +21,10 @@ invariant_of-result c =
     let i = c.args.position in
     let written : map given_of (slice_set c.args.self.documents.items i c.args.document) ≡ with_given gs g =
     map-set given_of c.args.self.documents.items i c.args.document ∙ with_given-placed gs g i c.requires in
-    record { placed = ∥∥₁_map c.args.self.placed (λ known. λ q. known q ∙ sym (position_in-placed gs g i q c.requires) ∙ ap (λ hs. position_in hs q) (sym written)) }
+    record {
+      placed = ∥∥₁_map c.args.self.placed (λ known. λ q. known q ∙ sym (position_in-placed gs g i q c.requires) ∙ ap (λ hs. position_in hs q) (sym written));
+      apart = ap are_given_apart written ∙ with_given-apart gs g c.args.self.apart;
+    }
 
 pub returns : goal.returns
 returns c =

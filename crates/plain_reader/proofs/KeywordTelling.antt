@@ -1,0 +1,195 @@
+-- What a member of a schema tells, by what its keyword does.
+use Rattle.std.proofs.Common.{◌≡◌, ◌<◌, ◌≤◌, ℕ, zero, suc, List, [], ◌∷◌, Bool, true, false, refl, sym, ap, ◌∙◌, arith, subst}
+use Rattle.std.specs.List.{flat_map}
+use Rattle.serde_json.specs.Data.{Data, null, boolean, number, string, array, object, Members}
+use Rattle.serde_json.specs.View.{view}
+use Rattle.schema_meaning.specs.Members.{In}
+use Rattle.schema_meaning.specs.Places.{Key}
+use Rattle.schema_meaning.specs.Faults.{FalseSchema, fault, Faults, none, also, joined}
+use Rattle.schema_meaning.specs.Rules.{own_faults}
+use Rattle.schema_meaning.specs.Questions.{Question, at, listed_members}
+use Rattle.schema_meaning.specs.Keywords.{Shape, Assertion, items, properties, reference, never, named, wrong, static}
+use Rattle.schema_meaning.specs.Readings.{bags}
+use Rattle.schema_meaning.specs.Cut.{cut_within}
+use Rattle.schema_documents.specs.Lookup.{Target}
+use Rattle.schema_reading.specs.Sites.{Site, target_site}
+use Rattle.schema_reading.specs.Rows.{Row, Context, row_at, assertion, rows_in}
+use Rattle.schema_reading.specs.NotYet.{is_unread, is_read_draft}
+use Rattle.schema_reading.specs.Plain.{keywords_at}
+use Rattle.schema_sites.specs.Seen.{documents_at, Stands}
+use Rattle.schema_sites.specs.Read.{row_of, context_at}
+use Rattle.schema_sites.specs.Refused.{Refuses}
+use Rattle.schema_sites.specs.declared.site.Site as code
+use Rattle.schema_sites.specs.declared.keyword.Keyword.{Keyword}
+use Rattle.schema_sites.specs.declared.keyword.Refusal.{Refusal}
+use Rattle.schema_sites.specs.declared.keyword.Refusal.TheVariants as refusal
+use Rattle.schema_reports.specs.RoadPaths.{instance_in, schema_in, evaluation_in}
+use Rattle.schema_reports.specs.Observers.{Hears}
+use Rattle.schema_reports.specs.declared.roads.Roads.{Roads}
+use Rattle.schema_reports.specs.declared.observer.Observation.{Observation}
+use Rattle.schema_reports.specs.declared.observer.Observer.{Observer}
+use Rattle.plain_reader.specs.Settings.{Setting, reading_in, told_in, told_by, asked_by}
+use Rattle.plain_reader.specs.Tellings.{Fits, AreRead, Tells, TellsShapes, TellsQuestions, TellsAssertion, room, spot_at}
+use Rattle.plain_reader.specs.Shapes.{no_leads, context_in, shapes_at, shapes_among, keyword_leads, keyword_shapes, items_site, items_leads, items_questions, declared_in, properties_leads, properties_questions}
+use Rattle.plain_reader.specs.Targets.{reference_leads, reference_questions}
+use Rattle.plain_reader.proofs.ToldLemmas.{joined-none, told_by-none, told_by-asserts, told_by-never, told_by-items, told_by-properties, told_by-reference, asked_by-none, asked_by-more, told_deeper}
+use Rattle.plain_reader.proofs.Reading.{is_read, read_here, read_on, read_each, row_here, keywords-of}
+
+-- ---- nothing more is told
+
+pub hears_none : (kept : Observation) (o : Observer) (fs gs : Faults) → gs ≡ none → Hears kept o fs → Hears kept o (joined fs gs)
+hears_none kept o fs gs e h = subst (Hears kept o) (sym (ap (joined fs) e ∙ joined-none fs)) h
+
+module _ (c : code.Site) (whole d : Data) (roads : Roads) (progress : List Key) where
+  pub tells_nothing : (leads : Setting → List Site) (shapes : Setting → List (Shape Site)) (o : Observer) → ((x : Setting) → Fits c d roads progress x → shapes x ≡ []) → TellsShapes c whole d roads progress leads shapes o o
+  tells_nothing leads shapes o e =
+      record { tells = λ x fits read deep kept fs h. hears_none kept o fs (told_by x (shapes x)) (ap (told_by x) (e x fits) ∙ told_by-none x) h }
+
+  -- ---- a keyword, by its shapes
+
+  pub tells_assertion : (k : Keyword) (a : Assertion) (old new : Observer) → ((x : Setting) → keyword_shapes k x ≡ assertion a)
+      → TellsAssertion d roads a old new → TellsShapes c whole d roads progress (keyword_leads k) (keyword_shapes k) old new
+  tells_assertion k a old new e told = record {
+    tells = λ x fits read deep kept fs h.
+        let same : told_by x (keyword_shapes k x) ≡ own_faults (spot_at d roads) (schema_in roads) (at (named a)) (wrong x.matches a d) =
+        ap (told_by x) (e x) ∙ told_by-asserts x a
+        ∙ ap (λ w. own_faults w x.site.schema_path (at (named a)) (wrong x.matches a w.value)) fits.spot
+        ∙ ap (λ p. own_faults (spot_at d roads) p (at (named a)) (wrong x.matches a d)) fits.schema_path in
+        subst (λ gs. Hears kept new (joined fs gs)) (sym same) (told.tells x.matches kept fs h);
+  }
+
+  pub tells_questions : (k : Keyword) (leads : Setting → List Site) (questions : Setting → List (Question Site)) (old new : Observer)
+      → ((x : Setting) → keyword_leads k x ≡ leads x) → ((x : Setting) → x.spot.value ≡ d → told_by x (keyword_shapes k x) ≡ asked_by x (questions x))
+      → TellsQuestions c whole d roads progress leads questions old new → TellsShapes c whole d roads progress (keyword_leads k) (keyword_shapes k) old new
+  tells_questions k leads questions old new led asked told = record {
+    tells = λ x fits read deep kept fs h.
+        subst (λ gs. Hears kept new (joined fs gs)) (sym (asked x (ap (λ w. w.value) fits.spot)))
+        (told.tells x fits (λ t i. read t (subst (In t) (sym (led x)) i)) deep kept fs h);
+  }
+
+  pub tells_items : (k : Keyword) (start : ℕ) (schema : Data) (old new : Observer) → ((x : Setting) → keyword_leads k x ≡ items_leads schema x)
+      → ((x : Setting) → keyword_shapes k x ≡ items start (items_site schema x) ∷ []) → TellsQuestions c whole d roads progress (items_leads schema) (items_questions start schema d) old new
+      → TellsShapes c whole d roads progress (keyword_leads k) (keyword_shapes k) old new
+  tells_items k start schema old new led shaped told = tells_questions k (items_leads schema) (items_questions start schema d) old new led
+      (λ x is. ap (told_by x) (shaped x) ∙ told_by-items x start (items_site schema x) ∙ ap (λ v. asked_by x (items_questions start schema v x)) is) told
+
+  pub tells_properties : (k : Keyword) (ms : Members) (old new : Observer) → ((x : Setting) → keyword_leads k x ≡ properties_leads ms x)
+      → ((x : Setting) → keyword_shapes k x ≡ properties (declared_in ms x) ∷ []) → TellsQuestions c whole d roads progress (properties_leads ms) (properties_questions ms d) old new
+      → TellsShapes c whole d roads progress (keyword_leads k) (keyword_shapes k) old new
+  tells_properties k ms old new led shaped told = tells_questions k (properties_leads ms) (properties_questions ms d) old new led
+      (λ x is. ap (told_by x) (shaped x) ∙ told_by-properties x (declared_in ms x) ∙ ap (λ v. asked_by x (properties_questions ms v x)) is) told
+
+  pub tells_reference : (k : Keyword) (text : List ℕ) (target : Target) (old new : Observer) → ((x : Setting) → keyword_leads k x ≡ reference_leads text target x)
+      → ((x : Setting) → keyword_shapes k x ≡ reference static (target_site x.site text target) ∷ [])
+      → TellsQuestions c whole d roads progress (reference_leads text target) (reference_questions text target) old new
+      → TellsShapes c whole d roads progress (keyword_leads k) (keyword_shapes k) old new
+  tells_reference k text target old new led shaped told = tells_questions k (reference_leads text target) (reference_questions text target) old new led
+      (λ x is. ap (told_by x) (shaped x) ∙ told_by-reference x static (target_site x.site text target) ∙ sym (asked_by-more x _ [] ∙ ap (joined _) (asked_by-none x) ∙ joined-none _)) told
+
+  -- ---- a member, by its keyword
+
+  pub tells_member : (ms : Members) (k : List ℕ) (e : Data) (word : Keyword) (old new : Observer) → view c.contents.now ≡ object ms → In (k, e) (listed_members ms)
+      → ((makes : List ℕ → Bool) (s : Site) → Stands c s → is_read_draft s.dialect.draft ≡ true → row_at (context_at c ms makes s) k e ≡ row_of (documents_at c) s word)
+      → TellsShapes c whole d roads progress (keyword_leads word) (keyword_shapes word) old new
+      → TellsShapes c whole d roads progress no_leads (shapes_at ms k e) old new
+  tells_member ms k e word old new is listed reads told = record {
+    tells = λ x fits none deep kept fs h.
+        let here = is_read x.site (read_here x.documents x.makes x.site fits.read) in
+        let row : row_at (context_in ms x) k e ≡ row_of x.documents x.site word =
+        subst (λ docs. row_at (record { documents = docs; makes = x.makes; site = x.site; members = ms }) k e ≡ row_of docs x.site word) (sym fits.documents) (reads x.makes x.site fits.stands here.draft) in
+        let lies = row_here x.documents x.makes x.site ms k e (fits.stands.contents ∙ is) listed in
+        let read : (t : Site) → In t (keyword_leads word x) → AreRead x.documents x.makes t =
+        λ t i. read_on x.documents x.makes x.site (row_at (context_in ms x) k e) t fits.read lies (subst (λ r. In t r.leads) (sym row) i) in
+        subst (λ r. Hears kept new (joined fs (told_by x r.shapes))) (sym row) (told.tells x fits read deep kept fs h);
+  }
+
+-- ---- a member that is refused
+
+refused_shapes : (x : Context) (k : List ℕ) (row : Row) (r : Refusal) → Refuses x k row r → (r ≡ refusal.Memory → ⊥) → is_unread x.site x.members k ≡ false → row.shapes ≡ []
+refused_shapes x k row (refusal.Value expected) h other read = h.alone
+refused_shapes x k row (refusal.Subschema n) h other read = h.alone
+refused_shapes x k row (refusal.Target target) h other read = h.alone
+refused_shapes x k row (refusal.Reference error) h other read = h.2.alone
+refused_shapes x k row refusal.LeftOut h other read = h.alone
+refused_shapes x k row refusal.NotYet h other read = absurd (cc)
+refused_shapes x k row refusal.Memory h other read = absurd (other refl)
+
+module _ (c : code.Site) (whole d : Data) (roads : Roads) (progress : List Key) where
+  pub tells_refused : (ms : Members) (k : List ℕ) (e : Data) (r : Refusal) (o : Observer) → view c.contents.now ≡ object ms → In (k, e) (listed_members ms) → (r ≡ refusal.Memory → ⊥)
+      → ((makes : List ℕ → Bool) (s : Site) → Stands c s → is_read_draft s.dialect.draft ≡ true → Refuses (context_at c ms makes s) k (row_at (context_at c ms makes s) k e) r)
+      → TellsShapes c whole d roads progress no_leads (shapes_at ms k e) o o
+  tells_refused ms k e r o is listed other refuses = tells_nothing c whole d roads progress no_leads (shapes_at ms k e) o
+      λ x fits.
+      let here = is_read x.site (read_here x.documents x.makes x.site fits.read) in
+      let counted = read_each x.site ms k e here (fits.stands.contents ∙ is) listed in
+      let none = refused_shapes (context_at c ms x.makes x.site) k (row_at (context_at c ms x.makes x.site) k e) r (refuses x.makes x.site fits.stands here.draft) other counted in
+      subst (λ docs. (row_at (record { documents = docs; makes = x.makes; site = x.site; members = ms }) k e).shapes ≡ []) (sym fits.documents) none
+
+-- ---- a site
+
+-- with questions going so deep
+abbrev pub down_to : Setting → ℕ → Setting
+down_to x n = record { documents = x.documents; makes = x.makes; matches = x.matches; depth = n; keys = x.keys; site = x.site; spot = x.spot }
+
+told_down : (x : Setting) (n : ℕ) → x.depth ≡ suc n → told_in x ≡ told_by (down_to x n) (keywords_at x.documents x.makes x.site)
+told_down x n e = ap (λ k. cut_within bags (reading_in x) k x.keys x.site x.spot) e ∙ told_deeper (down_to x n)
+
+record Below (k r : ℕ) : Type 0 where
+  before : ℕ
+  is : k ≡ suc before
+  enough : r ≤ before
+
+below : (k r : ℕ) → r < k → Below k r
+below zero r h = absurd (omega arith)
+below (suc n) r h = record { before = n; is = refl; enough = omega arith }
+
+module _ (c : code.Site) (whole d : Data) (roads : Roads) (progress : List Key) where
+  pub tells_site : (shapes : Setting → List (Shape Site)) (old new : Observer) → ((x : Setting) → Fits c d roads progress x → keywords_at x.documents x.makes x.site ≡ shapes x)
+      → TellsShapes c whole d roads progress no_leads shapes old new → Tells c whole d roads progress old new
+  tells_site shapes old new same told = record {
+    tells = λ x fits deep kept fs h.
+        let b = below x.depth (room (documents_at c) whole progress (view c.contents.now)) deep in
+        let y = down_to x b.before in
+        let fits_too : Fits c d roads progress y =
+        record { documents = fits.documents; stands = fits.stands; scope = fits.scope; schema_path = fits.schema_path; spot = fits.spot; keys = fits.keys; read = fits.read } in
+        let all : told_in x ≡ told_by y (shapes y) = told_down x b.before b.is ∙ ap (told_by y) (same y fits_too) in
+        subst (λ gs. Hears kept new (joined fs gs)) (sym all) (told.tells y fits_too (λ t i. elim i [ ]) b.enough kept fs h);
+  }
+
+  pub tells_object : (ms : Members) (old new : Observer) → view c.contents.now ≡ object ms → TellsShapes c whole d roads progress no_leads (shapes_among ms ms) old new
+      → Tells c whole d roads progress old new
+  tells_object ms old new is told = tells_site (shapes_among ms ms) old new (λ x fits. keywords-of x.documents x.makes x.site (object ms) (fits.stands.contents ∙ is)) told
+
+  pub tells_false : (old new : Observer) → view c.contents.now ≡ boolean false
+      → ((kept : Observation) (fs : Faults) → Hears kept old fs → Hears kept new (joined fs (also (fault FalseSchema d (instance_in roads) (schema_in roads) (evaluation_in roads)) none)))
+      → Tells c whole d roads progress old new
+  tells_false old new is told = tells_site (λ x. never ∷ []) old new (λ x fits. keywords-of x.documents x.makes x.site (boolean false) (fits.stands.contents ∙ is)) record {
+    tells = λ x fits read deep kept fs h.
+        let same : told_by x (never ∷ []) ≡ also (fault FalseSchema d (instance_in roads) (schema_in roads) (evaluation_in roads)) none =
+        told_by-never x
+        ∙ ap (λ w. own_faults w x.site.schema_path [] (record { kind = FalseSchema; value = w.value } ∷ [])) fits.spot
+        ∙ ap (λ p. own_faults (spot_at d roads) p [] (record { kind = FalseSchema; value = d } ∷ [])) fits.schema_path in
+        subst (λ gs. Hears kept new (joined fs gs)) (sym same) (told kept fs h);
+  }
+
+  asserts_nothing : (s : Site) (rows : Members → Context) (e : Data) → (e ≡ boolean false → ⊥) → ((ms : Members) → e ≡ object ms → ⊥) → flat_map (λ r. r.shapes) (rows_in s rows e) ≡ []
+  asserts_nothing s rows null not_false no_object = refl
+  asserts_nothing s rows (boolean true) not_false no_object = refl
+  asserts_nothing s rows (boolean false) not_false no_object = absurd (not_false refl)
+  asserts_nothing s rows (number n) not_false no_object = refl
+  asserts_nothing s rows (string t) not_false no_object = refl
+  asserts_nothing s rows (array ds) not_false no_object = refl
+  asserts_nothing s rows (object ms) not_false no_object = absurd (no_object ms refl)
+
+  pub tells_no_object : (o : Observer) → (view c.contents.now ≡ boolean false → ⊥) → ((ms : Members) → view c.contents.now ≡ object ms → ⊥) → Tells c whole d roads progress o o
+  tells_no_object o not_false no_object = tells_site (λ x. []) o o
+      (λ x fits. keywords-of x.documents x.makes x.site (view c.contents.now) fits.stands.contents
+      ∙ asserts_nothing x.site (λ ms. record { documents = x.documents; makes = x.makes; site = x.site; members = ms }) (view c.contents.now) not_false no_object)
+      (tells_nothing c whole d roads progress no_leads (λ x. []) o (λ x fits. refl))
+
+-- ---- assertions
+
+pub tells_accepted : (d : Data) (roads : Roads) (a : Assertion) (o : Observer) → ((matches : List ℕ → List ℕ → Bool) → wrong matches a d ≡ []) → TellsAssertion d roads a o o
+tells_accepted d roads a o right = record {
+  tells = λ matches kept fs h. hears_none kept o fs (own_faults (spot_at d roads) (schema_in roads) (at (named a)) (wrong matches a d)) (ap (own_faults (spot_at d roads) (schema_in roads) (at (named a))) (right matches)) h;
+}

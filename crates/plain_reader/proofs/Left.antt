@@ -1,0 +1,48 @@
+-- What a loop of the reader has still to tell.
+use Rattle.std.proofs.Common.{◌≡◌, ◌≤◌, ℕ, List, Option, codes}
+use Rattle.serde_json.specs.Data.{Data, Items, Members, depth, object}
+use Rattle.serde_json.specs.View.{view}
+use Rattle.json_paths.specs.Parts.{Part}
+use Rattle.schema_meaning.specs.Members.{In}
+use Rattle.schema_meaning.specs.Places.{Key}
+use Rattle.schema_meaning.specs.Faults.{Faults, joined}
+use Rattle.schema_meaning.specs.Questions.{each_item, listed_members}
+use Rattle.schema_reading.specs.Sites.{Site}
+use Rattle.schema_reading.specs.AllKeys.{spots_of_items}
+use Rattle.schema_sites.specs.Seen.{documents_at}
+use Rattle.schema_sites.specs.declared.site.Site as code
+use Rattle.schema_reports.specs.Observers.{Hears}
+use Rattle.schema_reports.specs.declared.roads.Roads.{Roads}
+use Rattle.schema_reports.specs.declared.observer.Observation.{Observation}
+use Rattle.schema_reports.specs.declared.observer.Observer.{Observer}
+use Rattle.schema_reports.specs.RoadPaths.{instance_in}
+use Rattle.plain_reader.specs.Settings.{Setting, told_by, asked_by}
+use Rattle.plain_reader.specs.Tellings.{Fits, AreRead, room}
+use Rattle.plain_reader.specs.Shapes.{shapes_among, items_site, items_questions, properties_questions, properties_leads}
+
+-- of all that is told, what is left to tell
+pub record LeftOf (all left : Faults) (kept : Observation) (fs : Faults) (now : Observer) : Type 0 where
+  pub done : Faults
+  pub heard : Hears kept now (joined fs done)
+  pub rest : all ≡ joined done left
+
+module _ (c : code.Site) (whole d : Data) (roads : Roads) (progress : List Key) where
+  pub record MembersLeft (all rest : Members) (old now : Observer) : Type 0 where
+    pub among : (k : List ℕ) (e : Data) → In (k, e) (listed_members rest) → In (k, e) (listed_members all)
+    pub left : (x : Setting) → Fits c d roads progress x → room (documents_at c) whole progress (view c.contents.now) ≤ x.depth
+        → (kept : Observation) (fs : Faults) → Hears kept old fs → LeftOf (told_by x (shapes_among all all x)) (told_by x (shapes_among all rest x)) kept fs now
+
+  pub record ItemsLeft (schema : Data) (start index : ℕ) (all rest : Items) (old now : Observer) : Type 0 where
+    pub within : (spot : List Part × Option (List ℕ)) → In spot (spots_of_items (instance_in roads) index rest) → In spot (spots_of_items (instance_in roads) 0 all)
+    pub left : (x : Setting) → Fits c d roads progress x → AreRead x.documents x.makes (items_site schema x)
+        → room (documents_at c) whole progress (view c.contents.now) ≤ x.depth
+        → (kept : Observation) (fs : Faults) → Hears kept old fs
+        → LeftOf (asked_by x (items_questions start schema d x)) (asked_by x (each_item (codes "items") (items_site schema x) index rest)) kept fs now
+
+  pub record DeclaredLeft (all rest : Members) (old now : Observer) : Type 0 where
+    pub shallow : depth (object rest) ≤ depth (object all)
+    pub left : (x : Setting) → Fits c d roads progress x → ((t : Site) → In t (properties_leads all x) → AreRead x.documents x.makes t)
+        → room (documents_at c) whole progress (view c.contents.now) ≤ x.depth
+        → (kept : Observation) (fs : Faults) → Hears kept old fs
+        → LeftOf (asked_by x (properties_questions all d x)) (asked_by x (properties_questions rest d x)) kept fs now
+    pub leads : (x : Setting) (t : Site) → In t (properties_leads rest x) → In t (properties_leads all x)

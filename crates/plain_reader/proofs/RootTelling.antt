@@ -1,0 +1,53 @@
+-- What a root tells.
+use Rattle.std.proofs.Common.{◌≡◌, ◌<◌, ◌≤◌, ◌+◌, ◌*◌, ℕ, suc, List, [], ◌∷◌, None, refl, sym, ap₂, subst, arith}
+use Rattle.serde_json.specs.Data.{Data, depth}
+use Rattle.serde_json.specs.View.{view}
+use Rattle.json_paths.specs.Parts.{Part}
+use Rattle.schema_meaning.specs.Places.{whole}
+use Rattle.schema_meaning.specs.Cut.{cut, left}
+use Rattle.schema_documents.specs.Bearers.{Documents}
+use Rattle.schema_documents.specs.Lookup.{Target}
+use Rattle.schema_reading.specs.Sites.{root_site}
+use Rattle.schema_reading.specs.Plain.{deepest}
+use Rattle.schema_reading.specs.AllKeys.{keys_of}
+use Rattle.referencing.specs.Resolved.{scope_of}
+use Rattle.schema_sites.specs.Seen.{documents_at, Stands}
+use Rattle.schema_sites.specs.declared.site.Site as code
+use Rattle.schema_reports.specs.RoadPaths.{instance_in, schema_in, evaluation_in}
+use Rattle.schema_reports.specs.declared.roads.Roads.{Roads}
+use Rattle.schema_reports.specs.declared.observer.Observer.{Observer}
+use Rattle.plain_reader.specs.Settings.{Setting}
+use Rattle.plain_reader.specs.Roots.{TellsRoot}
+use Rattle.plain_reader.specs.Tellings.{Fits, Within, room, Tells}
+
+first_fits : (a m x : ℕ) → x ≤ m → a * suc m + x < suc a * suc m
+first_fits a m x i = omega (arith, i)
+
+pub whole_within : (d : Data) (path : List Part) → path ≡ [] → Within d path d
+whole_within d path e = subst (λ p. Within d p d) (sym e) (record { spots = λ spot i. i })
+
+pub root_shallow : (docs other : Documents) (e f : Data) → other ≡ docs → f ≡ e → depth e ≤ deepest docs → depth f ≤ deepest other
+root_shallow docs other e f same contents h =
+    subst (λ (ds : Documents). depth f ≤ deepest ds) (sym same) (subst (λ (x : Data). depth x ≤ deepest docs) (sym contents) h)
+
+pub root_told : (c : code.Site) (docs : Documents) (t : Target) (d : Data) (roads : Roads) (old new : Observer) → documents_at c ≡ docs → Stands c (root_site t)
+    → scope_of c.resolver ≡ t.base ∷ [] → view c.contents.now ≡ t.contents → instance_in roads ≡ [] → schema_in roads ≡ [] → evaluation_in roads ≡ []
+    → depth t.contents ≤ deepest docs → Tells c d d roads [] old new → TellsRoot t docs d old new
+unfolding cut
+root_told c docs t d roads old new same stands scope contents at_instance at_schema at_evaluation shallow told = record {
+  tells = λ makes matches read kept fs h.
+      let n : ℕ = suc (left [] (keys_of docs d)) * suc (deepest docs) in
+      let x : Setting = record { documents = docs; makes = makes; matches = matches; depth = n; keys = []; site = root_site t; spot = whole d } in
+      let fits : Fits c d roads [] x = record {
+        documents = sym same;
+        stands = stands;
+        scope = sym scope;
+        schema_path = sym at_schema;
+        spot = ap₂ (λ (i e : List Part). record { value = d; path = i; called = None; road = e }) (sym at_instance) (sym at_evaluation);
+        keys = refl;
+        read = read;
+      } in
+      let is : room (documents_at c) d [] (view c.contents.now) ≡ room docs d [] t.contents = ap₂ (λ (ds : Documents) (e : Data). room ds d [] e) same contents in
+      let less : room docs d [] t.contents < n = first_fits (left [] (keys_of docs d)) (deepest docs) (depth t.contents) shallow in
+      told.tells x fits (omega (arith, is, less)) kept fs h;
+}

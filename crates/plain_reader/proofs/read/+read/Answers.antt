@@ -1,0 +1,378 @@
+use Rattle.std.proofs.Common.{rules, arith, ◌≡◌, ◌<◌, ℕ, List, [], ◌∷◌, ◌++◌, true, false, refl, sym, ap, ap₂, ◌∙◌, subst, ◌+◌, length, Bor, drop, add-one, codes}
+use Rattle.serde_json.specs.Data.{member, object, array, no_items, boolean}
+use Rattle.serde_json.specs.View.{view, members_view, items_view}
+use Rattle.json_paths.specs.Parts.{Part, name}
+use Rattle.schema_meaning.specs.Cut.{is_in_progress}
+use Rattle.schema_documents.specs.Scopes.{entered_scope}
+use Rattle.schema_reading.specs.Sites.{path_of_reference}
+use Rattle.target_laws.proofs.Texts.{lookups_read}
+use Rattle.referencing.specs.Resolved.{base_of, target_in}
+use Rattle.schema_sites.specs.Seen.{documents_at}
+use Rattle.schema_reports.specs.RoadPaths.{instance_in}
+use Rattle.plain_reader.specs.Keys.{key, keys_in}
+use Rattle.plain_reader.proofs.Left.{MembersLeft, ItemsLeft, DeclaredLeft}
+use Rattle.plain_reader.proofs.MemberTelling.{members_first, members_settled, members_step, members_last, members_listed}
+use Rattle.plain_reader.proofs.TargetTelling.{on_ok, target_deeper, target_back, target_on, falls_by_target, shallow_by_target, at_target_told}
+use Rattle.schema_meaning.specs.Members.{In}
+use Rattle.schema_meaning.specs.Questions.{each_item, items_from, items_of}
+use Rattle.plain_reader.specs.Tellings.{TellsQuestions}
+use Rattle.plain_reader.specs.Shapes.{keyword_leads, keyword_shapes, property_leads, property_questions, items_site}
+use Rattle.std.proofs.lemmas.List.{drop_more, drop_all}
+use Rattle.serde_json.proofs.Views.{view-Array, view-Object}
+use Rattle.serde_json.specs.declared.value.Value.{Value, the_lemmas}
+use Rattle.schema_reading.specs.AllKeys.{spots_of_items}
+use Rattle.plain_reader.proofs.ItemTelling.{Child, Where, child_falls, child_shallow, item_within, member_within, drop-items, no_items_told, items_init, items_settled, items_step, items_done, item_asked, member_asked, property_told, declared_init, declared_settled, declared_absent, declared_step, declared_done, when_ok}
+use Rattle.std.proofs.lemmas.Result.{on_ok_weaker}
+use Rattle.schema_meaning.specs.Keywords.{types, min_items}
+use Rattle.schema_types.specs.Named.{names_in}
+use Rattle.plain_reader.proofs.Reading.{member_inside}
+use Rattle.plain_reader.proofs.KeywordTelling.{tells_nothing, tells_assertion, tells_items, tells_properties, tells_reference, tells_member, tells_refused, tells_object, tells_false, tells_no_object}
+use Rattle.plain_reader.proofs.read.+read.Goals.{read_member-in-Memory, read_member-in_default}
+use Rattle.plain_reader.proofs.read.+read.Goals as goal
+
+pub read_items-returns-in_default : goal.read_items-returns-in_default
+read_items-returns-in_default t c =
+    let nothing : items_of (view c.args.value.now) ≡ no_items = search (rules, the_lemmas) in
+    no_items_told c.args.site.now _ _ c.args.roads _ (view c.args.schema.now) c.args.start c.args.observer.now (λ x. ap (λ ds. each_item (codes "items") (items_site (view c.args.schema.now) x) c.args.start (items_from c.args.start ds)) nothing)
+
+pub read_items-loop-index-init : goal.read_items-loop-index-init
+read_items-loop-index-init t c =
+    let xs = c.in-Array.items.items in
+    let is : view c.args.value.now ≡ array (items_view xs) = ap view c.in-Array.is ∙ view-Array c.in-Array.items in
+    items_init c.args.site.now _ _ c.args.roads _ _ c.args.start (items_view xs) _ c.args.observer.now is (drop-items c.args.start xs)
+
+pub read_items-returns-then-is_settled : goal.read_items-returns-then-is_settled
+read_items-returns-then-is_settled t c =
+    items_settled c.args.site.now _ _ c.args.roads _ _ c.args.start c.loop-index.index _ _ _ c.loop-index.observer (λ kept gs hs h. c.is_settled.ensures c.if-is_settled.true kept gs hs h) c.loop-index.invariant
+
+pub read_items-read_site-requires : goal.read_items-read_site-requires
+read_items-read_site-requires t c =
+    let xs = c.in-Array.items.items in
+    let is : view c.args.value.now ≡ array (items_view xs) = ap view c.in-Array.is ∙ view-Array c.in-Array.items in
+    let l = c.loop-index in
+    let x = c.index.result.now in
+    let short : l.index < length xs = omega arith in
+    let here : drop l.index xs ≡ x ∷ drop (l.index + 1) xs = drop_more xs l.index x short ∙ ap (λ y. y ∷ drop (l.index + 1) xs) (sym c.index.ensures) in
+    let child : Child c.args.site.now c.in_ok-inner.inner (view c.args.schema.now) = record {
+      contents = ap (λ (b : Bor Value). view b.now) c.in_ok-inner.ensures.contents;
+      documents = c.in_ok-inner.ensures.documents;
+      scope = c.in_ok-inner.ensures.scope;
+      stands = λ s added. c.in_ok-inner.ensures.stands s added;
+    } in
+    let among = subst (λ ys. (w : Where) → In w (spots_of_items (instance_in c.args.roads) l.index (items_view ys)) → In w (spots_of_items (instance_in c.args.roads) 0 (items_view xs))) here l.invariant.within in (
+      omega (arith, child_falls c.args.site.now _ _ (view c.args.reading.now.whole.now) (keys_in c.args.progress.now) child c.requires.inside),
+      (child_shallow c.args.site.now _ _ child c.requires.inside c.requires.shallow, item_within l.index (view x) _ _ (items_view xs) _ _ _ is c.push_index-instance.ensures among c.requires.within),
+    )
+
+pub read_items-loop-index-preserved : goal.read_items-loop-index-preserved
+read_items-loop-index-preserved t c =
+    let xs = c.in-Array.items.items in
+    let l = c.loop-index in
+    let x = c.index.result.now in
+    let short : l.index < length xs = omega arith in
+    let here : drop l.index xs ≡ x ∷ drop (l.index + 1) xs = drop_more xs l.index x short ∙ ap (λ y. y ∷ drop (l.index + 1) xs) (sym c.index.ensures) in
+    let child : Child c.args.site.now c.in_ok-inner.inner (view c.args.schema.now) = record {
+      contents = ap (λ (b : Bor Value). view b.now) c.in_ok-inner.ensures.contents;
+      documents = c.in_ok-inner.ensures.documents;
+      scope = c.in_ok-inner.ensures.scope;
+      stands = λ s added. c.in_ok-inner.ensures.stands s added;
+    } in
+    let left = subst (λ ys. ItemsLeft c.args.site.now (view c.args.reading.now.whole.now) (view c.args.value.now) c.args.roads (keys_in c.args.progress.now) (view c.args.schema.now) c.args.start l.index (items_view xs) (items_view ys) c.args.observer.now l.observer) here l.invariant in
+    let next = items_step c.args.site.now _ _ c.args.roads _ _ c.args.start _ _ l.index _ _ (view x) _ _ _ c.in_ok-read_site.ensures child (item_asked l.index _ (view x) c.args.roads _ c.push_index-instance.ensures c.push_name-schema_road.ensures refl c.push_name-evaluation.ensures) c.requires.inside left in
+    subst (λ i. ItemsLeft c.args.site.now (view c.args.reading.now.whole.now) (view c.args.value.now) c.args.roads (keys_in c.args.progress.now) (view c.args.schema.now) c.args.start i (items_view xs) (items_view (drop (l.index + 1) xs)) c.args.observer.now c.read_site.new.observer) (sym (add-one l.index)) next
+
+pub read_items-returns : goal.read_items-returns
+read_items-returns t c =
+    let xs = c.in-Array.items.items in
+    let l = c.loop-index in
+    let nothing : drop l.index xs ≡ [] = drop_all l.index xs (omega arith) in
+    let left = subst (λ ys. ItemsLeft c.args.site.now (view c.args.reading.now.whole.now) (view c.args.value.now) c.args.roads (keys_in c.args.progress.now) (view c.args.schema.now) c.args.start l.index (items_view xs) (items_view ys) c.args.observer.now l.observer) nothing l.invariant in
+    items_done c.args.site.now _ _ c.args.roads _ _ c.args.start l.index _ _ l.observer left
+
+pub read_keyword-returns-in-Nothing : goal.read_keyword-returns-in-Nothing
+read_keyword-returns-in-Nothing t c =
+    let whole = view c.args.reading.now.whole.now in
+    let d = view c.args.value.now in
+    let keys = keys_in c.args.progress.now in
+    tells_nothing c.args.site.now whole d c.args.roads keys (keyword_leads c.args.keyword) (keyword_shapes c.args.keyword) c.args.observer.now λ x fits. ap (λ k. keyword_shapes k x) c.in-Nothing.is
+
+pub read_keyword-returns-in-Types : goal.read_keyword-returns-in-Types
+read_keyword-returns-in-Types t c =
+    let whole = view c.args.reading.now.whole.now in
+    let d = view c.args.value.now in
+    let keys = keys_in c.args.progress.now in
+    on_ok_weaker c.tell_types.result (tells_assertion c.args.site.now whole d c.args.roads keys c.args.keyword (types (names_in c.in-Types.names)) c.args.observer.now c.tell_types.new.observer (λ x. ap (λ k. keyword_shapes k x) c.in-Types.is)) c.tell_types.ensures
+
+pub read_keyword-returns-in-MinItems : goal.read_keyword-returns-in-MinItems
+read_keyword-returns-in-MinItems t c =
+    let whole = view c.args.reading.now.whole.now in
+    let d = view c.args.value.now in
+    let keys = keys_in c.args.progress.now in
+    on_ok_weaker c.tell_min_items.result (tells_assertion c.args.site.now whole d c.args.roads keys c.args.keyword (min_items c.in-MinItems.least) c.args.observer.now c.tell_min_items.new.observer (λ x. ap (λ k. keyword_shapes k x) c.in-MinItems.is)) c.tell_min_items.ensures
+
+pub read_keyword-returns-in-Items : goal.read_keyword-returns-in-Items
+read_keyword-returns-in-Items t c =
+    let whole = view c.args.reading.now.whole.now in
+    let d = view c.args.value.now in
+    let keys = keys_in c.args.progress.now in
+    on_ok_weaker c.read_items.result
+    (tells_items c.args.site.now whole d c.args.roads keys c.args.keyword c.in-Items.start (view c.in-Items.schema.now) c.args.observer.now c.read_items.new.observer (λ x. ap (λ k. keyword_leads k x) c.in-Items.is) (λ x. ap (λ k. keyword_shapes k x) c.in-Items.is))
+    c.read_items.ensures
+
+pub read_keyword-returns-in-Properties : goal.read_keyword-returns-in-Properties
+read_keyword-returns-in-Properties t c =
+    let whole = view c.args.reading.now.whole.now in
+    let d = view c.args.value.now in
+    let keys = keys_in c.args.progress.now in
+    on_ok_weaker c.read_properties.result
+    (tells_properties c.args.site.now whole d c.args.roads keys c.args.keyword (members_view c.in-Properties.schemas.now.entries) c.args.observer.now c.read_properties.new.observer (λ x. ap (λ k. keyword_leads k x) c.in-Properties.is) (λ x. ap (λ k. keyword_shapes k x) c.in-Properties.is))
+    c.read_properties.ensures
+
+pub read_keyword-returns-in-Reference : goal.read_keyword-returns-in-Reference
+read_keyword-returns-in-Reference t c =
+    let whole = view c.args.reading.now.whole.now in
+    let d = view c.args.value.now in
+    let keys = keys_in c.args.progress.now in
+    on_ok_weaker c.read_target.result
+    (tells_reference c.args.site.now whole d c.args.roads keys c.args.keyword c.in-Reference.text.now (target_in c.in-Reference.target) c.args.observer.now c.read_target.new.observer (λ x. ap (λ k. keyword_leads k x) c.in-Reference.is) (λ x. ap (λ k. keyword_shapes k x) c.in-Reference.is))
+    c.read_target.ensures
+
+pub read_member-read_keyword-requires : goal.read_member-read_keyword-requires
+read_member-read_keyword-requires t c =
+    let clauses = c.requires.1.1 in
+    let inside = member_inside (view c.args.site.now.contents.now) (members_view c.args.members.now.entries) c.args.name.now (view c.args.part.now) clauses.1.1.0 clauses.1.1.1 in
+    (omega arith, (clauses.0, (clauses.1.0, (inside, c.in-Ok.ensures.found))))
+
+pub read_member-returns-in-Ok : goal.read_member-returns-in-Ok
+read_member-returns-in-Ok t c =
+    let whole = view c.args.reading.now.whole.now in
+    let d = view c.args.value.now in
+    let keys = keys_in c.args.progress.now in
+    let clauses = c.requires.1.1 in
+    on_ok_weaker c.read_keyword.result
+    (tells_member c.args.site.now whole d c.args.roads keys (members_view c.args.members.now.entries) c.args.name.now (view c.args.part.now) c.in-Ok.keyword c.args.observer.now c.read_keyword.new.observer clauses.1.1.0 clauses.1.1.1 c.in-Ok.ensures.read)
+    c.read_keyword.ensures
+
+pub read_members-loop-name-init : goal.read_members-loop-name-init
+read_members-loop-name-init t c =
+    let begun : c.into_iter-name-iterator.result ≡ c.args.members.now.entries = search rules in
+    let same : members_view c.into_iter-name-iterator.result ≡ members_view c.args.members.now.entries = ap (λ es. members_view es) begun in
+    record {
+      whole = same;
+      left = subst (λ ms. MembersLeft c.args.site.now (view c.args.reading.now.whole.now) (view c.args.value.now) c.args.roads (keys_in c.args.progress.now) (members_view c.args.members.now.entries) ms c.args.observer.now c.args.observer.now) (sym same)
+          (members_first c.args.site.now (view c.args.reading.now.whole.now) (view c.args.value.now) c.args.roads (keys_in c.args.progress.now) (members_view c.args.members.now.entries) c.args.observer.now);
+    }
+
+pub read_members-returns-then-is_settled : goal.read_members-returns-then-is_settled
+read_members-returns-then-is_settled t c =
+    members_settled c.args.site.now (view c.args.reading.now.whole.now) (view c.args.value.now) c.args.roads (keys_in c.args.progress.now) (members_view c.args.members.now.entries) (members_view c.loop-name.name-iterator)
+    c.args.observer.now c.loop-name.observer (c.is_settled.ensures c.if-is_settled.true) c.loop-name.invariant.left
+
+pub read_members-read_member-requires : goal.read_members-read_member-requires
+read_members-read_member-requires t c =
+    let l = c.loop-name in
+    let all = members_view c.args.members.now.entries in
+    let left_one = subst (λ es. MembersLeft c.args.site.now (view c.args.reading.now.whole.now) (view c.args.value.now) c.args.roads (keys_in c.args.progress.now) all (members_view es) c.args.observer.now l.observer) c.in-Some.ensures.steps l.invariant.left in
+    let left = subst (λ k. MembersLeft c.args.site.now (view c.args.reading.now.whole.now) (view c.args.value.now) c.args.roads (keys_in c.args.progress.now) all (member k (view c.in-Some.part.now) (members_view c.next.new.self)) c.args.observer.now l.observer) (sym c.as_str.ensures.value) left_one in
+    (omega arith, (c.requires.shallow, (c.requires.within, (c.requires.members, members_listed c.args.site.now (view c.args.reading.now.whole.now) (view c.args.value.now) c.args.roads (keys_in c.args.progress.now) all (members_view c.next.new.self) _ _ c.args.observer.now l.observer left))))
+
+pub read_members-loop-name-preserved : goal.read_members-loop-name-preserved
+read_members-loop-name-preserved t c =
+    let l = c.loop-name in
+    let all = members_view c.args.members.now.entries in
+    let left_one = subst (λ es. MembersLeft c.args.site.now (view c.args.reading.now.whole.now) (view c.args.value.now) c.args.roads (keys_in c.args.progress.now) all (members_view es) c.args.observer.now l.observer) c.in-Some.ensures.steps l.invariant.left in
+    let left = subst (λ k. MembersLeft c.args.site.now (view c.args.reading.now.whole.now) (view c.args.value.now) c.args.roads (keys_in c.args.progress.now) all (member k (view c.in-Some.part.now) (members_view c.next.new.self)) c.args.observer.now l.observer) (sym c.as_str.ensures.value) left_one in
+    record {
+      whole = l.invariant.whole;
+      left = members_step c.args.site.now (view c.args.reading.now.whole.now) (view c.args.value.now) c.args.roads (keys_in c.args.progress.now) all (members_view c.next.new.self) _ _ c.args.observer.now l.observer c.read_member.new.observer left c.in_ok-read_member.ensures;
+    }
+
+pub read_members-returns : goal.read_members-returns
+read_members-returns t c =
+    let l = c.loop-name in
+    let all = members_view c.args.members.now.entries in
+    members_last c.args.site.now (view c.args.reading.now.whole.now) (view c.args.value.now) c.args.roads (keys_in c.args.progress.now) all c.args.observer.now l.observer
+    (subst (λ es. MembersLeft c.args.site.now (view c.args.reading.now.whole.now) (view c.args.value.now) c.args.roads (keys_in c.args.progress.now) all (members_view es) c.args.observer.now l.observer) c.in-None.ensures.steps.0 l.invariant.left)
+
+pub read_properties-loop-name-init : goal.read_properties-loop-name-init
+read_properties-loop-name-init t c =
+    let whole = view c.args.reading.now.whole.now in
+    let value = view c.args.value.now in
+    let keys = keys_in c.args.progress.now in
+    let all = members_view c.args.schemas.now.entries in
+    let same : members_view c.into_iter-name-iterator.result ≡ all = ap members_view (c.into_iter-name-iterator.ensures.into_iter_gives ∙ c.iter-name-items.ensures.rest) in
+    record {
+      whole = same;
+      left = subst (λ ms. DeclaredLeft c.args.site.now whole value c.args.roads keys all ms c.args.observer.now c.args.observer.now) (sym same) (declared_init c.args.site.now whole value c.args.roads keys all c.args.observer.now);
+    }
+
+pub read_properties-returns-then-is_settled : goal.read_properties-returns-then-is_settled
+read_properties-returns-then-is_settled t c =
+    declared_settled c.args.site.now _ _ c.args.roads _ _ _ _ c.loop-name.observer (λ kept gs hs h. c.is_settled.ensures c.if-is_settled.true kept gs hs h) c.loop-name.invariant.left
+
+pub read_properties-loop-name-preserved-in-Continue-1 :
+    goal.read_properties-loop-name-preserved-in-Continue-1
+read_properties-loop-name-preserved-in-Continue-1 t c =
+    let l = c.loop-name in
+    let whole = view c.args.reading.now.whole.now in
+    let value = view c.args.value.now in
+    let keys = keys_in c.args.progress.now in
+    let all = members_view c.args.schemas.now.entries in
+    let rest = members_view c.next.new.self in
+    let d = view c.in-Some.schema.now in
+    let k = c.as_str.result.now in
+    let left_one = subst (λ es. DeclaredLeft c.args.site.now whole value c.args.roads keys all (members_view es) c.args.observer.now l.observer) c.in-Some.ensures.steps l.invariant.left in
+    let left = subst (λ n. DeclaredLeft c.args.site.now whole value c.args.roads keys all (member n d rest) c.args.observer.now l.observer) (sym c.as_str.ensures.value) left_one in
+    let e = view c.in-Some-get.member.now in
+    let same : c.as_str-in-Some-get.result.now ≡ k = c.as_str-in-Some-get.ensures.value ∙ sym c.as_str.ensures.value in
+    let told = subst (λ n. TellsQuestions c.args.site.now whole value c.args.roads keys (property_leads n d) (property_questions n d e) l.observer c.read_property.new.observer) same c.in_ok-read_property.ensures in
+    record {
+      whole = l.invariant.whole;
+      left = declared_step c.args.site.now whole value c.args.roads keys k d e all rest _ _ _ (sym c.in-Some-get.ensures) told left;
+    }
+
+pub read_properties-loop-name-preserved : goal.read_properties-loop-name-preserved
+read_properties-loop-name-preserved t c =
+    let l = c.loop-name in
+    let whole = view c.args.reading.now.whole.now in
+    let value = view c.args.value.now in
+    let keys = keys_in c.args.progress.now in
+    let all = members_view c.args.schemas.now.entries in
+    let rest = members_view c.next.new.self in
+    let d = view c.in-Some.schema.now in
+    let k = c.as_str.result.now in
+    let left_one = subst (λ es. DeclaredLeft c.args.site.now whole value c.args.roads keys all (members_view es) c.args.observer.now l.observer) c.in-Some.ensures.steps l.invariant.left in
+    let left = subst (λ n. DeclaredLeft c.args.site.now whole value c.args.roads keys all (member n d rest) c.args.observer.now l.observer) (sym c.as_str.ensures.value) left_one in
+    record {
+      whole = l.invariant.whole;
+      left = declared_absent c.args.site.now whole value c.args.roads keys k d all rest _ _ (sym c.in_default.ensures) left;
+    }
+
+pub read_properties-returns : goal.read_properties-returns
+read_properties-returns t c =
+    let l = c.loop-name in
+    let whole = view c.args.reading.now.whole.now in
+    let value = view c.args.value.now in
+    let keys = keys_in c.args.progress.now in
+    let all = members_view c.args.schemas.now.entries in
+    declared_done c.args.site.now whole value c.args.roads keys all _ _ (subst (λ es. DeclaredLeft c.args.site.now whole value c.args.roads keys all (members_view es) c.args.observer.now l.observer) c.in-None.ensures.steps.0 l.invariant.left)
+
+pub read_property-read_site-requires : goal.read_property-read_site-requires
+read_property-read_site-requires t c =
+    let child : Child c.args.site.now c.in_ok-inner.inner (view c.args.schema.now) = record {
+      contents = ap (λ (b : Bor Value). view b.now) c.in_ok-inner.ensures.contents;
+      documents = c.in_ok-inner.ensures.documents;
+      scope = c.in_ok-inner.ensures.scope;
+      stands = λ s added. c.in_ok-inner.ensures.stands s added;
+    } in
+    let requires = c.requires.1.1 in
+    let inside = requires.1.1.0 in (
+      omega (arith, child_falls c.args.site.now _ _ (view c.args.reading.now.whole.now) (keys_in c.args.progress.now) child inside, c.requires.1.0),
+      (child_shallow c.args.site.now _ _ child inside requires.0, member_within c.args.name.now _ _ _ _ _ requires.1.1.1 c.push_name-instance.ensures requires.1.0),
+    )
+
+pub read_property-returns : goal.read_property-returns
+read_property-returns t c =
+    let child : Child c.args.site.now c.in_ok-inner.inner (view c.args.schema.now) = record {
+      contents = ap (λ (b : Bor Value). view b.now) c.in_ok-inner.ensures.contents;
+      documents = c.in_ok-inner.ensures.documents;
+      scope = c.in_ok-inner.ensures.scope;
+      stands = λ s added. c.in_ok-inner.ensures.stands s added;
+    } in
+    let path = c.push_name-schema_road.ensures ∙ ap (λ p. name c.args.name.now ∷ p) c.push_name-schema_above.ensures in
+    let evaluation = c.push_name-evaluation.ensures ∙ ap (λ p. name c.args.name.now ∷ p) c.push_name-evaluation_above.ensures in
+    when_ok c.read_site.result (λ told. property_told c.args.site.now _ _ c.args.roads _ _ _ c.args.name.now _ _ _ _ told child (member_asked c.args.name.now _ _ c.args.roads _ c.push_name-instance.ensures path refl evaluation) c.requires.1.1.1.1.0) c.read_site.ensures
+
+pub read_site-returns-in-Bool-true : goal.read_site-returns-in-Bool-true
+read_site-returns-in-Bool-true t c =
+    let whole = view c.args.reading.now.whole.now in
+    let d = view c.args.value.now in
+    let keys = keys_in c.args.progress.now in
+    let is : view c.args.site.now.contents.now ≡ boolean true = rw c.in-Bool-true.is (search (rules, the_lemmas)) in
+    tells_no_object c.args.site.now whole d c.args.roads keys c.args.observer.now (λ e. absurd (cc)) (λ ms e. absurd (cc))
+
+pub read_site-returns-in-Bool-false : goal.read_site-returns-in-Bool-false
+read_site-returns-in-Bool-false t c =
+    let whole = view c.args.reading.now.whole.now in
+    let d = view c.args.value.now in
+    let keys = keys_in c.args.progress.now in
+    let is : view c.args.site.now.contents.now ≡ boolean false = rw c.in-Bool-false.is (search (rules, the_lemmas)) in
+    on_ok_weaker c.tell.result (tells_false c.args.site.now whole d c.args.roads keys c.args.observer.now c.tell.new.self is) c.tell.ensures
+
+pub read_site-returns-in-Object : goal.read_site-returns-in-Object
+read_site-returns-in-Object t c =
+    let whole = view c.args.reading.now.whole.now in
+    let d = view c.args.value.now in
+    let keys = keys_in c.args.progress.now in
+    let is : view c.args.site.now.contents.now ≡ object (members_view c.in-Object.members.entries) = ap view c.in-Object.is ∙ view-Object c.in-Object.members in
+    on_ok_weaker c.read_members.result (tells_object c.args.site.now whole d c.args.roads keys (members_view c.in-Object.members.entries) c.args.observer.now c.read_members.new.observer is) c.read_members.ensures
+
+pub read_site-returns-in_default : goal.read_site-returns-in_default
+read_site-returns-in_default t c =
+    let whole = view c.args.reading.now.whole.now in
+    let d = view c.args.value.now in
+    let keys = keys_in c.args.progress.now in
+    tells_no_object c.args.site.now whole d c.args.roads keys c.args.observer.now (search (rules, the_lemmas)) (search (rules, the_lemmas))
+
+pub read_target-returns-then-is_in_progress : goal.read_target-returns-then-is_in_progress
+read_target-returns-then-is_in_progress t c =
+    let t = target_in c.args.target in
+    let at = instance_in c.args.roads in
+    let progress = keys_in c.args.progress.now in
+    let document : c.document.result.now ≡ t.document = c.document.ensures in
+    let path : c.path.result.now ≡ t.path = c.path.ensures in
+    let known : c.is_in_progress.result ≡ is_in_progress (key t.document t.path at) progress =
+    c.is_in_progress.ensures ∙ ap₂ (λ (u : List ℕ) (p : List Part). is_in_progress (key u p at) progress) document path in
+    target_back c.args.site.now (view c.args.reading.now.whole.now) (view c.args.value.now) c.args.roads progress c.args.text.now t c.is_in_progress.result c.args.observer.now known c.if-is_in_progress.true
+
+pub read_target-followed-requires : goal.read_target-followed-requires
+read_target-followed-requires t c =
+    lookups_read (documents_at c.args.site.now) (base_of c.args.site.now.resolver) c.args.text.now (target_in c.args.target) c.requires.1.1.1.1.found
+
+pub read_target-read_site-requires : goal.read_target-read_site-requires
+read_target-read_site-requires t c =
+    let t = target_in c.args.target in
+    let at = instance_in c.args.roads in
+    let progress = keys_in c.args.progress.now in
+    let document : c.document.result.now ≡ t.document = c.document.ensures in
+    let path : c.path.result.now ≡ t.path = c.path.ensures in
+    let known : c.is_in_progress.result ≡ is_in_progress (key t.document t.path at) progress =
+    c.is_in_progress.ensures ∙ ap₂ (λ (u : List ℕ) (p : List Part). is_in_progress (key u p at) progress) document path in
+    let base = base_of c.args.site.now.resolver in
+    let new : is_in_progress (key t.document t.path at) progress ≡ false = sym known ∙ c.if-is_in_progress.false in
+    let contents : t.contents ≡ view c.in_ok-inner.inner.contents.now = sym c.in_ok-inner.ensures.contents in
+    let docs : documents_at c.in_ok-inner.inner ≡ documents_at c.args.site.now = c.in_ok-inner.ensures.documents ∙ ap (λ ds. ds ∷ []) c.requires.1.1.1.1.documents in
+    let less = target_deeper (documents_at c.args.site.now) base c.args.text.now (view c.args.reading.now.whole.now) (view c.args.value.now) (view c.args.site.now.contents.now) t at progress c.requires.1.1.1.1.found c.requires.1.1.1.0 new in
+    let falls = falls_by_target (documents_at c.args.site.now) (documents_at c.in_ok-inner.inner) (view c.args.reading.now.whole.now) t c.document-2.result.now c.path-2.result.now at progress (view c.in_ok-inner.inner.contents.now) (view c.args.site.now.contents.now) c.document-2.ensures c.path-2.ensures docs contents less in
+    (omega (arith, falls), (shallow_by_target (documents_at c.args.site.now) (documents_at c.in_ok-inner.inner) base c.args.text.now t (view c.in_ok-inner.inner.contents.now) docs contents c.requires.1.1.1.1.found, c.requires.1.1.1.0))
+
+pub read_target-returns : goal.read_target-returns
+read_target-returns t c =
+    let t = target_in c.args.target in
+    let at = instance_in c.args.roads in
+    let progress = keys_in c.args.progress.now in
+    let document : c.document.result.now ≡ t.document = c.document.ensures in
+    let path : c.path.result.now ≡ t.path = c.path.ensures in
+    let known : c.is_in_progress.result ≡ is_in_progress (key t.document t.path at) progress =
+    c.is_in_progress.ensures ∙ ap₂ (λ (u : List ℕ) (p : List Part). is_in_progress (key u p at) progress) document path in
+    let base = base_of c.args.site.now.resolver in
+    let contents : t.contents ≡ view c.in_ok-inner.inner.contents.now = sym c.in_ok-inner.ensures.contents in
+    let docs : documents_at c.in_ok-inner.inner ≡ documents_at c.args.site.now = c.in_ok-inner.ensures.documents ∙ ap (λ ds. ds ∷ []) c.requires.1.1.1.1.documents in
+    on_ok c.read_site.result (λ told. target_on c.args.site.now (view c.args.reading.now.whole.now) (view c.args.value.now) c.args.roads progress c.args.text.now t c.is_in_progress.result c.in_ok-inner.inner _ c.args.observer.now c.read_site.new.observer base c.args.text.now
+    known c.if-is_in_progress.false c.requires.1.1.1.1.found c.requires.1.1.1.0 docs contents
+    (λ s. c.in_ok-inner.ensures.stands s c.args.text.now)
+    (λ s b scope. ap₂ (λ (u : List ℕ) (us : List (List ℕ)). entered_scope t.base u us) b scope ∙ sym c.requires.1.1.1.1.scope ∙ sym c.in_ok-inner.ensures.scope)
+    refl c.push_name-evaluation.ensures (ap₂ (λ (ps : List Part) (r : List ℕ). ps ++ path_of_reference r) c.new-start.ensures c.followed.ensures)
+    (at_target_told c.in_ok-inner.inner (view c.args.reading.now.whole.now) (view c.args.value.now) _ t c.document-2.result.now c.path-2.result.now at progress c.args.observer.now c.read_site.new.observer c.document-2.ensures c.path-2.ensures told))
+    c.read_site.ensures
+
+pub read_member-returns-after-refusal : goal.read_member-returns-after-refusal
+read_member-returns-after-refusal t c =
+    let whole = view c.args.reading.now.whole.now in
+    let d = view c.args.value.now in
+    let keys = keys_in c.args.progress.now in
+    let clauses = c.requires.1.1 in
+    elim c.match-refusal.branch [
+      | read_member-in-Memory w ↦ rw w.result-is (search rules)
+      | read_member-in_default w ↦ rw w.result-is (tells_refused c.args.site.now whole d c.args.roads keys (members_view c.args.members.now.entries) c.args.name.now (view c.args.part.now) c.in-Err.refusal c.args.observer.now clauses.1.1.0 clauses.1.1.1 w.in_default.not-Memory c.in-Err.ensures.refused)
+    ]

@@ -1,0 +1,13 @@
+-- The question that a reference asks.
+use Rattle.std.specs.Prelude.{ℕ, List, [], ◌∷◌, true, codes}
+use Rattle.schema_meaning.specs.Places.{stay}
+use Rattle.schema_meaning.specs.Questions.{Question, at}
+use Rattle.schema_documents.specs.Lookup.{Target}
+use Rattle.schema_reading.specs.Sites.{Site, target_site}
+use Rattle.plain_reader.specs.Settings.{Setting}
+
+abbrev pub reference_leads : List ℕ → Target → Setting → List Site
+reference_leads text t x = target_site x.site text t ∷ []
+
+abbrev pub reference_questions : List ℕ → Target → Setting → List (Question Site)
+reference_questions text t x = record { site = target_site x.site text t; step = stay; added = at (codes "$ref"); follows = true } ∷ []

@@ -1,0 +1,313 @@
+//! The reading of a schema.
+ghost use Rattle.std.specs.Prelude.{◌≡◌, ◌≤◌, ◌<◌, OnOk, Some};
+ghost use Rattle.serde_json.specs.Find.{get};
+ghost use Rattle.serde_json.specs.Data.{depth, object};
+ghost use Rattle.serde_json.specs.View.{view, members_view};
+ghost use Rattle.schema_meaning.specs.Members.{In};
+ghost use Rattle.schema_meaning.specs.Questions.{listed_members};
+ghost use Rattle.schema_reading.specs.Plain.{deepest};
+ghost use Rattle.referencing.specs.Resolved.{target_in};
+ghost use Rattle.schema_sites.specs.Read.{Finds, FindsTarget};
+ghost use Rattle.schema_sites.specs.Seen.{documents_at};
+ghost use Rattle.schema_reports.specs.RoadPaths.{instance_in};
+ghost use Rattle.plain_reader.specs.Keys.{keys_in};
+ghost use Rattle.plain_reader.specs.Tellings.{Within, Tells, TellsShapes, TellsQuestions};
+ghost use Rattle.plain_reader.specs.Shapes.{no_leads, shapes_among, shapes_at, keyword_leads, keyword_shapes, items_leads, items_questions, properties_leads, properties_questions, property_leads, property_questions};
+ghost use Rattle.plain_reader.specs.Targets.{reference_leads, reference_questions};
+
+use crate::progress::{Progress, is_in_progress};
+use crate::telling::{tell_min_items, tell_types};
+use referencing::Resolved;
+use schema_reports::{LazyLocation, Observer, Reference, Roads, ValidationErrorKind};
+use schema_sites::keyword::{Keyword, Refusal};
+use schema_sites::reading::keyword;
+use schema_sites::site::{Site, at_target};
+use serde_json::{Map, Value};
+use std::alloc::{AllocError, Global};
+
+/// What is read: a whole instance.
+#[derive(Clone, Copy)]
+pub struct Reading<'i> {
+    pub alloc: Global,
+    pub whole: &'i Value,
+}
+
+/// What a schema tells of a value.
+#[cycle(read)]
+pub fn read_site<'r, 'i>(
+    reading: &Reading<'i>,
+    site: &Site<'r>,
+    value: &'i Value,
+    roads: Roads<'_>,
+    progress: &Progress<'_>,
+    observer: &mut Observer<'i>,
+) -> Result<(), AllocError>
+    requires shallow { depth (view site.now.contents.now) ≤ deepest (documents_at site.now) }
+    requires within { Within (view value.now) (instance_in roads) (view reading.now.whole.now) }
+    ensures { OnOk result (Tells site.now (view reading.now.whole.now) (view value.now) roads.entry (keys_in progress.now) observer.old observer.new) }
+{
+    match site.contents {
+        Value::Bool(true) => Ok(()),
+        Value::Bool(false) => observer.tell(
+            reading.alloc,
+            ValidationErrorKind::FalseSchema,
+            value,
+            roads,
+        ),
+        Value::Object(members) => read_members(
+            reading, site, members, value, roads, progress, observer,
+        ),
+        _ => Ok(()),
+    }
+}
+
+// What the members of a schema tell.
+#[cycle(read)]
+fn read_members<'r, 'i>(
+    reading: &Reading<'i>,
+    site: &Site<'r>,
+    members: &'r Map<String, Value>,
+    value: &'i Value,
+    roads: Roads<'_>,
+    progress: &Progress<'_>,
+    observer: &mut Observer<'i>,
+) -> Result<(), AllocError>
+    requires shallow { depth (view site.now.contents.now) ≤ deepest (documents_at site.now) }
+    requires within { Within (view value.now) (instance_in roads) (view reading.now.whole.now) }
+    requires members { view site.now.contents.now ≡ object (members_view members.now.entries) }
+    ensures { OnOk result (TellsShapes site.now (view reading.now.whole.now) (view value.now) roads.entry (keys_in progress.now) no_leads (shapes_among (members_view members.now.entries) (members_view members.now.entries)) observer.old observer.new) }
+{
+    for (name, part) in members.iter() {
+        if observer.is_settled() {
+            return Ok(());
+        }
+        read_member(
+            reading,
+            site,
+            members,
+            name.as_str(),
+            part,
+            value,
+            roads,
+            progress,
+            observer,
+        )?;
+    }
+    Ok(())
+}
+
+// What a member of a schema tells.
+#[cycle(read)]
+fn read_member<'r, 'i>(
+    reading: &Reading<'i>,
+    site: &Site<'r>,
+    members: &'r Map<String, Value>,
+    name: &str,
+    part: &'r Value,
+    value: &'i Value,
+    roads: Roads<'_>,
+    progress: &Progress<'_>,
+    observer: &mut Observer<'i>,
+) -> Result<(), AllocError>
+    requires shallow { depth (view site.now.contents.now) ≤ deepest (documents_at site.now) }
+    requires within { Within (view value.now) (instance_in roads) (view reading.now.whole.now) }
+    requires members { view site.now.contents.now ≡ object (members_view members.now.entries) }
+    requires listed { In (name.now, view part.now) (listed_members (members_view members.now.entries)) }
+    ensures { OnOk result (TellsShapes site.now (view reading.now.whole.now) (view value.now) roads.entry (keys_in progress.now) no_leads (shapes_at (members_view members.now.entries) name.now (view part.now)) observer.old observer.new) }
+{
+    match keyword(reading.alloc, site, members, name, part) {
+        Ok(keyword) => read_keyword(
+            reading, site, part, keyword, value, roads, progress, observer,
+        ),
+        Err(refusal) => match refusal {
+            Refusal::Memory => Err(AllocError),
+            _ => Ok(()),
+        },
+    }
+}
+
+// What a keyword tells.
+#[cycle(read)]
+fn read_keyword<'r, 'i>(
+    reading: &Reading<'i>,
+    site: &Site<'r>,
+    part: &'r Value,
+    keyword: Keyword<'r>,
+    value: &'i Value,
+    roads: Roads<'_>,
+    progress: &Progress<'_>,
+    observer: &mut Observer<'i>,
+) -> Result<(), AllocError>
+    requires shallow { depth (view site.now.contents.now) ≤ deepest (documents_at site.now) }
+    requires within { Within (view value.now) (instance_in roads) (view reading.now.whole.now) }
+    requires inside { depth (view part.now) < depth (view site.now.contents.now) }
+    requires found { Finds site.now (view part.now) keyword }
+    ensures { OnOk result (TellsShapes site.now (view reading.now.whole.now) (view value.now) roads.entry (keys_in progress.now) (keyword_leads keyword.entry) (keyword_shapes keyword.entry) observer.old observer.new) }
+{
+    match keyword {
+        Keyword::Nothing => Ok(()),
+        Keyword::Types(names) => tell_types(reading.alloc, names, value, roads, observer),
+        Keyword::MinItems(least) => tell_min_items(reading.alloc, least, value, roads, observer),
+        Keyword::Items { start, schema } => {
+            read_items(
+                reading, site, start, schema, value, roads, progress, observer,
+            )
+        }
+        Keyword::Properties(schemas) => {
+            read_properties(reading, site, schemas, value, roads, progress, observer)
+        }
+        Keyword::Reference { text, target } => {
+            read_target(
+                reading, site, &*text, target, value, roads, &*progress, observer,
+            )
+        }
+    }
+}
+
+// What `items` tells: each item from the first that it applies to on.
+#[cycle(read)]
+fn read_items<'r, 'i>(
+    reading: &Reading<'i>,
+    site: &Site<'r>,
+    start: usize,
+    schema: &'r Value,
+    value: &'i Value,
+    roads: Roads<'_>,
+    progress: &Progress<'_>,
+    observer: &mut Observer<'i>,
+) -> Result<(), AllocError>
+    requires shallow { depth (view site.now.contents.now) ≤ deepest (documents_at site.now) }
+    requires within { Within (view value.now) (instance_in roads) (view reading.now.whole.now) }
+    requires inside { depth (view schema.now) < depth (view site.now.contents.now) }
+    ensures { OnOk result (TellsQuestions site.now (view reading.now.whole.now) (view value.now) roads.entry (keys_in progress.now) (items_leads (view schema.now)) (items_questions start (view schema.now) (view value.now)) observer.old observer.new) }
+{
+    let Value::Array(items) = value else {
+        return Ok(());
+    };
+    let inner = site.below(reading.alloc, schema)?;
+    let schema_road = roads.schema.push_name("items");
+    let evaluation = roads.evaluation.push_name("items");
+    for index in start..items.len() {
+        if observer.is_settled() {
+            return Ok(());
+        }
+        let instance = roads.instance.push_index(index);
+        let at = Roads {
+            instance: &instance,
+            schema: &schema_road,
+            reference: roads.reference,
+            evaluation: &evaluation,
+        };
+        read_site(reading, &inner, &items[index], at, progress, observer)?;
+    }
+    Ok(())
+}
+
+// What `properties` tells: each member that it declares.
+#[cycle(read)]
+fn read_properties<'r, 'i>(
+    reading: &Reading<'i>,
+    site: &Site<'r>,
+    schemas: &'r Map<String, Value>,
+    value: &'i Value,
+    roads: Roads<'_>,
+    progress: &Progress<'_>,
+    observer: &mut Observer<'i>,
+) -> Result<(), AllocError>
+    requires shallow { depth (view site.now.contents.now) ≤ deepest (documents_at site.now) }
+    requires within { Within (view value.now) (instance_in roads) (view reading.now.whole.now) }
+    requires inside { depth (object (members_view schemas.now.entries)) < depth (view site.now.contents.now) }
+    ensures { OnOk result (TellsQuestions site.now (view reading.now.whole.now) (view value.now) roads.entry (keys_in progress.now) (properties_leads (members_view schemas.now.entries)) (properties_questions (members_view schemas.now.entries) (view value.now)) observer.old observer.new) }
+{
+    for (name, schema) in schemas.iter() {
+        if observer.is_settled() {
+            return Ok(());
+        }
+        if let Some(member) = value.get(name.as_str()) {
+            read_property(
+                reading,
+                site,
+                name.as_str(),
+                schema,
+                value,
+                member,
+                roads,
+                progress,
+                observer,
+            )?;
+        }
+    }
+    Ok(())
+}
+
+// What one entry of `properties` tells of a member.
+#[cycle(read)]
+fn read_property<'a, 'r, 'i>(
+    reading: &Reading<'i>,
+    site: &Site<'r>,
+    name: &'a str,
+    schema: &'r Value,
+    value: &'i Value,
+    member: &'i Value,
+    roads: Roads<'a>,
+    progress: &Progress<'_>,
+    observer: &mut Observer<'i>,
+) -> Result<(), AllocError>
+    requires shallow { depth (view site.now.contents.now) ≤ deepest (documents_at site.now) }
+    requires within { Within (view value.now) (instance_in roads) (view reading.now.whole.now) }
+    requires inside { depth (view schema.now) < depth (view site.now.contents.now) }
+    requires member { get name.now (view value.now) ≡ Some (view member.now) }
+    ensures { OnOk result (TellsQuestions site.now (view reading.now.whole.now) (view value.now) roads.entry (keys_in progress.now) (property_leads name.now (view schema.now)) (property_questions name.now (view schema.now) (view member.now)) observer.old observer.new) }
+{
+    let inner = site.below(reading.alloc, schema)?;
+    let schema_above = roads.schema.push_name("properties");
+    let schema_road = schema_above.push_name(name);
+    let evaluation_above = roads.evaluation.push_name("properties");
+    let evaluation = evaluation_above.push_name(name);
+    let instance = roads.instance.push_name(name);
+    let at = Roads {
+        instance: &instance,
+        schema: &schema_road,
+        reference: roads.reference,
+        evaluation: &evaluation,
+    };
+    read_site(reading, &inner, member, at, progress, observer)
+}
+
+// What a reference tells: what its target does, unless it is in progress.
+#[cycle(read)]
+fn read_target<'a, 'r, 'i>(
+    reading: &Reading<'i>,
+    site: &Site<'r>,
+    text: &'a str,
+    target: Resolved<'r>,
+    value: &'i Value,
+    roads: Roads<'a>,
+    progress: &'a Progress<'a>,
+    observer: &mut Observer<'i>,
+) -> Result<(), AllocError>
+    requires shallow { depth (view site.now.contents.now) ≤ deepest (documents_at site.now) }
+    requires within { Within (view value.now) (instance_in roads) (view reading.now.whole.now) }
+    requires found { FindsTarget site.now text.now target }
+    ensures { OnOk result (TellsQuestions site.now (view reading.now.whole.now) (view value.now) roads.entry (keys_in progress.now) (reference_leads text.now (target_in target.entry)) (reference_questions text.now (target_in target.entry)) observer.old observer.new) }
+{
+    if is_in_progress(progress, target.document(), target.path(), roads.instance) {
+        return Ok(());
+    }
+    let inner = at_target(&target)?;
+    let entered = Progress::Target {
+        document: target.document(),
+        path: target.path(),
+        at: &*roads.instance,
+        before: &*progress,
+    };
+    let start = LazyLocation::new();
+    let evaluation = roads.evaluation.push_name("$ref");
+    let at = Roads {
+        instance: &*roads.instance,
+        schema: &start,
+        reference: Reference::followed(&*text),
+        evaluation: &evaluation,
+    };
+    read_site(reading, &inner, value, at, &entered, observer)
+}

@@ -1,0 +1,50 @@
+//! What a root tells of an instance.
+ghost use Rattle.std.specs.Prelude.{◌≤◌, ◌∷◌, [], OnOk};
+ghost use Rattle.serde_json.specs.Data.{depth};
+ghost use Rattle.serde_json.specs.View.{view};
+ghost use Rattle.schema_reading.specs.Plain.{deepest};
+ghost use Rattle.referencing.specs.Resolved.{documents_in, target_in};
+ghost use Rattle.plain_reader.specs.Roots.{TellsRoot};
+
+use crate::progress::Progress;
+use crate::read::{Reading, read_site};
+use referencing::Resolved;
+use schema_reports::{LazyLocation, Observer, Reference, Roads};
+use schema_sites::site::at_root;
+use serde_json::Value;
+use std::alloc::{AllocError, Global};
+
+/// Tells an observer what a root tells of an instance, where every schema reached from the root is read; a reference that comes back to
+/// its target at one place of the instance is taken as accepting there.
+///
+/// Each keyword that asks walks the part of the instance that it applies to once, and each reference is looked up once for each value
+/// that it is asked of, and compared with those in progress. Nothing is copied before a fault is told.
+///
+/// # Errors
+///
+/// Where memory was refused or a count of owners is full. The observer may have been told of some faults then.
+pub fn tell_root<'r, 'i>(
+    alloc: Global,
+    root: &Resolved<'r>,
+    value: &'i Value,
+    observer: &mut Observer<'i>,
+) -> Result<(), AllocError>
+    requires shallow { depth (target_in root.now).contents ≤ deepest (documents_in root.now.resolver ∷ []) }
+    ensures { OnOk result (TellsRoot (target_in root.now) (documents_in root.now.resolver ∷ []) (view value.now) observer.old observer.new) }
+{
+    let site = at_root(root)?;
+    let instance = LazyLocation::new();
+    let schema = LazyLocation::new();
+    let evaluation = LazyLocation::new();
+    let roads = Roads {
+        instance: &instance,
+        schema: &schema,
+        reference: Reference::none(),
+        evaluation: &evaluation,
+    };
+    let reading = Reading {
+        alloc,
+        whole: value,
+    };
+    read_site(&reading, &site, value, roads, &Progress::Nothing, observer)
+}

@@ -1,0 +1,153 @@
+-- What a schema that was read leads to.
+use Rattle.std.proofs.Common.{◌≡◌, ◌∙◌, ℕ, List, [], ◌∷◌, Bool, true, false, not, ◌&&◌, Option, Some, None, option_map, is_some, refl, sym, ap, subst}
+use Rattle.std.specs.Prelude.{if◌then◌else◌, codes}
+use Rattle.serde_json.specs.Data.{Data, null, boolean, number, string, array, object, Members}
+use Rattle.serde_json.specs.Find.{as_object, as_bool}
+use Rattle.serde_json.specs.View.{view}
+use Rattle.schema_meaning.specs.Members.{In, first}
+use Rattle.schema_documents.specs.Bearers.{Document}
+use Rattle.schema_reading.specs.BuildCauses.{at_root}
+use Rattle.schema_reading.specs.Sites.{Site}
+use Rattle.schema_reading.specs.Rows.{Row, keyword_value, rows_at, rows_in, no_schema}
+use Rattle.schema_reading.specs.NotYet.{wrong, not_yet, place_of, is_read_draft, awaits_its_own, unread_in, IsBuildCause, is_wrong, is_not_yet}
+use Rattle.schema_sites.specs.Seen.{documents_at}
+use Rattle.reached_sites.specs.Led.{Leads, leads_in, causes_in}
+use Rattle.reached_sites.specs.Members.{Reads, Rest}
+use Rattle.reached_sites.specs.Places.{place_in}
+use Rattle.reached_sites.specs.Visits.{Met, Matches, none}
+use Rattle.reached_sites.specs.declared.visit.Visit.{Visit}
+use Rattle.reached_sites.proofs.Walking.{own_of, contexts, rows-of-object, unread-here}
+
+both-true : (b c : Bool) → (b && not c) ≡ true → (b ≡ true) × (c ≡ false)
+both-true true false e = (refl, refl)
+both-true true true e = absurd (cc (e))
+both-true false c e = absurd (cc (e))
+
+pub reads-met : (v : Visit) (s : Site) → Met v s → (is_read_draft v.site.draft && not (awaits_its_own (view v.site.contents.now))) ≡ true → Reads v s
+reads-met v s m e =
+    let h = both-true (is_read_draft v.site.draft) (awaits_its_own (view v.site.contents.now)) e in
+    let stands = m.stands h.1 in
+    record {
+      met = m;
+      stands = stands;
+      draft = ap (λ x. is_read_draft x.draft) stands.dialect ∙ h.0;
+      own = ap awaits_its_own m.contents ∙ h.1;
+    }
+
+pub leads-object : (v : Visit) (makes : List ℕ → Bool) (s : Site) (ms : Members) (leads : List Visit) → Reads v s → s.contents ≡ object ms
+    → Rest (own_of v) makes s ms ms [] leads → Leads (own_of v) makes s leads
+leads-object v makes s ms leads r e rest =
+    let rows = rows-of-object (own_of v ∷ []) makes s ms e in
+    record {
+      read = unread-here v s r ∙ ap (unread_in s) e ∙ rest.read;
+      right = ap causes_in rows ∙ rest.right;
+      met = subst (λ (vs : List Visit). Matches (own_of v) vs (leads_in (rows_at (own_of v ∷ []) makes s))) (sym rest.met.grown)
+          (subst (λ (rs : List Row). Matches (own_of v) rest.met.added (leads_in rs)) (sym rows) rest.met.met);
+    }
+
+rows-of-boolean : (own : List Document) (makes : List ℕ → Bool) (s : Site) (b : Bool) → s.contents ≡ boolean b
+    → (causes_in (rows_at (own ∷ []) makes s) ≡ []) × (leads_in (rows_at (own ∷ []) makes s) ≡ [])
+unfolding rows_at
+rows-of-boolean own makes s true e = (ap (λ d. causes_in (rows_in s (contexts (own ∷ []) makes s) d)) e, ap (λ d. leads_in (rows_in s (contexts (own ∷ []) makes s) d)) e)
+rows-of-boolean own makes s false e = (ap (λ d. causes_in (rows_in s (contexts (own ∷ []) makes s) d)) e, ap (λ d. leads_in (rows_in s (contexts (own ∷ []) makes s) d)) e)
+
+pub leads-boolean : (v : Visit) (makes : List ℕ → Bool) (s : Site) (b : Bool) (leads : List Visit) → Reads v s → s.contents ≡ boolean b → leads ≡ [] → Leads (own_of v) makes s leads
+leads-boolean v makes s b leads r e n =
+    let rows = rows-of-boolean (own_of v) makes s b e in
+    record {
+      read = unread-here v s r ∙ ap (unread_in s) e;
+      right = rows.0;
+      met = subst (λ (vs : List Visit). Matches (own_of v) vs (leads_in (rows_at (own_of v ∷ []) makes s))) (sym n)
+          (subst (λ (ss : List Site). Matches (own_of v) [] ss) (sym rows.1) none);
+    }
+
+-- ---- refused
+
+unread-whole : (b c : Bool) (s : Site) → (b && not c) ≡ false → (if b && not c then unread_in s s.contents else place_of s [] ∷ []) ≡ place_of s [] ∷ []
+unread-whole true false s e = absurd (cc (e))
+unread-whole true true s e = refl
+unread-whole false c s e = refl
+
+-- by the draft and the contents of the code's site
+unread-at : (v : Visit) (s : Site) (b : Bool) → Met v s → awaits_its_own (view v.site.contents.now) ≡ b → (is_read_draft v.site.draft && not (awaits_its_own (view v.site.contents.now))) ≡ false
+    → (is_read_draft s.dialect.draft && not (awaits_its_own s.contents)) ≡ false
+unread-at v s true m is e = ap (λ d. is_read_draft s.dialect.draft && not (awaits_its_own d)) m.contents ∙ ap (λ c. is_read_draft s.dialect.draft && not c) is ∙ never (is_read_draft s.dialect.draft)
+  where
+    never : (b : Bool) → (b && false) ≡ false
+    never true = refl
+    never false = refl
+unread-at v s false m is e =
+    ap (λ d. is_read_draft s.dialect.draft && not (awaits_its_own d)) m.contents
+    ∙ ap (λ x. is_read_draft x.draft && not (awaits_its_own (view v.site.contents.now))) (m.stands is).dialect ∙ e
+
+pub not-read : (v : Visit) (s : Site) (makes : List ℕ → Bool) → Met v s → (is_read_draft v.site.draft && not (awaits_its_own (view v.site.contents.now))) ≡ false
+    → IsBuildCause (documents_at v.site) makes s (not_yet (place_of s []))
+not-read v s makes m e =
+    is_not_yet (record {
+      site = s;
+      reached = at_root;
+      stands = subst (λ ps. In (place_of s []) ps)
+          (sym (unread-whole (is_read_draft s.dialect.draft) (awaits_its_own s.contents) s (unread-at v s (awaits_its_own (view v.site.contents.now)) m refl e))) first;
+    })
+
+pub same-place : (v : Visit) (s : Site) → Met v s → place_of s [] ≡ place_in v.place
+same-place v s m = rw (m.document, m.path) refl
+
+-- neither a boolean nor an object
+abbrev pub IsOther : Data → Type 0
+IsOther null = Unit {0}
+IsOther (boolean b) = ⊥
+IsOther (number n) = Unit {0}
+IsOther (string t) = Unit {0}
+IsOther (array ds) = Unit {0}
+IsOther (object ms) = ⊥
+
+other-rows : (docs : List (List Document)) (makes : List ℕ → Bool) (s : Site) (d : Data) → s.contents ≡ d → IsOther d → rows_at docs makes s ≡ no_schema s
+unfolding rows_at
+other-rows docs makes s null e o = ap (rows_in s (contexts docs makes s)) e
+other-rows docs makes s (boolean b) e o = absurd o
+other-rows docs makes s (number n) e o = ap (rows_in s (contexts docs makes s)) e
+other-rows docs makes s (string t) e o = ap (rows_in s (contexts docs makes s)) e
+other-rows docs makes s (array ds) e o = ap (rows_in s (contexts docs makes s)) e
+other-rows docs makes s (object ms) e o = absurd o
+
+pub no-schema : (v : Visit) (s : Site) (makes : List ℕ → Bool) (d : Data) → s.contents ≡ d → IsOther d
+    → IsBuildCause (documents_at v.site) makes s (wrong (keyword_value (place_of s []) (codes "schema")))
+no-schema v s makes d e o =
+    is_wrong (record {
+      site = s;
+      reached = at_root;
+      row = record { causes = keyword_value (place_of s []) (codes "schema") ∷ []; leads = []; shapes = [] };
+      stands = subst (λ (rows : List Row). In (record { causes = keyword_value (place_of s []) (codes "schema") ∷ []; leads = []; shapes = [] }) rows) (sym (other-rows (documents_at v.site) makes s d e o)) first;
+      wrong = first;
+    })
+
+-- ---- by what the code asks of a value
+
+pub gone : {X Y : Type 0} (f : X → Y) (o : Option X) → ((x : X) → o ≡ Some x → ⊥) → option_map f o ≡ None
+gone f None h = refl
+gone f (Some x) h = absurd (h x refl)
+
+pub object-of : (d : Data) (ms : Members) → as_object d ≡ Some ms → d ≡ object ms
+object-of null ms e = absurd (cc (e))
+object-of (boolean b) ms e = absurd (cc (e))
+object-of (number n) ms e = absurd (cc (e))
+object-of (string t) ms e = absurd (cc (e))
+object-of (array ds) ms e = absurd (cc (e))
+object-of (object all) ms e = (let same : all ≡ ms = cc in ap object same)
+
+pub boolean-of : (d : Data) → is_some (as_bool d) ≡ true → (b : Bool) × (d ≡ boolean b)
+boolean-of null e = absurd (cc (e))
+boolean-of (boolean b) e = (b, refl)
+boolean-of (number n) e = absurd (cc (e))
+boolean-of (string t) e = absurd (cc (e))
+boolean-of (array ds) e = absurd (cc (e))
+boolean-of (object ms) e = absurd (cc (e))
+
+pub other-of : (d : Data) → as_object d ≡ None → is_some (as_bool d) ≡ false → IsOther d
+other-of null e f = tt
+other-of (boolean b) e f = absurd (cc (f))
+other-of (number n) e f = tt
+other-of (string t) e f = tt
+other-of (array ds) e f = tt
+other-of (object ms) e f = absurd (cc (e))

@@ -1,0 +1,9 @@
+pub mod Listing
+pub mod Matching
+pub mod Growth
+pub mod Walking
+pub mod Leading
+pub mod Naming
+pub mod Progressing
+pub mod Drafts
+pub mod Placing

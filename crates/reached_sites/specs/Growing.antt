@@ -1,0 +1,16 @@
+-- How a list of visits grows by others: those to which no reference led before are put behind.
+use Rattle.std.specs.Prelude.{◌≡◌, ◌⊎◌, List, [], ◌∷◌, ◌++◌}
+use Rattle.schema_meaning.specs.Members.{In}
+use Rattle.reached_sites.specs.Visits.{Known}
+use Rattle.reached_sites.specs.declared.visit.Visit.{Visit}
+
+pub record Grows (old new leads : List Visit) : Type 0 where
+  pub added : List Visit
+  pub grown : new ≡ old ++ added
+  pub led_to : (v : Visit) → In v added → In v leads
+  pub there : (v : Visit) → In v leads → In v new ⊎ Known new v
+
+-- no visit is to a place to which a reference led before
+pub data Apart : List Visit → Type 0 where
+  none : Apart []
+  one_more : {vs : List Visit} (v : Visit) → Apart vs → (Known vs v → ⊥) → Apart (vs ++ v ∷ [])

@@ -1,0 +1,21 @@
+-- What is right at a site, and where its keywords lead.
+use Rattle.std.specs.Prelude.{◌≡◌, ℕ, List, [], ◌∷◌, Bool}
+use Rattle.std.specs.List.{flat_map}
+use Rattle.schema_documents.specs.Bearers.{Document}
+use Rattle.schema_reading.specs.Sites.{Site}
+use Rattle.schema_reading.specs.Rows.{Row, BuildCause, rows_at}
+use Rattle.schema_reading.specs.NotYet.{unread}
+use Rattle.reached_sites.specs.Visits.{Matches}
+use Rattle.reached_sites.specs.declared.visit.Visit.{Visit}
+
+abbrev pub leads_in : List Row → List Site
+leads_in rows = flat_map (λ r. r.leads) rows
+
+abbrev pub causes_in : List Row → List BuildCause
+causes_in rows = flat_map (λ r. r.causes) rows
+
+-- nothing is wrong at a site, and visits stand for the sites that its keywords lead to
+pub record Leads (own : List Document) (makes : List ℕ → Bool) (s : Site) (visits : List Visit) : Type 0 where
+  pub read : unread s ≡ []
+  pub right : causes_in (rows_at (own ∷ []) makes s) ≡ []
+  pub met : Matches own visits (leads_in (rows_at (own ∷ []) makes s))

@@ -1,0 +1,6 @@
+pub mod Places
+pub mod Causes
+pub mod Visits
+pub mod Led
+pub mod Growing
+pub mod Members

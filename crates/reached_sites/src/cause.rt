@@ -1,0 +1,48 @@
+//! Causes.
+
+use crate::place::SchemaPlace;
+use referencing::Error as ReferenceError;
+use std::alloc::AllocError;
+use thiserror::Error;
+
+/// Why a schema is refused before any instance is seen, and where.
+#[derive(Debug, Drop, Error)]
+pub enum BuildCause {
+    /// A value that its keyword may not have, or what is no schema where one has to stand.
+    #[error("Keyword value at '{place}': expected {expected}")]
+    KeywordValue {
+        place: SchemaPlace,
+        expected: &'static str,
+    },
+    /// A keyword that is left out.
+    #[error("Keyword at '{place}' is left out")]
+    Unevaluated {
+        place: SchemaPlace,
+    },
+    /// A reference that leads nowhere.
+    #[error("{error}")]
+    Reference {
+        place: SchemaPlace,
+        error: ReferenceError,
+    },
+    /// A keyword that is not read yet.
+    #[error("Keyword at '{place}' is not there yet")]
+    NotYet {
+        place: SchemaPlace,
+    },
+    /// Memory was refused.
+    #[error("No memory")]
+    Memory,
+}
+
+impl From<AllocError> for BuildCause {
+    ghost use Rattle.reached_sites.specs.declared.cause.BuildCause.TheVariants.{Memory};
+
+    ghost from_gives = { λ _ e. e ≡ Memory };
+
+    ghost use Rattle.std.specs.Prelude.{◌≡◌};
+
+    fn from(_error: AllocError) -> BuildCause {
+        BuildCause::Memory
+    }
+}

@@ -1,0 +1,12 @@
+//! The places reached from a root, checked before any instance.
+#![tactic(auto)]
+
+pub mod cause;
+pub mod checking;
+mod leads;
+pub mod place;
+mod reaching;
+mod refusing;
+#[cfg(test)]
+mod tests;
+mod visit;

@@ -1,0 +1,48 @@
+//! What a refused member names.
+
+ghost use Rattle.std.specs.Prelude.{◌≡◌, [], IfOk};
+ghost use Rattle.schema_reading.specs.NotYet.{Cause, place_of};
+ghost use Rattle.schema_reading.specs.Rows as rows;
+ghost use Rattle.schema_sites.specs.Refused.{Refuses};
+ghost use Rattle.reached_sites.specs.Causes.{NamesCause};
+ghost use Rattle.reached_sites.specs.Places.{place_in};
+ghost use Rattle.reached_sites.specs.Members.{IsCauseHere};
+
+use crate::cause::BuildCause;
+use crate::place::SchemaPlace;
+use schema_sites::keyword::Refusal;
+use std::alloc::{AllocError, Global};
+
+/// The cause that a refused member of the schema at a place is.
+///
+/// # Errors
+///
+/// Where the refusal is want of memory, where memory was refused, or a count of owners is full.
+pub(crate) fn refused(
+    alloc: Global,
+    place: &SchemaPlace,
+    name: &str,
+    refusal: Refusal<'_>,
+) -> Result<BuildCause, AllocError>
+    ensures { IfOk result (λ e. (x : rows.Context) (row : rows.Row) → place_of x.site [] ≡ place_in place.now → Refuses x name.now row refusal.entry → (cause : Cause) × NamesCause cause e × IsCauseHere x name.now row cause) }
+{
+    let here = place.member(alloc, name)?;
+    match refusal {
+        Refusal::Value { expected } => Ok(BuildCause::KeywordValue {
+            place: here,
+            expected,
+        }),
+        Refusal::Subschema { name } => Ok(BuildCause::KeywordValue {
+            place: here.member(alloc, name)?,
+            expected: "schema",
+        }),
+        Refusal::Target { target } => Ok(BuildCause::KeywordValue {
+            place: SchemaPlace::of_target(alloc, &target)?,
+            expected: "schema",
+        }),
+        Refusal::Reference(error) => Ok(BuildCause::Reference { place: here, error }),
+        Refusal::LeftOut => Ok(BuildCause::Unevaluated { place: here }),
+        Refusal::NotYet => Ok(BuildCause::NotYet { place: here }),
+        Refusal::Memory => Err(AllocError),
+    }
+}

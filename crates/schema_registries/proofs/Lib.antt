@@ -1,0 +1,4 @@
+mod Trees
+mod Nearer
+mod Apart
+mod Texts

@@ -1,0 +1,29 @@
+-- What the code's documents and registries stand for.
+use Rattle.std.specs.Prelude.{◌≡◌, ℕ, List, true, Some, None}
+use Rattle.serde_json.specs.Data.{Data}
+use Rattle.uri_references.specs.Identity.{identity_of}
+use Rattle.schema_documents.specs.Bearers.{Document}
+use Rattle.given_documents.specs.Given.{Given, with_given}
+use Rattle.given_documents.specs.Listed.{givens_of}
+use Rattle.referencing.specs.Seen.{documents_of}
+use Rattle.schema_registries.specs.Whole.{only_whole}
+use Rattle.schema_registries.specs.Refused.{text_value}
+use Rattle.schema_registries.specs.declared.documents.Documents.{Documents}
+use Rattle.schema_registries.specs.declared.registry.SchemaRegistry.{SchemaRegistry}
+
+abbrev pub documents_given : Documents → List Given
+documents_given documents = givens_of documents.list
+
+-- a document as it is given by a text and a value
+abbrev pub given_under : List ℕ → Data → Given
+given_under text d = record { uri = identity_of text; contents = d; draft = None }
+
+abbrev pub documents_in_registry : SchemaRegistry → List Document
+documents_in_registry r = documents_of r.registry.value
+
+-- a JSON text that was added: its value has whole numbers alone, and is the document's contents
+pub record AddsText (uri text : List ℕ) (old new : List Given) : Type 0 where
+  pub value : Data
+  pub is_value : text_value text ≡ Some value
+  pub whole : only_whole value ≡ true
+  pub added : new ≡ with_given old (given_under uri value)

@@ -1,0 +1,10 @@
+//! Documents handed in, each under its URI and with whole numbers alone, and registries of them that share what they hold.
+#![tactic(auto)]
+
+pub mod documents;
+pub mod error;
+pub mod numbers;
+pub mod registry;
+mod search;
+#[cfg(test)]
+mod tests;

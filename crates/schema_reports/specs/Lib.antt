@@ -1,0 +1,9 @@
+pub mod Kinds
+pub mod Left
+pub mod Locations
+pub mod Readable
+pub mod References
+pub mod RoadPaths
+pub mod Stands
+pub mod Told
+pub mod Observers

@@ -1,0 +1,19 @@
+-- What the locations of the code stand for.
+use Rattle.std.specs.Prelude.{List, [], ◌∷◌}
+use Rattle.json_paths.specs.Parts.{Part, name, index}
+use Rattle.schema_reports.specs.declared.location.LazyPart.{LazyPart}
+use Rattle.schema_reports.specs.declared.location.LazyPart.TheVariants.{Name, Index}
+use Rattle.schema_reports.specs.declared.location.LazyLocation.{LazyLocation, LazyLocation', Held-LazyLocation-above, None', Some'}
+
+abbrev pub part_of : LazyPart → Part
+part_of (Name text) = name text.now
+part_of (Index n) = index n
+
+-- the path of a location, its last part first; the part of a location with none above it is none of the path
+abbrev mutual
+  pub location_of : LazyLocation → List Part
+  location_of (LazyLocation' part above) = path_below above (part_of part)
+
+  pub path_below : Held-LazyLocation-above → Part → List Part
+  path_below None' part = []
+  path_below (Some' p location) part = part ∷ location_of location

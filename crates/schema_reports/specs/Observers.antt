@@ -1,0 +1,19 @@
+-- What observers say of the faults told so far.
+use Rattle.schema_meaning.specs.Faults.{Faults}
+use Rattle.schema_reports.specs.Stands.{verdict_stands, first_stands, all_stand}
+use Rattle.schema_reports.specs.declared.observer.Observation.{Observation}
+use Rattle.schema_reports.specs.declared.observer.Observation.TheVariants as kept
+use Rattle.schema_reports.specs.declared.observer.Observer.{Observer}
+use Rattle.schema_reports.specs.declared.observer.Observer.TheVariants as observers
+
+-- an observer that keeps this
+abbrev pub Hears : Observation → Observer → Faults → Type 0
+Hears kept.Verdict (observers.Verdict v) fs = verdict_stands v fs
+Hears kept.Verdict (observers.First f) fs = ⊥
+Hears kept.Verdict (observers.All a) fs = ⊥
+Hears kept.First (observers.Verdict v) fs = ⊥
+Hears kept.First (observers.First f) fs = first_stands f fs
+Hears kept.First (observers.All a) fs = ⊥
+Hears kept.All (observers.Verdict v) fs = ⊥
+Hears kept.All (observers.First f) fs = ⊥
+Hears kept.All (observers.All a) fs = all_stand a fs

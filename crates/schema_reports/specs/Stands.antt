@@ -1,0 +1,24 @@
+-- What each observer says of the faults told so far.
+use Rattle.std.specs.Prelude.{◌≡◌, Option, Some, None}
+use Rattle.schema_meaning.specs.Faults.{Faults, none, is_none, Told}
+use Rattle.schema_reports.specs.Told.{fault_of, faults_of}
+use Rattle.schema_reports.specs.declared.error.ValidationError.{ValidationError}
+use Rattle.schema_reports.specs.declared.verdict.Verdict.{Verdict}
+use Rattle.schema_reports.specs.declared.first_fault.FirstFault.{FirstFault}
+use Rattle.schema_reports.specs.declared.all_faults.AllFaults.{AllFaults}
+
+-- whether there are none
+abbrev pub verdict_stands : Verdict → Faults → Type 0
+verdict_stands v fs = v.accepts ≡ is_none fs
+
+-- one of them, and none where there are none
+abbrev pub is_one_of : Option ValidationError → Faults → Type 0
+is_one_of None fs = fs ≡ none
+is_one_of (Some e) fs = Told (fault_of e) fs
+
+abbrev pub first_stands : FirstFault → Faults → Type 0
+first_stands f fs = is_one_of f.error fs
+
+-- each of them, in order
+abbrev pub all_stand : AllFaults → Faults → Type 0
+all_stand a fs = faults_of a.errors.items ≡ fs

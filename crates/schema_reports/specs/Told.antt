@@ -1,0 +1,20 @@
+-- What the errors of the code stand for.
+use Rattle.std.specs.Prelude.{List, [], ◌∷◌}
+use Rattle.serde_json.specs.Data.{Data}
+use Rattle.serde_json.specs.View.{view}
+use Rattle.schema_meaning.specs.Faults.{Fault, fault, Kind, Faults, none, also}
+use Rattle.schema_reports.specs.Kinds.{kind_of}
+use Rattle.schema_reports.specs.declared.error.ValidationError.{ValidationError}
+
+abbrev pub fault_of : ValidationError → Fault
+fault_of e = fault (kind_of e.kind) (view e.instance.now) e.instance_path e.schema_path e.evaluation_path
+
+abbrev pub faults_of : List ValidationError → Faults
+faults_of [] = none
+faults_of (e ∷ es) = also (fault_of e) (faults_of es)
+
+abbrev pub fault_kind : Fault → Kind
+fault_kind (fault k d i s e) = k
+
+abbrev pub fault_instance : Fault → Data
+fault_instance (fault k d i s e) = d

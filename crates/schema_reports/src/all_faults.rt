@@ -1,0 +1,60 @@
+//! Everything that is wrong.
+ghost use Rattle.std.specs.Prelude.{◌≡◌, true, OnOk};
+ghost use Rattle.serde_json.specs.View.{view};
+ghost use Rattle.schema_meaning.specs.Faults.{Faults, none, also, fault, joined};
+
+use crate::error::ValidationError;
+use crate::kind::ValidationErrorKind;
+use crate::roads::Roads;
+use serde_json::Value;
+use std::alloc::{AllocError, Global};
+
+/// Keeps each fault that it is told, in order.
+#[derive(Drop)]
+pub struct AllFaults<'i> {
+    errors: Vec<ValidationError<'i>>,
+}
+
+impl<'i> AllFaults<'i> {
+    ghost use Rattle.schema_reports.specs.Stands.{all_stand};
+    ghost use Rattle.schema_reports.specs.Told.{faults_of};
+    ghost use Rattle.schema_reports.specs.Kinds.{kind_of};
+    ghost use Rattle.schema_reports.specs.RoadPaths.{instance_in, schema_in, evaluation_in};
+
+    /// No fault was told. It allocates nothing.
+    pub fn new(alloc: Global) -> Self
+        ensures { all_stand result none }
+    {
+        AllFaults {
+            errors: Vec::new(alloc),
+        }
+    }
+
+    /// The faults that were told.
+    pub fn into_errors(self) -> Vec<ValidationError<'i>>
+        ensures { (fs : Faults) → all_stand self.entry fs → faults_of result.items ≡ fs }
+    {
+        self.errors
+    }
+
+    /// Each fault counts, so never.
+    pub(crate) fn is_settled(&self) -> bool
+        ensures { result ≡ true → (fs gs : Faults) → all_stand self.now fs → all_stand self.now (joined fs gs) }
+    {
+        false
+    }
+
+    pub(crate) fn tell(
+        &mut self,
+        alloc: Global,
+        kind: ValidationErrorKind,
+        instance: &'i Value,
+        roads: Roads<'_>,
+    ) -> Result<(), AllocError>
+        ensures { OnOk result ((fs : Faults) → all_stand self.old fs → all_stand self.new
+            (joined fs (also (fault (kind_of kind) (view instance.now) (instance_in roads.entry) (schema_in roads.entry) (evaluation_in roads.entry)) none))) }
+    {
+        self.errors.push(roads.error(alloc, kind, instance)?)?;
+        Ok(())
+    }
+}

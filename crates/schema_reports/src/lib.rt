@@ -1,0 +1,25 @@
+//! What validation tells of a value that it refuses: kinds of errors, errors, where they stand, and who hears of them.
+#![tactic(auto)]
+
+mod all_faults;
+mod error;
+mod first_fault;
+mod iter;
+mod kind;
+mod location;
+mod observer;
+mod pointer_path;
+mod reference;
+mod roads;
+mod verdict;
+
+pub use all_faults::AllFaults;
+pub use error::ValidationError;
+pub use first_fault::FirstFault;
+pub use iter::ErrorIterator;
+pub use kind::ValidationErrorKind;
+pub use location::LazyLocation;
+pub use observer::{Observation, Observer};
+pub use reference::Reference;
+pub use roads::Roads;
+pub use verdict::Verdict;

@@ -1,0 +1,105 @@
+//! Paths as linked, borrowed parts.
+ghost use Rattle.std.specs.Prelude.{◌≡◌, ◌++◌, ◌∷◌, [], IfOk};
+ghost use Rattle.json_paths.specs.Parts.{name, index};
+ghost use Rattle.schema_meaning.specs.Cut.{same_part, same_path};
+ghost use Rattle.schema_reports.specs.Locations.{part_of};
+
+use schema_steps::Path;
+use std::alloc::{AllocError, Global};
+
+// The name of a member, or the index of an item.
+#[derive(Clone, Copy)]
+enum LazyPart<'a> {
+    Name(&'a str),
+    Index(usize),
+}
+
+/// A path as a list of parts that is linked by borrows, the last part first.
+///
+/// A walk makes one on the stack at each step that it takes, and nothing is allocated until the path is asked for.
+#[derive(Drop)]
+pub struct LazyLocation<'a, 'b> {
+    part: LazyPart<'a>,
+    above: Option<&'b LazyLocation<'a, 'b>>,
+}
+
+impl<'a, 'b> LazyLocation<'a, 'b> {
+    ghost use Rattle.schema_reports.specs.Locations.{location_of};
+
+    /// The empty path.
+    pub const fn new() -> Self
+        ensures { location_of result ≡ [] }
+    {
+        LazyLocation {
+            part: LazyPart::Index(0),
+            above: None,
+        }
+    }
+
+    /// This path with a name at its end, in constant time.
+    pub fn push_name<'next>(&'next self, text: &'a str) -> LazyLocation<'a, 'next>
+        ensures { location_of result ≡ name text.now ∷ location_of self.now }
+    {
+        LazyLocation {
+            part: LazyPart::Name(text),
+            above: Some(self),
+        }
+    }
+
+    /// This path with an index at its end, in constant time.
+    pub fn push_index<'next>(&'next self, position: usize) -> LazyLocation<'a, 'next>
+        ensures { location_of result ≡ index position ∷ location_of self.now }
+    {
+        LazyLocation {
+            part: LazyPart::Index(position),
+            above: Some(self),
+        }
+    }
+
+    /// A path that goes on from `start` by the parts of this one.
+    ///
+    /// It takes a stack frame and a push for each part, and copies the names. The error comes where memory is out or a count
+    /// of owners is full.
+    pub fn write_onto(&self, alloc: Global, start: Path) -> Result<Path, AllocError>
+        ensures { IfOk result (λ path. path ≡ location_of self.now ++ start) }
+    {
+        let Some(above) = self.above else {
+            return Ok(start);
+        };
+        let path = above.write_onto(alloc, start)?;
+        match self.part {
+            LazyPart::Name(text) => path.push_name(alloc, text),
+            LazyPart::Index(position) => path.push_item(alloc, position),
+        }
+    }
+
+    /// This path with nothing before it. It costs and fails as [`Self::write_onto`].
+    pub fn to_path(&self, alloc: Global) -> Result<Path, AllocError>
+        ensures { IfOk result (λ path. path ≡ location_of self.now) }
+    {
+        self.write_onto(alloc, Path::root())
+    }
+
+    /// Whether two paths have the same parts. It compares pair by pair, the last parts first.
+    pub fn is_same(&self, other: &LazyLocation<'_, '_>) -> bool
+        ensures { result ≡ same_path (location_of self.now) (location_of other.now) }
+    {
+        match (self.above, other.above) {
+            (None, None) => true,
+            (Some(above), Some(other_above)) => {
+                is_same_part(self.part, other.part) && above.is_same(other_above)
+            }
+            _ => false,
+        }
+    }
+}
+
+fn is_same_part(left: LazyPart<'_>, right: LazyPart<'_>) -> bool
+    ensures { result ≡ same_part (part_of left.entry) (part_of right.entry) }
+{
+    match (left, right) {
+        (LazyPart::Name(name), LazyPart::Name(other)) => name == other,
+        (LazyPart::Index(position), LazyPart::Index(other)) => position == other,
+        _ => false,
+    }
+}

@@ -1,0 +1,52 @@
+//! Where a value and its schema stand.
+ghost use Rattle.std.specs.Prelude.{◌≡◌, IfOk};
+ghost use Rattle.serde_json.specs.View.{view};
+ghost use Rattle.schema_meaning.specs.Faults.{fault};
+
+use crate::error::ValidationError;
+use crate::kind::ValidationErrorKind;
+use crate::location::LazyLocation;
+use crate::reference::Reference;
+use serde_json::Value;
+use std::alloc::{AllocError, Global};
+
+/// Where a value and its schema stand.
+#[derive(Clone, Copy)]
+pub struct Roads<'a> {
+    /// The value's path from the instance's root.
+    pub instance: &'a LazyLocation<'a, 'a>,
+    /// The schema's path from where the reference leads.
+    pub schema: &'a LazyLocation<'a, 'a>,
+    /// The reference that was followed last.
+    pub reference: Reference<'a>,
+    /// The path by which evaluation came to the schema.
+    pub evaluation: &'a LazyLocation<'a, 'a>,
+}
+
+impl Roads<'_> {
+    ghost use Rattle.schema_reports.specs.Kinds.{kind_of};
+    ghost use Rattle.schema_reports.specs.RoadPaths.{instance_in, schema_in, evaluation_in};
+    ghost use Rattle.schema_reports.specs.Told.{fault_of};
+
+    /// An error with these paths written out.
+    ///
+    /// It takes a push for each part of the three paths. The error comes where memory is out or a count of owners is full.
+    pub fn error<'i>(
+        self,
+        alloc: Global,
+        kind: ValidationErrorKind,
+        instance: &'i Value,
+    ) -> Result<ValidationError<'i>, AllocError>
+        ensures { IfOk result (λ error. fault_of error
+            ≡ fault (kind_of kind) (view instance.now) (instance_in self.entry) (schema_in self.entry) (evaluation_in self.entry)) }
+    {
+        let start = self.reference.path(alloc)?;
+        Ok(ValidationError::new(
+            kind,
+            instance,
+            self.instance.to_path(alloc)?,
+            self.schema.write_onto(alloc, start)?,
+            self.evaluation.to_path(alloc)?,
+        ))
+    }
+}

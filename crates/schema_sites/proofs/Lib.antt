@@ -1,0 +1,6 @@
+pub mod Standing
+pub mod Counting
+pub mod ArmLemmas
+pub mod MemberLemmas
+pub mod ReferredLemmas
+pub mod ResultLemmas

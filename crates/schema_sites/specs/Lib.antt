@@ -1,0 +1,5 @@
+pub mod Seen
+pub mod Read
+pub mod Refused
+pub mod Arms
+pub mod Errors

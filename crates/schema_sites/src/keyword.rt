@@ -1,0 +1,61 @@
+//! What the members of schemas are.
+
+use referencing::{Error, Resolved};
+use schema_types::TypeNames;
+use serde_json::{Map, Value};
+use std::alloc::AllocError;
+
+/// What a member of a schema is: nothing that asserts, or a keyword read from its value and its neighbours.
+#[derive(Drop)]
+pub enum Keyword<'r> {
+    Nothing,
+    Types(TypeNames),
+    MinItems(u64),
+    /// One schema for the items from `start` on, which is the length of the list at `prefixItems` beside.
+    Items { start: usize, schema: &'r Value },
+    Properties(&'r Map<String, Value>),
+    Reference { text: &'r str, target: Resolved<'r> },
+}
+
+/// Why a member is refused.
+#[derive(Drop)]
+pub enum Refusal<'r> {
+    /// The keyword's own value.
+    Value { expected: &'static str },
+    /// A member of the keyword's value that is no schema.
+    Subschema { name: &'r str },
+    /// The target of a reference is no schema.
+    Target { target: Resolved<'r> },
+    /// The reference leads nowhere, or its target's identifier is no URI reference.
+    Reference(Error),
+    /// The keyword is left out.
+    LeftOut,
+    /// The keyword is not read yet.
+    NotYet,
+    /// Memory was refused, or a count of owners is full.
+    Memory,
+}
+
+impl<'r> From<AllocError> for Refusal<'r> {
+    ghost use Rattle.std.specs.Prelude.{◌≡◌};
+    ghost use Rattle.schema_sites.specs.declared.keyword.Refusal.TheVariants as refusal;
+
+    ghost from_gives = { λ _ r. r ≡ refusal.Memory };
+
+    fn from(_error: AllocError) -> Refusal<'r> {
+        Refusal::Memory
+    }
+}
+
+impl<'r> From<Error> for Refusal<'r> {
+    ghost use Rattle.schema_sites.specs.Errors.{IsRefusalOf};
+
+    ghost from_gives = { IsRefusalOf };
+
+    fn from(error: Error) -> Refusal<'r> {
+        match error {
+            Error::Memory => Refusal::Memory,
+            error => Refusal::Reference(error),
+        }
+    }
+}

@@ -1,0 +1,7 @@
+//! Schemas met on the way from a root, and what their members are.
+#![tactic(auto)]
+
+pub mod keyword;
+pub mod reading;
+mod referred;
+pub mod site;

@@ -1,0 +1,102 @@
+//! Sites: schemas met on the way from a root.
+
+ghost use Rattle.std.specs.Prelude.{◌≡◌, ◌∷◌, [], ◌&&◌, ℕ, List, IfOk, false, not};
+ghost use Rattle.serde_json.specs.View.{view};
+ghost use Rattle.json_paths.specs.Parts.{Part};
+ghost use Rattle.schema_documents.specs.Places.{standard};
+ghost use Rattle.schema_documents.specs.Scopes.{entered_scope};
+ghost use Rattle.referencing.specs.Resolved.{base_of, scope_of, documents_in, target_in};
+ghost use Rattle.schema_reading.specs.Sites as sites;
+ghost use Rattle.schema_reading.specs.NotYet as spec;
+ghost use Rattle.schema_sites.specs.Seen.{documents_at, Stands};
+
+use referencing::{Resolved, Resolver};
+use schema_drafts::draft::{Draft, draft_named};
+use schema_identifiers::bases::settle;
+use schema_identifiers::identifiers::schema_in_force;
+use serde_json::Value;
+use std::alloc::{AllocError, Global};
+
+/// A schema met on the way from a root, with what the references in it depend on.
+#[derive(Drop)]
+pub struct Site<'r> {
+    pub contents: &'r Value,
+    pub draft: Draft,
+    pub resolver: Resolver<'r>,
+}
+
+/// The site of what a reference leads to. It shares the base and the scope.
+///
+/// # Errors
+///
+/// Where a count of owners is full.
+pub fn at_target<'r>(resolved: &Resolved<'r>) -> Result<Site<'r>, AllocError>
+    ensures contents { IfOk result (λ c. view c.contents.now ≡ (target_in resolved.now).contents) }
+    ensures base { IfOk result (λ c. base_of c.resolver ≡ base_of resolved.now.resolver) }
+    ensures scope { IfOk result (λ c. scope_of c.resolver ≡ scope_of resolved.now.resolver) }
+    ensures documents { IfOk result (λ c. documents_at c ≡ documents_in resolved.now.resolver ∷ []) }
+    ensures stands { IfOk result (λ c. (s : sites.Site) (reference : List ℕ) → Stands c (sites.target_site s reference (target_in resolved.now))) }
+{
+    Ok(Site {
+        contents: resolved.contents(),
+        draft: resolved.draft(),
+        resolver: resolved.resolver().share()?,
+    })
+}
+
+/// The site of a root: its scope is its base alone.
+///
+/// # Errors
+///
+/// Where memory was refused or a count of owners is full.
+pub fn at_root<'r>(resolved: &Resolved<'r>) -> Result<Site<'r>, AllocError>
+    ensures contents { IfOk result (λ c. view c.contents.now ≡ (target_in resolved.now).contents) }
+    ensures scope { IfOk result (λ c. scope_of c.resolver ≡ (target_in resolved.now).base ∷ []) }
+    ensures documents { IfOk result (λ c. documents_at c ≡ documents_in resolved.now.resolver ∷ []) }
+    ensures stands { IfOk result (λ c. Stands c (sites.root_site (target_in resolved.now))) }
+{
+    Ok(Site {
+        contents: resolved.contents(),
+        draft: resolved.draft(),
+        resolver: resolved.resolver().alone()?,
+    })
+}
+
+/// Whether a schema inside another names, beside an identifier, a meta-schema that is none of the drafts' own.
+pub fn awaits_its_own(contents: &Value) -> bool
+    ensures { result ≡ spec.awaits_its_own (view contents.now) }
+{
+    match schema_in_force(false, contents) {
+        Some(text) => draft_named(text).is_none(),
+        None => false,
+    }
+}
+
+impl<'r> Site<'r> {
+    /// The site of a subschema. It shares the base where the subschema has no identifier of its own.
+    ///
+    /// # Errors
+    ///
+    /// Where memory was refused or a count of owners is full.
+    pub fn below(&self, alloc: Global, contents: &'r Value) -> Result<Site<'r>, AllocError>
+        ensures contents { IfOk result (λ c. c.contents ≡ contents.entry) }
+        ensures documents { IfOk result (λ c. documents_at c ≡ documents_at self.now) }
+        ensures scope { IfOk result (λ c. scope_of c.resolver ≡ entered_scope (base_of c.resolver) (base_of self.now.resolver) (scope_of self.now.resolver)) }
+        ensures stands { IfOk result (λ c. (s : sites.Site) (added : List Part) → Stands self.now s → spec.awaits_its_own (view contents.now) ≡ false → Stands c (sites.below (documents_at self.now) s added (view contents.now))) }
+    {
+        let base = self.resolver.base_uri()?;
+        let settled = settle(alloc, &base, self.draft, false, contents)?;
+        Ok(Site {
+            contents,
+            draft: settled.draft,
+            resolver: self.resolver.at(settled.base)?,
+        })
+    }
+
+    /// Whether the schema is read: by 2020-12, and not by a meta-schema of its own.
+    pub fn is_read(&self) -> bool
+        ensures { result ≡ (spec.is_read_draft self.now.draft && not (spec.awaits_its_own (view self.now.contents.now))) }
+    {
+        self.draft == Draft::Draft202012 && !awaits_its_own(self.contents)
+    }
+}
