@@ -1,0 +1,23 @@
+-- What an observer hears of a value.
+use Rattle.std.specs.Prelude.{◌≡◌, ℕ, List, Bool, Result, Ok, Err}
+use Rattle.serde_json.specs.Data.{Data}
+use Rattle.schema_meaning.specs.Faults.{Faults, none, joined, Told}
+use Rattle.schema_meaning.specs.Readings.{bags}
+use Rattle.schema_documents.specs.Lookup.{Target}
+use Rattle.schema_reports.specs.Observers.{Hears}
+use Rattle.schema_reports.specs.Told.{fault_of}
+use Rattle.schema_reports.specs.declared.error.ValidationError.{ValidationError}
+use Rattle.schema_reports.specs.declared.observer.Observation.{Observation}
+use Rattle.schema_reports.specs.declared.observer.Observer.{Observer}
+use Rattle.json_schema_validator.specs.Roots.{Root, Finds}
+use Rattle.json_schema_validator.specs.Answers.{cut_at}
+
+-- the faults of the cut reading, from the root on
+pub record HearsCut (r : Root) (d : Data) (old new : Observer) : Type 0 where
+  pub hears : (makes : List ℕ → Bool) (matches : List ℕ → List ℕ → Bool) (target : Target) → Finds r target
+      → (kept : Observation) (fs : Faults) → Hears kept old fs → Hears kept new (joined fs (cut_at bags r makes matches target d))
+
+-- one of the faults is said, or there are none
+abbrev pub SaysOne : {T : Type 0} → Result T ValidationError → Faults → Type 0
+SaysOne (Ok x) fs = fs ≡ none
+SaysOne (Err e) fs = Told (fault_of e) fs

@@ -1,0 +1,5 @@
+pub mod Roots
+pub mod Answers
+pub mod Seen
+pub mod Heard
+pub mod Refused

@@ -1,0 +1,22 @@
+//! Validators of JSON values by JSON Schema.
+//!
+//! [`Validator::options`] says how documents are read. Documents are prepared once, and validators are built on what was prepared,
+//! each at a root that a reference leads to.
+#![tactic(auto)]
+
+mod error;
+mod options;
+mod validator;
+
+pub use error::BuildError;
+pub use options::ValidationOptions;
+pub use reached_sites::cause::BuildCause;
+pub use reached_sites::place::SchemaPlace;
+pub use referencing::{Draft, Error, uri};
+pub use schema_registries::documents::Documents;
+pub use schema_registries::error::DocumentError;
+pub use schema_registries::numbers::has_only_whole;
+pub use schema_registries::registry::SchemaRegistry;
+pub use schema_reports::{ErrorIterator, ValidationError, ValidationErrorKind};
+pub use uri_references::uri::Uri;
+pub use validator::Validator;

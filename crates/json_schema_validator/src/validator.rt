@@ -1,0 +1,156 @@
+//! Validators.
+
+ghost use Rattle.std.specs.Prelude.{◌≡◌, ◌∷◌, [], IfOk, IfErr, OnOk, is_ok, codes, string_bytes};
+ghost use Rattle.serde_json.specs.View.{view};
+ghost use Rattle.schema_drafts.specs.Drafts as drafts;
+ghost use Rattle.schema_meaning.specs.Faults.{Faults};
+ghost use Rattle.schema_meaning.specs.Readings.{verdicts, bags};
+ghost use Rattle.referencing.specs.Seen.{documents_of};
+ghost use Rattle.schema_reports.specs.Left.{errors_left};
+ghost use Rattle.schema_reports.specs.Stands.{first_stands};
+ghost use Rattle.schema_reports.specs.Told.{fault_of, faults_of};
+ghost use Rattle.json_schema_validator.specs.Heard.{SaysOne};
+ghost use Rattle.json_schema_validator.specs.Answers.{IsCut, IsAnswer, IsFault};
+ghost use Rattle.json_schema_validator.specs.Roots.{IsSound};
+
+use crate::options::ValidationOptions;
+use plain_reader::root::tell_root;
+use referencing::Registry;
+use schema_drafts::draft::Draft;
+use schema_reports::{AllFaults, ErrorIterator, FirstFault, Observer, ValidationError, Verdict};
+use serde_json::Value;
+use std::alloc::{AllocError, Global};
+use std::rc::Rc;
+use uri_references::uri::Uri;
+
+/// A schema to validate by: the one that a reference leads to in documents that were prepared.
+///
+/// It shares the documents, and looks its root up anew in each call.
+#[derive(Drop)]
+pub struct Validator {
+    pub(crate) alloc: Global,
+    pub(crate) registry: Rc<Registry<'static>>,
+    pub(crate) base: Uri,
+    pub(crate) root: String,
+    pub(crate) draft: Draft,
+    ghost sound: { IsSound (record { documents = documents_of registry.value ∷ []; base = base; reference = string_bytes root }) },
+}
+
+impl Validator {
+    ghost use Rattle.json_schema_validator.specs.Seen.{root_in};
+    ghost use Rattle.json_schema_validator.specs.Heard.{HearsCut};
+
+    /// How validators are built: by the draft 2020-12 and the base URI `json-schema:///`, until it is said otherwise.
+    ///
+    /// # Errors
+    ///
+    /// Where memory was refused.
+    pub fn options(alloc: Global) -> Result<ValidationOptions, AllocError>
+        ensures draft { IfOk result (λ o. o.draft ≡ drafts.newest) }
+        ensures base { IfOk result (λ o. o.base ≡ codes "json-schema:///") }
+    {
+        ValidationOptions::new(alloc)
+    }
+
+    /// Where it begins leads somewhere, and nothing is wrong at the schemas reached from there. It does nothing.
+    pub fn root_is_sound(&self)
+        ensures { IsSound (root_in self.now) }
+    {}
+
+    /// The draft of the root.
+    pub fn draft(&self) -> Draft
+        ensures { result ≡ self.now.draft }
+    {
+        self.draft
+    }
+
+    /// Whether a value is valid.
+    ///
+    /// It stops at the first fault, and keeps none. A value at which references come back to where they were is read as the cut
+    /// reading does: the return is accepted.
+    ///
+    /// # Errors
+    ///
+    /// Where memory was refused or a count of owners is full.
+    pub fn is_valid(&self, value: &Value) -> Result<bool, AllocError>
+        ensures cut { IfOk result (IsCut verdicts (root_in self.now) (view value.now)) }
+        ensures verdict { IfOk result (IsAnswer verdicts (root_in self.now) (view value.now)) }
+    {
+        let observer = self.told(value, Observer::Verdict(Verdict::new()))?;
+        match observer {
+            Observer::Verdict(verdict) => Ok(verdict.accepts()),
+            Observer::First(_first) => unreachable!(),
+            Observer::All(_all) => unreachable!(),
+        }
+    }
+
+    /// Nothing where a value is valid, and else one of its faults: the first that is met.
+    ///
+    /// It stops there. The paths are written out for that fault alone.
+    ///
+    /// # Errors
+    ///
+    /// Where memory was refused or a count of owners is full.
+    pub fn validate<'i>(
+        &self,
+        value: &'i Value,
+    ) -> Result<Result<(), ValidationError<'i>>, AllocError>
+        ensures cut { IfOk result (λ answer. IsCut verdicts (root_in self.now) (view value.now) (is_ok answer)) }
+        ensures verdict { IfOk result (λ answer. IsAnswer verdicts (root_in self.now) (view value.now) (is_ok answer)) }
+        ensures fault { IfOk result (λ answer. IfErr answer (λ e. IsFault (root_in self.now) (view value.now) (fault_of e))) }
+    {
+        let observer = self.told(value, Observer::First(FirstFault::new()))?;
+        match observer {
+            Observer::First(first) => Ok(refused(first)),
+            Observer::Verdict(_verdict) => unreachable!(),
+            Observer::All(_all) => unreachable!(),
+        }
+    }
+
+    /// The faults of a value, in the order in which they are met.
+    ///
+    /// All are gathered before the first is given, each with its three paths written out.
+    ///
+    /// # Errors
+    ///
+    /// Where memory was refused or a count of owners is full.
+    pub fn iter_errors<'i>(&self, value: &'i Value) -> Result<ErrorIterator<'i>, AllocError>
+        ensures cut { IfOk result (λ errors. IsCut bags (root_in self.now) (view value.now) (faults_of (errors_left errors))) }
+        ensures faults { IfOk result (λ errors. IsAnswer bags (root_in self.now) (view value.now) (faults_of (errors_left errors))) }
+    {
+        let observer = self.told(value, Observer::All(AllFaults::new(self.alloc)))?;
+        match observer {
+            Observer::All(all) => Ok(ErrorIterator::of(all.into_errors())),
+            Observer::Verdict(_verdict) => unreachable!(),
+            Observer::First(_first) => unreachable!(),
+        }
+    }
+
+    // An observer that was told of the faults of a value.
+    fn told<'i>(
+        &self,
+        value: &'i Value,
+        mut observer: Observer<'i>,
+    ) -> Result<Observer<'i>, AllocError>
+        ensures { IfOk result (HearsCut (root_in self.now) (view value.now) observer.entry) }
+    {
+        let resolver = self.registry.resolver(self.base.clone()?)?;
+        match resolver.lookup(self.root.as_str()) {
+            Ok(root) => {
+                tell_root(self.alloc, &root, value, &mut observer)?;
+                Ok(observer)
+            }
+            Err(_) => Err(AllocError),
+        }
+    }
+}
+
+// The error that was kept, if any was.
+fn refused<'i>(first: FirstFault<'i>) -> Result<(), ValidationError<'i>>
+    ensures { (fs : Faults) → first_stands first.entry fs → SaysOne result fs }
+{
+    match first.into_error() {
+        Some(error) => Err(error),
+        None => Ok(()),
+    }
+}

@@ -1,0 +1,7 @@
+//! Tests of validators built from documents.
+#![tactic(auto)]
+
+#[cfg(test)]
+mod building;
+#[cfg(test)]
+mod faults;
