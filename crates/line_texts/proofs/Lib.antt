@@ -1,0 +1,4 @@
+mod Values
+mod Orders
+mod Sorting
+mod Listed

@@ -1,0 +1,10 @@
+-- Pairs of texts, and the JSON value of one.
+use Rattle.std.specs.Prelude.{ℕ, List, String, string_bytes}
+use Rattle.std.specs.declared.alloc.Global.{Global}
+use Rattle.serde_json.specs.Data.{Data, string, array, no_items, item}
+
+abbrev pub pair_bytes : String Global × String Global → List ℕ × List ℕ
+pair_bytes p = (string_bytes p.0, string_bytes p.1)
+
+abbrev pub pair_data : List ℕ × List ℕ → Data
+pair_data p = array (item (string p.0) (item (string p.1) no_items))
