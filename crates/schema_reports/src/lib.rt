@@ -11,6 +11,8 @@ mod observer;
 mod pointer_path;
 mod reference;
 mod roads;
+#[cfg(test)]
+mod tests;
 mod verdict;
 
 pub use all_faults::AllFaults;

@@ -150,12 +150,10 @@ fn of_a_deep_instance(rt: HostRuntime) -> Result<(), Fail> {
     let lists = nested(alloc, 127, "[", "", "]")?;
     assert_eq!(rt; told(alloc, &validator, lists.as_str())?.as_str(), "");
     let number = nested(alloc, 126, "[", "1", "]")?;
-    let value = Value::from_str(alloc, number.as_str())?;
-    let mut count = 0;
-    for error in validator.iter_errors(&value)? {
-        count += error.instance_path().steps().count();
-    }
-    assert_eq!(rt; count, 126);
+    let mut wanted = nested(alloc, 126, "/0", " ", "/items/$ref")?;
+    wanted.push_str("/type\n")?;
+    let faults = told(alloc, &validator, number.as_str())?;
+    assert_eq!(rt; faults.as_str(), wanted.as_str());
     Ok(())
 }
 
