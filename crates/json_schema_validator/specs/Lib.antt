@@ -3,3 +3,4 @@ pub mod Answers
 pub mod Seen
 pub mod Heard
 pub mod Refused
+pub mod Certified

@@ -11,6 +11,7 @@ ghost use Rattle.schema_reports.specs.Stands.{first_stands};
 ghost use Rattle.schema_reports.specs.Told.{fault_of, faults_of};
 ghost use Rattle.json_schema_validator.specs.Heard.{SaysOne};
 ghost use Rattle.json_schema_validator.specs.Answers.{IsCut, IsAnswer, IsFault};
+ghost use Rattle.json_schema_validator.specs.Certified.{IsCertified, HasCertificate, HaveCertificates};
 ghost use Rattle.json_schema_validator.specs.Roots.{IsSound};
 
 use crate::options::ValidationOptions;
@@ -75,6 +76,7 @@ impl Validator {
     pub fn is_valid(&self, value: &Value) -> Result<bool, AllocError>
         ensures cut { IfOk result (IsCut verdicts (root_in self.now) (view value.now)) }
         ensures verdict { IfOk result (IsAnswer verdicts (root_in self.now) (view value.now)) }
+        ensures certified { IfOk result (IsCertified (root_in self.now) (view value.now)) }
     {
         let observer = self.told(value, Observer::Verdict(Verdict::new()))?;
         match observer {
@@ -98,6 +100,7 @@ impl Validator {
         ensures cut { IfOk result (λ answer. IsCut verdicts (root_in self.now) (view value.now) (is_ok answer)) }
         ensures verdict { IfOk result (λ answer. IsAnswer verdicts (root_in self.now) (view value.now) (is_ok answer)) }
         ensures fault { IfOk result (λ answer. IfErr answer (λ e. IsFault (root_in self.now) (view value.now) (fault_of e))) }
+        ensures certified { IfOk result (λ answer. IfErr answer (λ e. HasCertificate (root_in self.now) (view value.now) (fault_of e))) }
     {
         let observer = self.told(value, Observer::First(FirstFault::new()))?;
         match observer {
@@ -117,6 +120,7 @@ impl Validator {
     pub fn iter_errors<'i>(&self, value: &'i Value) -> Result<ErrorIterator<'i>, AllocError>
         ensures cut { IfOk result (λ errors. IsCut bags (root_in self.now) (view value.now) (faults_of (errors_left errors))) }
         ensures faults { IfOk result (λ errors. IsAnswer bags (root_in self.now) (view value.now) (faults_of (errors_left errors))) }
+        ensures certified { IfOk result (λ errors. HaveCertificates (root_in self.now) (view value.now) (faults_of (errors_left errors))) }
     {
         let observer = self.told(value, Observer::All(AllFaults::new(self.alloc)))?;
         match observer {

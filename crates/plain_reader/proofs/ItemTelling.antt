@@ -36,47 +36,16 @@ use Rattle.schema_reports.specs.declared.observer.Observer.{Observer}
 use Rattle.plain_reader.specs.Settings.{Setting, asked_in, asked_by}
 use Rattle.plain_reader.specs.Tellings.{Fits, AreRead, Within, Tells, TellsQuestions, room, spot_at}
 use Rattle.plain_reader.specs.Shapes.{items_site, items_leads, items_questions, property_site, property_leads, property_questions, properties_leads, properties_questions}
-use Rattle.plain_reader.proofs.ToldLemmas.{asked_by-more, asked_by-none, asked_inside, joined-joined, joined-none, led_to}
+use Rattle.schema_reports.proofs.FaultLemmas.{joined-none}
+use Rattle.plain_reader.proofs.ToldLemmas.{asked_by-more, asked_by-none, asked_inside, led_to}
 use Rattle.plain_reader.proofs.Left.{LeftOf, ItemsLeft, DeclaredLeft}
-
-pub when_ok : {T E P Q : Type 0} (r : Result T E) → (P → Q) → OnOk r P → OnOk r Q
-when_ok (Ok x) f p = f p
-when_ok (Err e) f p = p
-
--- ---- what a reading has left
-
-pub all_left : (all : Faults) (kept : Observation) (fs : Faults) (now : Observer) → Hears kept now fs → LeftOf all all kept fs now
-all_left all kept fs now h = record { done = none; heard = subst (Hears kept now) (sym (joined-none fs)) h; rest = refl }
-
-pub none_left : (all : Faults) (kept : Observation) (fs : Faults) (now : Observer) → LeftOf all none kept fs now → Hears kept now (joined fs all)
-none_left all kept fs now l = subst (λ gs. Hears kept now (joined fs gs)) (sym (l.rest ∙ joined-none l.done)) l.heard
-
-pub settled_left : (all left : Faults) (kept : Observation) (fs : Faults) (now : Observer) → ((gs hs : Faults) → Hears kept now gs → Hears kept now (joined gs hs))
-    → LeftOf all left kept fs now → Hears kept now (joined fs all)
-settled_left all left kept fs now settles l =
-    subst (Hears kept now) (joined-joined fs l.done left ∙ ap (joined fs) (sym l.rest)) (settles (joined fs l.done) left l.heard)
-
-pub told_one : (all one more : Faults) (kept : Observation) (fs : Faults) (now new : Observer) → ((gs : Faults) → Hears kept now gs → Hears kept new (joined gs one))
-    → LeftOf all (joined one more) kept fs now → LeftOf all more kept fs new
-told_one all one more kept fs now new tells l = record {
-  done = joined l.done one;
-  heard = subst (Hears kept new) (joined-joined fs l.done one) (tells (joined fs l.done) l.heard);
-  rest = l.rest ∙ sym (joined-joined l.done one more);
-}
+use Rattle.plain_reader.proofs.LeftLemmas.{all_left, none_left, settled_left, told_one}
+use Rattle.plain_reader.proofs.Reading.{read_here, is_read}
 
 asked_by-one : (x : Setting) (q : Question Site) → asked_by x (q ∷ []) ≡ asked_in x q
 asked_by-one x q = asked_by-more x q [] ∙ ap (joined (asked_in x q)) (asked_by-none x) ∙ joined-none (asked_in x q)
 
 -- ---- a schema that is read
-
-own_meta : (a b : Bool) (xs ys : List Place) (p : Place) → (if a && not b then xs else p ∷ ys) ≡ [] → b ≡ false
-own_meta true true xs ys p e = absurd (cc)
-own_meta true false xs ys p e = refl
-own_meta false true xs ys p e = absurd (cc)
-own_meta false false xs ys p e = refl
-
-read_own : (s : Site) → unread s ≡ [] → awaits_its_own s.contents ≡ false
-read_own s e = own_meta (is_read_draft s.dialect.draft) (awaits_its_own s.contents) (unread_in s s.contents) [] (place_of s []) e
 
 placed-contents : (outer : List ℕ) (around : Dialect) (path : List Part) (d : Data) (n : Named) → (placed outer around path d n).contents ≡ d
 placed-contents outer around path d (settled dialect) = refl
@@ -148,7 +117,7 @@ module _ (c b : code.Site) (d whole value v : Data) (roads at_roads : Roads) (ke
   child_fits : (x : Setting) → Child c b d → Asked added step value v roads at_roads → Fits c value roads keys x → AreRead x.documents x.makes (below x.documents x.site added d) → Fits b v at_roads keys (led_to x (asks d added step x) x.keys)
   child_fits x child asked fits read =
       let inner = below x.documents x.site added d in
-      let own : awaits_its_own d ≡ false = subst (λ e. awaits_its_own e ≡ false) (below-contents x.documents x.site added d) (read_own inner (read.each inner at_root)) in
+      let own : awaits_its_own d ≡ false = subst (λ e. awaits_its_own e ≡ false) (below-contents x.documents x.site added d) (is_read inner (read_here x.documents x.makes inner read)).own in
       let stands : Stands b (below x.documents x.site added d) = subst (λ docs. Stands b (below docs x.site added d)) (sym fits.documents) (child.stands x.site added fits.stands own) in
       record {
         documents = fits.documents ∙ sym child.documents;
@@ -254,7 +223,7 @@ module _ (c : code.Site) (whole value : Data) (roads : Roads) (keys : List Key) 
       → TellsQuestions c whole value roads keys (items_leads schema) (items_questions start schema value) old now
   items_done i all old now l = record {
     tells = λ x fits read enough kept fs h.
-        none_left _ kept fs now (subst (λ gs. LeftOf (asked_by x (items_questions start schema value x)) gs kept fs now) (asked_by-none x) (l.left x fits (read _ first) enough kept fs h));
+        none_left _ _ kept fs now (asked_by-none x) (l.left x fits (read _ first) enough kept fs h);
   }
 
   pub items_step : (b : code.Site) (at_roads : Roads) (i : ℕ) (all rest : Items) (e : Data) (old now new : Observer) → Tells b whole e at_roads keys now new → Child c b schema
@@ -266,7 +235,7 @@ module _ (c : code.Site) (whole value : Data) (roads : Roads) (keys : List Key) 
         let q = asks schema (at (codes "items")) (to_item i e) x in
         let more = each_item (codes "items") (items_site schema x) (suc i) rest in
         let left = subst (λ gs. LeftOf (asked_by x (items_questions start schema value x)) gs kept fs now) (asked_by-more x q more) (l.left x fits read enough kept fs h) in
-        told_one _ (asked_in x q) (asked_by x more) kept fs now new (λ gs g. child_told c b schema whole value e roads at_roads keys (at (codes "items")) (to_item i e) now new child asked inside told x fits read enough kept gs g) left;
+        told_one _ (asked_in x q) (asked_by x more) _ kept fs now new refl (λ gs g. child_told c b schema whole value e roads at_roads keys (at (codes "items")) (to_item i e) now new child asked inside told x fits read enough kept gs g) left;
   }
 
 -- ---- `properties`
@@ -303,7 +272,7 @@ module _ (c : code.Site) (whole value : Data) (roads : Roads) (keys : List Key) 
       → TellsQuestions c whole value roads keys (properties_leads all) (properties_questions all value) old now
   declared_done all old now l = record {
     tells = λ x fits read enough kept fs h.
-        none_left _ kept fs now (subst (λ gs. LeftOf (asked_by x (properties_questions all value x)) gs kept fs now) (asked_by-none x) (l.left x fits read enough kept fs h));
+        none_left _ _ kept fs now (asked_by-none x) (l.left x fits read enough kept fs h);
   }
 
   declared_absent-questions : (k : List ℕ) (d : Data) (rest : Members) (x : Setting) → get k value ≡ None → properties_questions (member k d rest) value x ≡ properties_questions rest value x
@@ -334,6 +303,6 @@ module _ (c : code.Site) (whole value : Data) (roads : Roads) (keys : List Key) 
         let more = properties_questions rest value x in
         let here : (t : Site) → In t (property_leads k d x) → AreRead x.documents x.makes t = λ t i. read t (l.leads x t (in_first_site t _ _ i)) in
         let left = subst (λ gs. LeftOf (asked_by x (properties_questions all value x)) gs kept fs now) (ap (asked_by x) (declared_found-questions k d e rest x found) ∙ asked_by-more x q more) (l.left x fits read enough kept fs h) in
-        told_one _ (asked_in x q) (asked_by x more) kept fs now new (λ gs g. subst (λ hs. Hears kept new (joined gs hs)) (asked_by-one x q) (told.tells x fits here enough kept gs g)) left;
+        told_one _ (asked_in x q) (asked_by x more) _ kept fs now new refl (λ gs g. subst (λ hs. Hears kept new (joined gs hs)) (asked_by-one x q) (told.tells x fits here enough kept gs g)) left;
     leads = λ x t i. l.leads x t (later i);
   }

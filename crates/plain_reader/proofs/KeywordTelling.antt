@@ -32,7 +32,8 @@ use Rattle.plain_reader.specs.Settings.{Setting, reading_in, told_in, told_by, a
 use Rattle.plain_reader.specs.Tellings.{Fits, AreRead, Tells, TellsShapes, TellsQuestions, TellsAssertion, room, spot_at}
 use Rattle.plain_reader.specs.Shapes.{no_leads, context_in, shapes_at, shapes_among, keyword_leads, keyword_shapes, items_site, items_leads, items_questions, declared_in, properties_leads, properties_questions}
 use Rattle.plain_reader.specs.Targets.{reference_leads, reference_questions}
-use Rattle.plain_reader.proofs.ToldLemmas.{joined-none, told_by-none, told_by-asserts, told_by-never, told_by-items, told_by-properties, told_by-reference, asked_by-none, asked_by-more, told_deeper}
+use Rattle.schema_reports.proofs.FaultLemmas.{joined-none}
+use Rattle.plain_reader.proofs.ToldLemmas.{told_by-none, told_by-asserts, told_by-never, told_by-items, told_by-properties, told_by-reference, asked_by-none, asked_by-more, told_deeper}
 use Rattle.plain_reader.proofs.Reading.{is_read, read_here, read_on, read_each, row_here, keywords-of}
 
 -- ---- nothing more is told

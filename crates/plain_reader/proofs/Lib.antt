@@ -1,5 +1,6 @@
 pub mod ToldLemmas
 pub mod Left
+pub mod LeftLemmas
 pub mod MemberTelling
 pub mod TargetTelling
 pub mod RootTelling

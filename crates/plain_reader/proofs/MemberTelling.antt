@@ -13,42 +13,21 @@ use Rattle.schema_reports.specs.declared.observer.Observer.{Observer}
 use Rattle.plain_reader.specs.Settings.{told_by}
 use Rattle.plain_reader.specs.Tellings.{TellsShapes}
 use Rattle.plain_reader.specs.Shapes.{no_leads, shapes_among, shapes_at}
-use Rattle.plain_reader.proofs.ToldLemmas.{joined-none, joined-joined, told_by-none, told_by-append}
-use Rattle.plain_reader.proofs.Left.{LeftOf, MembersLeft}
-
--- ---- of all that is told, what is left
-
-pub nothing_done : (all : Faults) (kept : Observation) (fs : Faults) (now : Observer) → Hears kept now fs → LeftOf all all kept fs now
-nothing_done all kept fs now h = record { done = none; heard = subst (Hears kept now) (sym (joined-none fs)) h; rest = refl }
-
-pub heard_settled : (all rest : Faults) (kept : Observation) (fs : Faults) (now : Observer) → ((k : Observation) (gs hs : Faults) → Hears k now gs → Hears k now (joined gs hs))
-    → LeftOf all rest kept fs now → Hears kept now (joined fs all)
-heard_settled all rest kept fs now settled l =
-    subst (Hears kept now) (joined-joined fs l.done rest ∙ ap (joined fs) (sym l.rest)) (settled kept (joined fs l.done) rest l.heard)
-
-pub more_done : (all one rest rest_with : Faults) (kept : Observation) (fs : Faults) (now next : Observer) → rest_with ≡ joined one rest
-    → ((gs : Faults) → Hears kept now gs → Hears kept next (joined gs one)) → LeftOf all rest_with kept fs now → LeftOf all rest kept fs next
-more_done all one rest rest_with kept fs now next split told l = record {
-  done = joined l.done one;
-  heard = subst (Hears kept next) (joined-joined fs l.done one) (told (joined fs l.done) l.heard);
-  rest = l.rest ∙ ap (joined l.done) split ∙ sym (joined-joined l.done one rest);
-}
-
-pub all_done : (all rest : Faults) (kept : Observation) (fs : Faults) (now : Observer) → rest ≡ none → LeftOf all rest kept fs now → Hears kept now (joined fs all)
-all_done all rest kept fs now nothing l =
-    subst (λ gs. Hears kept now (joined fs gs)) (sym (l.rest ∙ ap (joined l.done) nothing ∙ joined-none l.done)) l.heard
+use Rattle.plain_reader.proofs.ToldLemmas.{told_by-none, told_by-append}
+use Rattle.plain_reader.proofs.Left.{MembersLeft}
+use Rattle.plain_reader.proofs.LeftLemmas.{all_left, none_left, settled_left, told_one}
 
 -- ---- members
 
 module _ (c : code.Site) (whole d : Data) (roads : Roads) (progress : List Key) where
   pub members_first : (all : Members) (now : Observer) → MembersLeft c whole d roads progress all all now now
-  members_first all now = record { among = λ k e i. i; left = λ x fits fit kept fs h. nothing_done (told_by x (shapes_among all all x)) kept fs now h }
+  members_first all now = record { among = λ k e i. i; left = λ x fits fit kept fs h. all_left (told_by x (shapes_among all all x)) kept fs now h }
 
   pub members_settled : (all rest : Members) (old now : Observer) → ((k : Observation) (gs hs : Faults) → Hears k now gs → Hears k now (joined gs hs))
       → MembersLeft c whole d roads progress all rest old now → TellsShapes c whole d roads progress no_leads (shapes_among all all) old now
   members_settled all rest old now settled m = record {
     tells = λ x fits leads fit kept fs h.
-        heard_settled (told_by x (shapes_among all all x)) (told_by x (shapes_among all rest x)) kept fs now settled (m.left x fits fit kept fs h);
+        settled_left (told_by x (shapes_among all all x)) (told_by x (shapes_among all rest x)) kept fs now (settled kept) (m.left x fits fit kept fs h);
   }
 
   pub members_step : (all rest : Members) (k : List ℕ) (e : Data) (old now next : Observer) → MembersLeft c whole d roads progress all (member k e rest) old now
@@ -56,7 +35,7 @@ module _ (c : code.Site) (whole d : Data) (roads : Roads) (progress : List Key) 
   members_step all rest k e old now next m one = record {
     among = λ l f i. m.among l f (later i);
     left = λ x fits fit kept fs h.
-        more_done (told_by x (shapes_among all all x)) (told_by x (shapes_at all k e x)) (told_by x (shapes_among all rest x)) (told_by x (shapes_among all (member k e rest) x)) kept fs now next
+        told_one (told_by x (shapes_among all all x)) (told_by x (shapes_at all k e x)) (told_by x (shapes_among all rest x)) (told_by x (shapes_among all (member k e rest) x)) kept fs now next
         (told_by-append x (shapes_at all k e x) (shapes_among all rest x))
         (λ gs g. one.tells x fits (λ t i. elim i [ ]) fit kept gs g)
         (m.left x fits fit kept fs h);
@@ -65,7 +44,7 @@ module _ (c : code.Site) (whole d : Data) (roads : Roads) (progress : List Key) 
   pub members_last : (all : Members) (old now : Observer) → MembersLeft c whole d roads progress all no_members old now → TellsShapes c whole d roads progress no_leads (shapes_among all all) old now
   members_last all old now m = record {
     tells = λ x fits leads fit kept fs h.
-        all_done (told_by x (shapes_among all all x)) (told_by x (shapes_among all no_members x)) kept fs now (told_by-none x) (m.left x fits fit kept fs h);
+        none_left (told_by x (shapes_among all all x)) (told_by x (shapes_among all no_members x)) kept fs now (told_by-none x) (m.left x fits fit kept fs h);
   }
 
   pub members_listed : (all rest : Members) (k : List ℕ) (e : Data) (old now : Observer) → MembersLeft c whole d roads progress all (member k e rest) old now

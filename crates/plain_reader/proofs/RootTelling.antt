@@ -1,5 +1,5 @@
 -- What a root tells.
-use Rattle.std.proofs.Common.{◌≡◌, ◌<◌, ◌≤◌, ◌+◌, ◌*◌, ℕ, suc, List, [], ◌∷◌, None, refl, sym, ap₂, subst, arith}
+use Rattle.std.proofs.Common.{◌≡◌, ◌<◌, ◌≤◌, ◌+◌, ◌*◌, ℕ, suc, List, [], ◌∷◌, None, refl, sym, ap₂, ◌∙◌, subst, arith}
 use Rattle.serde_json.specs.Data.{Data, depth}
 use Rattle.serde_json.specs.View.{view}
 use Rattle.json_paths.specs.Parts.{Part}
@@ -18,6 +18,7 @@ use Rattle.schema_reports.specs.declared.roads.Roads.{Roads}
 use Rattle.schema_reports.specs.declared.observer.Observer.{Observer}
 use Rattle.plain_reader.specs.Settings.{Setting}
 use Rattle.plain_reader.specs.Roots.{TellsRoot}
+use Rattle.plain_reader.specs.Sites.{TellsSite}
 use Rattle.plain_reader.specs.Tellings.{Fits, Within, room, Tells}
 
 first_fits : (a m x : ℕ) → x ≤ m → a * suc m + x < suc a * suc m
@@ -50,4 +51,25 @@ root_told c docs t d roads old new same stands scope contents at_instance at_sch
       let is : room (documents_at c) d [] (view c.contents.now) ≡ room docs d [] t.contents = ap₂ (λ (ds : Documents) (e : Data). room ds d [] e) same contents in
       let less : room docs d [] t.contents < n = first_fits (left [] (keys_of docs d)) (deepest docs) (depth t.contents) shallow in
       told.tells x fits (omega (arith, is, less)) kept fs h;
+}
+
+pub site_told : (c : code.Site) (d : Data) (roads : Roads) (above : List Part) (old new : Observer) → instance_in roads ≡ [] → schema_in roads ≡ above → evaluation_in roads ≡ []
+    → depth (view c.contents.now) ≤ deepest (documents_at c) → Tells c d d roads [] old new → TellsSite c above d old new
+unfolding cut
+site_told c d roads above old new at_instance at_schema at_evaluation shallow told = record {
+  tells = λ makes matches s stands scope path read kept fs h.
+      let docs : Documents = documents_at c in
+      let n : ℕ = suc (left [] (keys_of docs d)) * suc (deepest docs) in
+      let x : Setting = record { documents = docs; makes = makes; matches = matches; depth = n; keys = []; site = s; spot = whole d } in
+      let fits : Fits c d roads [] x = record {
+        documents = refl;
+        stands = stands;
+        scope = scope;
+        schema_path = path ∙ sym at_schema;
+        spot = ap₂ (λ (i e : List Part). record { value = d; path = i; called = None; road = e }) (sym at_instance) (sym at_evaluation);
+        keys = refl;
+        read = read;
+      } in
+      let less : room docs d [] (view c.contents.now) < n = first_fits (left [] (keys_of docs d)) (deepest docs) (depth (view c.contents.now)) shallow in
+      told.tells x fits less kept fs h;
 }

@@ -1,5 +1,5 @@
 -- What a reference tells: what its target does, unless it is in progress.
-use Rattle.std.proofs.Common.{◌≡◌, ◌<◌, ◌≤◌, ◌+◌, ◌*◌, ℕ, suc, List, [], ◌∷◌, Bool, true, false, None, refl, sym, ap, ap₂, ◌∙◌, subst, arith, codes, map, Result, Ok, Err, OnOk}
+use Rattle.std.proofs.Common.{◌≡◌, ◌<◌, ◌≤◌, ◌+◌, ◌*◌, ℕ, suc, List, [], ◌∷◌, Bool, true, false, None, refl, sym, ap, ap₂, ◌∙◌, subst, arith, codes, map, Ok}
 use Rattle.std.proofs.Math.Nat.{mul-le-mul_right}
 use Rattle.serde_json.specs.Data.{Data, null, boolean, number, string, array, object, depth}
 use Rattle.serde_json.specs.View.{view}
@@ -29,7 +29,8 @@ use Rattle.plain_reader.specs.Keys.{key}
 use Rattle.plain_reader.specs.Settings.{Setting, told_in, asked_in, asked_by}
 use Rattle.plain_reader.specs.Targets.{reference_leads, reference_questions}
 use Rattle.plain_reader.specs.Tellings.{spot_at, Fits, Within, room, Tells, TellsQuestions}
-use Rattle.plain_reader.proofs.ToldLemmas.{joined-none, asked_by-none, asked_by-more, led_to, key_of, asked_back, asked_on}
+use Rattle.schema_reports.proofs.FaultLemmas.{joined-none}
+use Rattle.plain_reader.proofs.ToldLemmas.{asked_by-none, asked_by-more, led_to, key_of, asked_back, asked_on}
 
 -- ---- how deep a target may go
 
@@ -138,7 +139,3 @@ pub at_target_told : (inner : code.Site) (whole d : Data) (on : Roads) (t : Targ
     → Tells inner whole d on (key u p path ∷ progress) old new → Tells inner whole d on (key t.document t.path path ∷ progress) old new
 at_target_told inner whole d on t u p path progress old new document place told =
     subst (λ (ks : List Key). Tells inner whole d on ks old new) (ap₂ (λ (v : List ℕ) (q : List Part). key v q path ∷ progress) document place) told
-
-pub on_ok : {A E : Type 0} {P Q : Type 0} (r : Result A E) → (P → Q) → OnOk r P → OnOk r Q
-on_ok (Ok x) f h = f h
-on_ok (Err e) f h = h

@@ -10,17 +10,10 @@ use Rattle.schema_meaning.specs.Circular.{key_at}
 use Rattle.schema_meaning.specs.Cut.{cut_one, cut_unless, cut_by_kind, cut_within, is_in_progress}
 use Rattle.schema_reading.specs.Sites.{Site}
 use Rattle.schema_reading.specs.Plain.{keywords_at}
+use Rattle.schema_reports.proofs.FaultLemmas.{joined-none, joined-joined}
 use Rattle.plain_reader.specs.Settings.{Setting, reading_in, told_in, asked_in, asked_by, told_by}
 
 -- ---- bags of faults
-
-pub joined-none : (fs : Faults) → joined fs none ≡ fs
-joined-none none = refl
-joined-none (also f fs) = ap (also f) (joined-none fs)
-
-pub joined-joined : (fs gs hs : Faults) → joined (joined fs gs) hs ≡ joined fs (joined gs hs)
-joined-joined none gs hs = refl
-joined-joined (also f fs) gs hs = ap (also f) (joined-joined fs gs hs)
 
 join-append : (xs ys : List Faults) → join (xs ++ ys) ≡ joined (join xs) (join ys)
 join-append [] ys = refl

@@ -4,3 +4,4 @@ pub mod Tellings
 pub mod Shapes
 pub mod Targets
 pub mod Roots
+pub mod Sites

@@ -1,7 +1,8 @@
 //! The plain reader: what a schema tells of a value, each reference looked up anew.
 #![tactic(auto)]
 
-pub mod progress;
-pub mod read;
+mod progress;
+mod read;
 pub mod root;
-pub mod telling;
+pub mod site;
+mod telling;

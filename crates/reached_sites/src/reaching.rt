@@ -6,7 +6,7 @@ ghost use Rattle.reached_sites.specs.Growing.{Apart, Grows};
 use crate::visit::{Visit, is_known};
 use std::alloc::AllocError;
 
-/// Puts those of some visits behind others to which no reference led before. Each is compared with all that are there.
+/// Puts those of some visits behind others to which no reference led before. Each target is compared with all that are there.
 ///
 /// # Errors
 ///

@@ -12,7 +12,7 @@ ghost use Rattle.reached_sites.specs.Visits.{Met, Belongs, Begins, Repeats, Know
 
 use crate::place::SchemaPlace;
 use referencing::Resolved;
-use schema_sites::site::{Site, at_target};
+use schema_sites::site::{Site, at_root, at_target};
 use serde_json::Value;
 use std::alloc::{AllocError, Global};
 
@@ -46,14 +46,9 @@ impl<'r> Visit<'r> {
         ensures met { IfOk result (λ v. Met v (sites.root_site (target_in root.now))) }
         ensures belongs { IfOk result (Belongs (documents_in root.now.resolver)) }
     {
-        let resolver = root.resolver();
         Ok(Visit {
             place: SchemaPlace::of_target(alloc, root)?,
-            site: Site {
-                contents: root.contents(),
-                draft: root.draft(),
-                resolver: resolver.at(resolver.base_uri()?)?,
-            },
+            site: at_root(root)?,
             is_target: false,
         })
     }
@@ -103,10 +98,13 @@ impl<'r> Visit<'r> {
     }
 }
 
-/// Whether a reference led to the same place before.
+/// Whether a reference led to the same place before. A visit to which none leads is compared with nothing.
 pub(crate) fn is_known(visits: &[Visit<'_>], visit: &Visit<'_>) -> Result<bool, AllocError>
     ensures { IfOk result (λ b. Decides b (Known visits.now visit.now)) }
 {
+    if !visit.is_target {
+        return Ok(false);
+    }
     for earlier in visits {
         if earlier.repeats(visit)? {
             return Ok(true);

@@ -1,5 +1,5 @@
 -- Lines: an instance each, and the text of its faults' paths.
-use Rattle.std.specs.Prelude.{◌≡◌, ℕ, List, [], ◌∷◌, ◌++◌, map, Bool, true, false, if◌then◌else◌, codes, Option, Some, None, option_and_then}
+use Rattle.std.specs.Prelude.{ℕ, List, [], ◌∷◌, Bool, true, false, if◌then◌else◌, Option, Some, None, option_and_then}
 use Rattle.std.specs.Str.{is_utf8}
 use Rattle.std.specs.declared.cmp.Ordering.TheVariants.{Less, Equal, Greater}
 use Rattle.std.specs.Ordering.{nat_cmp, is_le}
@@ -9,13 +9,7 @@ use Rattle.serde_json.specs.Read.{read}
 use Rattle.serde_json.specs.Written.{compact_text}
 use Rattle.schema_values.specs.Equality.{is_tree}
 use Rattle.uri_grammar.specs.Texts.{pieces}
-use Rattle.schema_meaning.specs.Places.{whole}
 use Rattle.schema_meaning.specs.Faults.{Fault, Faults, none, also, instance_path, evaluation_path}
-use Rattle.schema_meaning.specs.Readings.{bags, IsTold}
-use Rattle.schema_documents.specs.Bearers.{Documents}
-use Rattle.schema_documents.specs.Lookup.{Target}
-use Rattle.schema_reading.specs.Sites.{root_site}
-use Rattle.schema_reading.specs.Plain.{plain}
 use Rattle.schema_reading.specs.PathTexts.{path_text}
 
 -- ---- the pairs of paths, in order
@@ -50,14 +44,6 @@ faults_text fs = compact_text (array (pairs_data (in_order (paths_of fs))))
 abbrev pub line_value : List ℕ → Option Data
 line_value text = if is_utf8 text then option_and_then (λ d. if is_tree d then Some d else None) (read text) else None
 
-abbrev pub Answers : Documents → (List ℕ → Bool) → (List ℕ → List ℕ → Bool) → Target → Option Data → List ℕ → Type 0
-Answers docs makes matches root None text = text ≡ codes "null"
-Answers docs makes matches root (Some d) text = (fs : Faults) × IsTold bags (plain docs makes matches) (root_site root) (whole d) fs × (text ≡ faults_text fs)
-
--- what is written for a line under a root: `null` where it has no value, else the text of the value's faults; and a line end
-abbrev pub IsLineText : Documents → (List ℕ → Bool) → (List ℕ → List ℕ → Bool) → Target → List ℕ → List ℕ → Type 0
-IsLineText docs makes matches root line written = (text : List ℕ) × Answers docs makes matches root (line_value line) text × (written ≡ text ++ 10 ∷ [])
-
 -- ---- the lines of an input: each ended by a line end, and what stands behind the last one where it is not empty
 
 abbrev pub ended : List (List ℕ) → List (List ℕ)
@@ -68,9 +54,3 @@ ended (line ∷ next ∷ lines) = line ∷ ended (next ∷ lines)
 
 abbrev pub lines_of : List ℕ → List (List ℕ)
 lines_of input = ended (pieces 10 input)
-
--- the texts of lines in their order
-abbrev pub AreLineTexts : Documents → (List ℕ → Bool) → (List ℕ → List ℕ → Bool) → Target → List (List ℕ) → List ℕ → Type 0
-AreLineTexts docs makes matches root [] written = written ≡ []
-AreLineTexts docs makes matches root (line ∷ lines) written =
-    (first : List ℕ) × (rest : List ℕ) × IsLineText docs makes matches root line first × AreLineTexts docs makes matches root lines rest × (written ≡ first ++ rest)

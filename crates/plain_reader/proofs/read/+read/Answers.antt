@@ -12,7 +12,7 @@ use Rattle.schema_reports.specs.RoadPaths.{instance_in}
 use Rattle.plain_reader.specs.Keys.{key, keys_in}
 use Rattle.plain_reader.proofs.Left.{MembersLeft, ItemsLeft, DeclaredLeft}
 use Rattle.plain_reader.proofs.MemberTelling.{members_first, members_settled, members_step, members_last, members_listed}
-use Rattle.plain_reader.proofs.TargetTelling.{on_ok, target_deeper, target_back, target_on, falls_by_target, shallow_by_target, at_target_told}
+use Rattle.plain_reader.proofs.TargetTelling.{target_deeper, target_back, target_on, falls_by_target, shallow_by_target, at_target_told}
 use Rattle.schema_meaning.specs.Members.{In}
 use Rattle.schema_meaning.specs.Questions.{each_item, items_from, items_of}
 use Rattle.plain_reader.specs.Tellings.{TellsQuestions}
@@ -21,7 +21,7 @@ use Rattle.std.proofs.lemmas.List.{drop_more, drop_all}
 use Rattle.serde_json.proofs.Views.{view-Array, view-Object}
 use Rattle.serde_json.specs.declared.value.Value.{Value, the_lemmas}
 use Rattle.schema_reading.specs.AllKeys.{spots_of_items}
-use Rattle.plain_reader.proofs.ItemTelling.{Child, Where, child_falls, child_shallow, item_within, member_within, drop-items, no_items_told, items_init, items_settled, items_step, items_done, item_asked, member_asked, property_told, declared_init, declared_settled, declared_absent, declared_step, declared_done, when_ok}
+use Rattle.plain_reader.proofs.ItemTelling.{Child, Where, child_falls, child_shallow, item_within, member_within, drop-items, no_items_told, items_init, items_settled, items_step, items_done, item_asked, member_asked, property_told, declared_init, declared_settled, declared_absent, declared_step, declared_done}
 use Rattle.std.proofs.lemmas.Result.{on_ok_weaker}
 use Rattle.schema_meaning.specs.Keywords.{types, min_items}
 use Rattle.schema_types.specs.Named.{names_in}
@@ -281,7 +281,7 @@ read_property-returns t c =
     } in
     let path = c.push_name-schema_road.ensures ∙ ap (λ p. name c.args.name.now ∷ p) c.push_name-schema_above.ensures in
     let evaluation = c.push_name-evaluation.ensures ∙ ap (λ p. name c.args.name.now ∷ p) c.push_name-evaluation_above.ensures in
-    when_ok c.read_site.result (λ told. property_told c.args.site.now _ _ c.args.roads _ _ _ c.args.name.now _ _ _ _ told child (member_asked c.args.name.now _ _ c.args.roads _ c.push_name-instance.ensures path refl evaluation) c.requires.1.1.1.1.0) c.read_site.ensures
+    on_ok_weaker c.read_site.result (λ told. property_told c.args.site.now _ _ c.args.roads _ _ _ c.args.name.now _ _ _ _ told child (member_asked c.args.name.now _ _ c.args.roads _ c.push_name-instance.ensures path refl evaluation) c.requires.1.1.1.1.0) c.read_site.ensures
 
 pub read_site-returns-in-Bool-true : goal.read_site-returns-in-Bool-true
 read_site-returns-in-Bool-true t c =
@@ -358,7 +358,7 @@ read_target-returns t c =
     let base = base_of c.args.site.now.resolver in
     let contents : t.contents ≡ view c.in_ok-inner.inner.contents.now = sym c.in_ok-inner.ensures.contents in
     let docs : documents_at c.in_ok-inner.inner ≡ documents_at c.args.site.now = c.in_ok-inner.ensures.documents ∙ ap (λ ds. ds ∷ []) c.requires.1.1.1.1.documents in
-    on_ok c.read_site.result (λ told. target_on c.args.site.now (view c.args.reading.now.whole.now) (view c.args.value.now) c.args.roads progress c.args.text.now t c.is_in_progress.result c.in_ok-inner.inner _ c.args.observer.now c.read_site.new.observer base c.args.text.now
+    on_ok_weaker c.read_site.result (λ told. target_on c.args.site.now (view c.args.reading.now.whole.now) (view c.args.value.now) c.args.roads progress c.args.text.now t c.is_in_progress.result c.in_ok-inner.inner _ c.args.observer.now c.read_site.new.observer base c.args.text.now
     known c.if-is_in_progress.false c.requires.1.1.1.1.found c.requires.1.1.1.0 docs contents
     (λ s. c.in_ok-inner.ensures.stands s c.args.text.now)
     (λ s b scope. ap₂ (λ (u : List ℕ) (us : List (List ℕ)). entered_scope t.base u us) b scope ∙ sym c.requires.1.1.1.1.scope ∙ sym c.in_ok-inner.ensures.scope)

@@ -5,6 +5,7 @@ use Rattle.schema_reports.specs.declared.observer.Observation.TheVariants.{Verdi
 use Rattle.json_schema_validator.specs.Heard.{HearsCut}
 use Rattle.json_schema_validator.specs.Seen.{root_in}
 use Rattle.json_schema_validator.proofs.Hearing.{still_keeps, verdict_heard, answered}
+use Rattle.json_schema_validator.proofs.Certifying.{verdict_certified}
 use Rattle.json_schema_validator.proofs.validator.Validator.is_valid.Goals as goal
 
 pub unreachable-requires : goal.unreachable-requires
@@ -27,3 +28,6 @@ returns-clause-cut c =
 
 pub returns-clause-verdict : goal.returns-clause-verdict
 returns-clause-verdict c = answered verdicts (root_in c.args.self.now) (view c.args.value.now) c.accepts.result (returns-clause-cut c)
+
+pub returns-clause-certified : goal.returns-clause-certified
+returns-clause-certified c = verdict_certified (root_in c.args.self.now) (view c.args.value.now) c.accepts.result (returns-clause-verdict c)

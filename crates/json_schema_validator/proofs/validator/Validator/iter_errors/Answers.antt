@@ -8,6 +8,7 @@ use Rattle.json_schema_validator.specs.Answers.{IsCut}
 use Rattle.json_schema_validator.specs.Heard.{HearsCut}
 use Rattle.json_schema_validator.specs.Seen.{root_in}
 use Rattle.json_schema_validator.proofs.Hearing.{still_keeps, all_heard, answered}
+use Rattle.json_schema_validator.proofs.Certifying.{faults_certified}
 use Rattle.json_schema_validator.proofs.validator.Validator.iter_errors.Goals as goal
 
 pub unreachable-requires : goal.unreachable-requires
@@ -31,3 +32,6 @@ returns-clause-cut c =
 
 pub returns-clause-faults : goal.returns-clause-faults
 returns-clause-faults c = answered bags (root_in c.args.self.now) (view c.args.value.now) (faults_of (errors_left c.of.result)) (returns-clause-cut c)
+
+pub returns-clause-certified : goal.returns-clause-certified
+returns-clause-certified c = faults_certified (root_in c.args.self.now) (view c.args.value.now) (faults_of (errors_left c.of.result)) (returns-clause-faults c)

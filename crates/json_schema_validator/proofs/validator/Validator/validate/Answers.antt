@@ -5,6 +5,7 @@ use Rattle.schema_reports.specs.declared.observer.Observation.TheVariants.{First
 use Rattle.json_schema_validator.specs.Heard.{HearsCut}
 use Rattle.json_schema_validator.specs.Seen.{root_in}
 use Rattle.json_schema_validator.proofs.Hearing.{still_keeps, first_heard, one_verdict, one_fault, answered}
+use Rattle.json_schema_validator.proofs.Certifying.{error_certified}
 use Rattle.json_schema_validator.proofs.validator.Validator.validate.Goals as goal
 
 pub unreachable-requires : goal.unreachable-requires
@@ -35,3 +36,6 @@ returns-clause-fault c =
     let d = view c.args.value.now in
     let told = subst (HearsCut r d _) c.in-First.is c.in_ok-observer.ensures in
     one_fault r d c.refused.result (first_heard r d c.new.result c.in-First.first c.new.ensures told c.refused.result c.refused.ensures)
+
+pub returns-clause-certified : goal.returns-clause-certified
+returns-clause-certified c = error_certified (root_in c.args.self.now) (view c.args.value.now) c.refused.result (returns-clause-fault c)

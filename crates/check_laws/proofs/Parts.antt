@@ -1,0 +1,14 @@
+-- The texts of paths that are put together.
+use Rattle.std.proofs.Common.{◌≡◌, ◌∙◌, ◌++◌, ℕ, List, [], ◌∷◌, refl, sym, ap, ap₂, reverse, append_assoc, append-nil, length}
+use Rattle.std.proofs.lemmas.List.{reverse-append}
+use Rattle.json_paths.specs.Parts.{Part}
+use Rattle.json_paths.specs.Pointers.{part_text, pointer_text}
+use Rattle.check_laws.specs.Spelled.{text_of}
+
+pointer_text-append : (xs ys : List Part) → pointer_text (xs ++ ys) ≡ pointer_text xs ++ pointer_text ys
+pointer_text-append [] ys = refl
+pointer_text-append (x ∷ xs) ys =
+    ap (λ t. 47 ∷ (part_text x ++ t)) (pointer_text-append xs ys) ∙ ap (λ t. 47 ∷ t) (sym (append_assoc (part_text x) (pointer_text xs) (pointer_text ys)))
+
+pub text_of-append : (xs ys : List Part) → text_of (xs ++ ys) ≡ text_of ys ++ text_of xs
+text_of-append xs ys = ap pointer_text (reverse-append xs ys) ∙ pointer_text-append (reverse ys) (reverse xs)

@@ -1,0 +1,97 @@
+-- What a walk from a root says of two paths.
+use Rattle.std.proofs.Common.{◌≡◌, ◌∙◌, ℕ, List, [], ◌∷◌, Bool, true, false, Result, Ok, Err, is_ok, true≢false, sym, ap, subst, reverse}
+use Rattle.serde_json.specs.Data.{Data}
+use Rattle.serde_json.specs.View.{view}
+use Rattle.json_paths.specs.Parts.{Part}
+use Rattle.json_paths.specs.Pointers.{pointer_text}
+use Rattle.schema_documents.specs.Bearers.{Documents}
+use Rattle.schema_documents.specs.Lookup.{Target, LookupCause, lookup}
+use Rattle.schema_reading.specs.Sites.{root_site}
+use Rattle.schema_reading.specs.PathTexts.{AreCertificate}
+use Rattle.schema_reading.specs.Plain.{plain}
+use Rattle.referencing.specs.Resolved.{scope_of}
+use Rattle.schema_sites.specs.Seen.{documents_at, Stands}
+use Rattle.check_laws.specs.Spelled.{AreSpelled}
+use Rattle.fault_checks.specs.declared.walk.Walk.{Walk}
+use Rattle.fault_checks.specs.declared.walk.Step.TheVariants.{Answered}
+use Rattle.fault_checks.specs.declared.checking.CheckAnswer.TheVariants as answer
+use Rattle.fault_checks.specs.Texts.{text_left, IsNoPath}
+use Rattle.fault_checks.specs.Roots.{Root, Finds, IsSound, IsChecked}
+use Rattle.fault_checks.specs.Scenes.{path_at}
+use Rattle.fault_checks.specs.Steps.{Passes, DecidesRoot}
+
+pub decided_at : (w : Walk) (t : Target) (docs : Documents) (b : Bool) → documents_at w.site ≡ docs → Stands w.site (root_site t) → scope_of w.site.resolver ≡ t.base ∷ [] → path_at w ≡ []
+    → Passes w (Answered b) → DecidesRoot t docs (view w.value.now) (text_left w.instance) (text_left w.evaluation) b
+decided_at w t docs b same stands scope path p = record {
+  decides = λ makes matches right straight.
+      p.outcome (record { documents = docs; makes = makes; matches = matches }) (root_site t)
+      (record { documents = sym same; stands = stands; scope = sym scope; schema_path = sym path; right = right }) straight;
+}
+
+same_target : {T E : Type 0} (x : Result T E) (t u : T) → x ≡ Ok t → x ≡ Ok u → t ≡ u
+same_target x t u p q = cc (p, q)
+
+module _ (r : Root) (d : Data) (instance evaluation : List ℕ) where
+  -- certificates of documents are what a walk speaks of
+  spelled : (makes : List ℕ → Bool) (matches : List ℕ → List ℕ → Bool) (t : Target) → AreCertificate r.documents makes matches t d instance evaluation
+      → AreSpelled (plain r.documents makes matches) (root_site t) d instance evaluation
+  spelled makes matches t c = record {
+    instance_path = c.instance_path;
+    evaluation_path = c.evaluation_path;
+    chain = c.chain;
+    instance_text = c.instance_text;
+    evaluation_text = c.evaluation_text;
+  }
+
+  certified : (makes : List ℕ → Bool) (matches : List ℕ → List ℕ → Bool) (t : Target) → AreSpelled (plain r.documents makes matches) (root_site t) d instance evaluation
+      → AreCertificate r.documents makes matches t d instance evaluation
+  certified makes matches t c = record {
+    instance_path = c.instance_path;
+    evaluation_path = c.evaluation_path;
+    chain = c.chain;
+    instance_text = c.instance_text;
+    evaluation_text = c.evaluation_text;
+  }
+
+  pub accepted_by : (t : Target) → Finds r t → DecidesRoot t r.documents d instance evaluation true → IsSound r → IsChecked r d instance evaluation answer.Accepted
+  accepted_by t found h sound = record {
+    accepted = λ e makes matches target there straight.
+        let same : t ≡ target = same_target (lookup r.documents r.base r.reference) t target found there in
+        certified makes matches target
+        ((subst (λ u. DecidesRoot u r.documents d instance evaluation true) same h).decides makes matches (record { none = λ cause w. sound.right target there makes cause w }) straight);
+    refused = λ e. cc;
+    circular = λ e. cc;
+  }
+
+  pub refused_by : (t : Target) → Finds r t → DecidesRoot t r.documents d instance evaluation false → IsSound r → IsChecked r d instance evaluation answer.Refused
+  refused_by t found h sound = record {
+    accepted = λ e. cc;
+    refused = λ e makes matches target there straight c.
+        let same : t ≡ target = same_target (lookup r.documents r.base r.reference) t target found there in
+        (subst (λ u. DecidesRoot u r.documents d instance evaluation false) same h).decides makes matches (record { none = λ cause w. sound.right target there makes cause w }) straight
+        (spelled makes matches target c);
+    circular = λ e. cc;
+  }
+
+  -- a text that is no path is none of a certificate's
+  no_pointer : (t : List ℕ) → IsNoPath t → (path : List Part) → t ≡ pointer_text path → ⊥
+  no_pointer t h [] e = h.empty e
+  no_pointer t h (p ∷ path) e = h.slash _ e
+
+  pub no_instance : IsNoPath instance → IsChecked r d instance evaluation answer.Refused
+  no_instance h = record {
+    accepted = λ e. cc;
+    refused = λ e makes matches target there straight c. no_pointer instance h (reverse c.instance_path) c.instance_text;
+    circular = λ e. cc;
+  }
+
+  pub no_evaluation : IsNoPath evaluation → IsChecked r d instance evaluation answer.Refused
+  no_evaluation h = record {
+    accepted = λ e. cc;
+    refused = λ e makes matches target there straight c. no_pointer evaluation h (reverse c.evaluation_path) c.evaluation_text;
+    circular = λ e. cc;
+  }
+
+  -- a root that leads nowhere is not sound
+  pub not_found : (cause : LookupCause) → lookup r.documents r.base r.reference ≡ Err cause → IsSound r → IsChecked r d instance evaluation answer.Refused
+  not_found cause e sound = absurd (true≢false (sym sound.found ∙ ap is_ok e))

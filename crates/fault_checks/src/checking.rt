@@ -1,0 +1,114 @@
+//! Checks of faults by the documents alone.
+ghost use Rattle.std.specs.Prelude.{◌≡◌, ◌≤◌, ◌∷◌, [], IfOk};
+ghost use Rattle.serde_json.specs.Data.{depth};
+ghost use Rattle.serde_json.specs.View.{view};
+ghost use Rattle.schema_reading.specs.Plain.{deepest};
+ghost use Rattle.referencing.specs.Resolved.{documents_in, target_in};
+ghost use Rattle.fault_checks.specs.Roots.{IsSound, IsChecked, root_on};
+ghost use Rattle.fault_checks.specs.Texts.{text_left};
+ghost use Rattle.fault_checks.specs.Steps.{Passes, DecidesRoot};
+
+use crate::parts::opened;
+use crate::stepping::step;
+use crate::walk::{Step, Walk};
+use referencing::{Error, Resolved};
+use schema_registries::registry::SchemaRegistry;
+use schema_reports::Reference;
+use schema_sites::site::at_root;
+use serde_json::Value;
+use std::alloc::{AllocError, Global};
+
+/// The two paths of a fault, as JSON Pointers.
+#[derive(Clone, Copy, Debug, PartialEq, Eq)]
+pub struct FaultPath<'p> {
+    pub instance_path: &'p str,
+    pub evaluation_path: &'p str,
+}
+
+/// What a check says of two paths.
+#[derive(Clone, Copy, Debug, PartialEq, Eq)]
+pub enum CheckAnswer {
+    /// Some chain of obliged steps spells them.
+    Accepted,
+    /// None does, or a text is no pointer.
+    Refused,
+    /// References come back to where they were. It is not answered yet.
+    Circular,
+}
+
+// The walk to its end.
+fn walked<'r, 'i, 'p>(alloc: Global, walk: Walk<'r, 'i, 'p>) -> Result<bool, AllocError>
+    ensures { IfOk result (λ b. Passes walk.entry (Step.Answered b)) }
+{
+    let mut now = walk;
+    loop {
+        match step(alloc, now)? {
+            Step::Answered(accepted) => return Ok(accepted),
+            Step::On(next) => now = next,
+        }
+    }
+}
+
+// The check at a root.
+fn is_spelled(
+    alloc: Global,
+    root: &Resolved<'_>,
+    value: &Value,
+    instance: Option<&str>,
+    evaluation: Option<&str>,
+) -> Result<bool, AllocError>
+    requires shallow { depth (target_in root.now).contents ≤ deepest (documents_in root.now.resolver ∷ []) }
+    ensures { IfOk result (DecidesRoot (target_in root.now) (documents_in root.now.resolver ∷ []) (view value.now) (text_left instance.entry) (text_left evaluation.entry)) }
+{
+    let site = at_root(root)?;
+    let walk = Walk {
+        site,
+        parts: Vec::new(alloc),
+        reference: Reference::none(),
+        value,
+        instance,
+        evaluation,
+    };
+    walked(alloc, walk)
+}
+
+/// Whether two paths are spelled by some chain of obliged steps, from a root to a keyword that refuses a value.
+///
+/// It reads the documents plainly and asks no validator: one step for each part of the evaluation path, each with the look-up of its
+/// keyword or reference, and at the end the verdict of one keyword. For a root that leads nowhere, and for schemas that are not read, it
+/// refuses.
+///
+/// # Errors
+///
+/// Where memory was refused or a count of owners is full.
+pub fn check_fault(
+    alloc: Global,
+    registry: &SchemaRegistry,
+    root: &str,
+    value: &Value,
+    path: FaultPath<'_>,
+) -> Result<CheckAnswer, AllocError>
+    ensures { IfOk result (λ a. IsSound (root_on registry.now root.now) → IsChecked (root_on registry.now root.now) (view value.now) path.entry.instance_path.now path.entry.evaluation_path.now a) }
+{
+    let Some(instance) = opened(path.instance_path) else {
+        return Ok(CheckAnswer::Refused);
+    };
+    let Some(evaluation) = opened(path.evaluation_path) else {
+        return Ok(CheckAnswer::Refused);
+    };
+    let resolver = registry.registry().resolver(registry.base().clone()?)?;
+    match resolver.lookup(root) {
+        Ok(found) => {
+            let accepted = is_spelled(alloc, &found, value, instance, evaluation)?;
+            if accepted {
+                Ok(CheckAnswer::Accepted)
+            } else {
+                Ok(CheckAnswer::Refused)
+            }
+        }
+        Err(error) => match error {
+            Error::Memory => Err(AllocError),
+            _ => Ok(CheckAnswer::Refused),
+        },
+    }
+}

@@ -1,0 +1,22 @@
+-- What is answered of a value, and the chains of obliged steps to keywords that refuse it.
+use Rattle.std.specs.Prelude.{◌≡◌, ℕ, List, Bool, false}
+use Rattle.serde_json.specs.Data.{Data}
+use Rattle.schema_meaning.specs.Faults.{Fault, Faults, instance_path, evaluation_path, Told}
+use Rattle.schema_documents.specs.Lookup.{Target}
+use Rattle.schema_reading.specs.PathTexts.{path_text, AreCertificate}
+use Rattle.json_schema_validator.specs.Roots.{Root, Finds}
+use Rattle.json_schema_validator.specs.Answers.{ComesBack}
+
+-- where no references come back, no two texts are a certificate unless the verdict is no
+abbrev pub IsCertified : Root → Data → Bool → Type 0
+IsCertified r d verdict = (makes : List ℕ → Bool) (matches : List ℕ → List ℕ → Bool) (target : Target) → Finds r target → (ComesBack r makes matches target d → ⊥)
+    → (instance evaluation : List ℕ) → AreCertificate r.documents makes matches target d instance evaluation → verdict ≡ false
+
+-- where no references come back, the two paths of the fault are a certificate
+abbrev pub HasCertificate : Root → Data → Fault → Type 0
+HasCertificate r d f = (makes : List ℕ → Bool) (matches : List ℕ → List ℕ → Bool) (target : Target) → Finds r target → (ComesBack r makes matches target d → ⊥)
+    → AreCertificate r.documents makes matches target d (path_text (instance_path f)) (path_text (evaluation_path f))
+
+-- those of each fault are
+abbrev pub HaveCertificates : Root → Data → Faults → Type 0
+HaveCertificates r d fs = (f : Fault) → Told f fs → HasCertificate r d f

@@ -1,0 +1,6 @@
+mod Cutting
+mod Fronts
+mod Counting
+mod Going
+mod Reading
+mod Ending

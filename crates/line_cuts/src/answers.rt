@@ -1,0 +1,18 @@
+//! What answers lines.
+ghost use Rattle.std.specs.Prelude.{◌≡◌, ◌++◌, ℕ, List, OnOk, string_bytes};
+
+use std::alloc::AllocError;
+
+/// What answers a line.
+pub trait LineAnswers {
+    // What is written for a line, its line end with it.
+    ghost answers: { Self → List ℕ → List ℕ → Type 0 };
+
+    /// Appends what is written for a line, its line end with it.
+    ///
+    /// # Errors
+    ///
+    /// Where memory was refused. Part of the answer can then stand behind the text.
+    fn answer(&self, line: &[u8], text: &mut String) -> Result<(), AllocError>
+        ensures { OnOk result ((written : List ℕ) × answers self.now line.now written × (string_bytes text.new ≡ string_bytes text.old ++ written)) };
+}

@@ -1,0 +1,17 @@
+//! Lines cut from bytes that come in pieces, answered in turn, and their answers written.
+#![tactic(auto)]
+
+mod answers;
+mod cuts;
+mod outbox;
+mod progress;
+mod report;
+mod run;
+#[cfg(test)]
+mod tests;
+mod writing;
+
+pub use answers::LineAnswers;
+pub use cuts::first_line;
+pub use report::{RunError, RunReport};
+pub use run::answer_lines;

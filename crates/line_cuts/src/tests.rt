@@ -1,0 +1,117 @@
+// Lines that are given back as they came, over devices in memory.
+ghost use Rattle.std.specs.Prelude.{◌≡◌, ◌∷◌, ◌++◌, []};
+
+use crate::{LineAnswers, answer_lines, first_line};
+use line_devices::{MemorySink, MemorySource};
+use std::alloc::{AllocError, Global};
+use std::str;
+use std::test::Fail;
+
+// Answers a text with itself; it fails where the line is no text.
+struct Echo;
+
+impl LineAnswers for Echo {
+    ghost answers = { λ _ line written. written ≡ line ++ 10 ∷ [] };
+
+    fn answer(&self, line: &[u8], text: &mut String) -> Result<(), AllocError> {
+        match str::from_utf8(line) {
+            Ok(shown) => text.push_str(shown)?,
+            Err(_) => return Err(AllocError),
+        }
+        text.push_str("\n")?;
+        Ok(())
+    }
+}
+
+// What is written, and the report or the error.
+fn outcome(
+    alloc: Global,
+    mut source: MemorySource<'_>,
+    mut sink: MemorySink,
+) -> Result<String, Fail> {
+    let end = match answer_lines(alloc, &mut source, &mut sink, &Echo) {
+        Ok(report) => format!(in alloc; "{} {}", report.lines, report.any_refused)?,
+        Err(error) => format!(in alloc; "{error}")?,
+    };
+    Ok(format!(in alloc; "{}/ {end}", str::from_utf8(sink.as_slice())?)?)
+}
+
+#[test]
+fn lines_in_pieces(rt: HostRuntime) -> Result<(), Fail> {
+    let alloc = rt.alloc();
+    for (input, want) in [
+        ("", "/ 0 false"),
+        ("\n", "\n/ 1 true"),
+        ("a\nbb", "a\nbb\n/ 2 true"),
+        ("a\n\n", "a\n\n/ 2 true"),
+        ("[]\n[]", "[]\n[]\n/ 2 false"),
+        ("[]\n[1]\n[]\n", "[]\n[1]\n[]\n/ 3 true"),
+    ] {
+        for piece in [1, 2, 3, 100] {
+            let source = MemorySource::new(input.as_bytes(), piece, None);
+            let sink = MemorySink::new(alloc, piece, None);
+            assert_eq!(rt;
+                outcome(alloc, source, sink)?.as_str(),
+                want,
+                "at a piece of {piece}"
+            );
+        }
+    }
+    Ok(())
+}
+
+#[test]
+fn failures(rt: HostRuntime) -> Result<(), Fail> {
+    let alloc = rt.alloc();
+    for (reads, writes, want) in [
+        (Some(0), None, "/ Reading failed"),
+        (Some(2), None, "/ Reading failed"),
+        (Some(3), None, "ab\n/ Reading failed"),
+        (Some(5), None, "ab\n/ Reading failed"),
+        (Some(6), None, "ab\ncd\n/ Reading failed"),
+        (None, Some(0), "/ Writing failed"),
+        (None, Some(3), "ab\n/ Writing failed"),
+        (None, Some(7), "ab\ncd\ne/ Writing failed"),
+        (Some(6), Some(4), "ab\nc/ Writing failed"),
+    ] {
+        for piece in [1, 2, 100] {
+            let source = MemorySource::new(b"ab\ncd\ne", piece, reads);
+            let sink = MemorySink::new(alloc, piece, writes);
+            assert_eq!(rt;
+                outcome(alloc, source, sink)?.as_str(),
+                want,
+                "at a piece of {piece}"
+            );
+        }
+    }
+    let source = MemorySource::new(b"ab\n\xff\n", 3, None);
+    let sink = MemorySink::new(alloc, 9, None);
+    assert_eq!(rt; outcome(alloc, source, sink)?.as_str(), "ab\n/ No memory");
+    Ok(())
+}
+
+#[test]
+fn more_than_one_read(rt: HostRuntime) -> Result<(), Fail> {
+    let alloc = rt.alloc();
+    let mut input = Vec::new(alloc);
+    for length in [0, 7, 65536, 200000, 1, 65535] {
+        for _ in 0..length {
+            input.push(b'x')?;
+        }
+        input.push(b'\n')?;
+    }
+    let mut source = MemorySource::new(&input, usize::MAX, None);
+    let mut sink = MemorySink::new(alloc, 60000, None);
+    let report = answer_lines(alloc, &mut source, &mut sink, &Echo)?;
+    assert_eq!(rt; report.lines, 6);
+    assert!(rt; sink.as_slice() == input.as_slice());
+    Ok(())
+}
+
+#[test]
+fn a_first_line(rt: HostRuntime) -> Result<(), Fail> {
+    let cut = first_line(b"ab\n\nc");
+    assert!(rt; cut == Some((b"ab".as_slice(), b"\nc".as_slice())));
+    assert!(rt; first_line(b"ab").is_none());
+    Ok(())
+}

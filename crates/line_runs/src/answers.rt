@@ -1,0 +1,58 @@
+//! What is written for a line.
+ghost use Rattle.std.specs.Prelude.{◌≡◌, ◌++◌, ℕ, List, OnOk, option_map, string_bytes};
+ghost use Rattle.serde_json.specs.View.{view};
+ghost use Rattle.json_schema_validator.specs.Seen.{root_in};
+ghost use Rattle.line_runs.specs.Runs.{IsLineText, ValueText};
+
+use json_schema_validator::Validator;
+use line_cuts::LineAnswers;
+use line_texts::{line_value, write_faults};
+use serde_json::Value;
+use std::alloc::{AllocError, Global};
+
+// Answers each line with the faults of its value.
+#[derive(Clone, Copy)]
+pub(crate) struct LineFaults<'v> {
+    pub(crate) alloc: Global,
+    pub(crate) validator: &'v Validator,
+}
+
+impl LineAnswers for LineFaults<'_> {
+    ghost answers = { λ s. IsLineText (root_in s.validator.now) };
+
+    fn answer(&self, line: &[u8], text: &mut String) -> Result<(), AllocError> {
+        answer_line(self.alloc, self.validator, line, text)
+    }
+}
+
+fn answer_line(
+    alloc: Global,
+    validator: &Validator,
+    line: &[u8],
+    text: &mut String,
+) -> Result<(), AllocError>
+    ensures { OnOk result ((written : List ℕ) × IsLineText (root_in validator.now) line.now written × (string_bytes text.new ≡ string_bytes text.old ++ written)) }
+{
+    let value = line_value(alloc, line)?;
+    answer_value(alloc, validator, value, text)?;
+    text.push_str("\n")?;
+    Ok(())
+}
+
+fn answer_value(
+    alloc: Global,
+    validator: &Validator,
+    value: Option<Value>,
+    text: &mut String,
+) -> Result<(), AllocError>
+    ensures { OnOk result ((written : List ℕ) × ValueText (root_in validator.now) (option_map (λ v. view v) value) written × (string_bytes text.new ≡ string_bytes text.old ++ written)) }
+{
+    match value {
+        Some(value) => {
+            let errors = validator.iter_errors(&value)?;
+            write_faults(alloc, errors, text)?;
+        }
+        None => text.push_str("null")?,
+    }
+    Ok(())
+}

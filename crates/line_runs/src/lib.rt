@@ -1,0 +1,10 @@
+//! Instances read a line each, and the faults of each written as a line.
+#![tactic(auto)]
+
+mod answers;
+mod running;
+#[cfg(test)]
+mod tests;
+
+pub use line_cuts::{RunError, RunReport};
+pub use running::{lines_are_ended, run};

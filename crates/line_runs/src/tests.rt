@@ -1,0 +1,102 @@
+// Runs over bytes in memory.
+use crate::run;
+use json_schema_validator::{Documents, Validator};
+use line_devices::{MemorySink, MemorySource};
+use std::alloc::Global;
+use std::str;
+use std::test::Fail;
+
+fn built(alloc: Global, text: &str) -> Result<Validator, Fail> {
+    let mut documents = Documents::new(alloc);
+    documents.add_text("", text.as_bytes())?;
+    Ok(Validator::options(alloc)?.build(&documents, "")?)
+}
+
+// What is written, and the report or the error.
+fn outcome(
+    alloc: Global,
+    schema: &str,
+    mut source: MemorySource<'_>,
+    mut sink: MemorySink,
+) -> Result<String, Fail> {
+    let validator = built(alloc, schema)?;
+    let end = match run(alloc, &mut source, &mut sink, &validator) {
+        Ok(report) => format!(in alloc; "{} {}", report.lines, report.any_refused)?,
+        Err(error) => format!(in alloc; "{error}")?,
+    };
+    Ok(format!(in alloc; "{}/ {end}", str::from_utf8(sink.as_slice())?)?)
+}
+
+const STRINGS: &str = "{\"type\":\"string\"}";
+
+#[test]
+fn kinds_of_lines(rt: HostRuntime) -> Result<(), Fail> {
+    let alloc = rt.alloc();
+    for (line, want) in [
+        (b"\"a\"\n".as_slice(), "[]\n/ 1 false"),
+        (b"\"a\"", "[]\n/ 1 false"),
+        (b"", "/ 0 false"),
+        (b"\n", "null\n/ 1 true"),
+        (b"\"a\"\n\n", "[]\nnull\n/ 2 true"),
+        (b"\"\xff\"\n\"a\"\n", "null\n[]\n/ 2 true"),
+        (b"1.5\n1\n\"a\"", "null\n[[\"\",\"/type\"]]\n[]\n/ 3 true"),
+        (b"\"a\" \"b\"\n", "null\n/ 1 true"),
+        (b" \"a\"\r\n", "[]\n/ 1 false"),
+        (b"18446744073709551615\n", "[[\"\",\"/type\"]]\n/ 1 true"),
+        (b"18446744073709551616\n", "null\n/ 1 true"),
+        (b"-9223372036854775808\n", "[[\"\",\"/type\"]]\n/ 1 true"),
+        (b"-9223372036854775809\n", "null\n/ 1 true"),
+    ] {
+        for piece in [1, 100] {
+            let source = MemorySource::new(line, piece, None);
+            let sink = MemorySink::new(alloc, piece, None);
+            assert_eq!(rt; outcome(alloc, STRINGS, source, sink)?.as_str(), want);
+        }
+    }
+    Ok(())
+}
+
+#[test]
+fn by_nesting(rt: HostRuntime) -> Result<(), Fail> {
+    let alloc = rt.alloc();
+    for (depth, want) in [(127, "[]\n/ 1 false"), (128, "null\n/ 1 true")] {
+        let mut line = Vec::new(alloc);
+        for _ in 0..depth {
+            line.push(b'[')?;
+        }
+        for _ in 0..depth {
+            line.push(b']')?;
+        }
+        let source = MemorySource::new(&line, 100, None);
+        let sink = MemorySink::new(alloc, 100, None);
+        assert_eq!(rt; outcome(alloc, "{}", source, sink)?.as_str(), want);
+    }
+    Ok(())
+}
+
+#[test]
+fn paths_of_faults(rt: HostRuntime) -> Result<(), Fail> {
+    let alloc = rt.alloc();
+    let schema = "{\"properties\":{\"b\":{\"type\":\"null\"},\"a\":{\"type\":\"null\"}}}";
+    let source = MemorySource::new(b"{\"b\":1,\"a\":2}\n{}\n", 100, None);
+    let sink = MemorySink::new(alloc, 100, None);
+    let want = "[[\"/a\",\"/properties/a/type\"],[\"/b\",\"/properties/b/type\"]]\n[]\n/ 2 true";
+    assert_eq!(rt; outcome(alloc, schema, source, sink)?.as_str(), want);
+    Ok(())
+}
+
+#[test]
+fn failures(rt: HostRuntime) -> Result<(), Fail> {
+    let alloc = rt.alloc();
+    for (reads, writes, want) in [
+        (Some(4), None, "[]\n/ Reading failed"),
+        (Some(9), None, "[]\nnull\n/ Reading failed"),
+        (None, Some(3), "[]\n/ Writing failed"),
+        (None, Some(5), "[]\nnu/ Writing failed"),
+    ] {
+        let source = MemorySource::new(b"\"a\"\n1.5\n\"bb\"\n", 1, reads);
+        let sink = MemorySink::new(alloc, 2, writes);
+        assert_eq!(rt; outcome(alloc, STRINGS, source, sink)?.as_str(), want);
+    }
+    Ok(())
+}

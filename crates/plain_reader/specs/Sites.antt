@@ -1,0 +1,24 @@
+-- What a schema tells of a whole value, from a site on.
+use Rattle.std.specs.Prelude.{◌≡◌, ◌++◌, ℕ, List, [], Bool}
+use Rattle.serde_json.specs.Data.{Data}
+use Rattle.json_paths.specs.Parts.{Part}
+use Rattle.schema_meaning.specs.Places.{whole}
+use Rattle.schema_meaning.specs.Faults.{Faults, joined}
+use Rattle.schema_meaning.specs.Readings.{bags}
+use Rattle.schema_meaning.specs.Cut.{cut}
+use Rattle.schema_reading.specs.Sites.{Site}
+use Rattle.schema_reading.specs.Plain.{plain}
+use Rattle.schema_reading.specs.AllKeys.{keys_of}
+use Rattle.referencing.specs.Resolved.{scope_of}
+use Rattle.schema_sites.specs.Seen.{documents_at, Stands}
+use Rattle.schema_sites.specs.declared.site.Site as code
+use Rattle.schema_reports.specs.Observers.{Hears}
+use Rattle.schema_reports.specs.declared.observer.Observation.{Observation}
+use Rattle.schema_reports.specs.declared.observer.Observer.{Observer}
+use Rattle.plain_reader.specs.Tellings.{AreRead}
+
+-- where every schema reached from the site is read, the observer is told what the cut reading tells from there on
+pub record TellsSite (c : code.Site) (schema_path : List Part) (d : Data) (old new : Observer) : Type 0 where
+  pub tells : (makes : List ℕ → Bool) (matches : List ℕ → List ℕ → Bool) (s : Site) → Stands c s → s.scope ≡ scope_of c.resolver → s.schema_path ≡ schema_path
+      → AreRead (documents_at c) makes s → (kept : Observation) (fs : Faults) → Hears kept old fs
+      → Hears kept new (joined fs (cut bags (plain (documents_at c) makes matches) (keys_of (documents_at c) d) [] s (whole d)))

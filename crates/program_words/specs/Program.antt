@@ -1,0 +1,34 @@
+-- The program's command line, as clap defines what a command line is.
+use Rattle.std.specs.Prelude.{◌≡◌, true, Some, codes, is_some}
+use Rattle.clap.specs.Lexer.{usize_max}
+use Rattle.clap.specs.Built.{IsParsedFrom}
+use Rattle.clap.specs.Words.{App, Rule, new_app, new_rule, with_rule, first_value, found_of}
+use Rattle.clap.specs.Simple.{on_top}
+use Rattle.clap.specs.declared.builder.action.ArgAction.TheVariants.{Set, Append}
+use Rattle.clap.specs.declared.builder.command.Command.{Command}
+use Rattle.clap.specs.declared.parser.matches.ArgMatches.{ArgMatches}
+
+-- `SCHEMA`
+abbrev pub schema_rule : Rule
+schema_rule = record (new_rule (codes "schema")) { value_names = 1; required = true; action = Some Set }
+
+-- `[URI=FILE]...`
+abbrev pub files_rule : Rule
+files_rule = record (new_rule (codes "files")) {
+  value_names = 1;
+  range = Some (record { start_inclusive = 1; end_inclusive = usize_max });
+  action = Some Append;
+}
+
+-- `--base URI`
+abbrev pub base_rule : Rule
+base_rule = record (new_rule (codes "base")) { long = Some (codes "base"); value_names = 1; action = Some Set }
+
+-- no name of the program among the words, a version, and the three arguments
+abbrev pub program_app : App
+program_app = with_rule (with_rule (with_rule (on_top (λ s. record s { no_binary_name = true; has_version = true })
+    (new_app (codes "cribhemlock"))) schema_rule) files_rule) base_rule
+
+-- each parse of the command that succeeds has a schema
+abbrev pub HasSchema : Command → Type 0
+HasSchema c = (m : ArgMatches) → IsParsedFrom c m → is_some (first_value (found_of m) (codes "schema")) ≡ true

@@ -1,0 +1,9 @@
+//! The words of the program, as `cribhemlock SCHEMA [URI=FILE]... [--base URI]`.
+#![tactic(auto)]
+
+mod command;
+#[cfg(test)]
+mod tests;
+mod words;
+
+pub use words::ProgramWords;

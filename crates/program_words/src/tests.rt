@@ -1,0 +1,77 @@
+// The words of command lines, and the refusals of clap.
+use crate::ProgramWords;
+use clap::error::ErrorKind;
+use std::test::Fail;
+
+#[test]
+fn a_whole_line(rt: HostRuntime) -> Result<(), Fail> {
+    let words = [
+        "root.json",
+        "http://a.test/leaf.json=leaf.json",
+        "--base",
+        "http://a.test/root.json",
+    ];
+    let read = ProgramWords::read(rt.alloc(), &words)?;
+    assert_eq!(rt; read.schema, "root.json");
+    assert_eq!(rt;
+        read.files.as_slice(),
+        ["http://a.test/leaf.json=leaf.json"].as_slice()
+    );
+    assert_eq!(rt; read.base, Some("http://a.test/root.json"));
+    Ok(())
+}
+
+#[test]
+fn in_any_order(rt: HostRuntime) -> Result<(), Fail> {
+    let words = ["--base=u:/", "a", "b=c", "--", "--d"];
+    let read = ProgramWords::read(rt.alloc(), &words)?;
+    assert_eq!(rt; read.schema, "a");
+    assert_eq!(rt; read.files.as_slice(), ["b=c", "--d"].as_slice());
+    assert_eq!(rt; read.base, Some("u:/"));
+    let words = ["a", "b=c", "--base", "u:/", "d=e"];
+    let read = ProgramWords::read(rt.alloc(), &words)?;
+    assert_eq!(rt; read.files.as_slice(), ["b=c", "d=e"].as_slice());
+    let words = ["a"];
+    let read = ProgramWords::read(rt.alloc(), &words)?;
+    assert!(rt; read.files.is_empty() && read.base.is_none());
+    Ok(())
+}
+
+#[test]
+fn refused(rt: HostRuntime) -> Result<(), Fail> {
+    let cases: [(&[&str], ErrorKind); 7] = [
+        (&[], ErrorKind::MissingRequiredArgument),
+        (&["--base", "u:/"], ErrorKind::MissingRequiredArgument),
+        (&["a", "--draft", "7"], ErrorKind::UnknownArgument),
+        (
+            &["a", "--base", "u:/", "--base", "v:/"],
+            ErrorKind::ArgumentConflict,
+        ),
+        (&["a", "--base"], ErrorKind::InvalidValue),
+        (&["--help"], ErrorKind::DisplayHelp),
+        (&["a", "--version"], ErrorKind::DisplayVersion),
+    ];
+    for (words, kind) in cases {
+        match ProgramWords::read(rt.alloc(), words) {
+            Ok(_) => return Err("words were read".into()),
+            Err(error) => assert_eq!(rt; error.kind(), kind),
+        }
+    }
+    Ok(())
+}
+
+#[test]
+fn help(rt: HostRuntime) -> Result<(), Fail> {
+    let alloc = rt.alloc();
+    let Err(error) = ProgramWords::read(alloc, &["--help"]) else {
+        return Err("words were read".into());
+    };
+    let text = error.to_string(alloc)?;
+    for part in [
+        "Usage: cribhemlock [OPTIONS] <SCHEMA> [URI=FILE]...",
+        "--base <URI>",
+    ] {
+        assert!(rt; text.contains(part), "{text}");
+    }
+    Ok(())
+}

@@ -1,0 +1,3 @@
+mod Listed
+mod Required
+mod Alike

@@ -1,0 +1,32 @@
+-- What the program has done where it ends.
+use Rattle.std.specs.Prelude.{◌≡◌, ℕ, List, [], Option, Some, codes, unwrap_or, if◌then◌else◌}
+use Rattle.clap.specs.Words.{Row, first_of, all_of}
+use Rattle.line_cuts.specs.Runs.{RunsThrough, Stops}
+use Rattle.line_cuts.specs.declared.report.RunReport.{RunReport}
+use Rattle.line_cuts.specs.declared.report.RunError.{RunError}
+use Rattle.line_runs.specs.Runs.{IsLineText}
+use Rattle.json_schema_validator.specs.Roots.{Root}
+use Rattle.program_files.specs.Held.{Held}
+use Rattle.validator_program.specs.Given.{IsBuiltOf}
+
+-- the root is built of the files that the words name
+pub record IsNamed (rows : List Row) (held : List ℕ → Held) (root : Root) : Type 0 where
+  pub schema : List ℕ
+  pub is_schema : Some schema ≡ first_of (codes "schema") rows
+  pub built : IsBuiltOf held schema (unwrap_or (all_of (codes "files") rows) []) (first_of (codes "base") rows) root
+
+-- all that the reader had was read, each of its lines was answered by the root that the words name, and the status says whether some answer
+-- was no empty list
+pub record AnswersAll (rows : List Row) (held : List ℕ → Held) (from to before after : Option (List ℕ)) (status : ℕ) : Type 0 where
+  pub root : Root
+  pub named : IsNamed rows held root
+  pub report : RunReport
+  pub answered : RunsThrough (IsLineText root) from to before after report
+  pub is_status : status ≡ (if report.any_refused then 1 else 0)
+
+-- a run of the root that the words name ended with an error
+pub record StopsEarly (rows : List Row) (held : List ℕ → Held) (from to before after : Option (List ℕ)) : Type 0 where
+  pub root : Root
+  pub named : IsNamed rows held root
+  pub error : RunError
+  pub stopped : Stops (IsLineText root) error from to before after

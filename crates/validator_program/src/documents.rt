@@ -1,0 +1,98 @@
+//! The documents that the program is given.
+
+ghost use Rattle.std.specs.Prelude.{◌≡◌, [], ◌∷◌, OnOk, IfOk, MatchOption, Some, None, map};
+ghost use Rattle.clap.specs.Walk.{texts};
+ghost use Rattle.uri_grammar.specs.Texts.{cut_at_last};
+ghost use Rattle.schema_registries.specs.Seen.{documents_given};
+ghost use Rattle.validator_program.specs.Given.{AddsFile, AddsFiles, AreCut, pair_of};
+
+use crate::fault::ProgramFault;
+use json_schema_validator::Documents;
+use line_runs::RunError;
+use program_files::{FileError, SchemaFiles};
+use std::alloc::Global;
+use std::str;
+
+/// A further document: its URI, and the file that holds it.
+#[derive(Clone, Copy, Debug)]
+pub(crate) struct Further<'a> {
+    pub(crate) uri: &'a str,
+    pub(crate) file: &'a str,
+}
+
+// Cuts a word at its last `=`.
+fn cut<'a>(word: &'a str) -> Option<Further<'a>>
+    ensures { MatchOption result ((cut_at_last 61 word.entry.now).1 ≡ None) (λ f. cut_at_last 61 word.entry.now ≡ (f.uri.now, Some f.file.now)) }
+{
+    let (uri, file) = word.rsplit_once('=')?;
+    Some(Further { uri, file })
+}
+
+/// Cuts each word at its last `=`.
+///
+/// # Errors
+///
+/// The first word without one, or want of memory.
+pub(crate) fn cut_words<'a>(
+    alloc: Global,
+    words: &[&'a str],
+) -> Result<Vec<Further<'a>>, ProgramFault<'a>>
+    ensures { IfOk result (λ cuts. AreCut (texts words.now) (map pair_of cuts.items)) }
+{
+    let mut cuts = Vec::new(alloc);
+    for word in words {
+        match cut(word) {
+            Some(further) => cuts.push(further)?,
+            None => return Err(ProgramFault::Word { word }),
+        }
+    }
+    Ok(cuts)
+}
+
+/// Adds the document that a file holds, under a URI.
+///
+/// # Errors
+///
+/// A file that is not read or no UTF-8, a document that is refused, or want of memory. The documents are then as they were.
+fn add_file<'a, F: SchemaFiles>(
+    alloc: Global,
+    files: &F,
+    documents: &mut Documents,
+    uri: &str,
+    name: &'a str,
+) -> Result<(), ProgramFault<'a>>
+    ensures { OnOk result (AddsFile (F.held files.now) (uri.now, name.entry.now) (documents_given documents.old) (documents_given documents.new)) }
+{
+    let bytes = match files.read(alloc, name) {
+        Ok(bytes) => bytes,
+        Err(FileError::Unreadable) => return Err(ProgramFault::File { name }),
+        Err(FileError::Memory) => return Err(ProgramFault::Run(RunError::Memory)),
+    };
+    if str::from_utf8(bytes.as_slice()).is_err() {
+        return Err(ProgramFault::File { name });
+    }
+    documents.add_text(uri, bytes.as_slice())?;
+    Ok(())
+}
+
+/// The documents: that of the schema's file under the base, and the further ones in their order.
+///
+/// # Errors
+///
+/// Those of the first file that is refused, in that order.
+pub(crate) fn read_documents<'a, F: SchemaFiles>(
+    alloc: Global,
+    files: &F,
+    base: &str,
+    schema: &'a str,
+    further: &[Further<'a>],
+) -> Result<Documents, ProgramFault<'a>>
+    ensures { IfOk result (λ d. AddsFiles (F.held files.now) ((base.now, schema.entry.now) ∷ map pair_of further.now) [] (documents_given d)) }
+{
+    let mut documents = Documents::new(alloc);
+    add_file(alloc, files, &mut documents, base, schema)?;
+    for pair in further {
+        add_file(alloc, files, &mut documents, pair.uri, pair.file)?;
+    }
+    Ok(documents)
+}

@@ -1,0 +1,129 @@
+//! The program.
+
+ghost use Rattle.std.specs.Prelude.{◌≡◌, ◌≤◌, ◌⊎◌, IfOk, IfErr, if◌then◌else◌};
+ghost use Rattle.clap.specs.Words.{matches_of};
+ghost use Rattle.clap.specs.Walk.{texts};
+ghost use Rattle.program_words.specs.Program.{program_app};
+ghost use Rattle.validator_program.specs.Answered.{AnswersAll, StopsEarly};
+ghost use Rattle.validator_program.specs.Status.{status_of};
+
+use crate::fault::ProgramFault;
+use crate::preparing::prepare;
+use line_devices::{ByteSink, ByteSource};
+use line_runs::{RunError, RunReport, run};
+use program_files::SchemaFiles;
+use program_words::ProgramWords;
+use std::alloc::Global;
+use std::env;
+use std::io::ErrorKind;
+use std::rt::Env;
+
+/// What is told where memory is out.
+const NO_MEMORY: &str = "No memory\n";
+
+/// Reads the words, builds the validator that they name, answers each line of the reader, and returns the exit status.
+///
+/// The status is 0 where each line was valid, 1 where some line was not, 2 where the words, a file or the build were refused, and 3
+/// where reading, writing or memory failed. Where it is 2 or 3 the fault is told to `faults`: the first that is met, of the words, the
+/// base, SCHEMA, the further files in their order, the build and the lines. A write to `faults` that fails changes nothing.
+pub fn program<'a, F: SchemaFiles, S: ByteSource, K: ByteSink, T: ByteSink>(
+    alloc: Global,
+    words: &'a [&'a str],
+    files: &F,
+    reader: &mut S,
+    writer: &mut K,
+    faults: &mut T,
+) -> u8
+    ensures range { result ≤ 3 }
+    ensures answered { result ≤ 1 → AnswersAll (matches_of program_app (texts words.entry.now)) (F.held files.now) (S.remaining reader.old) (S.remaining reader.new) (K.contents writer.old) (K.contents writer.new) result }
+    ensures refused { result ≡ 2 → (reader.new ≡ reader.old) × (writer.new ≡ writer.old) }
+    ensures stopped { result ≡ 3 → ((reader.new ≡ reader.old) × (writer.new ≡ writer.old)) ⊎ StopsEarly (matches_of program_app (texts words.entry.now)) (F.held files.now) (S.remaining reader.old) (S.remaining reader.new) (K.contents writer.old) (K.contents writer.new) }
+{
+    match answer(alloc, words, files, reader, writer) {
+        Ok(report) => u8::from(report.any_refused),
+        Err(fault) => told(alloc, &fault, faults),
+    }
+}
+
+/// Does what `program` does, by the words that the process was given.
+///
+/// A word that is no UTF-8 is refused, and the status is then 2.
+pub fn run_program<R: Env + AllocGlobal, F: SchemaFiles, S: ByteSource, K: ByteSink, T: ByteSink>(
+    rt: &R,
+    files: &F,
+    reader: &mut S,
+    writer: &mut K,
+    faults: &mut T,
+) -> u8
+    ensures { result ≤ 3 }
+{
+    let alloc = rt.alloc();
+    let given = match given_words(rt) {
+        Ok(given) => given,
+        Err(fault) => return told(alloc, &fault, faults),
+    };
+    let mut words = Vec::new(alloc);
+    for word in given.iter() {
+        if words.push(word.as_str()).is_err() {
+            return told(alloc, &ProgramFault::Run(RunError::Memory), faults);
+        }
+    }
+    program(alloc, words.as_slice(), files, reader, writer, faults)
+}
+
+// The words behind the program's name.
+fn given_words<R: Env + AllocGlobal>(rt: &R) -> Result<Vec<String>, ProgramFault<'static>> {
+    match env::args(rt) {
+        Ok(words) => Ok(words.skip(1).collect(rt.alloc())?),
+        Err(error) if error.kind() == ErrorKind::OutOfMemory => Err(ProgramFault::Run(
+            RunError::Memory,
+        )),
+        Err(_) => Err(ProgramFault::NotText),
+    }
+}
+
+fn answer<'a, F: SchemaFiles, S: ByteSource, K: ByteSink>(
+    alloc: Global,
+    words: &'a [&'a str],
+    files: &F,
+    reader: &mut S,
+    writer: &mut K,
+) -> Result<RunReport, ProgramFault<'a>>
+    ensures ok { IfOk result (λ report. AnswersAll (matches_of program_app (texts words.entry.now)) (F.held files.now) (S.remaining reader.old) (S.remaining reader.new) (K.contents writer.old) (K.contents writer.new) (if report.any_refused then 1 else 0)) }
+    ensures err { IfErr result (λ e. ((reader.new ≡ reader.old) × (writer.new ≡ writer.old)) ⊎ ((status_of e ≡ 3) × StopsEarly (matches_of program_app (texts words.entry.now)) (F.held files.now) (S.remaining reader.old) (S.remaining reader.new) (K.contents writer.old) (K.contents writer.new))) }
+{
+    let words = ProgramWords::read(alloc, words)?;
+    let validator = prepare(alloc, &words, files)?;
+    match run(alloc, reader, writer, &validator) {
+        Ok(report) => Ok(report),
+        Err(error) => Err(ProgramFault::Run(error)),
+    }
+}
+
+// Tells a fault, and answers its status.
+fn told<T: ByteSink>(alloc: Global, fault: &ProgramFault<'_>, faults: &mut T) -> u8
+    ensures range { (2 ≤ result) × (result ≤ 3) }
+    ensures refused { result ≡ 2 → status_of fault.now ≡ 2 }
+{
+    match fault.text(alloc) {
+        Ok(text) => {
+            write_text(faults, text.as_str());
+            fault.status()
+        }
+        Err(_) => {
+            write_text(faults, NO_MEMORY);
+            3
+        }
+    }
+}
+
+// Writes a text, as far as it is taken.
+fn write_text<T: ByteSink>(sink: &mut T, text: &str) {
+    let mut rest = text.as_bytes();
+    while !rest.is_empty() {
+        match sink.write(rest) {
+            Ok(count) if count > 0 => rest = &rest[count..],
+            _ => return,
+        }
+    }
+}

@@ -1,0 +1,11 @@
+//! The program: words, files, a validator built of them, and the lines of its input answered.
+#![tactic(auto)]
+
+mod documents;
+mod entry;
+mod fault;
+mod preparing;
+#[cfg(test)]
+mod tests;
+
+pub use entry::{program, run_program};

@@ -1,0 +1,51 @@
+//! The validator of some words and files.
+
+ghost use Rattle.std.specs.Prelude.{◌≡◌, IfOk, option_map};
+ghost use Rattle.clap.specs.Walk.{texts};
+ghost use Rattle.json_schema_validator.specs.Seen.{root_in};
+ghost use Rattle.validator_program.specs.Given.{IsBuiltOf, base_of};
+
+use crate::documents::{cut_words, read_documents};
+use crate::fault::ProgramFault;
+use json_schema_validator::Validator;
+use program_files::SchemaFiles;
+use program_words::ProgramWords;
+use std::alloc::Global;
+use uri_references::uri::{Uri, from_str};
+
+/// The base where none is given.
+const DEFAULT_BASE: &str = "json-schema:///";
+
+fn read_base<'a>(alloc: Global, base: Option<&'a str>) -> Result<Uri, ProgramFault<'a>>
+    ensures { IfOk result (λ u. u ≡ base_of (option_map (λ s. s.now) base.entry)) }
+{
+    Ok(from_str(alloc, base.unwrap_or(DEFAULT_BASE))?)
+}
+
+/// Builds the validator that the words name.
+///
+/// # Errors
+///
+/// The first that is met: a further word without `=`, the base, the files and documents in their order, the build; or want of memory.
+pub(crate) fn prepare<'a, F: SchemaFiles>(
+    alloc: Global,
+    words: &ProgramWords<'a>,
+    files: &F,
+) -> Result<Validator, ProgramFault<'a>>
+    ensures { IfOk result (λ v. IsBuiltOf (F.held files.now) words.now.schema.now (texts words.now.files.items) (option_map (λ s. s.now) words.now.base) (root_in v)) }
+{
+    let further = cut_words(alloc, words.files.as_slice())?;
+    let base = read_base(alloc, words.base)?;
+    let documents = read_documents(
+        alloc,
+        files,
+        base.as_str(),
+        words.schema,
+        further.as_slice(),
+    )?;
+    Ok(
+        Validator::options(alloc)?
+            .with_base(base)
+            .build(&documents, "")?,
+    )
+}

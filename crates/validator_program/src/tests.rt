@@ -1,0 +1,151 @@
+// The program's statuses, and what it writes.
+use crate::program;
+use line_devices::{MemorySink, MemorySource};
+use program_files::MapFiles;
+use std::alloc::Global;
+use std::str;
+use std::test::Fail;
+
+const ROOT: &str =
+    "{\"$id\":\"http://a.test/root.json\",\"type\":\"array\",\"minItems\":2,\"items\":{\"$ref\":\"leaf.json\"}}";
+
+const LEAF: &str = "{\"$id\":\"http://a.test/leaf.json\",\"type\":\"string\"}";
+
+fn files(alloc: Global) -> Result<MapFiles, Fail> {
+    let mut files = MapFiles::new(alloc);
+    files.add(alloc, "root.json", ROOT.as_bytes())?;
+    files.add(alloc, "leaf.json", LEAF.as_bytes())?;
+    files.add(alloc, "plain.json", b"{\"type\":\"string\"}")?;
+    files.add(alloc, "byte", b"\"\xff\"")?;
+    files.add(alloc, "none", b"{")?;
+    files.add(alloc, "half", b"1.5")?;
+    files.add(alloc, "wrong.json", b"{\"type\":5}")?;
+    Ok(files)
+}
+
+// The status, what was written, and the fault that was told, each behind a space but the first.
+fn outcome(alloc: Global, words: &[&str], input: &str) -> Result<String, Fail> {
+    let files = files(alloc)?;
+    let mut reader = MemorySource::new(input.as_bytes(), 2, None);
+    let mut writer = MemorySink::new(alloc, 3, None);
+    let mut faults = MemorySink::new(alloc, 5, None);
+    let status = program(alloc, words, &files, &mut reader, &mut writer, &mut faults);
+    let written = str::from_utf8(writer.as_slice())?;
+    let fault = str::from_utf8(faults.as_slice())?;
+    Ok(format!(in alloc; "{status} {written} {fault}")?)
+}
+
+#[test]
+fn a_whole_run(rt: HostRuntime) -> Result<(), Fail> {
+    let alloc = rt.alloc();
+    let words = [
+        "root.json",
+        "http://a.test/leaf.json=leaf.json",
+        "--base",
+        "http://a.test/root.json",
+    ];
+    assert_eq!(rt;
+        outcome(alloc, &words, "[1]\n")?.as_str(),
+        "1 [[\"\",\"/minItems\"],[\"/0\",\"/items/$ref/type\"]]\n "
+    );
+    assert_eq!(rt;
+        outcome(alloc, &words, "[\"a\",\"b\"]")?.as_str(),
+        "0 []\n "
+    );
+    assert_eq!(rt;
+        outcome(alloc, &["plain.json"], "\"a\"\n\n")?.as_str(),
+        "1 []\nnull\n "
+    );
+    assert_eq!(rt; outcome(alloc, &["plain.json"], "")?.as_str(), "0  ");
+    Ok(())
+}
+
+#[test]
+fn refusals(rt: HostRuntime) -> Result<(), Fail> {
+    let alloc = rt.alloc();
+    let cases: [(&[&str], &str); 10] = [
+        (&["absent", "u:x", "--base", "%"], "2  words refused: u:x\n"),
+        (
+            &["absent", "--base", "%"],
+            "2  build refused: Invalid URI '%'\n",
+        ),
+        (&["absent", "u:x=none"], "2  file refused: absent\n"),
+        (
+            &["plain.json", "u:x=y=none"],
+            "2  build refused: Document 'u:x=y' is no JSON text\n",
+        ),
+        (
+            &["plain.json", "%=plain.json"],
+            "2  build refused: Invalid URI '%'\n",
+        ),
+        (
+            &["plain.json", "u:x=byte", "u:y=absent"],
+            "2  file refused: byte\n",
+        ),
+        (
+            &["plain.json", "u:x=absent", "u:y=none"],
+            "2  file refused: absent\n",
+        ),
+        (
+            &["half"],
+            "2  build refused: Number at 'json-schema:///#' is no whole number of 64 bits\n",
+        ),
+        (
+            &["wrong.json"],
+            "2  build refused: Keyword value at 'json-schema:///#/type': expected type name\n",
+        ),
+        (
+            &["root.json", "--base", "u:r"],
+            "2  build refused: Resource 'http://a.test/leaf.json' is not present and retrieving it failed\n",
+        ),
+    ];
+    for (words, want) in cases {
+        assert_eq!(rt; outcome(alloc, words, "1\n")?.as_str(), want);
+    }
+    Ok(())
+}
+
+#[test]
+fn words_by_clap(rt: HostRuntime) -> Result<(), Fail> {
+    let alloc = rt.alloc();
+    let cases: [(&[&str], &str); 3] = [
+        (&[], "2  error: "),
+        (&["--help"], "2  Checks lines of JSON"),
+        (
+            &["plain.json", "--draft", "7"],
+            "2  error: unexpected argument",
+        ),
+    ];
+    for (words, want) in cases {
+        let text = outcome(alloc, words, "1\n")?;
+        assert!(rt; text.as_str().starts_with(want), "{text}");
+    }
+    Ok(())
+}
+
+// The status and the fault where the reader fails after two bytes, or the writer after one; then with faults that are not taken.
+#[test]
+fn failures(rt: HostRuntime) -> Result<(), Fail> {
+    let alloc = rt.alloc();
+    let files = files(alloc)?;
+    for (fails_to_read, fails_to_write, told, want) in [
+        (Some(2), None, None, "3 Reading failed\n"),
+        (None, Some(1), None, "3 Writing failed\n"),
+        (None, Some(1), Some(0), "3 "),
+    ] {
+        let mut reader = MemorySource::new(b"\"a\"\n", 9, fails_to_read);
+        let mut writer = MemorySink::new(alloc, 9, fails_to_write);
+        let mut faults = MemorySink::new(alloc, 9, told);
+        let status = program(
+            alloc,
+            &["plain.json"],
+            &files,
+            &mut reader,
+            &mut writer,
+            &mut faults,
+        );
+        let fault = str::from_utf8(faults.as_slice())?;
+        assert_eq!(rt; format!(in alloc; "{status} {fault}")?.as_str(), want);
+    }
+    Ok(())
+}

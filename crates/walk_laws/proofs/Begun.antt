@@ -1,0 +1,193 @@
+-- By which member of a schema a certificate begins.
+use Rattle.std.proofs.Common.{◌≡◌, ◌∙◌, ◌++◌, ℕ, List, [], ◌∷◌, Bool, true, false, codes, All, refl, sym, ap, subst, map, append_assoc, append-nil}
+use Rattle.std.specs.List.{AllByRecursion, flat_map}
+use Rattle.serde_json.specs.Data.{Data, null, boolean, number, string, array, object, Members, no_members, member}
+use Rattle.json_paths.specs.Parts.{Part, name}
+use Rattle.json_paths.specs.Pointers.{escape, pointer_text}
+use Rattle.schema_meaning.specs.Members.{In, first, later}
+use Rattle.schema_meaning.specs.Places.{whole, stay}
+use Rattle.schema_meaning.specs.Questions.{Question, at, listed_members, items_from, items_of}
+use Rattle.schema_meaning.specs.Rules.{Rule, refuses_at, obliged, accepts}
+use Rattle.schema_meaning.specs.Keywords.{Shape, never, asserts, items, item_list, prefix_items, additional_items, no_additional_items, contains, properties, pattern_properties, additional_properties, no_additional_properties, no_properties, property_names, no_property_names, dependent_schemas, dependencies, all_of, any_of, one_of, negation, condition, reference, reference_name, rule}
+use Rattle.schema_meaning.specs.Readings.{Reading, rules}
+use Rattle.schema_meaning.specs.Certificates.{AreAnswers}
+use Rattle.schema_documents.specs.Bearers.{Documents}
+use Rattle.schema_reading.specs.Sites.{Site}
+use Rattle.schema_reading.specs.Plain.{keywords_at, plain}
+use Rattle.schema_reading.specs.NotYet.{is_read_draft, is_unread, read_now}
+use Rattle.schema_reading.specs.Rows.{Row, Context, row_at, rows_of, rows_in, rows_at, no_schema}
+use Rattle.meaning_laws.proofs.Obliged.{in_map}
+use Rattle.check_laws.specs.Spelled.{text_of, AreSpelled, AreSpelledBy, refuses, goes}
+use Rattle.check_laws.proofs.Parts.{text_of-append}
+use Rattle.check_laws.proofs.Steps.{first_step, from_step}
+use Rattle.walk_laws.specs.Words.{IsRest, nothing, part, IsOf}
+use Rattle.walk_laws.proofs.Cuts.{rest_of, rest_append}
+use Rattle.walk_laws.proofs.Listed.{in_some, in_all, in_mapped, item_question, declared_question}
+use Rattle.walk_laws.proofs.Named.{AreOf, shapes_are_of}
+
+-- ---- the rule of a keyword that is read
+
+pub record Begins {S : Type 0} (k : List ℕ) (r : Rule S) : Type 0 where
+  pub own : (bs : List Bool) → refuses_at r bs ≡ at k
+  pub on : (bs : List Bool) (q : Question S) → In q (obliged r bs) → (ps : List Part) × (q.added ≡ ps ++ at k)
+
+-- the question of a reference
+abbrev pub following : {S : Type 0} → List ℕ → S → Question S
+following n s = record { site = s; step = stay; added = at n; follows = true }
+
+one_added : {S : Type 0} {k : List ℕ} (n : List ℕ) (s : S) → n ≡ k → (q : Question S) → In q (following n s ∷ []) → q.added ≡ [] ++ at k
+one_added n s e q first = ap at e
+one_added n s e q (later i) = elim i [ ]
+
+module _ {S : Type 0} (matches : List ℕ → List ℕ → Bool) (d : Data) (k : List ℕ) where
+  pub shape_begins : (x : Shape S) → IsOf k x → Begins k (rule matches d x)
+  shape_begins never h = absurd h
+  shape_begins (asserts a) h = record { own = λ bs. ap at h; on = λ bs q i. elim i [ ] }
+  shape_begins (items start s) h = record {
+    own = λ bs. ap at h;
+    on = λ bs q i. let w = item_question (codes "items") s start (items_from start (items_of d)) q i in ([], ap (λ (x : Question S). x.added) w.3 ∙ ap at h);
+  }
+  shape_begins (item_list ss) h = absurd h
+  shape_begins (prefix_items ss) h = absurd h
+  shape_begins (additional_items start s) h = absurd h
+  shape_begins (no_additional_items start s) h = absurd h
+  shape_begins (contains s least most) h = absurd h
+  shape_begins (properties ps) h = record {
+    own = λ bs. ap at h;
+    on = λ bs q i.
+        let w = declared_question (codes "properties") d ps q i in
+        (name w.0.0 ∷ [], ap (λ (x : Question S). x.added) w.4 ∙ ap (λ n. name w.0.0 ∷ at n) h);
+  }
+  shape_begins (pattern_properties ps) h = absurd h
+  shape_begins (additional_properties declared s) h = absurd h
+  shape_begins (no_additional_properties declared s) h = absurd h
+  shape_begins (no_properties s) h = absurd h
+  shape_begins (property_names s) h = absurd h
+  shape_begins (no_property_names s) h = absurd h
+  shape_begins (dependent_schemas ps) h = absurd h
+  shape_begins (dependencies ps) h = absurd h
+  shape_begins (all_of ss) h = absurd h
+  shape_begins (any_of ss) h = absurd h
+  shape_begins (one_of ss) h = absurd h
+  shape_begins (negation schema s) h = absurd h
+  shape_begins (condition s t e) h = absurd h
+  shape_begins (reference r s) h = record { own = λ bs. ap at h; on = λ bs q i. ([], one_added (reference_name r) s h q i) }
+
+each_in : {A : Type 0} (P : A → Type 0) (xs : List A) → AllByRecursion P xs → (x : A) → In x xs → P x
+each_in P [] h x i = elim i [ ]
+each_in P (y ∷ xs) h x first = h.0
+each_in P (y ∷ xs) h x (later i) = each_in P xs h.1 x i
+
+-- ---- the text of the evaluation path begins by the keyword's name
+
+module _ {S : Type 0} (r : Reading S) (d : Data) (k : List ℕ) where
+  rule_of : (shapes : List (Shape S)) → AllByRecursion (IsOf k) shapes → (x : Rule S) → In x (map (rule r.matches d) shapes) → Begins k x
+  rule_of shapes h x i =
+      let w = in_mapped (rule r.matches d) shapes i in
+      subst (Begins k) w.2 (shape_begins r.matches d k w.0 (each_in (IsOf k) shapes h w.0 w.1))
+
+  pub begun : (shapes : List (Shape S)) (i e : List ℕ) → AllByRecursion (IsOf k) shapes → AreSpelledBy r d (map (rule r.matches d) shapes) i e
+      → (rest : List ℕ) × (e ≡ 47 ∷ (escape k ++ rest)) × IsRest rest
+  begun shapes i e h (refuses x bs j a wrong at_i on_e) =
+      ([], on_e ∙ ap text_of ((rule_of shapes h x j).own bs), nothing)
+  begun shapes i e h (goes x bs q i' e' j a o under at_i on_e) =
+      let w = (rule_of shapes h x j).on bs q o in
+      let text : e ≡ (text_of (at k) ++ text_of w.0) ++ e' = on_e ∙ ap (λ t. t ++ e') (ap text_of w.1 ∙ text_of-append w.0 (at k)) in (
+        text_of w.0 ++ e',
+        text ∙ ap (λ t. (t ++ text_of w.0) ++ e') (ap (λ t. 47 ∷ t) (append-nil (escape k))) ∙ append_assoc (47 ∷ escape k) (text_of w.0) e',
+        rest_append (text_of w.0) e' (rest_of _) (subst IsRest (sym under.evaluation_text) (rest_of _)),
+      )
+
+-- by one of these rules, whichever others there are
+pub one_rule : {S : Type 0} (r : Reading S) (d : Data) (ks : List (Rule S)) (i e : List ℕ) → AreSpelledBy r d ks i e
+    → (k : Rule S) × In k ks × ((js : List (Rule S)) → In k js → AreSpelledBy r d js i e)
+one_rule r d ks i e (refuses k bs j a wrong at_i on_e) = (k, j, λ js l. refuses k bs l a wrong at_i on_e)
+one_rule r d ks i e (goes k bs q x y j a o under at_i on_e) = (k, j, λ js l. goes k bs q x y l a o under at_i on_e)
+
+-- ---- at a site
+
+module _ (docs : Documents) (makes : List ℕ → Bool) (matches : List ℕ → List ℕ → Bool) where
+  abbrev pub context : Site → Members → Context
+  context s ms = record { documents = docs; makes = makes; site = s; members = ms }
+
+  -- the rules of a member of the schema
+  abbrev pub rules_of : Site → Members → Data → List ℕ → Data → List (Rule Site)
+  rules_of s ms d k v = map (rule matches d) (row_at (context s ms) k v).shapes
+
+  pub rows_there : (s : Site) (c : Data) → s.contents ≡ c → rows_at docs makes s ≡ rows_in s (context s) c
+  unfolding rows_at
+  rows_there s c e = ap (rows_in s (context s)) e
+
+  pub keywords_there : (s : Site) (c : Data) → s.contents ≡ c → keywords_at docs makes s ≡ flat_map (λ r. r.shapes) (rows_in s (context s) c)
+  keywords_there s c e = ap (λ rs. flat_map (λ (r : Row). r.shapes) rs) (rows_there s c e)
+
+  row_listed : (x : Context) (ms : Members) (row : Row) → In row (rows_of x ms) → (k : List ℕ) × (v : Data) × In (k, v) (listed_members ms) × (row ≡ row_at x k v)
+  row_listed x no_members row i = elim i [ ]
+  row_listed x (member k v ms) row first = (k, v, first, refl)
+  row_listed x (member k v ms) row (later i) = let w = row_listed x ms row i in (w.0, w.1, later w.2, w.3)
+
+  pub listed_row : (x : Context) (ms : Members) (k : List ℕ) (v : Data) → In (k, v) (listed_members ms) → In (row_at x k v) (rows_of x ms)
+  listed_row x no_members k v i = elim i [ ]
+  listed_row x (member n c ms) k v first = first
+  listed_row x (member n c ms) k v (later i) = later (listed_row x ms k v i)
+
+  -- by the row of a member
+  pub spelled_member : (s : Site) (ms : Members) (d : Data) (i e : List ℕ) → s.contents ≡ object ms → AreSpelled (plain docs makes matches) s d i e
+      → (k : List ℕ) × (v : Data) × In (k, v) (listed_members ms) × AreSpelledBy (plain docs makes matches) d (rules_of s ms d k v) i e
+  spelled_member s ms d i e is h =
+      let one = one_rule (plain docs makes matches) d _ i e (first_step (plain docs makes matches) s d i e h) in
+      let shape = in_mapped (rule matches d) (keywords_at docs makes s) one.1 in
+      let row = in_some (λ (r : Row). r.shapes) (rows_of (context s ms) ms) (subst (λ ks. In shape.0 ks) (keywords_there s (object ms) is) shape.1) in
+      let at_k = row_listed (context s ms) ms row.0 row.1 in
+      let there : In shape.0 (row_at (context s ms) at_k.0 at_k.1).shapes = subst (λ (x : Row). In shape.0 x.shapes) at_k.3 row.2 in (
+        at_k.0,
+        at_k.1,
+        at_k.2,
+        one.2 (rules_of s ms d at_k.0 at_k.1) (subst (λ x. In x (rules_of s ms d at_k.0 at_k.1)) shape.2 (in_map (rule matches d) shape.0 _ there)),
+      )
+
+  -- a row that stands there gives rules that stand there
+  pub rules_stand : (s : Site) (row : Row) (d : Data) → In row (rows_at docs makes s) → (k : Rule Site) → In k (map (rule matches d) row.shapes)
+      → In k (rules (plain docs makes matches) s d)
+  rules_stand s row d i k j =
+      let w = in_mapped (rule matches d) row.shapes j in
+      subst (λ x. In x (rules (plain docs makes matches) s d)) w.2 (in_map (rule matches d) w.0 (keywords_at docs makes s) (in_all (λ (r : Row). r.shapes) (rows_at docs makes s) i w.1))
+
+  pub member_row : (s : Site) (ms : Members) (k : List ℕ) (v : Data) → s.contents ≡ object ms → In (k, v) (listed_members ms) → In (row_at (context s ms) k v) (rows_at docs makes s)
+  member_row s ms k v is i = subst (λ rs. In (row_at (context s ms) k v) rs) (sym (rows_there s (object ms) is)) (listed_row (context s ms) ms k v i)
+
+  -- ---- where nothing is left of the evaluation path
+
+  some_keyword : (s : Site) (d : Data) (i e : List ℕ) → AreSpelled (plain docs makes matches) s d i e → (x : Shape Site) × In x (keywords_at docs makes s)
+  some_keyword s d i e h =
+      let one = one_rule (plain docs makes matches) d _ i e (first_step (plain docs makes matches) s d i e h) in
+      let shape = in_mapped (rule matches d) (keywords_at docs makes s) one.1 in (shape.0, shape.1)
+
+  -- no keyword, no certificate
+  pub none_spelled : (s : Site) (d : Data) (i e : List ℕ) → keywords_at docs makes s ≡ [] → AreSpelled (plain docs makes matches) s d i e → ⊥
+  none_spelled s d i e none h =
+      let x = some_keyword s d i e h in elim (subst (λ ks. In x.0 ks) none x.1) [ ]
+
+  pub not_spelled : (s : Site) (c : Data) (d : Data) (i e : List ℕ) → s.contents ≡ c → flat_map (λ (r : Row). r.shapes) (rows_in s (context s) c) ≡ []
+      → AreSpelled (plain docs makes matches) s d i e → ⊥
+  not_spelled s c d i e is none h = none_spelled s d i e (keywords_there s c is ∙ none) h
+
+  -- the schema `false`
+  never_by : (d : Data) (i e : List ℕ) (ks : List (Rule Site)) → ks ≡ rule matches d never ∷ [] → AreSpelledBy (plain docs makes matches) d ks i e → (i ≡ []) × (e ≡ [])
+  never_by d i e ks is h = by (subst (λ xs. AreSpelledBy (plain docs makes matches) d xs i e) is h)
+    where
+      by : AreSpelledBy (plain docs makes matches) d (rule matches d never ∷ []) i e → (i ≡ []) × (e ≡ [])
+      by (refuses _ bs first a wrong at_i on_e) = (at_i, on_e)
+      by (refuses k bs (later j) a wrong at_i on_e) = elim j [ ]
+      by (goes _ bs q x y first a o under at_i on_e) = elim o [ ]
+      by (goes k bs q x y (later j) a o under at_i on_e) = elim j [ ]
+
+  pub false_spelled : (s : Site) (d : Data) (i e : List ℕ) → s.contents ≡ boolean false → AreSpelled (plain docs makes matches) s d i e → (i ≡ []) × (e ≡ [])
+  false_spelled s d i e is h =
+      never_by d i e (rules (plain docs makes matches) s d) (ap (map (rule matches d)) (keywords_there s (boolean false) is)) (first_step (plain docs makes matches) s d i e h)
+
+  pub spelled_false : (s : Site) (d : Data) → s.contents ≡ boolean false → AreSpelled (plain docs makes matches) s d [] []
+  spelled_false s d is =
+      from_step (plain docs makes matches) s d (rule matches d never ∷ []) [] []
+      (λ k j. subst (λ ks. In k ks) (sym (ap (map (rule matches d)) (keywords_there s (boolean false) is))) j)
+      (refuses (rule matches d never) [] first (record { unfoldings = 0; are = refl }) refl refl refl)

@@ -1,0 +1,43 @@
+-- Texts of paths from some part on, and the keywords that are read.
+use Rattle.std.specs.Prelude.{◌≡◌, ◌==◌, ℕ, List, [], ◌∷◌, codes}
+use Rattle.std.specs.List.{slice_split}
+use Rattle.schema_meaning.specs.Keywords.{named, reference_name, Shape, never, asserts, items, item_list, prefix_items, additional_items, no_additional_items, contains, properties, pattern_properties, additional_properties, no_additional_properties, no_properties, property_names, no_property_names, dependent_schemas, dependencies, all_of, any_of, one_of, negation, condition, reference}
+
+-- nothing is left, or a part is
+pub data IsRest : List ℕ → Type 0 where
+  nothing : IsRest []
+  part : {t : List ℕ} → IsRest (47 ∷ t)
+
+-- a text cut at each `/`, and what is left of a path cut behind its first part
+abbrev pub cuts : List ℕ → List (List ℕ)
+cuts t = slice_split (λ c. c == 47) t
+
+abbrev pub cuts_behind : List ℕ → List (List ℕ)
+cuts_behind [] = []
+cuts_behind (b ∷ t) = cuts t
+
+-- a shape of one of the keywords that are read, by its name
+abbrev pub IsOf : {S : Type 0} → List ℕ → Shape S → Type 0
+IsOf k never = ⊥
+IsOf k (asserts a) = named a ≡ k
+IsOf k (items start s) = codes "items" ≡ k
+IsOf k (item_list ss) = ⊥
+IsOf k (prefix_items ss) = ⊥
+IsOf k (additional_items start s) = ⊥
+IsOf k (no_additional_items start s) = ⊥
+IsOf k (contains s least most) = ⊥
+IsOf k (properties ps) = codes "properties" ≡ k
+IsOf k (pattern_properties ps) = ⊥
+IsOf k (additional_properties declared s) = ⊥
+IsOf k (no_additional_properties declared s) = ⊥
+IsOf k (no_properties s) = ⊥
+IsOf k (property_names s) = ⊥
+IsOf k (no_property_names s) = ⊥
+IsOf k (dependent_schemas ps) = ⊥
+IsOf k (dependencies ps) = ⊥
+IsOf k (all_of ss) = ⊥
+IsOf k (any_of ss) = ⊥
+IsOf k (one_of ss) = ⊥
+IsOf k (negation schema s) = ⊥
+IsOf k (condition s t e) = ⊥
+IsOf k (reference r s) = reference_name r ≡ k

@@ -1,0 +1,2 @@
+//! Laws of the certificates of documents: by which member of a schema a certificate begins.
+#![tactic(auto)]
