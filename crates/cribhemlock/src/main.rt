@@ -11,11 +11,5 @@ fn main(rt: HostRuntime) -> ExitCode {
     let mut reader = OverRead::new(rt.stdin());
     let mut writer = OverWrite::new(rt.stdout());
     let mut faults = OverWrite::new(rt.stderr());
-    ExitCode::from(run_program(
-        &rt,
-        &files,
-        &mut reader,
-        &mut writer,
-        &mut faults,
-    ))
+    ExitCode::from(run_program(&rt, &files, &mut reader, &mut writer, &mut faults))
 }
