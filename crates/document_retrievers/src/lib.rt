@@ -4,9 +4,6 @@
 mod default;
 mod map;
 mod retrieve;
-#[cfg(test)]
-mod tests;
-
 pub use default::DefaultRetriever;
 pub use map::MapRetriever;
 pub use retrieve::Retrieve;

@@ -3,5 +3,3 @@
 
 pub mod addresses;
 pub mod characters;
-#[cfg(test)]
-mod tests;

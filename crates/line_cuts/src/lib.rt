@@ -7,8 +7,6 @@ mod outbox;
 mod progress;
 mod report;
 mod run;
-#[cfg(test)]
-mod tests;
 mod writing;
 
 pub use answers::LineAnswers;

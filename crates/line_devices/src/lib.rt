@@ -5,9 +5,6 @@ mod memory;
 mod over;
 mod sink;
 mod source;
-#[cfg(test)]
-mod tests;
-
 pub use memory::{MemorySink, MemorySource};
 pub use over::{OverRead, OverWrite};
 pub use sink::ByteSink;

@@ -3,8 +3,5 @@
 
 mod answers;
 mod running;
-#[cfg(test)]
-mod tests;
-
 pub use line_cuts::{RunError, RunReport};
 pub use running::{lines_are_ended, run};

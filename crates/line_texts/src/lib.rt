@@ -3,8 +3,5 @@
 
 mod faults;
 mod reading;
-#[cfg(test)]
-mod tests;
-
 pub use faults::write_faults;
 pub use reading::line_value;

@@ -2,4 +2,6 @@
 #![tactic(auto)]
 
 #[cfg(test)]
-mod tests;
+mod pointers;
+#[cfg(test)]
+mod steps;

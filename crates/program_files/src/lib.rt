@@ -4,9 +4,6 @@
 mod files;
 mod map;
 mod system;
-#[cfg(test)]
-mod tests;
-
 pub use files::{FileError, SchemaFiles};
 pub use map::MapFiles;
 pub use system::SystemFiles;

@@ -7,6 +7,4 @@ mod leads;
 pub mod place;
 mod reaching;
 mod refusing;
-#[cfg(test)]
-mod tests;
 mod visit;

@@ -3,7 +3,5 @@
 
 pub mod error;
 pub mod reached;
-#[cfg(test)]
-mod tests;
 mod walk;
 mod within;

@@ -7,4 +7,3 @@ pub mod identifiers;
 pub mod keywords;
 pub mod resource;
 pub mod subschemas;
-mod tests;

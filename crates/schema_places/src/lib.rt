@@ -3,5 +3,3 @@
 
 pub mod document;
 pub mod place;
-#[cfg(test)]
-mod tests;

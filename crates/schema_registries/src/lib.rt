@@ -6,5 +6,3 @@ pub mod error;
 pub mod numbers;
 pub mod registry;
 mod search;
-#[cfg(test)]
-mod tests;

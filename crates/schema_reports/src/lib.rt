@@ -11,8 +11,6 @@ mod observer;
 mod pointer_path;
 mod reference;
 mod roads;
-#[cfg(test)]
-mod tests;
 mod verdict;
 
 pub use all_faults::AllFaults;

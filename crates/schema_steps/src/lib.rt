@@ -6,8 +6,5 @@
 
 mod path;
 mod step;
-#[cfg(test)]
-mod tests;
-
 pub use path::Path;
 pub use step::Step;

@@ -4,8 +4,6 @@
 mod counting;
 mod finding;
 mod set;
-#[cfg(test)]
-mod tests;
 mod vocabulary;
 
 pub use counting::counts;

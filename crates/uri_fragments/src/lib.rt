@@ -12,9 +12,6 @@ use percent_encoding::{AsciiSet, NON_ALPHANUMERIC, ascii_set, utf8_percent_encod
 use std::alloc::{AllocError, Global};
 use std::marker::Model;
 
-#[cfg(test)]
-mod tests;
-
 // The ASCII bytes that may not stand for themselves in a fragment.
 const ENCODED: AsciiSet = ascii_set!(
     NON_ALPHANUMERIC

@@ -7,5 +7,3 @@
 pub mod characters;
 pub mod components;
 pub mod grammar;
-#[cfg(test)]
-mod tests;

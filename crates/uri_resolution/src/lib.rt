@@ -4,7 +4,5 @@
 pub mod dots;
 pub mod normal;
 pub mod resolution;
-#[cfg(test)]
-mod tests;
 pub mod triplets;
 pub mod writing;

@@ -2,4 +2,12 @@
 #![tactic(auto)]
 
 #[cfg(test)]
-mod tests;
+mod addresses;
+#[cfg(test)]
+mod fragments;
+#[cfg(test)]
+mod grammar;
+#[cfg(test)]
+mod references;
+#[cfg(test)]
+mod resolution;

@@ -5,7 +5,4 @@ mod documents;
 mod entry;
 mod fault;
 mod preparing;
-#[cfg(test)]
-mod tests;
-
 pub use entry::{program, run_program};

@@ -5,6 +5,4 @@ pub mod equality;
 pub mod json_types;
 pub mod numbers;
 pub mod patterns;
-#[cfg(test)]
-mod tests;
 pub mod texts;

@@ -1,5 +1,5 @@
 // The words of command lines, and the refusals of clap.
-use crate::ProgramWords;
+use program_words::ProgramWords;
 use clap::error::ErrorKind;
 use std::test::Fail;
 

@@ -1,7 +1,7 @@
 use Rattle.std.proofs.Common.{refl}
 use Rattle.std.specs.Str.{is_utf8, chars}
 use Rattle.percent_encoding.specs.Percent.{percent_decode}
-use Rattle.schema_reports.proofs.tests.references_begin_paths.Goals as goal
+use Rattle.schema_tests.proofs.reports.references_begin_paths.Goals as goal
 
 pub followed-requires : goal.followed-requires
 unfolding is_utf8 chars lib.Utf8.encode percent_decode

@@ -1,6 +1,6 @@
 //! Addresses of RFC 3986 and RFC 4291, and texts that are none.
 
-use crate::addresses::{
+use ip_literals::addresses::{
     is_dec_octet, is_ip_future, is_ip_literal, is_ipv4_address, is_ipv6_address,
 };
 

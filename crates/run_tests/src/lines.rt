@@ -1,5 +1,5 @@
 // Runs over bytes in memory.
-use crate::run;
+use line_runs::run;
 use json_schema_validator::{Documents, Validator};
 use line_devices::{MemorySink, MemorySource};
 use std::alloc::Global;

@@ -1,6 +1,6 @@
 // Documents that are there, and others.
 
-use crate::{DefaultRetriever, MapRetriever, Retrieve};
+use document_retrievers::{DefaultRetriever, MapRetriever, Retrieve};
 use serde_json::Value;
 use std::alloc::Global;
 use std::test::Fail;

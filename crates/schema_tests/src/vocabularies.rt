@@ -1,6 +1,6 @@
 // Vocabularies by their URIs, sets of them, and keywords with and without their vocabulary.
 
-use crate::{Vocabulary, VocabularySet, counts, find_vocabularies};
+use schema_vocabularies::{Vocabulary, VocabularySet, counts, find_vocabularies};
 use schema_drafts::draft::Draft;
 use serde_json::{Value, json};
 use std::alloc::Global;

@@ -1,10 +1,10 @@
 //! The examples of RFC 3986.
 
-use crate::dots::remove_dot_segments;
-use crate::normal::normalize;
-use crate::resolution::resolve;
-use crate::triplets::normalize_triplets;
-use crate::writing::write_guarded;
+use uri_resolution::dots::remove_dot_segments;
+use uri_resolution::normal::normalize;
+use uri_resolution::resolution::resolve;
+use uri_resolution::triplets::normalize_triplets;
+use uri_resolution::writing::write_guarded;
 use std::alloc::AllocError;
 use uri_grammar::components::{Components, split_reference};
 

@@ -1,7 +1,7 @@
 // Lines that are given back as they came, over devices in memory.
 ghost use Rattle.std.specs.Prelude.{◌≡◌, ◌∷◌, ◌++◌, []};
 
-use crate::{LineAnswers, answer_lines, first_line};
+use line_cuts::{LineAnswers, answer_lines, first_line};
 use line_devices::{MemorySink, MemorySource};
 use std::alloc::{AllocError, Global};
 use std::str;

@@ -1,7 +1,7 @@
 //! Examples of RFC 3986, and texts that its grammar refuses.
 
-use crate::components::{split_reference, write_components};
-use crate::grammar::{is_uri, is_uri_reference, parse, split_authority_parts};
+use uri_grammar::components::{split_reference, write_components};
+use uri_grammar::grammar::{is_uri, is_uri_reference, parse, split_authority_parts};
 use std::alloc::AllocError;
 
 /// Each text, whether it is a reference, and whether it is a URI.

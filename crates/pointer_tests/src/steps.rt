@@ -1,5 +1,5 @@
 // Paths in the document of RFC 6901, section 5.
-use crate::{Path, Step};
+use schema_steps::{Path, Step};
 use serde_json::Value;
 use std::alloc::Global;
 use std::test::Fail;

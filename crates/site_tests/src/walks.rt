@@ -1,5 +1,5 @@
 // What pointers lead to from the root of a document: the pointer of the value, its base, its draft, and whether it is a schema place.
-use crate::reached::{Reached, follow_pointer};
+use reference_walks::reached::{Reached, follow_pointer};
 use schema_drafts::draft::Draft;
 use schema_places::place::{Place, enter, root};
 use schema_steps::Path;

@@ -1,7 +1,7 @@
 //! Tables by draft.
 
-use crate::draft::Draft;
-use crate::subschemas::{Subschemas, held_by};
+use schema_drafts::draft::Draft;
+use schema_drafts::subschemas::{Subschemas, held_by};
 use serde_json::Value;
 use std::test::Fail;
 

@@ -1,5 +1,5 @@
 // The fragments of RFC 6901, section 6: a pointer, and how it is written as a URI fragment.
-use crate::FragmentBuffer;
+use uri_fragments::FragmentBuffer;
 use percent_encoding::percent_decode_str;
 use std::test::Fail;
 

@@ -1,8 +1,8 @@
-use crate::equality::equal;
-use crate::json_types::{JsonType, has_type};
-use crate::numbers::{is_multiple, whole};
-use crate::patterns::analyze_pattern;
-use crate::texts::{code_points, has_no_space, is_ecma_space};
+use value_checks::equality::equal;
+use value_checks::json_types::{JsonType, has_type};
+use value_checks::numbers::{is_multiple, whole};
+use value_checks::patterns::analyze_pattern;
+use value_checks::texts::{code_points, has_no_space, is_ecma_space};
 use serde_json::Value;
 use std::alloc::Global;
 use std::process::Abort;

@@ -1,5 +1,5 @@
 // The program's statuses, and what it writes.
-use crate::program;
+use validator_program::program;
 use line_devices::{MemorySink, MemorySource};
 use program_files::MapFiles;
 use std::alloc::Global;

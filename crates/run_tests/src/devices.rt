@@ -2,7 +2,7 @@
 ghost use Rattle.std.specs.Prelude.{◌≡◌, Some};
 ghost use Rattle.line_devices.specs.Devices.{most};
 
-use crate::{ByteSink, ByteSource, MemorySink, MemorySource, OverRead, OverWrite};
+use line_devices::{ByteSink, ByteSource, MemorySink, MemorySource, OverRead, OverWrite};
 use std::alloc::Global;
 use std::io;
 use std::io::{Cursor, ErrorKind, Read, Write};

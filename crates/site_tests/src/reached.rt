@@ -1,5 +1,5 @@
 // What is found before any instance: the text of the first cause, next to the root first.
-use crate::checking::check_reached;
+use reached_sites::checking::check_reached;
 use referencing::builder::RegistryBuilder;
 use referencing::registry::Registry;
 use referencing_errors::error::Error;

@@ -6,7 +6,7 @@ ghost use Rattle.schema_meaning.specs.Faults.{Faults, FalseSchema, none, also, f
 ghost use Rattle.schema_reports.specs.Observers.{Hears};
 ghost use Rattle.schema_reports.specs.RoadPaths.{instance_in, schema_in, evaluation_in};
 
-use crate::{
+use schema_reports::{
     AllFaults, ErrorIterator, FirstFault, LazyLocation, Observation, Observer, Reference, Roads,
     ValidationError, ValidationErrorKind, Verdict,
 };

@@ -1,0 +1,17 @@
+//! Tests of runs: devices, lines cut and answered, words, files, and whole programs over bytes in memory.
+#![tactic(auto)]
+
+#[cfg(test)]
+mod cuts;
+#[cfg(test)]
+mod devices;
+#[cfg(test)]
+mod files;
+#[cfg(test)]
+mod lines;
+#[cfg(test)]
+mod texts;
+#[cfg(test)]
+mod whole;
+#[cfg(test)]
+mod words;

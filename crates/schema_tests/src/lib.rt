@@ -1,0 +1,13 @@
+//! Tests of what schemas are read by: values compared, drafts, vocabularies, retrievers, and what is told of faults.
+#![tactic(auto)]
+
+#[cfg(test)]
+mod drafts;
+#[cfg(test)]
+mod reports;
+#[cfg(test)]
+mod retrievers;
+#[cfg(test)]
+mod values;
+#[cfg(test)]
+mod vocabularies;
