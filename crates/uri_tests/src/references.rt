@@ -1,5 +1,6 @@
 //! The calls at the examples of RFC 3986, and what they refuse.
 
+use crate::resolution::EXAMPLES;
 use std::cmp::Ordering;
 use std::hash::{DefaultHasher, Hash, Hasher};
 use uri_references::error::{Error, UriError};
@@ -18,51 +19,6 @@ fn resolves(rt: HostRuntime) -> Result<(), Error> {
     }
     Ok(())
 }
-
-const EXAMPLES: [(&str, &str); 42] = [
-    ("g:h", "g:h"),
-    ("g", "http://a/b/c/g"),
-    ("./g", "http://a/b/c/g"),
-    ("g/", "http://a/b/c/g/"),
-    ("/g", "http://a/g"),
-    ("//g", "http://g"),
-    ("?y", "http://a/b/c/d;p?y"),
-    ("g?y", "http://a/b/c/g?y"),
-    ("#s", "http://a/b/c/d;p?q#s"),
-    ("g#s", "http://a/b/c/g#s"),
-    ("g?y#s", "http://a/b/c/g?y#s"),
-    (";x", "http://a/b/c/;x"),
-    ("g;x", "http://a/b/c/g;x"),
-    ("g;x?y#s", "http://a/b/c/g;x?y#s"),
-    ("", "http://a/b/c/d;p?q"),
-    (".", "http://a/b/c/"),
-    ("./", "http://a/b/c/"),
-    ("..", "http://a/b/"),
-    ("../", "http://a/b/"),
-    ("../g", "http://a/b/g"),
-    ("../..", "http://a/"),
-    ("../../", "http://a/"),
-    ("../../g", "http://a/g"),
-    ("../../../g", "http://a/g"),
-    ("../../../../g", "http://a/g"),
-    ("/./g", "http://a/g"),
-    ("/../g", "http://a/g"),
-    ("g.", "http://a/b/c/g."),
-    (".g", "http://a/b/c/.g"),
-    ("g..", "http://a/b/c/g.."),
-    ("..g", "http://a/b/c/..g"),
-    ("./../g", "http://a/b/g"),
-    ("./g/.", "http://a/b/c/g/"),
-    ("g/./h", "http://a/b/c/g/h"),
-    ("g/../h", "http://a/b/c/h"),
-    ("g;x=1/./y", "http://a/b/c/g;x=1/y"),
-    ("g;x=1/../y", "http://a/b/c/y"),
-    ("g?y/./x", "http://a/b/c/g?y/./x"),
-    ("g?y/../x", "http://a/b/c/g?y/../x"),
-    ("g#s/./x", "http://a/b/c/g#s/./x"),
-    ("g#s/../x", "http://a/b/c/g#s/../x"),
-    ("http:g", "http:g"),
-];
 
 /// Section 6.2.2, and the guard before a path that begins with two slashes.
 #[test]

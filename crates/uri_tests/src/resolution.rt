@@ -32,7 +32,8 @@ fn resolves(rt: HostRuntime) -> Result<(), AllocError> {
     Ok(())
 }
 
-const EXAMPLES: [(&str, &str); 42] = [
+/// References against `http://a/b/c/d;p?q`, and what they lead to.
+pub const EXAMPLES: [(&str, &str); 42] = [
     ("g:h", "g:h"),
     ("g", "http://a/b/c/g"),
     ("./g", "http://a/b/c/g"),
