@@ -4,6 +4,7 @@
 mod default;
 mod map;
 mod retrieve;
+
 pub use default::DefaultRetriever;
 pub use map::MapRetriever;
 pub use retrieve::Retrieve;

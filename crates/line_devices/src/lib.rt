@@ -5,6 +5,7 @@ mod memory;
 mod over;
 mod sink;
 mod source;
+
 pub use memory::{MemorySink, MemorySource};
 pub use over::{OverRead, OverWrite};
 pub use sink::ByteSink;

@@ -3,5 +3,6 @@
 
 mod answers;
 mod running;
+
 pub use line_cuts::{RunError, RunReport};
 pub use running::{lines_are_ended, run};

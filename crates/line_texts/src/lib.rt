@@ -3,5 +3,6 @@
 
 mod faults;
 mod reading;
+
 pub use faults::write_faults;
 pub use reading::line_value;

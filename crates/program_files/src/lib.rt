@@ -4,6 +4,7 @@
 mod files;
 mod map;
 mod system;
+
 pub use files::{FileError, SchemaFiles};
 pub use map::MapFiles;
 pub use system::SystemFiles;

@@ -1,7 +1,7 @@
 // Runs over bytes in memory.
-use line_runs::run;
 use json_schema_validator::{Documents, Validator};
 use line_devices::{MemorySink, MemorySource};
+use line_runs::run;
 use std::alloc::Global;
 use std::str;
 use std::test::Fail;

@@ -1,10 +1,10 @@
 // The program's statuses, and what it writes.
-use validator_program::program;
 use line_devices::{MemorySink, MemorySource};
 use program_files::MapFiles;
 use std::alloc::Global;
 use std::str;
 use std::test::Fail;
+use validator_program::program;
 
 const ROOT: &str =
     "{\"$id\":\"http://a.test/root.json\",\"type\":\"array\",\"minItems\":2,\"items\":{\"$ref\":\"leaf.json\"}}";

@@ -1,6 +1,6 @@
 // The words of command lines, and the refusals of clap.
-use program_words::ProgramWords;
 use clap::error::ErrorKind;
+use program_words::ProgramWords;
 use std::test::Fail;
 
 #[test]

@@ -6,5 +6,6 @@
 
 mod path;
 mod step;
+
 pub use path::Path;
 pub use step::Step;

@@ -1,11 +1,11 @@
+use serde_json::Value;
+use std::alloc::Global;
+use std::process::Abort;
 use value_checks::equality::equal;
 use value_checks::json_types::{JsonType, has_type};
 use value_checks::numbers::{is_multiple, whole};
 use value_checks::patterns::analyze_pattern;
 use value_checks::texts::{code_points, has_no_space, is_ecma_space};
-use serde_json::Value;
-use std::alloc::Global;
-use std::process::Abort;
 
 fn read(rt: &impl Abort, alloc: Global, text: &str) -> Value {
     Value::from_str(alloc, text).expect(rt, "a JSON text")

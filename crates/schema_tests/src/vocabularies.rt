@@ -1,7 +1,7 @@
 // Vocabularies by their URIs, sets of them, and keywords with and without their vocabulary.
 
-use schema_vocabularies::{Vocabulary, VocabularySet, counts, find_vocabularies};
 use schema_drafts::draft::Draft;
+use schema_vocabularies::{Vocabulary, VocabularySet, counts, find_vocabularies};
 use serde_json::{Value, json};
 use std::alloc::Global;
 use std::test::Fail;

@@ -1,7 +1,7 @@
 // The schema places of documents: the pointer of each, its base, its draft, and what it awaits.
+use schema_drafts::draft::Draft;
 use schema_places::document::places;
 use schema_places::place::{Place, enter, is_schema, root};
-use schema_drafts::draft::Draft;
 use schema_steps::Path;
 use serde_json::Value;
 use std::alloc::Global;

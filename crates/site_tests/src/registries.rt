@@ -1,9 +1,9 @@
 // Documents handed in, refused and prepared. Normal forms of URIs are those of RFC 3986, section 6.2.2.
+use schema_drafts::draft::Draft;
 use schema_registries::documents::Documents;
 use schema_registries::error::DocumentError;
 use schema_registries::numbers::has_only_whole;
 use schema_registries::registry::SchemaRegistry;
-use schema_drafts::draft::Draft;
 use serde_json::Value;
 use std::alloc::Global;
 use std::process::Abort;

@@ -1,7 +1,7 @@
 // The fragments of RFC 6901, section 6: a pointer, and how it is written as a URI fragment.
-use uri_fragments::FragmentBuffer;
 use percent_encoding::percent_decode_str;
 use std::test::Fail;
+use uri_fragments::FragmentBuffer;
 
 const FRAGMENTS: [(&str, &str); 12] = [
     ("", ""),

@@ -1,8 +1,8 @@
 //! Examples of RFC 3986, and texts that its grammar refuses.
 
+use std::alloc::AllocError;
 use uri_grammar::components::{split_reference, write_components};
 use uri_grammar::grammar::{is_uri, is_uri_reference, parse, split_authority_parts};
-use std::alloc::AllocError;
 
 /// Each text, whether it is a reference, and whether it is a URI.
 #[test]

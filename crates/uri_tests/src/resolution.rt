@@ -1,12 +1,12 @@
 //! The examples of RFC 3986.
 
+use std::alloc::AllocError;
+use uri_grammar::components::{Components, split_reference};
 use uri_resolution::dots::remove_dot_segments;
 use uri_resolution::normal::normalize;
 use uri_resolution::resolution::resolve;
 use uri_resolution::triplets::normalize_triplets;
 use uri_resolution::writing::write_guarded;
-use std::alloc::AllocError;
-use uri_grammar::components::{Components, split_reference};
 
 /// Section 5.2.4.
 #[test]

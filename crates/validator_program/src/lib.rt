@@ -5,4 +5,5 @@ mod documents;
 mod entry;
 mod fault;
 mod preparing;
+
 pub use entry::{program, run_program};
