@@ -16,7 +16,9 @@ use Rattle.fault_checks.specs.declared.walk.Walk.{Walk}
 use Rattle.fault_checks.specs.declared.walk.Step.TheVariants.{Answered}
 use Rattle.fault_checks.specs.declared.checking.CheckAnswer.TheVariants as answer
 use Rattle.fault_checks.specs.Texts.{text_left, IsNoPath}
-use Rattle.fault_checks.specs.Roots.{Root, Finds, IsSound, IsChecked}
+use Rattle.schema_roots.specs.Roots.{Root, Finds, IsSound}
+use Rattle.schema_roots.proofs.Found.{finds_one}
+use Rattle.fault_checks.specs.Checked.{IsChecked}
 use Rattle.fault_checks.specs.Scenes.{path_at}
 use Rattle.fault_checks.specs.Steps.{Passes, DecidesRoot}
 
@@ -27,9 +29,6 @@ decided_at w t docs b same stands scope path p = record {
       p.outcome (record { documents = docs; makes = makes; matches = matches }) (root_site t)
       (record { documents = sym same; stands = stands; scope = sym scope; schema_path = sym path; right = right }) straight;
 }
-
-same_target : {T E : Type 0} (x : Result T E) (t u : T) → x ≡ Ok t → x ≡ Ok u → t ≡ u
-same_target x t u p q = cc (p, q)
 
 module _ (r : Root) (d : Data) (instance evaluation : List ℕ) where
   -- certificates of documents are what a walk speaks of
@@ -56,7 +55,7 @@ module _ (r : Root) (d : Data) (instance evaluation : List ℕ) where
   pub accepted_by : (t : Target) → Finds r t → DecidesRoot t r.documents d instance evaluation true → IsSound r → IsChecked r d instance evaluation answer.Accepted
   accepted_by t found h sound = record {
     accepted = λ e makes matches target there straight.
-        let same : t ≡ target = same_target (lookup r.documents r.base r.reference) t target found there in
+        let same : t ≡ target = finds_one r t target found there in
         certified makes matches target
         ((subst (λ u. DecidesRoot u r.documents d instance evaluation true) same h).decides makes matches (record { none = λ cause w. sound.right target there makes cause w }) straight);
     refused = λ e. cc;
@@ -67,7 +66,7 @@ module _ (r : Root) (d : Data) (instance evaluation : List ℕ) where
   refused_by t found h sound = record {
     accepted = λ e. cc;
     refused = λ e makes matches target there straight c.
-        let same : t ≡ target = same_target (lookup r.documents r.base r.reference) t target found there in
+        let same : t ≡ target = finds_one r t target found there in
         (subst (λ u. DecidesRoot u r.documents d instance evaluation false) same h).decides makes matches (record { none = λ cause w. sound.right target there makes cause w }) straight
         (spelled makes matches target c);
     circular = λ e. cc;

@@ -1,5 +1,5 @@
 pub mod Texts
-pub mod Roots
+pub mod Checked
 pub mod Scenes
 pub mod Verdicts
 pub mod Steps

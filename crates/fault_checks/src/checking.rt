@@ -4,7 +4,8 @@ ghost use Rattle.serde_json.specs.Data.{depth};
 ghost use Rattle.serde_json.specs.View.{view};
 ghost use Rattle.schema_reading.specs.Plain.{deepest};
 ghost use Rattle.referencing.specs.Resolved.{documents_in, target_in};
-ghost use Rattle.fault_checks.specs.Roots.{IsSound, IsChecked, root_on};
+ghost use Rattle.schema_roots.specs.Roots.{IsSound, root_on};
+ghost use Rattle.fault_checks.specs.Checked.{IsChecked};
 ghost use Rattle.fault_checks.specs.Texts.{text_left};
 ghost use Rattle.fault_checks.specs.Steps.{Passes, DecidesRoot};
 

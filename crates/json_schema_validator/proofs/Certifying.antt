@@ -11,9 +11,9 @@ use Rattle.meaning_laws.proofs.Refuses.{certificate_refuses}
 use Rattle.meaning_laws.proofs.Certified.{faults_are_certified}
 use Rattle.schema_reports.specs.Told.{fault_of}
 use Rattle.schema_reports.specs.declared.error.ValidationError.{ValidationError}
-use Rattle.json_schema_validator.specs.Roots.{Root, Finds}
-use Rattle.json_schema_validator.specs.Answers.{IsAnswer, IsFault}
-use Rattle.json_schema_validator.specs.Certified.{IsCertified, HasCertificate, HaveCertificates}
+use Rattle.schema_roots.specs.Roots.{Root, Finds}
+use Rattle.schema_roots.specs.Answers.{IsAnswer, IsFault}
+use Rattle.schema_roots.specs.Certified.{IsCertified, HasCertificate, HaveCertificates}
 
 pub verdict_certified : (r : Root) (d : Data) (b : Bool) → IsAnswer verdicts r d b → IsCertified r d b
 verdict_certified r d b answer makes matches target found straight i e c =

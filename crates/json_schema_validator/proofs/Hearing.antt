@@ -6,7 +6,7 @@ use Rattle.schema_meaning.specs.Places.{whole}
 use Rattle.schema_meaning.specs.Faults.{Fault, Faults, none, also, is_none, joined, Told}
 use Rattle.schema_meaning.specs.Readings.{Telling, verdicts, bags, IsTold}
 use Rattle.schema_documents.specs.Bearers.{Documents}
-use Rattle.schema_documents.specs.Lookup.{Target, lookup}
+use Rattle.schema_documents.specs.Lookup.{Target}
 use Rattle.schema_reading.specs.Sites.{Site, root_site}
 use Rattle.schema_reading.specs.NotYet.{unread, not_yet, is_not_yet}
 use Rattle.schema_reading.specs.Plain.{plain}
@@ -26,15 +26,12 @@ use Rattle.schema_reports.specs.declared.observer.Observer.TheVariants as observ
 use Rattle.schema_reports.specs.declared.verdict.Verdict.{Verdict}
 use Rattle.schema_reports.specs.declared.first_fault.FirstFault.{FirstFault}
 use Rattle.schema_reports.specs.declared.all_faults.AllFaults.{AllFaults}
-use Rattle.json_schema_validator.specs.Roots.{Root, Finds, IsSound}
-use Rattle.json_schema_validator.specs.Answers.{cut_at, IsCut, IsAnswer, IsFault}
+use Rattle.schema_roots.specs.Roots.{Root, Finds, IsSound}
+use Rattle.schema_roots.proofs.Found.{target_of, finds_one}
+use Rattle.schema_roots.specs.Answers.{cut_at, IsCut, IsAnswer, IsFault}
 use Rattle.json_schema_validator.specs.Heard.{HearsCut, SaysOne}
 
 -- ---- what a sound root gives
-
-found_in : {T E : Type 0} (x : Result T E) → is_ok x ≡ true → (t : T) × (x ≡ Ok t)
-found_in (Ok t) h = (t, refl)
-found_in (Err e) h = let no : true ≡ false = sym h in cc
 
 -- a list without elements
 none_in : {A : Type 0} (xs : List A) → ((x : A) → In x xs → ⊥) → xs ≡ []
@@ -46,9 +43,6 @@ are_read r sound target found makes = record {
   each = λ t reached. none_in (unread t) (λ p stands. sound.right target found makes (not_yet p) (is_not_yet (record { site = t; reached = reached; stands = stands })));
 }
 
-same_target : {T E : Type 0} (x : Result T E) (t u : T) → x ≡ Ok t → x ≡ Ok u → t ≡ u
-same_target x t u p q = cc (p, q)
-
 -- ---- what is heard
 
 pub heard : (r : Root) → IsSound r → (d : Data) (old new : Observer) (t : Target) (documents : Documents) → documents ≡ r.documents → Finds r t
@@ -57,7 +51,7 @@ heard r sound d old new t documents same found told =
     let tells : TellsRoot t r.documents d old new = subst (λ docs. TellsRoot t docs d old new) same told in
     record {
       hears = λ makes matches target there kept fs before.
-          subst (λ u. Hears kept new (joined fs (cut_at bags r makes matches u d))) (same_target (lookup r.documents r.base r.reference) t target found there)
+          subst (λ u. Hears kept new (joined fs (cut_at bags r makes matches u d))) (finds_one r t target found there)
           (tells.tells makes matches (are_read r sound t found makes) kept fs before);
     }
 
@@ -65,7 +59,7 @@ heard r sound d old new t documents same found told =
 pub still_keeps : (r : Root) → IsSound r → (d : Data) (old new : Observer) (kept : Observation) → Hears kept old none → HearsCut r d old new
     → (fs : Faults) × Hears kept new fs
 still_keeps r sound d old new kept before h =
-    let found = found_in (lookup r.documents r.base r.reference) sound.found in
+    let found = target_of r sound in
     let makes : List ℕ → Bool = λ p. true in
     let matches : List ℕ → List ℕ → Bool = λ p t. true in
     (cut_at bags r makes matches found.0 d, h.hears makes matches found.0 found.1 kept none before)

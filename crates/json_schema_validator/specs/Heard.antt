@@ -9,8 +9,8 @@ use Rattle.schema_reports.specs.Told.{fault_of}
 use Rattle.schema_reports.specs.declared.error.ValidationError.{ValidationError}
 use Rattle.schema_reports.specs.declared.observer.Observation.{Observation}
 use Rattle.schema_reports.specs.declared.observer.Observer.{Observer}
-use Rattle.json_schema_validator.specs.Roots.{Root, Finds}
-use Rattle.json_schema_validator.specs.Answers.{cut_at}
+use Rattle.schema_roots.specs.Roots.{Root, Finds}
+use Rattle.schema_roots.specs.Answers.{cut_at}
 
 -- the faults of the cut reading, from the root on
 pub record HearsCut (r : Root) (d : Data) (old new : Observer) : Type 0 where

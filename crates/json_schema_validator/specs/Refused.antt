@@ -9,7 +9,7 @@ use Rattle.schema_reading.specs.NotYet.{Cause, IsBuildCause}
 use Rattle.referencing_errors.specs.Causes.{NamesLookup, NamesDocument}
 use Rattle.referencing.specs.Causes.{causes_of}
 use Rattle.reached_sites.specs.Causes.{NamesCause}
-use Rattle.json_schema_validator.specs.Roots.{Root, Finds}
+use Rattle.schema_roots.specs.Roots.{Root, Finds}
 use Rattle.json_schema_validator.specs.declared.error.BuildError.{BuildError}
 use Rattle.json_schema_validator.specs.declared.error.BuildError.TheVariants as error
 

@@ -3,17 +3,11 @@ use Rattle.std.specs.Prelude.{ℕ, List, [], ◌∷◌, string_bytes}
 use Rattle.schema_drafts.specs.declared.draft.Draft.{Draft}
 use Rattle.given_documents.specs.Given.{Given, documents_by}
 use Rattle.referencing.specs.Seen.{documents_of}
-use Rattle.schema_registries.specs.Seen.{documents_in_registry}
-use Rattle.schema_registries.specs.declared.registry.SchemaRegistry.{SchemaRegistry}
-use Rattle.json_schema_validator.specs.Roots.{Root}
+use Rattle.schema_roots.specs.Roots.{Root}
 use Rattle.json_schema_validator.specs.declared.validator.Validator.{Validator}
 
 abbrev pub root_in : Validator → Root
 root_in v = record { documents = documents_of v.registry.value ∷ []; base = v.base; reference = string_bytes v.root }
-
--- in the documents of a registry, from its base
-abbrev pub root_on : SchemaRegistry → List ℕ → Root
-root_on r reference = record { documents = documents_in_registry r ∷ []; base = r.base; reference = reference }
 
 -- in documents as they were given, from a base
 abbrev pub root_under : Draft → List ℕ → List Given → List ℕ → Root

@@ -8,7 +8,7 @@ ghost use Rattle.referencing_errors.specs.Causes.{RefusesLookup};
 ghost use Rattle.referencing.specs.Causes.{causes_of};
 ghost use Rattle.referencing.specs.Named.{NamesOne};
 ghost use Rattle.reached_sites.specs.Causes.{RefusesRoot};
-ghost use Rattle.json_schema_validator.specs.Roots.{Root, Finds};
+ghost use Rattle.schema_roots.specs.Roots.{Root, Finds};
 ghost use Rattle.json_schema_validator.specs.Refused.{RefusesDocuments, RefusesBuild};
 
 use reached_sites::cause::BuildCause;

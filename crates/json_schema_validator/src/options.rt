@@ -7,7 +7,7 @@ ghost use Rattle.schema_documents.specs.Lookup.{Target};
 ghost use Rattle.given_documents.specs.Given.{documents_by};
 ghost use Rattle.referencing.specs.Causes.{causes_of};
 ghost use Rattle.schema_registries.specs.Seen.{documents_given, documents_in_registry};
-ghost use Rattle.json_schema_validator.specs.Roots.{IsSound, Finds};
+ghost use Rattle.schema_roots.specs.Roots.{IsSound, Finds};
 ghost use Rattle.json_schema_validator.specs.Refused.{RefusesDocuments, RefusesBuild};
 
 use crate::error::BuildError;
@@ -31,7 +31,8 @@ pub struct ValidationOptions {
 }
 
 impl ValidationOptions {
-    ghost use Rattle.json_schema_validator.specs.Seen.{root_in, root_on, root_under};
+    ghost use Rattle.schema_roots.specs.Roots.{root_on};
+    ghost use Rattle.json_schema_validator.specs.Seen.{root_in, root_under};
 
     /// The newest draft and the base URI `json-schema:///`.
     ///

@@ -10,9 +10,9 @@ ghost use Rattle.schema_reports.specs.Left.{errors_left};
 ghost use Rattle.schema_reports.specs.Stands.{first_stands};
 ghost use Rattle.schema_reports.specs.Told.{fault_of, faults_of};
 ghost use Rattle.json_schema_validator.specs.Heard.{SaysOne};
-ghost use Rattle.json_schema_validator.specs.Answers.{IsCut, IsAnswer, IsFault};
-ghost use Rattle.json_schema_validator.specs.Certified.{IsCertified, HasCertificate, HaveCertificates};
-ghost use Rattle.json_schema_validator.specs.Roots.{IsSound};
+ghost use Rattle.schema_roots.specs.Answers.{IsCut, IsAnswer, IsFault};
+ghost use Rattle.schema_roots.specs.Certified.{IsCertified, HasCertificate, HaveCertificates};
+ghost use Rattle.schema_roots.specs.Roots.{IsSound};
 
 use crate::options::ValidationOptions;
 use plain_reader::root::tell_root;

@@ -5,8 +5,8 @@ use Rattle.serde_json.specs.Data.{Data}
 use Rattle.schema_meaning.specs.Faults.{Faults}
 use Rattle.schema_meaning.specs.Readings.{bags}
 use Rattle.schema_reading.specs.Lines.{line_value, faults_text}
-use Rattle.json_schema_validator.specs.Roots.{Root}
-use Rattle.json_schema_validator.specs.Answers.{IsCut, IsAnswer}
+use Rattle.schema_roots.specs.Roots.{Root}
+use Rattle.schema_roots.specs.Answers.{IsCut, IsAnswer}
 
 -- the faults that a value has under a root: the cut reading's, and where no references come back the decided ones
 pub record HasFaults (r : Root) (d : Data) (fs : Faults) : Type 0 where

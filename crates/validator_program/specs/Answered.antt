@@ -5,7 +5,7 @@ use Rattle.line_cuts.specs.Runs.{RunsThrough, Stops}
 use Rattle.line_cuts.specs.declared.report.RunReport.{RunReport}
 use Rattle.line_cuts.specs.declared.report.RunError.{RunError}
 use Rattle.line_runs.specs.Runs.{IsLineText}
-use Rattle.json_schema_validator.specs.Roots.{Root}
+use Rattle.schema_roots.specs.Roots.{Root}
 use Rattle.program_files.specs.Held.{Held}
 use Rattle.validator_program.specs.Given.{IsBuiltOf}
 

@@ -6,7 +6,7 @@ use Rattle.uri_references.specs.Identity.{identity_of}
 use Rattle.schema_drafts.specs.Drafts.{newest}
 use Rattle.given_documents.specs.Given.{Given}
 use Rattle.schema_registries.specs.Seen.{AddsText}
-use Rattle.json_schema_validator.specs.Roots.{Root}
+use Rattle.schema_roots.specs.Roots.{Root}
 use Rattle.json_schema_validator.specs.Seen.{root_under}
 use Rattle.program_files.specs.Held.{Held, Unknown, Missing, Holds}
 use Rattle.validator_program.specs.declared.documents.Further.{Further}

@@ -6,7 +6,7 @@ use Rattle.schema_reading.specs.Plain.{deepest}
 use Rattle.referencing.specs.Resolved.{documents_in, base_of, target_in}
 use Rattle.schema_registries.specs.Seen.{documents_in_registry}
 use Rattle.target_laws.proofs.Looked.{lookups_lie}
-use Rattle.fault_checks.specs.Roots.{Root, Finds, root_on}
+use Rattle.schema_roots.specs.Roots.{Root, Finds, root_on}
 use Rattle.fault_checks.specs.Steps.{DecidesRoot}
 use Rattle.fault_checks.specs.Texts.{text_left}
 use Rattle.fault_checks.proofs.Checked.{accepted_by, refused_by, no_instance, no_evaluation, not_found}

@@ -5,7 +5,7 @@ use Rattle.referencing_errors.specs.Causes.{RefusesLookup}
 use Rattle.referencing.specs.Resolved.{documents_in, base_of, target_in}
 use Rattle.schema_registries.specs.Seen.{documents_in_registry}
 use Rattle.reached_sites.specs.Causes.{RefusesRoot}
-use Rattle.json_schema_validator.specs.Seen.{root_on}
+use Rattle.schema_roots.specs.Roots.{root_on}
 use Rattle.json_schema_validator.proofs.options.ValidationOptions.build_on.Goals as goal
 
 pub returns-in-Err-clause-refused : goal.returns-in-Err-clause-refused

@@ -4,7 +4,7 @@ use Rattle.schema_meaning.specs.Readings.{bags}
 use Rattle.schema_reports.specs.Left.{errors_left}
 use Rattle.schema_reports.specs.Told.{faults_of}
 use Rattle.schema_reports.specs.declared.observer.Observation.TheVariants.{All}
-use Rattle.json_schema_validator.specs.Answers.{IsCut}
+use Rattle.schema_roots.specs.Answers.{IsCut}
 use Rattle.json_schema_validator.specs.Heard.{HearsCut}
 use Rattle.json_schema_validator.specs.Seen.{root_in}
 use Rattle.json_schema_validator.proofs.Hearing.{still_keeps, all_heard, answered}

@@ -5,7 +5,7 @@ use Rattle.schema_reading.specs.Plain.{deepest}
 use Rattle.referencing.specs.Seen.{documents_of}
 use Rattle.referencing.specs.Resolved.{documents_in, base_of, target_in}
 use Rattle.target_laws.proofs.Looked.{lookups_lie}
-use Rattle.json_schema_validator.specs.Roots.{Root, Finds}
+use Rattle.schema_roots.specs.Roots.{Root, Finds}
 use Rattle.json_schema_validator.specs.Seen.{root_in}
 use Rattle.json_schema_validator.proofs.Hearing.{heard}
 use Rattle.json_schema_validator.proofs.validator.Validator.told.Goals as goal

@@ -4,8 +4,8 @@ use Rattle.serde_json.specs.Data.{Data}
 use Rattle.schema_meaning.specs.Faults.{Fault, Faults, instance_path, evaluation_path, Told}
 use Rattle.schema_documents.specs.Lookup.{Target}
 use Rattle.schema_reading.specs.PathTexts.{path_text, AreCertificate}
-use Rattle.json_schema_validator.specs.Roots.{Root, Finds}
-use Rattle.json_schema_validator.specs.Answers.{ComesBack}
+use Rattle.schema_roots.specs.Roots.{Root, Finds}
+use Rattle.schema_roots.specs.Answers.{ComesBack}
 
 -- where no references come back, no two texts are a certificate unless the verdict is no
 abbrev pub IsCertified : Root → Data → Bool → Type 0

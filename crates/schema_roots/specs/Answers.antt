@@ -10,7 +10,7 @@ use Rattle.schema_documents.specs.Lookup.{Target}
 use Rattle.schema_reading.specs.Sites.{Site, root_site}
 use Rattle.schema_reading.specs.Plain.{plain}
 use Rattle.schema_reading.specs.AllKeys.{keys_of}
-use Rattle.json_schema_validator.specs.Roots.{Root, Finds}
+use Rattle.schema_roots.specs.Roots.{Root, Finds}
 
 -- what the cut reading tells, whatever patterns match
 abbrev pub cut_at : {A : Type 0} → Telling Site A → Root → (List ℕ → Bool) → (List ℕ → List ℕ → Bool) → Target → Data → A
