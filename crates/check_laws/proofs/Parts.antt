@@ -3,12 +3,12 @@ use Rattle.std.proofs.Common.{◌≡◌, ◌∙◌, ◌++◌, ℕ, List, [], ◌
 use Rattle.std.proofs.lemmas.List.{reverse-append}
 use Rattle.json_paths.specs.Parts.{Part}
 use Rattle.json_paths.specs.Pointers.{part_text, pointer_text}
-use Rattle.check_laws.specs.Spelled.{text_of}
+use Rattle.schema_reading.specs.PathTexts.{path_text}
 
 pointer_text-append : (xs ys : List Part) → pointer_text (xs ++ ys) ≡ pointer_text xs ++ pointer_text ys
 pointer_text-append [] ys = refl
 pointer_text-append (x ∷ xs) ys =
     ap (λ t. 47 ∷ (part_text x ++ t)) (pointer_text-append xs ys) ∙ ap (λ t. 47 ∷ t) (sym (append_assoc (part_text x) (pointer_text xs) (pointer_text ys)))
 
-pub text_of-append : (xs ys : List Part) → text_of (xs ++ ys) ≡ text_of ys ++ text_of xs
-text_of-append xs ys = ap pointer_text (reverse-append xs ys) ∙ pointer_text-append (reverse ys) (reverse xs)
+pub path_text-append : (xs ys : List Part) → path_text (xs ++ ys) ≡ path_text ys ++ path_text xs
+path_text-append xs ys = ap pointer_text (reverse-append xs ys) ∙ pointer_text-append (reverse ys) (reverse xs)

@@ -9,8 +9,9 @@ use Rattle.schema_meaning.specs.Rules.{Rule, accepts, refuses_at, obliged}
 use Rattle.schema_meaning.specs.Readings.{Reading, rules, IsTold, verdicts}
 use Rattle.schema_meaning.specs.Certificates.{AreAnswers, Certificate, ends, leads}
 use Rattle.meaning_laws.proofs.Refuses.{certificate_refuses}
-use Rattle.check_laws.specs.Spelled.{text_of, AreSpelled, AreSpelledBy, refuses, goes}
-use Rattle.check_laws.proofs.Parts.{text_of-append}
+use Rattle.schema_reading.specs.PathTexts.{path_text}
+use Rattle.check_laws.specs.Spelled.{AreSpelled, AreSpelledBy, refuses, goes}
+use Rattle.check_laws.proofs.Parts.{path_text-append}
 use Rattle.check_laws.proofs.Values.{answers_same}
 use Rattle.check_laws.proofs.Shifted.{Moved, moved, path_after-append}
 
@@ -19,27 +20,27 @@ module _ {S : Type 0} (r : Reading S) where
   bare s w i j e f p q c = subst (λ x. Certificate r s w x f) p (subst (λ y. Certificate r s w i y) q c)
 
   opened : (s : S) (w : Spot) (i e : List Part) → w.path ≡ [] → w.road ≡ [] → Certificate r s w i e
-      → AreSpelledBy r w.value (rules r s w.value) (text_of i) (text_of e)
+      → AreSpelledBy r w.value (rules r s w.value) (path_text i) (path_text e)
   opened s w _ _ at on (ends k bs j a wrong) =
-      refuses k bs j (answers_same r w (whole w.value) k bs refl a) wrong (ap text_of at) (ap text_of (ap (λ x. refuses_at k bs ++ x) on ∙ append-nil (refuses_at k bs)))
+      refuses k bs j (answers_same r w (whole w.value) k bs refl a) wrong (ap path_text at) (ap path_text (ap (λ x. refuses_at k bs ++ x) on ∙ append-nil (refuses_at k bs)))
   opened s w i e at on (leads k bs q j a o c) =
       let m : Moved r q.site (asked_at w q) (whole (value_after w.value q.step)) i e = moved r q.site (asked_at w q) (whole (value_after w.value q.step)) i e refl c in
-      let under : AreSpelled r q.site (value_after w.value q.step) (text_of m.instance) (text_of m.evaluation) = record {
+      let under : AreSpelled r q.site (value_after w.value q.step) (path_text m.instance) (path_text m.evaluation) = record {
         instance_path = m.instance ++ [];
         evaluation_path = m.evaluation ++ [];
         chain = m.chain;
-        instance_text = ap text_of (sym (append-nil m.instance));
-        evaluation_text = ap text_of (sym (append-nil m.evaluation));
+        instance_text = ap path_text (sym (append-nil m.instance));
+        evaluation_text = ap path_text (sym (append-nil m.evaluation));
       } in
-      goes k bs q (text_of m.instance) (text_of m.evaluation) j (answers_same r w (whole w.value) k bs refl a) o under
-      (ap text_of (m.instance_is ∙ ap (λ x. m.instance ++ path_after x q.step) at) ∙ text_of-append m.instance (path_after [] q.step))
-      (ap text_of (m.evaluation_is ∙ ap (λ x. m.evaluation ++ (q.added ++ x)) on ∙ ap (λ x. m.evaluation ++ x) (append-nil q.added)) ∙ text_of-append m.evaluation q.added)
+      goes k bs q (path_text m.instance) (path_text m.evaluation) j (answers_same r w (whole w.value) k bs refl a) o under
+      (ap path_text (m.instance_is ∙ ap (λ x. m.instance ++ path_after x q.step) at) ∙ path_text-append m.instance (path_after [] q.step))
+      (ap path_text (m.evaluation_is ∙ ap (λ x. m.evaluation ++ (q.added ++ x)) on ∙ ap (λ x. m.evaluation ++ x) (append-nil q.added)) ∙ path_text-append m.evaluation q.added)
 
   -- what is spelled is spelled by a keyword that stands there
   pub first_step : (s : S) (d : Data) (i e : List ℕ) → AreSpelled r s d i e → AreSpelledBy r d (rules r s d) i e
   first_step s d i e h =
       subst (λ x. AreSpelledBy r d (rules r s d) x e) (sym h.instance_text)
-      (subst (λ y. AreSpelledBy r d (rules r s d) (text_of h.instance_path) y) (sym h.evaluation_text)
+      (subst (λ y. AreSpelledBy r d (rules r s d) (path_text h.instance_path) y) (sym h.evaluation_text)
       (opened s (whole d) h.instance_path h.evaluation_path refl refl h.chain))
 
   -- and back
@@ -49,7 +50,7 @@ module _ {S : Type 0} (r : Reading S) where
     evaluation_path = refuses_at k bs ++ [];
     chain = ends k bs (among k j) a wrong;
     instance_text = at;
-    evaluation_text = on ∙ ap text_of (sym (append-nil (refuses_at k bs)));
+    evaluation_text = on ∙ ap path_text (sym (append-nil (refuses_at k bs)));
   }
   from_step s d ks i e among (goes k bs q x y j a o under at on) =
       let m : Moved r q.site (whole (value_after d q.step)) (asked_at (whole d) q) under.instance_path under.evaluation_path =
@@ -59,11 +60,11 @@ module _ {S : Type 0} (r : Reading S) where
         evaluation_path = m.evaluation ++ (q.added ++ []);
         chain = leads k bs q (among k j) a o m.chain;
         instance_text =
-            at ∙ ap (λ t. text_of (path_after [] q.step) ++ t) (under.instance_text ∙ ap text_of (m.instance_is ∙ append-nil m.instance))
-            ∙ sym (text_of-append m.instance (path_after [] q.step));
+            at ∙ ap (λ t. path_text (path_after [] q.step) ++ t) (under.instance_text ∙ ap path_text (m.instance_is ∙ append-nil m.instance))
+            ∙ sym (path_text-append m.instance (path_after [] q.step));
         evaluation_text =
-            on ∙ ap (λ t. text_of q.added ++ t) (under.evaluation_text ∙ ap text_of (m.evaluation_is ∙ append-nil m.evaluation))
-            ∙ sym (text_of-append m.evaluation q.added) ∙ ap (λ x. text_of (m.evaluation ++ x)) (sym (append-nil q.added));
+            on ∙ ap (λ t. path_text q.added ++ t) (under.evaluation_text ∙ ap path_text (m.evaluation_is ∙ append-nil m.evaluation))
+            ∙ sym (path_text-append m.evaluation q.added) ∙ ap (λ x. path_text (m.evaluation ++ x)) (sym (append-nil q.added));
       }
 
   pub spelled_refuses : (s : S) (d : Data) (i e : List ℕ) (b : Bool) → AreSpelled r s d i e → IsTold verdicts r s (whole d) b → b ≡ false

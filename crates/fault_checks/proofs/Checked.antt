@@ -12,15 +12,14 @@ use Rattle.schema_reading.specs.Plain.{plain}
 use Rattle.referencing.specs.Resolved.{scope_of}
 use Rattle.schema_sites.specs.Seen.{documents_at, Stands}
 use Rattle.check_laws.specs.Spelled.{AreSpelled}
-use Rattle.fault_checks.specs.declared.walk.Walk.{Walk}
-use Rattle.fault_checks.specs.declared.walk.Step.TheVariants.{Answered}
+use Rattle.fault_steps.specs.declared.walk.Walk.{Walk}
+use Rattle.fault_steps.specs.declared.walk.Step.TheVariants.{Answered}
 use Rattle.fault_checks.specs.declared.checking.CheckAnswer.TheVariants as answer
-use Rattle.fault_checks.specs.Texts.{text_left, IsNoPath}
+use Rattle.path_parts.specs.Texts.{text_left, IsNoPath}
 use Rattle.schema_roots.specs.Roots.{Root, Finds, IsSound}
 use Rattle.schema_roots.proofs.Found.{finds_one}
-use Rattle.fault_checks.specs.Checked.{IsChecked}
-use Rattle.fault_checks.specs.Scenes.{path_at}
-use Rattle.fault_checks.specs.Steps.{Passes, DecidesRoot}
+use Rattle.fault_checks.specs.Checked.{IsChecked, DecidesRoot}
+use Rattle.fault_steps.specs.Steps.{path_at, Passes}
 
 pub decided_at : (w : Walk) (t : Target) (docs : Documents) (b : Bool) → documents_at w.site ≡ docs → Stands w.site (root_site t) → scope_of w.site.resolver ≡ t.base ∷ [] → path_at w ≡ []
     → Passes w (Answered b) → DecidesRoot t docs (view w.value.now) (text_left w.instance) (text_left w.evaluation) b

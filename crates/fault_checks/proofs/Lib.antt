@@ -1,12 +1,1 @@
-pub mod Right
-pub mod Children
-pub mod Refusals
-pub mod Going
-pub mod ItemSteps
-pub mod Names
-pub mod MemberSteps
-pub mod ReferenceSteps
-pub mod WalkSteps
-pub mod Gathered
-pub mod ItemFacts
 pub mod Checked

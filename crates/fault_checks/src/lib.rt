@@ -2,11 +2,3 @@
 #![tactic(auto)]
 
 pub mod checking;
-mod items;
-mod members;
-mod parts;
-mod refusing;
-mod stepping;
-#[cfg(test)]
-mod tests;
-mod walk;

@@ -5,4 +5,4 @@ mod progress;
 mod read;
 pub mod root;
 pub mod site;
-mod telling;
+pub mod telling;

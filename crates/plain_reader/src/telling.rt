@@ -56,7 +56,8 @@ pub fn tell_types<'i>(
     )
 }
 
-fn has_items(least: u64, value: &Value) -> bool
+/// Whether a value is no list, or a list of as many items as `minItems` asks for (Validation 6.4.2).
+pub fn has_items(least: u64, value: &Value) -> bool
     ensures { result ≡ list_is (λ ds. nat_le least (count_items ds)) (view value.now) }
 {
     match value {

@@ -17,8 +17,9 @@ use Rattle.schema_reading.specs.Plain.{keywords_at, plain}
 use Rattle.schema_reading.specs.NotYet.{is_read_draft, is_unread, read_now}
 use Rattle.schema_reading.specs.Rows.{Row, Context, row_at, rows_of, rows_in, rows_at, no_schema}
 use Rattle.meaning_laws.proofs.Obliged.{in_map}
-use Rattle.check_laws.specs.Spelled.{text_of, AreSpelled, AreSpelledBy, refuses, goes}
-use Rattle.check_laws.proofs.Parts.{text_of-append}
+use Rattle.schema_reading.specs.PathTexts.{path_text}
+use Rattle.check_laws.specs.Spelled.{AreSpelled, AreSpelledBy, refuses, goes}
+use Rattle.check_laws.proofs.Parts.{path_text-append}
 use Rattle.check_laws.proofs.Steps.{first_step, from_step}
 use Rattle.walk_laws.specs.Words.{IsRest, nothing, part, IsOf}
 use Rattle.walk_laws.proofs.Cuts.{rest_of, rest_append}
@@ -89,13 +90,13 @@ module _ {S : Type 0} (r : Reading S) (d : Data) (k : List ℕ) where
   pub begun : (shapes : List (Shape S)) (i e : List ℕ) → AllByRecursion (IsOf k) shapes → AreSpelledBy r d (map (rule r.matches d) shapes) i e
       → (rest : List ℕ) × (e ≡ 47 ∷ (escape k ++ rest)) × IsRest rest
   begun shapes i e h (refuses x bs j a wrong at_i on_e) =
-      ([], on_e ∙ ap text_of ((rule_of shapes h x j).own bs), nothing)
+      ([], on_e ∙ ap path_text ((rule_of shapes h x j).own bs), nothing)
   begun shapes i e h (goes x bs q i' e' j a o under at_i on_e) =
       let w = (rule_of shapes h x j).on bs q o in
-      let text : e ≡ (text_of (at k) ++ text_of w.0) ++ e' = on_e ∙ ap (λ t. t ++ e') (ap text_of w.1 ∙ text_of-append w.0 (at k)) in (
-        text_of w.0 ++ e',
-        text ∙ ap (λ t. (t ++ text_of w.0) ++ e') (ap (λ t. 47 ∷ t) (append-nil (escape k))) ∙ append_assoc (47 ∷ escape k) (text_of w.0) e',
-        rest_append (text_of w.0) e' (rest_of _) (subst IsRest (sym under.evaluation_text) (rest_of _)),
+      let text : e ≡ (path_text (at k) ++ path_text w.0) ++ e' = on_e ∙ ap (λ t. t ++ e') (ap path_text w.1 ∙ path_text-append w.0 (at k)) in (
+        path_text w.0 ++ e',
+        text ∙ ap (λ t. (t ++ path_text w.0) ++ e') (ap (λ t. 47 ∷ t) (append-nil (escape k))) ∙ append_assoc (47 ∷ escape k) (path_text w.0) e',
+        rest_append (path_text w.0) e' (rest_of _) (subst IsRest (sym under.evaluation_text) (rest_of _)),
       )
 
 -- by one of these rules, whichever others there are

@@ -7,8 +7,8 @@ use Rattle.referencing.specs.Resolved.{documents_in, base_of, target_in}
 use Rattle.schema_registries.specs.Seen.{documents_in_registry}
 use Rattle.target_laws.proofs.Looked.{lookups_lie}
 use Rattle.schema_roots.specs.Roots.{Root, Finds, root_on}
-use Rattle.fault_checks.specs.Steps.{DecidesRoot}
-use Rattle.fault_checks.specs.Texts.{text_left}
+use Rattle.fault_checks.specs.Checked.{DecidesRoot}
+use Rattle.path_parts.specs.Texts.{text_left}
 use Rattle.fault_checks.proofs.Checked.{accepted_by, refused_by, no_instance, no_evaluation, not_found}
 use Rattle.fault_checks.proofs.checking.check_fault.Goals as goal
 

@@ -3,7 +3,7 @@ use Rattle.std.proofs.lemmas.Result.{IfOk-weaker}
 use Rattle.schema_reading.specs.Sites.{path_of_reference}
 use Rattle.referencing.specs.Resolved.{documents_in, target_in}
 use Rattle.plain_reader.proofs.RootTelling.{root_shallow}
-use Rattle.fault_checks.specs.Scenes.{behind}
+use Rattle.keyword_refusals.specs.Scenes.{behind}
 use Rattle.fault_checks.proofs.Checked.{decided_at}
 use Rattle.fault_checks.proofs.checking.is_spelled.Goals as goal
 

@@ -1,8 +1,8 @@
 use Rattle.std.proofs.Common.{subst}
-use Rattle.fault_checks.specs.Texts.{text_left}
-use Rattle.fault_checks.specs.Steps.{Passes, IsShorter}
-use Rattle.fault_checks.specs.declared.walk.Step.TheVariants.{Answered, On}
-use Rattle.fault_checks.proofs.WalkSteps.{passes_on, passes_first}
+use Rattle.path_parts.specs.Texts.{text_left}
+use Rattle.fault_steps.specs.Steps.{Passes, IsShorter}
+use Rattle.fault_steps.specs.declared.walk.Step.TheVariants.{Answered, On}
+use Rattle.fault_steps.proofs.WalkSteps.{passes_on, passes_first}
 use Rattle.fault_checks.proofs.checking.walked.Goals as goal
 
 pub loop-accepted-init : goal.loop-accepted-init

@@ -1,7 +1,7 @@
 use Rattle.std.proofs.Common.{length}
-use Rattle.fault_checks.specs.Texts.{text_left}
-use Rattle.fault_checks.specs.Steps.{Passes}
-use Rattle.fault_checks.specs.declared.walk.Step.TheVariants.{On}
+use Rattle.path_parts.specs.Texts.{text_left}
+use Rattle.fault_steps.specs.Steps.{Passes}
+use Rattle.fault_steps.specs.declared.walk.Step.TheVariants.{On}
 use Rattle.fault_checks.proofs.checking.walked.Given as goal
 
 abbrev pub invariant-loop-accepted : goal.invariant-loop-accepted

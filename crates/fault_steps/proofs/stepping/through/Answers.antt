@@ -1,0 +1,49 @@
+use Rattle.std.proofs.Common.{ap, subst}
+use Rattle.std.proofs.lemmas.Result.{IfOk-weaker}
+use Rattle.serde_json.specs.View.{view, members_view}
+use Rattle.schema_meaning.specs.Keywords.{types, min_items}
+use Rattle.referencing.specs.Resolved.{target_in}
+use Rattle.schema_types.specs.Named.{names_in}
+use Rattle.schema_sites.specs.Read.{row_of}
+use Rattle.keyword_refusals.specs.Rows.{items_row, properties_row, reference_row}
+use Rattle.keyword_refusals.specs.Verdicts.{LiesIn}
+use Rattle.fault_steps.proofs.ReferenceSteps.{asserted_passes, nothing_passes, by_row}
+use Rattle.fault_steps.proofs.stepping.through.Goals as goal
+
+pub through_items-requires : goal.through_items-requires
+through_items-requires c = record { inside = subst (LiesIn c.args.walk.site) c.in-Items.is c.requires.lies; more = c.requires.more }
+
+pub through_properties-requires : goal.through_properties-requires
+through_properties-requires c = record { inside = subst (LiesIn c.args.walk.site) c.in-Properties.is c.requires.lies; more = c.requires.more }
+
+pub through_reference-requires : goal.through_reference-requires
+through_reference-requires c = record { found = subst (LiesIn c.args.walk.site) c.in-Reference.is c.requires.lies; more = c.requires.more }
+
+pub returns-in-Items-clause-passes : goal.returns-in-Items-clause-passes
+returns-in-Items-clause-passes c =
+    IfOk-weaker c.through_items.result _ _
+    (λ st h. by_row c.args.walk c.args.keyword (items_row c.in-Items.start (view c.in-Items.schema.now)) c.args.after st (λ x s. ap (λ k. row_of x.documents s k) c.in-Items.is) h)
+    c.through_items.ensures.passes
+
+pub returns-in-Properties-clause-passes : goal.returns-in-Properties-clause-passes
+returns-in-Properties-clause-passes c =
+    IfOk-weaker c.through_properties.result _ _
+    (λ st h. by_row c.args.walk c.args.keyword (properties_row (members_view c.in-Properties.schemas.now.entries)) c.args.after st (λ x s. ap (λ k. row_of x.documents s k) c.in-Properties.is) h)
+    c.through_properties.ensures.passes
+
+pub returns-in-Reference-clause-passes : goal.returns-in-Reference-clause-passes
+returns-in-Reference-clause-passes c =
+    IfOk-weaker c.through_reference.result _ _
+    (λ st h. by_row c.args.walk c.args.keyword (reference_row c.in-Reference.text.now (target_in c.in-Reference.target)) c.args.after st (λ x s. ap (λ k. row_of x.documents s k) c.in-Reference.is) h)
+    c.through_reference.ensures.passes
+
+pub returns-in-Nothing-clause-passes : goal.returns-in-Nothing-clause-passes
+returns-in-Nothing-clause-passes c = nothing_passes c.args.walk c.args.keyword c.args.after (λ x s. ap (λ k. (row_of x.documents s k).shapes) c.in-Nothing.is)
+
+pub returns-in-Types-clause-passes : goal.returns-in-Types-clause-passes
+returns-in-Types-clause-passes c =
+    asserted_passes c.args.walk c.args.keyword (types (names_in c.in-Types._names)) c.args.after c.requires.more (λ x s. ap (λ k. (row_of x.documents s k).shapes) c.in-Types.is)
+
+pub returns-clause-passes : goal.returns-clause-passes
+returns-clause-passes c =
+    asserted_passes c.args.walk c.args.keyword (min_items c.in-MinItems._least) c.args.after c.requires.more (λ x s. ap (λ k. (row_of x.documents s k).shapes) c.in-MinItems.is)

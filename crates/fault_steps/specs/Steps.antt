@@ -1,0 +1,78 @@
+-- What a step of a walk comes to.
+use Rattle.std.specs.Prelude.{◌≡◌, ◌++◌, ◌<◌, ◌≤◌, ℕ, List, map, [], ◌∷◌, Option, length, Bool, true, false}
+use Rattle.std.specs.Borrow.{Bor}
+use Rattle.serde_json.specs.Data.{Data, boolean}
+use Rattle.serde_json.specs.View.{view}
+use Rattle.json_paths.specs.Parts.{Part}
+use Rattle.schema_meaning.specs.Places.{whole}
+use Rattle.schema_meaning.specs.Circular.{IsCircular}
+use Rattle.schema_meaning.specs.Keywords.{rule}
+use Rattle.schema_reading.specs.Sites.{Site, path_of_reference}
+use Rattle.schema_reading.specs.Rows.{Row}
+use Rattle.schema_reports.specs.References.{text_of}
+use Rattle.schema_sites.specs.Read.{row_of}
+use Rattle.schema_sites.specs.declared.keyword.Keyword.{Keyword}
+use Rattle.check_laws.specs.Spelled.{AreSpelled, AreSpelledBy}
+use Rattle.fault_steps.specs.declared.walk.Walk.{Walk}
+use Rattle.fault_steps.specs.declared.walk.Step.{Step}
+use Rattle.fault_steps.specs.declared.walk.Step.TheVariants.{Answered, On}
+use Rattle.path_parts.specs.Texts.{text_left}
+use Rattle.keyword_refusals.specs.Scenes.{Scene, reading_of, Meets, IsStraight, Stage, behind}
+use Rattle.keyword_refusals.specs.Verdicts.{IsDecided, rules_by}
+
+-- the path of the schema where a walk has come to
+abbrev pub path_at : Walk → List Part
+path_at w = behind w.parts.items [] ++ path_of_reference (text_of w.reference)
+
+-- what is left of a walk's paths is spelled from a site
+abbrev pub IsLeft : Scene → Walk → Site → Type 0
+IsLeft x w s = AreSpelled (reading_of x) s (view w.value.now) (text_left w.instance) (text_left w.evaluation)
+
+-- the walk goes on at a site, from which what is left is spelled exactly where P holds
+pub record GoesOn (x : Scene) (s : Site) (d : Data) (P : Type 0) (w : Walk) : Type 0 where
+  pub site : Site
+  pub meets : Meets w.site (path_at w) x site
+  pub back : IsCircular (reading_of x) site (whole (view w.value.now)) → IsCircular (reading_of x) s (whole d)
+  pub to : P → IsLeft x w site
+  pub from : IsLeft x w site → P
+
+abbrev pub Outcome : Scene → Site → Data → Type 0 → Step → Type 0
+Outcome x s d P (Answered b) = IsDecided b P
+Outcome x s d P (On w) = GoesOn x s d P w
+
+-- the step of a walk
+pub record Passes (w : Walk) (step : Step) : Type 0 where
+  pub outcome : (x : Scene) (s : Site) → Meets w.site (path_at w) x s → IsStraight x s (view w.value.now) → Outcome x s (view w.value.now) (IsLeft x w s) step
+
+-- the step by a keyword, `after` being what is left of the evaluation path behind its name
+pub record PassesBy (w : Walk) (k : Keyword) (after : Option (Bor (List ℕ))) (step : Step) : Type 0 where
+  pub outcome : (x : Scene) (s : Site) (name : List ℕ) → Stage w.site (path_at w) (view w.value.now) name (row_of x.documents s k) x s
+      → Outcome x s (view w.value.now) (AreSpelledBy (reading_of x) (view w.value.now) (rules_by x s (view w.value.now) k) (text_left w.instance) (47 ∷ (name ++ text_left after))) step
+
+-- the same by its row, for the keywords that ask
+pub record PassesThrough (w : Walk) (row : Scene → Site → Row) (after : Option (Bor (List ℕ))) (step : Step) : Type 0 where
+  pub outcome : (x : Scene) (s : Site) (name : List ℕ) → Stage w.site (path_at w) (view w.value.now) name (row x s) x s
+      → Outcome x s (view w.value.now) (AreSpelledBy (reading_of x) (view w.value.now) (map (rule x.matches (view w.value.now)) (row x s).shapes) (text_left w.instance) (47 ∷ (name ++ text_left after))) step
+
+-- no more than this is left of the evaluation path
+abbrev pub IsNotLonger : Option (Bor (List ℕ)) → Step → Type 0
+IsNotLonger after (Answered b) = Unit {0}
+IsNotLonger after (On w) = length (text_left w.evaluation) ≤ length (text_left after)
+
+-- less is left of the evaluation path
+abbrev pub IsShorter : List ℕ → Step → Type 0
+IsShorter evaluation (Answered b) = Unit {0}
+IsShorter evaluation (On w) = length (text_left w.evaluation) < length evaluation
+
+-- something is left of one of the paths
+pub record IsMore (instance after : Option (Bor (List ℕ))) : Type 0 where
+  pub more : text_left instance ≡ [] → text_left after ≡ [] → ⊥
+
+pub record IsDone (instance after : Option (Bor (List ℕ))) : Type 0 where
+  pub no_instance : text_left instance ≡ []
+  pub no_after : text_left after ≡ []
+
+-- whether a schema is `false` where nothing is left of the instance's path
+pub record Ends (d : Data) (instance : Option (Bor (List ℕ))) (b : Bool) : Type 0 where
+  pub ends : b ≡ true → (d ≡ boolean false) × (text_left instance ≡ [])
+  pub only : d ≡ boolean false → text_left instance ≡ [] → b ≡ true

@@ -1,0 +1,156 @@
+//! One step of a walk.
+ghost use Rattle.std.specs.Prelude.{◌≡◌, ◌<◌, ◌∷◌, ◌||◌, IfOk, is_some};
+ghost use Rattle.serde_json.specs.Data.{depth};
+ghost use Rattle.serde_json.specs.View.{view};
+ghost use Rattle.referencing.specs.Resolved.{target_in};
+ghost use Rattle.schema_sites.specs.Read.{FindsTarget};
+ghost use Rattle.keyword_refusals.specs.Rows.{reference_row};
+ghost use Rattle.path_parts.specs.Texts.{text_left};
+ghost use Rattle.keyword_refusals.specs.Verdicts.{LiesIn};
+ghost use Rattle.fault_steps.specs.Steps.{Passes, PassesBy, PassesThrough, IsMore, Ends, IsNotLonger, IsShorter};
+
+use crate::items::through_items;
+use crate::members::through_properties;
+use crate::walk::{Step, Walk};
+use keyword_refusals::members::names_rise;
+use keyword_refusals::refusing::refuses;
+use path_parts::members::member_named;
+use path_parts::parts::first_part;
+use referencing::Resolved;
+use schema_reports::{LazyLocation, Reference};
+use schema_sites::keyword::{Keyword, Refusal};
+use schema_sites::reading::keyword as read_keyword;
+use schema_sites::site::at_target;
+use serde_json::Value;
+use std::alloc::{AllocError, Global};
+
+// The step by a reference, to its target.
+fn through_reference<'r, 'i, 'p>(
+    alloc: Global,
+    walk: Walk<'r, 'i, 'p>,
+    text: &'r str,
+    target: Resolved<'r>,
+    after: Option<&'p str>,
+) -> Result<Step<'r, 'i, 'p>, AllocError>
+    requires found { FindsTarget walk.site text.now target }
+    requires more { IsMore walk.instance after }
+    ensures passes { IfOk result (PassesThrough walk.entry (reference_row text.now (target_in target.entry)) after.entry) }
+    ensures shorter { IfOk result (IsNotLonger after.entry) }
+{
+    let site = at_target(&target)?;
+    Ok(Step::On(Walk {
+        site,
+        parts: Vec::new(alloc),
+        reference: Reference::followed(text),
+        value: walk.value,
+        instance: walk.instance,
+        evaluation: after,
+    }))
+}
+
+// The step by a keyword, where something is left of a path behind it.
+fn through<'r, 'i, 'p>(
+    alloc: Global,
+    walk: Walk<'r, 'i, 'p>,
+    keyword: Keyword<'r>,
+    after: Option<&'p str>,
+) -> Result<Step<'r, 'i, 'p>, AllocError>
+    requires lies { LiesIn walk.site keyword }
+    requires more { IsMore walk.instance after }
+    ensures passes { IfOk result (PassesBy walk.entry keyword.entry after.entry) }
+    ensures shorter { IfOk result (IsNotLonger after.entry) }
+{
+    match keyword {
+        Keyword::Items { start, schema } => through_items(alloc, walk, start, schema, after),
+        Keyword::Properties(schemas) => through_properties(alloc, walk, schemas, after),
+        Keyword::Reference { text, target } => through_reference(alloc, walk, text, target, after),
+        Keyword::Nothing => Ok(Step::Answered(false)),
+        Keyword::Types(_names) => Ok(Step::Answered(false)),
+        Keyword::MinItems(_least) => Ok(Step::Answered(false)),
+    }
+}
+
+// Whether something is left of one of two paths.
+fn is_more(instance: Option<&str>, after: Option<&str>) -> bool
+    ensures { result ≡ (is_some instance.entry || is_some after.entry) }
+{
+    instance.is_some() || after.is_some()
+}
+
+// The step by a keyword: where nothing is left of the paths behind it, whether it refuses.
+fn by_keyword<'r, 'i, 'p>(
+    alloc: Global,
+    walk: Walk<'r, 'i, 'p>,
+    keyword: Keyword<'r>,
+    after: Option<&'p str>,
+) -> Result<Step<'r, 'i, 'p>, AllocError>
+    requires lies { LiesIn walk.site keyword }
+    ensures passes { IfOk result (PassesBy walk.entry keyword.entry after.entry) }
+    ensures shorter { IfOk result (IsNotLonger after.entry) }
+{
+    if is_more(walk.instance, after) {
+        return through(alloc, walk, keyword, after);
+    }
+    let start = LazyLocation::new();
+    let refused = refuses(
+        alloc,
+        &walk.site,
+        &walk.parts,
+        &start,
+        walk.reference,
+        keyword,
+        walk.value,
+    )?;
+    Ok(Step::Answered(refused))
+}
+
+// Whether a schema is `false` where nothing is left of the instance's path.
+fn ends_here(contents: &Value, instance: Option<&str>) -> bool
+    ensures { Ends (view contents.now) instance.entry result }
+{
+    match contents {
+        Value::Bool(false) => instance.is_none(),
+        _ => false,
+    }
+}
+
+// The step by the name that the evaluation path goes on with.
+fn by_name<'r, 'i, 'p>(
+    alloc: Global,
+    walk: Walk<'r, 'i, 'p>,
+    text: &'p str,
+) -> Result<Step<'r, 'i, 'p>, AllocError>
+    requires text { text_left walk.evaluation ≡ 47 ∷ text.now }
+    ensures passes { IfOk result (Passes walk.entry) }
+    ensures shorter { IfOk result (IsShorter (47 ∷ text.now)) }
+{
+    let (name, after) = first_part(text);
+    let Value::Object(members) = walk.site.contents else {
+        return Ok(Step::Answered(false));
+    };
+    names_rise(members);
+    let Some(part) = member_named(members, name) else {
+        return Ok(Step::Answered(false));
+    };
+    match read_keyword(alloc, &walk.site, members, name, part) {
+        Ok(keyword) => by_keyword(alloc, walk, keyword, after),
+        Err(refusal) => match refusal {
+            Refusal::Memory => Err(AllocError),
+            _ => Ok(Step::Answered(false)),
+        },
+    }
+}
+
+/// One step of a walk.
+pub fn step<'r, 'i, 'p>(
+    alloc: Global,
+    walk: Walk<'r, 'i, 'p>,
+) -> Result<Step<'r, 'i, 'p>, AllocError>
+    ensures passes { IfOk result (Passes walk.entry) }
+    ensures shorter { IfOk result (IsShorter (text_left walk.entry.evaluation)) }
+{
+    match walk.evaluation {
+        None => Ok(Step::Answered(ends_here(walk.site.contents, walk.instance))),
+        Some(text) => by_name(alloc, walk, text),
+    }
+}

@@ -1,0 +1,75 @@
+-- The sites of subschemas and of targets.
+use Rattle.std.proofs.Common.{◌≡◌, ◌∙◌, ◌++◌, ◌≤◌, ℕ, List, [], ◌∷◌, false, refl, sym, ap, ap₂, subst}
+use Rattle.serde_json.specs.Data.{Data, depth}
+use Rattle.serde_json.specs.View.{view}
+use Rattle.json_paths.specs.Parts.{Part}
+use Rattle.schema_documents.specs.Bearers.{Documents, meta}
+use Rattle.schema_documents.specs.Places.{Dialect, Named, settled, awaited, placed, by_schema, schema_in_force}
+use Rattle.schema_documents.specs.Scopes.{entered_scope}
+use Rattle.schema_reading.specs.Sites.{Site, below, target_site, path_of_reference}
+use Rattle.schema_reading.specs.NotYet.{awaits_its_own}
+use Rattle.schema_reading.specs.Plain.{deepest}
+use Rattle.referencing.specs.Resolved.{base_of, scope_of, documents_in, target_in}
+use Rattle.referencing.specs.declared.resolver.Resolved.{Resolved}
+use Rattle.schema_sites.specs.Seen.{documents_at, Stands}
+use Rattle.schema_sites.specs.Read.{FindsTarget}
+use Rattle.schema_sites.specs.declared.site.Site as code
+use Rattle.target_laws.proofs.Looked.{lookups_lie}
+use Rattle.plain_reader.proofs.ItemTelling.{Child}
+use Rattle.plain_reader.proofs.Reading.{read_here, is_read}
+use Rattle.keyword_refusals.specs.Scenes.{Scene, IsRight, Meets}
+use Rattle.keyword_refusals.proofs.Right.{right_read}
+
+placed_contents : (outer : List ℕ) (around : Dialect) (path : List Part) (d : Data) (n : Named) → (placed outer around path d n).contents ≡ d
+placed_contents outer around path d (settled dialect) = refl
+placed_contents outer around path d (awaited uri) = refl
+
+pub below_contents : (docs : Documents) (s : Site) (added : List Part) (d : Data) → (below docs s added d).contents ≡ d
+below_contents docs s added d = placed_contents s.base s.dialect (added ++ s.path) d (by_schema (meta docs) s.dialect (schema_in_force false d))
+
+-- the schema of a site is the code's
+pub meets_shallow : (c : code.Site) (path : List Part) (x : Scene) (s : Site) → Meets c path x s → depth (view c.contents.now) ≤ deepest (documents_at c) → depth s.contents ≤ deepest x.documents
+meets_shallow c path x s m h =
+    subst (λ (docs : Documents). depth s.contents ≤ deepest docs) (sym m.documents) (subst (λ e. depth e ≤ deepest (documents_at c)) (sym m.stands.contents) h)
+
+-- a subschema
+pub child_meets : (c b : code.Site) (d : Data) (added path : List Part) (x : Scene) (s : Site) → Child c b d → Meets c path x s → IsRight x (below x.documents s added d)
+    → Meets b (added ++ path) x (below x.documents s added d)
+child_meets c b d added path x s child m right =
+    let inner = below x.documents s added d in
+    let own : awaits_its_own d ≡ false =
+    subst (λ e. awaits_its_own e ≡ false) (below_contents x.documents s added d) (is_read inner (read_here x.documents x.makes inner (right_read x inner right))).own in
+    let stands : Stands b inner = subst (λ docs. Stands b (below docs s added d)) (sym m.documents) (child.stands s added m.stands own) in
+    record {
+      documents = m.documents ∙ sym child.documents;
+      stands = stands;
+      scope = ap₂ (λ new present. entered_scope new present s.scope) stands.base m.stands.base ∙ ap (entered_scope (base_of b.resolver) (base_of c.resolver)) m.scope ∙ sym child.scope;
+      schema_path = ap (λ p. added ++ p) m.schema_path;
+      right = right;
+    }
+
+-- what `at_target` gives
+pub record AtTarget (c inner : code.Site) (text : List ℕ) (target : Resolved) : Type 0 where
+  pub found : FindsTarget c text target
+  pub contents : view inner.contents.now ≡ (target_in target).contents
+  pub base : base_of inner.resolver ≡ base_of target.resolver
+  pub scope : scope_of inner.resolver ≡ scope_of target.resolver
+  pub documents : documents_at inner ≡ documents_in target.resolver ∷ []
+  pub stands : (s : Site) (reference : List ℕ) → Stands inner (target_site s reference (target_in target))
+
+pub target_meets : (c inner : code.Site) (text : List ℕ) (target : Resolved) (path : List Part) (x : Scene) (s : Site) → AtTarget c inner text target → Meets c path x s
+    → IsRight x (target_site s text (target_in target)) → Meets inner (path_of_reference text) x (target_site s text (target_in target))
+target_meets c inner text target path x s at m right = record {
+  documents = m.documents ∙ sym (at.documents ∙ ap (λ own. own ∷ []) at.found.documents);
+  stands = at.stands s text;
+  scope =
+      ap₂ (λ present outer. entered_scope (base_of target.resolver) present outer) m.stands.base m.scope ∙ sym at.found.scope ∙ sym at.scope;
+  schema_path = refl;
+  right = right;
+}
+
+pub target_shallow : (c inner : code.Site) (text : List ℕ) (target : Resolved) → AtTarget c inner text target → depth (view inner.contents.now) ≤ deepest (documents_at inner)
+target_shallow c inner text target at =
+    let lies = lookups_lie (documents_at c) (base_of c.resolver) text (target_in target) at.found.found in
+    subst (λ (docs : Documents). depth (view inner.contents.now) ≤ deepest docs) (sym (at.documents ∙ ap (λ own. own ∷ []) at.found.documents))
+    (subst (λ (e : Data). depth e ≤ deepest (documents_at c)) (sym at.contents) lies.shallow)

@@ -1,0 +1,7 @@
+pub mod Right
+pub mod Children
+pub mod Names
+pub mod ItemQuestions
+pub mod MemberQuestions
+pub mod Refusals
+pub mod Gathered

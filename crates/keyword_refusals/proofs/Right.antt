@@ -1,0 +1,90 @@
+-- What nothing wrong below a site says of its rows.
+use Rattle.std.proofs.Common.{◌≡◌, ◌≤◌, ℕ, List, [], ◌∷◌, Bool, false, None, refl}
+use Rattle.std.specs.List.{AllByRecursion}
+use Rattle.serde_json.specs.Data.{Data, object, Members, depth}
+use Rattle.json_paths.specs.Pointers.{escape}
+use Rattle.schema_meaning.specs.Members.{In, first}
+use Rattle.schema_meaning.specs.Places.{whole, value_after, called_after}
+use Rattle.schema_meaning.specs.Questions.{Question, listed_members}
+use Rattle.schema_meaning.specs.Rules.{asks}
+use Rattle.schema_meaning.specs.Keywords.{Shape, rule}
+use Rattle.schema_meaning.specs.Readings.{verdicts, Asks, IsTold}
+use Rattle.schema_meaning.specs.Circular.{IsCircular}
+use Rattle.schema_meaning.specs.Cut.{cut}
+use Rattle.schema_reading.specs.Sites.{Site}
+use Rattle.schema_reading.specs.Rows.{BuildCause, Row, row_at, rows_at}
+use Rattle.schema_reading.specs.BuildCauses.{at_root, by_keyword}
+use Rattle.schema_reading.specs.NotYet.{Cause, wrong, not_yet, unread, is_unread, IsBuildCause, is_wrong, is_not_yet}
+use Rattle.schema_reading.specs.Plain.{deepest}
+use Rattle.schema_reading.specs.AllKeys.{keys_of}
+use Rattle.meaning_laws.proofs.Decided.{cut_is_decided}
+use Rattle.meaning_laws.proofs.Obliged.{in_map}
+use Rattle.plain_laws.proofs.Nested.{nested}
+use Rattle.plain_laws.proofs.Keys.{all_keys}
+use Rattle.plain_reader.specs.Tellings.{AreRead}
+use Rattle.plain_reader.proofs.Reading.{reached_on, read_here, is_read, read_each}
+use Rattle.check_laws.proofs.Straight.{circular_above}
+use Rattle.walk_laws.specs.Words.{IsOf}
+use Rattle.walk_laws.proofs.Named.{shapes_are_of, shaped_plain}
+use Rattle.walk_laws.proofs.Begun.{context, rules_stand}
+use Rattle.keyword_refusals.specs.Scenes.{Scene, reading_of, IsRight, IsStraight}
+
+none_in : {A : Type 0} (xs : List A) → ((x : A) → In x xs → ⊥) → xs ≡ []
+none_in [] h = refl
+none_in (x ∷ xs) h = elim (h x first) [ ]
+
+module _ (x : Scene) where
+  pub right_read : (s : Site) → IsRight x s → AreRead x.documents x.makes s
+  right_read s r = record { each = λ t reached. none_in (unread t) (λ p i. r.none (not_yet p) (is_not_yet (record { site = t; reached = reached; stands = i }))) }
+
+  cause_above : (s : Site) (row : Row) (t : Site) → In row (rows_at x.documents x.makes s) → In t row.leads → (cause : Cause)
+      → IsBuildCause x.documents x.makes t cause → IsBuildCause x.documents x.makes s cause
+  cause_above s row t i j _ (is_wrong w) =
+      is_wrong (record { site = w.site; reached = reached_on x.documents x.makes s t w.site (by_keyword row t at_root i j) w.reached; row = w.row; stands = w.stands; wrong = w.wrong })
+  cause_above s row t i j _ (is_not_yet u) =
+      is_not_yet (record { site = u.site; reached = reached_on x.documents x.makes s t u.site (by_keyword row t at_root i j) u.reached; stands = u.stands })
+
+  -- nothing is wrong below a site that a row leads to
+  pub right_on : (s : Site) (row : Row) (t : Site) → IsRight x s → In row (rows_at x.documents x.makes s) → In t row.leads → IsRight x t
+  right_on s row t r i j = record { none = λ cause h. r.none cause (cause_above s row t i j cause h) }
+
+  pub no_cause : (s : Site) (row : Row) (cause : BuildCause) → IsRight x s → In row (rows_at x.documents x.makes s) → In cause row.causes → ⊥
+  no_cause s row cause r i j = r.none (wrong cause) (is_wrong (record { site = s; reached = at_root; row = row; stands = i; wrong = j }))
+
+  pub member_read : (s : Site) (ms : Members) (k : List ℕ) (v : Data) → IsRight x s → s.contents ≡ object ms → In (k, v) (listed_members ms) → is_unread s ms k ≡ false
+  member_read s ms k v r is i = read_each s ms k v (is_read s (read_here x.documents x.makes s (right_read s r))) is i
+
+  -- the shapes of a member bear its name, which is written as it is
+  pub member_named : (s : Site) (ms : Members) (k : List ℕ) (v : Data) → IsRight x s → s.contents ≡ object ms → In (k, v) (listed_members ms)
+      → AllByRecursion (IsOf k) (row_at (context x.documents x.makes x.matches s ms) k v).shapes
+  member_named s ms k v r is i =
+      shapes_are_of (context x.documents x.makes x.matches s ms) k v (is_read s (read_here x.documents x.makes s (right_read s r))).draft (member_read s ms k v r is i)
+
+  pub member_plain : (s : Site) (ms : Members) (k : List ℕ) (v : Data) → IsRight x s → s.contents ≡ object ms → In (k, v) (listed_members ms)
+      → (shape : Shape Site) → In shape (row_at (context x.documents x.makes x.matches s ms) k v).shapes → escape k ≡ k
+  member_plain s ms k v r is i = shaped_plain (context x.documents x.makes x.matches s ms) k v (member_read s ms k v r is i)
+
+  -- where no references come back, the cut reading's verdict is the decided one
+  pub told_there : (s : Site) (d : Data) → depth s.contents ≤ deepest x.documents → IsStraight x s d
+      → IsTold verdicts (reading_of x) s (whole d) (cut verdicts (reading_of x) (keys_of x.documents d) [] s (whole d))
+  unfolding nested
+  told_there s d shallow straight = record {
+    unfoldings = _;
+    is = cut_is_decided Site Bool verdicts (reading_of x) s (whole d) (keys_of x.documents d) (nested x.documents x.makes x.matches) shallow
+        (all_keys x.documents x.makes x.matches s d) straight;
+  }
+
+  -- ---- a row of a site
+
+  pub row_asks : (s : Site) (row : Row) (d : Data) (shape : Shape Site) (q : Question Site) → In row (rows_at x.documents x.makes s) → In shape row.shapes
+      → In q (asks (rule x.matches d shape)) → Asks (reading_of x) s (whole d) q
+  row_asks s row d shape q i j h = record {
+    keyword = rule x.matches d shape;
+    stands = rules_stand x.documents x.makes x.matches s row d i (rule x.matches d shape) (in_map (rule x.matches d) shape row.shapes j);
+    asked = h;
+  }
+
+  -- where references come back below a question, they do where it is asked
+  pub asked_back : (s : Site) (row : Row) (d : Data) (shape : Shape Site) (q : Question Site) → In row (rows_at x.documents x.makes s) → In shape row.shapes
+      → In q (asks (rule x.matches d shape)) → called_after None q.step ≡ None → IsCircular (reading_of x) q.site (whole (value_after d q.step)) → IsCircular (reading_of x) s (whole d)
+  asked_back s row d shape q i j h called circular = circular_above (reading_of x) s d q (row_asks s row d shape q i j h) called circular

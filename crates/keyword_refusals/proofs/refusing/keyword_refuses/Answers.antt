@@ -1,0 +1,78 @@
+use Rattle.std.proofs.Common.{◌++◌, ap, refl, subst, codes, nat_le}
+use Rattle.std.proofs.lemmas.Result.{IfOk-weaker}
+use Rattle.serde_json.specs.View.{view, members_view}
+use Rattle.schema_values.specs.Kinds.{has_some_type}
+use Rattle.schema_values.specs.Texts.{count_items}
+use Rattle.schema_meaning.specs.Faults.{Types, MinItems}
+use Rattle.schema_meaning.specs.Keywords.{list_is}
+use Rattle.schema_meaning.specs.Questions as asking
+use Rattle.schema_reading.specs.Sites.{path_of_reference}
+use Rattle.referencing.specs.Resolved.{target_in}
+use Rattle.schema_types.specs.Named.{names_in}
+use Rattle.schema_sites.specs.Read.{row_of}
+use Rattle.schema_reports.specs.Locations.{location_of}
+use Rattle.schema_reports.specs.References.{text_of}
+use Rattle.keyword_refusals.specs.Rows.{items_row, items_questions, properties_row, properties_questions, reference_row, reference_questions}
+use Rattle.keyword_refusals.specs.Verdicts.{rules_by, LiesIn}
+use Rattle.keyword_refusals.proofs.Gathered.{by_questions, by_assertion, by_nothing}
+use Rattle.keyword_refusals.proofs.refusing.keyword_refuses.Goals as goal
+
+pub returns-in-Nothing : goal.returns-in-Nothing
+returns-in-Nothing c =
+    by_nothing c.args.site.now (location_of c.args.schema.now ++ path_of_reference (text_of c.args.reference)) (view c.args.value.now) c.args.keyword
+    (λ x s. ap (λ k. rules_by x s (view c.args.value.now) k) c.in-Nothing.is)
+
+pub returns-in-Types : goal.returns-in-Types
+returns-in-Types c =
+    let ts = names_in c.in-Types.names in
+    let d = view c.args.value.now in
+    by_assertion c.args.site.now (location_of c.args.schema.now ++ path_of_reference (text_of c.args.reference)) d c.args.keyword (asking.at (codes "type")) (Types ts) c.accept.result (has_some_type ts d) c.accept.ensures
+    (λ x s. ap (λ k. rules_by x s d k) c.in-Types.is)
+
+pub returns-in-MinItems : goal.returns-in-MinItems
+returns-in-MinItems c =
+    let d = view c.args.value.now in
+    by_assertion c.args.site.now (location_of c.args.schema.now ++ path_of_reference (text_of c.args.reference)) d c.args.keyword (asking.at (codes "minItems")) (MinItems c.in-MinItems.least) c.has_items.result
+    (list_is (λ ds. nat_le c.in-MinItems.least (count_items ds)) d) c.has_items.ensures
+    (λ x s. ap (λ k. rules_by x s d k) c.in-MinItems.is)
+
+pub some_item_refused-requires : goal.some_item_refused-requires
+some_item_refused-requires c = record { shallow = c.requires.shallow; inside = subst (LiesIn c.args.site.now) c.in-Items.is c.requires.lies }
+
+pub some_member_refused-requires : goal.some_member_refused-requires
+some_member_refused-requires c = record { shallow = c.requires.shallow; inside = subst (LiesIn c.args.site.now) c.in-Properties.is c.requires.lies }
+
+pub is_target_refused-requires : goal.is_target_refused-requires
+is_target_refused-requires c = record { shallow = c.requires.shallow; found = subst (LiesIn c.args.site.now) c.in-Reference.is c.requires.lies }
+
+pub returns-in-Items : goal.returns-in-Items
+returns-in-Items c =
+    let d = view c.args.value.now in
+    let path = location_of c.args.schema.now ++ path_of_reference (text_of c.args.reference) in
+    let start = c.in-Items.start in
+    let part = view c.in-Items.part.now in
+    IfOk-weaker c.some_item_refused.result _ _
+    (λ b h. by_questions c.args.site.now path d c.args.keyword (items_row start part) (asking.at (codes "items")) (items_questions start part d) b c.requires.shallow
+    (λ x s. ap (λ k. row_of x.documents s k) c.in-Items.is) (λ x s. refl) h)
+    c.some_item_refused.ensures
+
+pub returns-in-Properties : goal.returns-in-Properties
+returns-in-Properties c =
+    let d = view c.args.value.now in
+    let path = location_of c.args.schema.now ++ path_of_reference (text_of c.args.reference) in
+    let ms = members_view c.in-Properties.schemas.now.entries in
+    IfOk-weaker c.some_member_refused.result _ _
+    (λ b h. by_questions c.args.site.now path d c.args.keyword (properties_row ms) (asking.at (codes "properties")) (properties_questions ms d) b c.requires.shallow
+    (λ x s. ap (λ k. row_of x.documents s k) c.in-Properties.is) (λ x s. refl) h)
+    c.some_member_refused.ensures
+
+pub returns-in-Reference : goal.returns-in-Reference
+returns-in-Reference c =
+    let d = view c.args.value.now in
+    let path = location_of c.args.schema.now ++ path_of_reference (text_of c.args.reference) in
+    let text = c.in-Reference.text.now in
+    let t = target_in c.in-Reference.target in
+    IfOk-weaker c.is_target_refused.result _ _
+    (λ b h. by_questions c.args.site.now path d c.args.keyword (reference_row text t) (asking.at (codes "$ref")) (reference_questions text t) b c.requires.shallow
+    (λ x s. ap (λ k. row_of x.documents s k) c.in-Reference.is) (λ x s. refl) h)
+    c.is_target_refused.ensures

@@ -1,0 +1,3 @@
+pub mod Scenes
+pub mod Rows
+pub mod Verdicts

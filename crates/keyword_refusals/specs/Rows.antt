@@ -1,0 +1,39 @@
+-- The rows and the questions of keywords that ask.
+use Rattle.std.specs.Prelude.{ℕ, List, [], ◌∷◌, true, codes}
+use Rattle.serde_json.specs.Data.{Data, Members}
+use Rattle.json_paths.specs.Parts.{name}
+use Rattle.schema_meaning.specs.Places.{stay}
+use Rattle.schema_meaning.specs.Questions.{Question, at, each_item, items_from, items_of, each_declared}
+use Rattle.schema_meaning.specs.Keywords.{items, properties, static, reference}
+use Rattle.schema_documents.specs.Lookup.{Target}
+use Rattle.schema_reading.specs.Sites.{Site, below, target_site}
+use Rattle.schema_reading.specs.Rows.{Row, reads, sites_named}
+use Rattle.schema_sites.specs.Read.{each_below}
+use Rattle.keyword_refusals.specs.Scenes.{Scene}
+
+abbrev pub items_site : Data → Scene → Site → Site
+items_site schema x s = below x.documents s (at (codes "items")) schema
+
+abbrev pub items_row : ℕ → Data → Scene → Site → Row
+items_row start schema x s = reads (items_site schema x s ∷ []) (items start (items_site schema x s) ∷ [])
+
+abbrev pub items_questions : ℕ → Data → Data → Scene → Site → List (Question Site)
+items_questions start schema d x s = each_item (codes "items") (items_site schema x s) start (items_from start (items_of d))
+
+abbrev pub property_site : List ℕ → Data → Scene → Site → Site
+property_site n schema x s = below x.documents s (name n ∷ name (codes "properties") ∷ []) schema
+
+abbrev pub declared_in : Members → Scene → Site → List (List ℕ × Site)
+declared_in ms x s = each_below x.documents s (codes "properties") ms
+
+abbrev pub properties_row : Members → Scene → Site → Row
+properties_row ms x s = reads (sites_named (declared_in ms x s)) (properties (declared_in ms x s) ∷ [])
+
+abbrev pub properties_questions : Members → Data → Scene → Site → List (Question Site)
+properties_questions ms d x s = each_declared (codes "properties") d (declared_in ms x s)
+
+abbrev pub reference_row : List ℕ → Target → Scene → Site → Row
+reference_row text t x s = reads (target_site s text t ∷ []) (reference static (target_site s text t) ∷ [])
+
+abbrev pub reference_questions : List ℕ → Target → Scene → Site → List (Question Site)
+reference_questions text t x s = record { site = target_site s text t; step = stay; added = at (codes "$ref"); follows = true } ∷ []

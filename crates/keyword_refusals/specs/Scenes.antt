@@ -1,0 +1,60 @@
+-- The sites of the plain reading that the code's stand for.
+use Rattle.std.specs.Prelude.{◌≡◌, ℕ, List, [], ◌∷◌, Bool}
+use Rattle.serde_json.specs.Data.{Data}
+use Rattle.json_paths.specs.Parts.{Part, name}
+use Rattle.json_paths.specs.Pointers.{escape}
+use Rattle.std.specs.Cow.{cow_str_bytes}
+use Rattle.std.specs.List.{AllByRecursion}
+use Rattle.std.specs.declared.borrow.CowStr.{CowStr}
+use Rattle.schema_meaning.specs.Members.{In}
+use Rattle.schema_meaning.specs.Places.{whole}
+use Rattle.schema_meaning.specs.Keywords.{Shape}
+use Rattle.schema_meaning.specs.Readings.{Reading}
+use Rattle.schema_meaning.specs.Circular.{IsCircular}
+use Rattle.schema_documents.specs.Bearers.{Documents}
+use Rattle.schema_reading.specs.Sites.{Site}
+use Rattle.schema_reading.specs.Plain.{plain}
+use Rattle.schema_reading.specs.Rows.{Row, rows_at}
+use Rattle.schema_reading.specs.NotYet.{Cause, IsBuildCause}
+use Rattle.referencing.specs.Resolved.{scope_of}
+use Rattle.schema_sites.specs.Seen.{documents_at, Stands}
+use Rattle.schema_sites.specs.declared.site.Site as code
+use Rattle.walk_laws.specs.Words.{IsOf}
+
+-- the documents, and how patterns are made and matched
+pub record Scene : Type 0 where
+  pub documents : Documents
+  pub makes : List ℕ → Bool
+  pub matches : List ℕ → List ℕ → Bool
+
+abbrev pub reading_of : Scene → Reading Site
+reading_of x = plain x.documents x.makes x.matches
+
+-- nothing is wrong or unread at the schemas reached from a site
+pub record IsRight (x : Scene) (s : Site) : Type 0 where
+  pub none : (cause : Cause) → IsBuildCause x.documents x.makes s cause → ⊥
+
+-- a site of the plain reading that the code's stands for, under this schema path
+pub record Meets (c : code.Site) (path : List Part) (x : Scene) (s : Site) : Type 0 where
+  pub documents : x.documents ≡ documents_at c
+  pub stands : Stands c s
+  pub scope : s.scope ≡ scope_of c.resolver
+  pub schema_path : s.schema_path ≡ path
+  pub right : IsRight x s
+
+-- no references come back below it
+abbrev pub IsStraight : Scene → Site → Data → Type 0
+IsStraight x s d = IsCircular (reading_of x) s (whole d) → ⊥
+
+-- a row of the site, of the keyword of this name
+pub record Stage (c : code.Site) (path : List Part) (d : Data) (keyword : List ℕ) (row : Row) (x : Scene) (s : Site) : Type 0 where
+  pub meets : Meets c path x s
+  pub straight : IsStraight x s d
+  pub stands : In row (rows_at x.documents x.makes s)
+  pub named : AllByRecursion (IsOf keyword) row.shapes
+  pub plain : (shape : Shape Site) → In shape row.shapes → escape keyword ≡ keyword
+
+-- the path by these names, the first of them first
+abbrev pub behind : {Z : Type 0} → List (CowStr Z) → List Part → List Part
+behind [] path = path
+behind (p ∷ parts) path = behind parts (name (cow_str_bytes p) ∷ path)

@@ -1,0 +1,71 @@
+-- What is said of a schema, of a keyword and of questions, where no references come back.
+use Rattle.std.specs.Prelude.{◌≡◌, ◌<◌, ℕ, List, map, Bool, true, false, not, Some}
+use Rattle.serde_json.specs.Data.{Data, object, depth, Members}
+use Rattle.serde_json.specs.Find.{get}
+use Rattle.serde_json.specs.View.{view, members_view}
+use Rattle.json_paths.specs.Parts.{Part}
+use Rattle.schema_meaning.specs.Members.{In}
+use Rattle.schema_meaning.specs.Places.{whole, value_after}
+use Rattle.schema_meaning.specs.Questions.{Question, listed_members}
+use Rattle.schema_meaning.specs.Rules.{Rule, accepts}
+use Rattle.schema_meaning.specs.Keywords.{rule}
+use Rattle.schema_meaning.specs.Readings.{Reading, verdicts, IsTold}
+use Rattle.schema_meaning.specs.Certificates.{AreAnswers}
+use Rattle.schema_reading.specs.Sites.{Site}
+use Rattle.schema_reading.specs.Rows.{Row}
+use Rattle.place_laws.specs.Rising.{are_rising}
+use Rattle.schema_sites.specs.Read.{shapes_of, row_of, FindsTarget}
+use Rattle.schema_sites.specs.declared.site.Site as code
+use Rattle.schema_sites.specs.declared.keyword.Keyword.{Keyword}
+use Rattle.schema_sites.specs.declared.keyword.Keyword.TheVariants.{Nothing, Types, MinItems, Items, Properties, Reference}
+use Rattle.keyword_refusals.specs.Rows.{property_site, properties_row}
+use Rattle.keyword_refusals.specs.Scenes.{Scene, reading_of, Meets, IsStraight, Stage}
+
+abbrev pub IsDecided : Bool → Type 0 → Type 0
+IsDecided true P = P
+IsDecided false P = P → ⊥
+
+-- the schema's verdict
+pub record IsVerdict (c : code.Site) (path : List Part) (d : Data) (b : Bool) : Type 0 where
+  pub told : (x : Scene) (s : Site) → Meets c path x s → IsStraight x s d → IsTold verdicts (reading_of x) s (whole d) b
+
+-- one of these rules refuses
+abbrev pub SomeRefuses : Reading Site → Data → List (Rule Site) → Type 0
+SomeRefuses r d ks = (k : Rule Site) × (bs : List Bool) × In k ks × AreAnswers r (whole d) k bs × (accepts k bs ≡ false)
+
+-- one of these questions is refused; all are accepted
+abbrev pub SomeRefused : Reading Site → Data → List (Question Site) → Type 0
+SomeRefused r d qs = (q : Question Site) × In q qs × IsTold verdicts r q.site (whole (value_after d q.step)) false
+
+abbrev pub AllAccepted : Reading Site → Data → List (Question Site) → Type 0
+AllAccepted r d qs = (q : Question Site) → In q qs → IsTold verdicts r q.site (whole (value_after d q.step)) true
+
+abbrev pub Answers : Bool → Reading Site → Data → List (Question Site) → Type 0
+Answers true r d qs = SomeRefused r d qs
+Answers false r d qs = AllAccepted r d qs
+
+-- whether questions are refused that a keyword asks
+pub record AreRefused (c : code.Site) (path : List Part) (d : Data) (row : Scene → Site → Row) (questions : Scene → Site → List (Question Site)) (b : Bool) : Type 0 where
+  pub answers : (x : Scene) (s : Site) (name : List ℕ) → Stage c path d name (row x s) x s → Answers b (reading_of x) d (questions x s)
+
+-- the rules of a keyword at a value
+abbrev pub rules_by : Scene → Site → Data → Keyword → List (Rule Site)
+rules_by x s d k = map (rule x.matches d) (shapes_of x.documents s k)
+
+-- whether the keyword refuses
+pub record IsRefusal (c : code.Site) (path : List Part) (d : Data) (k : Keyword) (b : Bool) : Type 0 where
+  pub decides : (x : Scene) (s : Site) (name : List ℕ) → Stage c path d name (row_of x.documents s k) x s → IsDecided b (SomeRefuses (reading_of x) d (rules_by x s d k))
+
+-- the keyword's schemas lie in the schema, and its target is found
+abbrev pub LiesIn : code.Site → Keyword → Type 0
+LiesIn c Nothing = Unit {0}
+LiesIn c (Types names) = Unit {0}
+LiesIn c (MinItems limit) = Unit {0}
+LiesIn c (Items start schema) = depth (view schema.now) < depth (view c.contents.now)
+LiesIn c (Properties map) = depth (object (members_view map.now.entries)) < depth (view c.contents.now)
+LiesIn c (Reference text target) = FindsTarget c text.now target
+
+-- whether a member is refused by the schema of its name in `properties`
+pub record IsMemberRefused (c : code.Site) (path : List Part) (n : List ℕ) (schema e : Data) (b : Bool) : Type 0 where
+  pub told : (ms : Members) → are_rising ms ≡ true → In (n, schema) (listed_members ms) → (d : Data) → get n d ≡ Some e → (x : Scene) (s : Site) (k : List ℕ) → Stage c path d k (properties_row ms x s) x s
+      → IsTold verdicts (reading_of x) (property_site n schema x s) (whole e) (not b)

@@ -1,0 +1,6 @@
+//! Whether one keyword of a schema refuses a value, read from the documents alone.
+#![tactic(auto)]
+
+mod items;
+pub mod members;
+pub mod refusing;

@@ -1,0 +1,118 @@
+//! Whether a keyword refuses a value.
+ghost use Rattle.std.specs.Prelude.{◌≤◌, ◌++◌, ◌≡◌, [], IfOk, not};
+ghost use Rattle.serde_json.specs.Data.{depth};
+ghost use Rattle.serde_json.specs.View.{view};
+ghost use Rattle.schema_reading.specs.Plain.{deepest};
+ghost use Rattle.schema_reading.specs.Sites.{path_of_reference};
+ghost use Rattle.schema_sites.specs.Seen.{documents_at};
+ghost use Rattle.schema_sites.specs.Read.{FindsTarget};
+ghost use Rattle.schema_reports.specs.Locations.{location_of};
+ghost use Rattle.schema_reports.specs.References.{text_of};
+ghost use Rattle.referencing.specs.Resolved.{target_in};
+ghost use Rattle.keyword_refusals.specs.Scenes.{behind};
+ghost use Rattle.keyword_refusals.specs.Rows.{reference_row, reference_questions};
+ghost use Rattle.keyword_refusals.specs.Verdicts.{IsVerdict, IsRefusal, AreRefused, LiesIn};
+
+use crate::items::some_item_refused;
+use crate::members::some_member_refused;
+use plain_reader::site::tell_site;
+use plain_reader::telling::has_items;
+use referencing::Resolved;
+use schema_reports::{LazyLocation, Observer, Reference, Verdict};
+use schema_sites::keyword::Keyword;
+use schema_sites::site::{Site, at_target};
+use serde_json::Value;
+use std::alloc::{AllocError, Global};
+use std::borrow::CowStr;
+
+/// Whether a schema refuses a value.
+pub fn is_refused<'a, 'r>(
+    alloc: Global,
+    site: &Site<'r>,
+    schema: &'a LazyLocation<'a, 'a>,
+    reference: Reference<'a>,
+    value: &Value,
+) -> Result<bool, AllocError>
+    requires shallow { depth (view site.now.contents.now) ≤ deepest (documents_at site.now) }
+    ensures { IfOk result (λ b. IsVerdict site.now (location_of schema.now ++ path_of_reference (text_of reference.entry)) (view value.now) (not b)) }
+{
+    let mut observer = Observer::Verdict(Verdict::new());
+    tell_site(alloc, site, &*schema, reference, value, &mut observer)?;
+    match observer {
+        Observer::Verdict(verdict) => Ok(!verdict.accepts()),
+        Observer::First(_first) => Ok(false),
+        Observer::All(_all) => Ok(false),
+    }
+}
+
+// Whether the target of a reference refuses a value.
+fn is_target_refused<'r>(
+    alloc: Global,
+    site: &Site<'r>,
+    path: &LazyLocation<'_, '_>,
+    last: Reference<'_>,
+    text: &str,
+    target: Resolved<'r>,
+    value: &Value,
+) -> Result<bool, AllocError>
+    requires shallow { depth (view site.now.contents.now) ≤ deepest (documents_at site.now) }
+    requires found { FindsTarget site.now text.now target }
+    ensures { IfOk result (AreRefused site.now (location_of path.now ++ path_of_reference (text_of last.entry)) (view value.now) (reference_row text.now (target_in target.entry)) (reference_questions text.now (target_in target.entry))) }
+{
+    let inner = at_target(&target)?;
+    let start = LazyLocation::new();
+    is_refused(alloc, &inner, &start, Reference::followed(text), value)
+}
+
+// Whether a keyword refuses a value, where its schema has this path.
+fn keyword_refuses<'a, 'r>(
+    alloc: Global,
+    site: &Site<'r>,
+    schema: &'a LazyLocation<'a, 'a>,
+    reference: Reference<'a>,
+    keyword: Keyword<'r>,
+    value: &Value,
+) -> Result<bool, AllocError>
+    requires shallow { depth (view site.now.contents.now) ≤ deepest (documents_at site.now) }
+    requires lies { LiesIn site.now keyword }
+    ensures { IfOk result (IsRefusal site.now (location_of schema.now ++ path_of_reference (text_of reference.entry)) (view value.now) keyword.entry) }
+{
+    match keyword {
+        Keyword::Nothing => Ok(false),
+        Keyword::Types(names) => Ok(!names.accept(value)),
+        Keyword::MinItems(least) => Ok(!has_items(least, value)),
+        Keyword::Items {
+            start,
+            schema: part,
+        } => { some_item_refused(alloc, site, &*schema, reference, start, part, value) }
+        Keyword::Properties(schemas) => {
+            some_member_refused(alloc, site, &*schema, reference, schemas, value)
+        }
+        Keyword::Reference { text, target } => {
+            is_target_refused(alloc, site, &*schema, reference, text, target, value)
+        }
+    }
+}
+
+/// Whether a keyword refuses a value, where the path of its schema goes on from `schema` by these parts.
+pub fn refuses<'a, 'r, 'p>(
+    alloc: Global,
+    site: &Site<'r>,
+    parts: &'a [CowStr<'p>],
+    schema: &'a LazyLocation<'a, 'a>,
+    reference: Reference<'a>,
+    keyword: Keyword<'r>,
+    value: &Value,
+) -> Result<bool, AllocError>
+    requires shallow { depth (view site.now.contents.now) ≤ deepest (documents_at site.now) }
+    requires lies { LiesIn site.now keyword }
+    ensures { IfOk result (IsRefusal site.now (behind parts.now (location_of schema.now) ++ path_of_reference (text_of reference.entry)) (view value.now) keyword.entry) }
+{
+    match parts.split_first() {
+        Some((part, rest)) => {
+            let below = schema.push_name(part.as_str());
+            refuses(alloc, site, rest, &below, reference, keyword, value)
+        }
+        None => keyword_refuses(alloc, site, &*schema, reference, keyword, value),
+    }
+}
