@@ -1,3 +1,4 @@
 pub mod Seen
 pub mod Heard
 pub mod Refused
+pub mod Joined

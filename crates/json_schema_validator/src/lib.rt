@@ -1,14 +1,18 @@
 //! Validators of JSON values by JSON Schema.
 //!
 //! [`Validator::options`] says how documents are read. Documents are prepared once, and validators are built on what was prepared,
-//! each at a root that a reference leads to.
+//! each at a root that a reference leads to. [`check_fault`] is lent the documents and no validator, and says of two paths whether they lead
+//! to a refusal.
 #![tactic(auto)]
 
+mod checking;
 mod error;
 mod options;
 mod validator;
 
+pub use checking::check_error;
 pub use error::BuildError;
+pub use fault_checks::checking::{CheckAnswer, FaultPath, check_fault};
 pub use options::ValidationOptions;
 pub use reached_sites::cause::BuildCause;
 pub use reached_sites::place::SchemaPlace;

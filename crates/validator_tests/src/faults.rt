@@ -1,14 +1,29 @@
 // What validators tell: the faults by instance path and evaluation path, a line each, and that the observers agree.
-use json_schema_validator::{Documents, ErrorIterator, Validator};
+use json_schema_validator::{
+    CheckAnswer, Documents, ErrorIterator, SchemaRegistry, Validator, check_error,
+};
 use serde_json::Value;
 use std::alloc::Global;
 use std::test::Fail;
 use uri_references::uri::from_str;
 
-fn built(alloc: Global, text: &str) -> Result<Validator, Fail> {
+// A validator with the registry that it was built on.
+#[derive(Drop)]
+struct Built {
+    registry: SchemaRegistry,
+    validator: Validator,
+}
+
+fn built(alloc: Global, text: &str) -> Result<Built, Fail> {
     let mut documents = Documents::new(alloc);
     documents.add_text("", text.as_bytes())?;
-    Ok(Validator::options(alloc)?.build(&documents, "")?)
+    let options = Validator::options(alloc)?;
+    let registry = options.prepare(&documents)?;
+    let validator = options.build_on(&registry, "")?;
+    Ok(Built {
+        registry,
+        validator,
+    })
 }
 
 fn lines(alloc: Global, errors: ErrorIterator<'_>) -> Result<String, Fail> {
@@ -21,12 +36,27 @@ fn lines(alloc: Global, errors: ErrorIterator<'_>) -> Result<String, Fail> {
     Ok(text)
 }
 
-// The lines of a value, where the three observers agree on it.
-fn told(alloc: Global, validator: &Validator, instance: &str) -> Result<String, Fail> {
+// Whether the check accepts each fault of a value.
+fn are_accepted(alloc: Global, built: &Built, value: &Value) -> Result<bool, Fail> {
+    for error in built.validator.iter_errors(value)? {
+        match check_error(alloc, &built.registry, "", value, &error)? {
+            CheckAnswer::Accepted => {}
+            CheckAnswer::Refused => return Ok(false),
+            CheckAnswer::Circular => return Ok(false),
+        }
+    }
+    Ok(true)
+}
+
+// The lines of a value, where the three observers agree on it and the check accepts each fault.
+fn told(alloc: Global, built: &Built, instance: &str) -> Result<String, Fail> {
     let value = Value::from_str(alloc, instance)?;
-    let text = lines(alloc, validator.iter_errors(&value)?)?;
-    let is_valid = validator.is_valid(&value)?;
-    let validates = validator.validate(&value)?.is_ok();
+    let text = lines(alloc, built.validator.iter_errors(&value)?)?;
+    let is_valid = built.validator.is_valid(&value)?;
+    let validates = built.validator.validate(&value)?.is_ok();
+    if !are_accepted(alloc, built, &value)? {
+        return Ok(String::from_str(alloc, "a fault is not accepted")?);
+    }
     if is_valid == text.is_empty() && validates == is_valid {
         Ok(text)
     } else {
@@ -52,13 +82,18 @@ fn between_two_documents(rt: HostRuntime) -> Result<(), Fail> {
     )?;
     let base = from_str(alloc, "http://a.test/root.json")?;
     let options = Validator::options(alloc)?.with_base(base);
-    let validator = options.build(&documents, "")?;
+    let registry = options.prepare(&documents)?;
+    let validator = options.build_on(&registry, "")?;
+    let built = Built {
+        registry,
+        validator,
+    };
     assert_eq!(rt;
-        told(alloc, &validator, "[1]")?.as_str(),
+        told(alloc, &built, "[1]")?.as_str(),
         "/0 /items/$ref/type\n /minItems\n"
     );
-    assert_eq!(rt; told(alloc, &validator, "[\"a\",\"b\"]")?.as_str(), "");
-    assert_eq!(rt; told(alloc, &validator, "{}")?.as_str(), " /type\n");
+    assert_eq!(rt; told(alloc, &built, "[\"a\",\"b\"]")?.as_str(), "");
+    assert_eq!(rt; told(alloc, &built, "{}")?.as_str(), " /type\n");
     Ok(())
 }
 
@@ -80,17 +115,17 @@ fn of_a_linked_list(rt: HostRuntime) -> Result<(), Fail> {
     let alloc = rt.alloc();
     let schema =
         "{\"$ref\":\"#/$defs/node\",\"$defs\":{\"node\":{\"type\":\"object\",\"properties\":{\"next\":{\"$ref\":\"#/$defs/node\"},\"v\":{\"type\":\"integer\"}}}}}";
-    let validator = built(alloc, schema)?;
+    let built = built(alloc, schema)?;
     assert_eq!(rt;
-        told(alloc, &validator, "{\"v\":1,\"next\":{\"v\":\"x\"}}")?.as_str(),
+        told(alloc, &built, "{\"v\":1,\"next\":{\"v\":\"x\"}}")?.as_str(),
         "/next/v /$ref/properties/next/$ref/properties/v/type\n"
     );
     assert_eq!(rt;
-        told(alloc, &validator, "{\"next\":{\"next\":{\"next\":1}}}")?.as_str(),
+        told(alloc, &built, "{\"next\":{\"next\":{\"next\":1}}}")?.as_str(),
         "/next/next/next /$ref/properties/next/$ref/properties/next/$ref/properties/next/$ref/type\n"
     );
     assert_eq!(rt;
-        told(alloc, &validator, "{\"next\":{\"v\":2}}")?.as_str(),
+        told(alloc, &built, "{\"next\":{\"v\":2}}")?.as_str(),
         ""
     );
     Ok(())
@@ -110,8 +145,8 @@ fn under_names_with_a_slash(rt: HostRuntime) -> Result<(), Fail> {
 #[test]
 fn of_a_schema_that_is_its_own_target(rt: HostRuntime) -> Result<(), Fail> {
     let alloc = rt.alloc();
-    let validator = built(alloc, "{\"$ref\":\"#\"}")?;
-    assert_eq!(rt; told(alloc, &validator, "[1]")?.as_str(), "");
+    let itself = built(alloc, "{\"$ref\":\"#\"}")?;
+    assert_eq!(rt; told(alloc, &itself, "[1]")?.as_str(), "");
     let both = built(
         alloc,
         "{\"$ref\":\"#\",\"type\":\"null\",\"items\":{\"$ref\":\"#\"}}",
@@ -146,13 +181,13 @@ fn nested(
 fn of_a_deep_instance(rt: HostRuntime) -> Result<(), Fail> {
     let alloc = rt.alloc();
     let schema = "{\"type\":\"array\",\"items\":{\"$ref\":\"#\"}}";
-    let validator = built(alloc, schema)?;
+    let built = built(alloc, schema)?;
     let lists = nested(alloc, 127, "[", "", "]")?;
-    assert_eq!(rt; told(alloc, &validator, lists.as_str())?.as_str(), "");
+    assert_eq!(rt; told(alloc, &built, lists.as_str())?.as_str(), "");
     let number = nested(alloc, 126, "[", "1", "]")?;
     let mut wanted = nested(alloc, 126, "/0", " ", "/items/$ref")?;
     wanted.push_str("/type\n")?;
-    let faults = told(alloc, &validator, number.as_str())?;
+    let faults = told(alloc, &built, number.as_str())?;
     assert_eq!(rt; faults.as_str(), wanted.as_str());
     Ok(())
 }
@@ -161,9 +196,9 @@ fn of_a_deep_instance(rt: HostRuntime) -> Result<(), Fail> {
 fn with_schema_paths_that_begin_anew(rt: HostRuntime) -> Result<(), Fail> {
     let alloc = rt.alloc();
     let schema = "{\"items\":{\"$ref\":\"#/$defs/a~1b\"},\"$defs\":{\"a/b\":{\"minItems\":1}}}";
-    let validator = built(alloc, schema)?;
+    let built = built(alloc, schema)?;
     let value = Value::from_str(alloc, "[[]]")?;
-    let Err(error) = validator.validate(&value)? else {
+    let Err(error) = built.validator.validate(&value)? else {
         return Err(Fail::new("an error was wanted"));
     };
     assert_eq!(rt;

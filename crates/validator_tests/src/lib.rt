@@ -4,4 +4,6 @@
 #[cfg(test)]
 mod building;
 #[cfg(test)]
+mod checks;
+#[cfg(test)]
 mod faults;

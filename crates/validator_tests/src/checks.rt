@@ -1,0 +1,180 @@
+// Paths that are and are not certificates, over documents that refer to one another.
+use json_schema_validator::{
+    CheckAnswer, Documents, FaultPath, SchemaRegistry, Validator, check_error, check_fault,
+};
+use serde_json::Value;
+use std::alloc::Global;
+use std::test::Fail;
+use uri_references::uri::from_str;
+
+const ROOT: &str =
+    "{\"$id\":\"http://a.test/root.json\",\"type\":\"array\",\"minItems\":2,\"items\":{\"$ref\":\"leaf.json\"}}";
+
+const LEAF: &str = "{\"$id\":\"http://a.test/leaf.json\",\"type\":\"string\"}";
+
+fn registry(alloc: Global, root: &str) -> Result<SchemaRegistry, Fail> {
+    let mut documents = Documents::new(alloc);
+    documents.add_text("http://a.test/root.json", root.as_bytes())?;
+    documents.add_text("http://a.test/leaf.json", LEAF.as_bytes())?;
+    let base = from_str(alloc, "http://a.test/root.json")?;
+    Ok(Validator::options(alloc)?.with_base(base).prepare(&documents)?)
+}
+
+fn word(answer: CheckAnswer) -> &'static str {
+    match answer {
+        CheckAnswer::Accepted => "accepted",
+        CheckAnswer::Refused => "refused",
+        CheckAnswer::Circular => "circular",
+    }
+}
+
+// What is said of two paths, as a word.
+fn said(
+    alloc: Global,
+    registry: &SchemaRegistry,
+    value: &str,
+    instance_path: &str,
+    evaluation_path: &str,
+) -> Result<&'static str, Fail> {
+    let value = Value::from_str(alloc, value)?;
+    let path = FaultPath {
+        instance_path,
+        evaluation_path,
+    };
+    Ok(word(check_fault(alloc, registry, "", &value, path)?))
+}
+
+#[test]
+fn two_documents(rt: HostRuntime) -> Result<(), Fail> {
+    let alloc = rt.alloc();
+    let registry = registry(alloc, ROOT)?;
+    for (instance, evaluation, want) in [
+        ("", "/minItems", "accepted"),
+        ("/0", "/items/$ref/type", "accepted"),
+        ("", "/items", "accepted"),
+        ("/0", "/items/$ref", "accepted"),
+        ("/0", "/items", "refused"),
+        ("", "/type", "refused"),
+        ("", "", "refused"),
+        ("/00", "/items/$ref/type", "refused"),
+        ("/1", "/items/$ref/type", "refused"),
+        ("/0", "/items/$ref/type/", "refused"),
+        ("/0/", "/items/$ref/type", "refused"),
+        ("0", "/items/$ref/type", "refused"),
+        ("/0", "items/$ref/type", "refused"),
+        ("", "/~2", "refused"),
+    ] {
+        assert_eq!(rt; said(alloc, &registry, "[1]", instance, evaluation)?, want);
+    }
+    Ok(())
+}
+
+#[test]
+fn names_with_escapes(rt: HostRuntime) -> Result<(), Fail> {
+    let alloc = rt.alloc();
+    let root =
+        "{\"properties\":{\"a/b\":{\"type\":\"string\"},\"~\":{\"items\":false},\"0\":{\"$ref\":\"leaf.json\"}}}";
+    let registry = registry(alloc, root)?;
+    for (instance, evaluation, want) in [
+        ("/a~1b", "/properties/a~1b/type", "accepted"),
+        ("/a~1b", "/properties/a~1b", "refused"),
+        ("", "/properties", "accepted"),
+        ("/~0/1", "/properties/~0/items", "accepted"),
+        ("/~/1", "/properties/~/items", "refused"),
+        ("/~0", "/properties/~0/items", "accepted"),
+        ("/0", "/properties/0/$ref/type", "accepted"),
+        ("/~0", "/properties/0/$ref/type", "refused"),
+        ("/x", "/properties/x/type", "refused"),
+    ] {
+        assert_eq!(rt;
+            said(
+                alloc,
+                &registry,
+                "{\"a/b\":1,\"~\":[1,2],\"0\":1}",
+                instance,
+                evaluation
+            )?,
+            want
+        );
+    }
+    Ok(())
+}
+
+#[test]
+fn of_a_valid_value(rt: HostRuntime) -> Result<(), Fail> {
+    let alloc = rt.alloc();
+    let registry = registry(alloc, ROOT)?;
+    for (instance, evaluation) in [
+        ("", ""),
+        ("", "/type"),
+        ("", "/minItems"),
+        ("", "/items"),
+        ("/0", "/items/$ref"),
+        ("/0", "/items/$ref/type"),
+    ] {
+        let word = said(alloc, &registry, "[\"a\",\"b\"]", instance, evaluation)?;
+        assert_eq!(rt; word, "refused");
+    }
+    Ok(())
+}
+
+#[test]
+fn references_that_come_back(rt: HostRuntime) -> Result<(), Fail> {
+    let alloc = rt.alloc();
+    let registry = registry(alloc, "{\"$ref\":\"#\"}")?;
+    for evaluation in ["", "/$ref", "/$ref/$ref/$ref", "/$ref/type"] {
+        assert_eq!(rt; said(alloc, &registry, "1", "", evaluation)?, "refused");
+    }
+    Ok(())
+}
+
+#[test]
+fn roots_that_lead_nowhere(rt: HostRuntime) -> Result<(), Fail> {
+    let alloc = rt.alloc();
+    let registry = registry(alloc, ROOT)?;
+    let value = Value::from_str(alloc, "[1]")?;
+    let path = FaultPath {
+        instance_path: "",
+        evaluation_path: "/minItems",
+    };
+    let answer = check_fault(alloc, &registry, "#/$defs/none", &value, path)?;
+    assert_eq!(rt; word(answer), "refused");
+    Ok(())
+}
+
+#[test]
+fn each_fault_of_a_validator(rt: HostRuntime) -> Result<(), Fail> {
+    let alloc = rt.alloc();
+    let registry = registry(alloc, ROOT)?;
+    let validator = Validator::options(alloc)?.build_on(&registry, "")?;
+    let mut count: usize = 0;
+    for text in ["[1]", "{}", "[1,\"a\",null]", "[\"a\",\"b\"]"] {
+        let value = Value::from_str(alloc, text)?;
+        for error in validator.iter_errors(&value)? {
+            let answer = check_error(alloc, &registry, "", &value, &error)?;
+            assert_eq!(rt; word(answer), "accepted");
+            count += 1;
+        }
+        assert!(rt; validator.faults_are_accepted(&registry, "", &value)?);
+    }
+    assert_eq!(rt; count, 5);
+    Ok(())
+}
+
+#[test]
+fn accepted_paths_of_refused_values(rt: HostRuntime) -> Result<(), Fail> {
+    let alloc = rt.alloc();
+    let registry = registry(alloc, ROOT)?;
+    let validator = Validator::options(alloc)?.build_on(&registry, "")?;
+    for text in ["[1]", "[\"a\",\"b\"]"] {
+        let value = Value::from_str(alloc, text)?;
+        for evaluation_path in ["/minItems", "/items", "/type"] {
+            let path = FaultPath {
+                instance_path: "",
+                evaluation_path,
+            };
+            assert!(rt; validator.accepted_is_refused(&registry, "", &value, path)?);
+        }
+    }
+    Ok(())
+}
