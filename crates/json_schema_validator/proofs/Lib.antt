@@ -1,3 +1,3 @@
 mod Hearing
 mod Certifying
-mod Joining
+pub mod Joining
