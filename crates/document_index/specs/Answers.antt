@@ -1,6 +1,8 @@
 -- What an answer of an index says of the documents.
-use Rattle.std.specs.Prelude.{◌≡◌, List, Option, Some, None, IsSomeAnd, slice_get, Contains, ⊤}
-use Rattle.schema_documents.specs.Bearers.{Document, Standing, standing_in}
+use Rattle.std.specs.Prelude.{◌≡◌, ℕ, List, Option, Some, None, IsSomeAnd, slice_get, Contains, ⊤}
+use Rattle.schema_documents.specs.Identifiers.{dynamic_anchors}
+use Rattle.schema_documents.specs.Places.{Dialect}
+use Rattle.schema_documents.specs.Bearers.{Document, Documents, Standing, standing_in, bears_anchor, last_standing}
 use Rattle.schema_identifiers.specs.Unknown.{no_meta}
 use Rattle.document_index.specs.Located.{Kept}
 
@@ -18,3 +20,7 @@ IsAnswer documents None None = ⊤
 IsAnswer documents None (Some s) = ⊥
 IsAnswer documents (Some kept) None = ⊥
 IsAnswer documents (Some kept) (Some s) = IsKeptOf documents kept s
+
+-- the last schema place with a dynamic anchor of a name under a base, under what is told of meta-schemas
+abbrev pub dynamically_anchored_under : (List ℕ → Option Dialect) → Documents → List ℕ → List ℕ → Option Standing
+dynamically_anchored_under meta docs base k = last_standing (bears_anchor dynamic_anchors base k) meta docs

@@ -3,7 +3,7 @@ use Rattle.std.specs.Prelude.{◌≡◌, ℕ, List, Option, option_map, option_a
 use Rattle.std.specs.Global.{Global}
 use Rattle.std.specs.BTreeMap.{BTreeMap, get_by_text}
 use Rattle.schema_documents.specs.Places.{standard}
-use Rattle.schema_documents.specs.Identifiers.{anchors}
+use Rattle.schema_documents.specs.Identifiers.{anchors, dynamic_anchors}
 use Rattle.schema_documents.specs.Bearers.{bears, bears_anchor}
 use Rattle.document_index.specs.Located.{Located, Kept, kept_of, last_located}
 use Rattle.document_index.specs.declared.index.Bearer.{Bearer}
@@ -27,7 +27,11 @@ bearer_in index uri = named index.by_uri uri
 unfoldable pub anchored_in : Index → List ℕ → List ℕ → Option Kept
 anchored_in index base name = anchor_named index.by_anchor base name
 
--- an index has the last bearer of each URI and of each anchor among the schema places, and nothing else
+unfoldable pub dynamically_anchored_in : Index → List ℕ → List ℕ → Option Kept
+dynamically_anchored_in index base name = anchor_named index.by_dynamic_anchor base name
+
+-- an index has the last bearer of each URI, of each anchor and of each dynamic anchor among the schema places, and nothing else
 pub record Indexes (index : Index) (all : List Located) : Type 0 where
   pub by_uri : (uri : List ℕ) → bearer_in index uri ≡ option_map kept_of (last_located (bears uri) all)
   pub by_anchor : (base name : List ℕ) → anchored_in index base name ≡ option_map kept_of (last_located (bears_anchor anchors base name) all)
+  pub by_dynamic_anchor : (base name : List ℕ) → dynamically_anchored_in index base name ≡ option_map kept_of (last_located (bears_anchor dynamic_anchors base name) all)

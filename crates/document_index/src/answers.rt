@@ -6,7 +6,7 @@ ghost use Rattle.schema_identifiers.specs.Unknown.{no_meta};
 ghost use Rattle.document_index.specs.Seen.{document_of};
 ghost use Rattle.document_index.specs.Located.{located_standings};
 ghost use Rattle.document_index.specs.Indexes.{bearer_of, Indexes};
-ghost use Rattle.document_index.specs.Answers.{IsAnswer};
+ghost use Rattle.document_index.specs.Answers.{IsAnswer, dynamically_anchored_under};
 
 use crate::document::Document;
 use crate::index::{Bearer, Index};
@@ -60,5 +60,20 @@ pub fn anchored<'i, 'd>(
     ensures document { IfSome result (λ r. slice_get documents.now r.1.now.document ≡ Some r.0.now) }
 {
     let bearer = index.anchored(base, name)?;
+    Some((document_of_bearer(documents, bearer), bearer))
+}
+
+/// The last schema place of the documents with a dynamic anchor under a base, and its document.
+pub fn dynamically_anchored<'i, 'd>(
+    documents: &'i [Document<'d>],
+    index: &'i Index,
+    base: &str,
+    name: &str,
+) -> Option<(&'i Document<'d>, &'i Bearer)>
+    requires { Indexes index.now (located_standings (map document_of documents.now)) }
+    ensures answer { IsAnswer (map document_of documents.now) (option_map (λ r. bearer_of r.1.now) result) (dynamically_anchored_under no_meta (map document_of documents.now ∷ []) base.now name.now) }
+    ensures document { IfSome result (λ r. slice_get documents.now r.1.now.document ≡ Some r.0.now) }
+{
+    let bearer = index.dynamically_anchored(base, name)?;
     Some((document_of_bearer(documents, bearer), bearer))
 }

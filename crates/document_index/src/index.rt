@@ -32,11 +32,12 @@ pub struct Bearer {
     pub draft: Draft,
 }
 
-/// The last bearer of each URI, and of each anchor under its base.
+/// The last bearer of each URI, and of each anchor and each dynamic anchor under its base.
 #[derive(Drop)]
 pub struct Index {
     by_uri: BTreeMap<String, Bearer>,
     by_anchor: BTreeMap<String, BTreeMap<String, Bearer>>,
+    by_dynamic_anchor: BTreeMap<String, BTreeMap<String, Bearer>>,
 }
 
 fn bearer_at(standing: &Standing<'_>) -> Result<Bearer, AllocError>
@@ -157,8 +158,23 @@ fn put_anchors(
     put_anchor(alloc, by_anchor, dynamic_name, standing)
 }
 
+fn put_dynamic_anchor(
+    alloc: Global,
+    by_anchor: &mut BTreeMap<String, BTreeMap<String, Bearer>>,
+    standing: &Standing<'_>,
+) -> Result<(), AllocError>
+    ensures { OnOk result ((b q : List ℕ) → anchor_named by_anchor.new b q ≡ (if bearers.bears_anchor identifiers.dynamic_anchors b q (standing_of standing.now) then Some (kept_of (located_of standing.now)) else anchor_named by_anchor.old b q)) }
+{
+    let place = &standing.place;
+    if place.awaits.is_some() {
+        return Ok(());
+    }
+    let name = dynamic_anchor(place.draft, place.contents);
+    put_anchor(alloc, by_anchor, name, standing)
+}
+
 impl Index {
-    ghost use Rattle.document_index.specs.Indexes.{bearer_in, anchored_in, Indexes};
+    ghost use Rattle.document_index.specs.Indexes.{bearer_in, anchored_in, dynamically_anchored_in, Indexes};
 
     /// The index of schema places in the order in which they stand: of several bearers the last counts.
     ///
@@ -172,11 +188,17 @@ impl Index {
     {
         let mut by_uri = BTreeMap::new(alloc);
         let mut by_anchor = BTreeMap::new(alloc);
+        let mut by_dynamic_anchor = BTreeMap::new(alloc);
         for standing in standings {
             put_uris(alloc, &mut by_uri, standing)?;
             put_anchors(alloc, &mut by_anchor, standing)?;
+            put_dynamic_anchor(alloc, &mut by_dynamic_anchor, standing)?;
         }
-        Ok(Index { by_uri, by_anchor })
+        Ok(Index {
+            by_uri,
+            by_anchor,
+            by_dynamic_anchor,
+        })
     }
 
     /// The last bearer of a URI.
@@ -191,5 +213,12 @@ impl Index {
         ensures { option_map (λ b. bearer_of b.now) result ≡ anchored_in self.now base.now name.now }
     {
         self.by_anchor.get(base)?.get(name)
+    }
+
+    /// The last bearer of a dynamic anchor under a base.
+    pub fn dynamically_anchored(&self, base: &str, name: &str) -> Option<&Bearer>
+        ensures { option_map (λ b. bearer_of b.now) result ≡ dynamically_anchored_in self.now base.now name.now }
+    {
+        self.by_dynamic_anchor.get(base)?.get(name)
     }
 }

@@ -1,5 +1,5 @@
 // Documents, and which of their schema places bears a URI or an anchor.
-use crate::answers::{anchored, bearer, index_of};
+use crate::answers::{anchored, bearer, dynamically_anchored, index_of};
 use crate::document::{Contents, Document};
 use crate::index::{Bearer, Index};
 use crate::standing::standings;
@@ -116,6 +116,43 @@ fn the_last_bearer_of_an_anchor(rt: HostRuntime) -> Result<(), Fail> {
     ] {
         assert_eq!(rt; shown(alloc, index.anchored(base, name))?.as_str(), want);
     }
+    Ok(())
+}
+
+#[test]
+fn the_last_bearer_of_a_dynamic_anchor(rt: HostRuntime) -> Result<(), Fail> {
+    let alloc = rt.alloc();
+    let contents = Value::from_str(
+        alloc,
+        "{\"$dynamicAnchor\": \"n\", \"$anchor\": \"plain\", \"$defs\": {\"a\": {\"$dynamicAnchor\": \"n\"},
+        \"b\": {\"$id\": \"part\", \"$dynamicAnchor\": \"n\"}, \"c\": {\"$anchor\": \"n\"},
+        \"d\": {\"$schema\": \"https://json-schema.org/draft/2019-09/schema\", \"$id\": \"old\", \"$dynamicAnchor\": \"n\"}}}",
+    )?;
+    let documents = vec![in alloc; document(alloc, "http://a.test/d", Contents::Owned(contents))?]?;
+    let index = index_of(alloc, &documents)?;
+    for (base, name, want) in [
+        (
+            "http://a.test/d",
+            "n",
+            "0#/$defs/a http://a.test/d Draft202012",
+        ),
+        (
+            "http://a.test/part",
+            "n",
+            "0#/$defs/b http://a.test/part Draft202012",
+        ),
+        ("http://a.test/d", "plain", "none"),
+        ("http://a.test/old", "n", "none"),
+    ] {
+        assert_eq!(rt;
+            shown(alloc, index.dynamically_anchored(base, name))?.as_str(),
+            want
+        );
+    }
+    let found = dynamically_anchored(&documents, &index, "http://a.test/part", "n");
+    let (held, place) = found.ok_or("dynamically anchored")?;
+    assert_eq!(rt; place.document, 0);
+    assert!(rt; held.contents.value().get("$dynamicAnchor").is_some());
     Ok(())
 }
 

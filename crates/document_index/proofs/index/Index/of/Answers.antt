@@ -1,10 +1,10 @@
 use Rattle.std.proofs.Common.{◌≡◌, ◌∙◌, ◌++◌, ◌∷◌, [], ◌+◌, map, take, option_map, ap, sym}
 use Rattle.std.proofs.lemmas.List.{take_more, take_all, map-append}
-use Rattle.schema_documents.specs.Identifiers.{anchors}
+use Rattle.schema_documents.specs.Identifiers.{anchors, dynamic_anchors}
 use Rattle.schema_documents.specs.Bearers.{bears, bears_anchor}
 use Rattle.document_index.specs.Located.{kept_of, last_located}
 use Rattle.document_index.specs.Seen.{located_of}
-use Rattle.document_index.specs.Indexes.{bearer_in, anchored_in}
+use Rattle.document_index.specs.Indexes.{bearer_in, anchored_in, dynamically_anchored_in}
 use Rattle.document_index.proofs.NamedLemmas.{last-push}
 use Rattle.document_index.proofs.index.Index.of.Goals as goal
 
@@ -19,13 +19,15 @@ loop-standing-preserved c =
     record {
       by_uri = λ q. c.in_ok-put_uris.ensures q ∙ last-push (bears q) ls (located_of s) _ (c.loop-standing.invariant.by_uri q) ∙ sym (ap (λ l. option_map kept_of (last_located (bears q) l)) more);
       by_anchor = λ b q. c.in_ok-put_anchors.ensures b q ∙ last-push (bears_anchor anchors b q) ls (located_of s) _ (c.loop-standing.invariant.by_anchor b q) ∙ sym (ap (λ l. option_map kept_of (last_located (bears_anchor anchors b q) l)) more);
+      by_dynamic_anchor = λ b q. c.in_ok-put_dynamic_anchor.ensures b q ∙ last-push (bears_anchor dynamic_anchors b q) ls (located_of s) _ (c.loop-standing.invariant.by_dynamic_anchor b q) ∙ sym (ap (λ l. option_map kept_of (last_located (bears_anchor dynamic_anchors b q) l)) more);
     }
 
 pub returns : goal.returns
-unfolding bearer_in anchored_in
+unfolding bearer_in anchored_in dynamically_anchored_in
 returns c =
     let whole = take_all c.loop-standing.standing-index c.args.standings.now c.loop-standing-test.false in
     record {
       by_uri = λ q. c.loop-standing.invariant.by_uri q ∙ ap (λ l. option_map kept_of (last_located (bears q) (map located_of l))) whole;
       by_anchor = λ b q. c.loop-standing.invariant.by_anchor b q ∙ ap (λ l. option_map kept_of (last_located (bears_anchor anchors b q) (map located_of l))) whole;
+      by_dynamic_anchor = λ b q. c.loop-standing.invariant.by_dynamic_anchor b q ∙ ap (λ l. option_map kept_of (last_located (bears_anchor dynamic_anchors b q) (map located_of l))) whole;
     }
