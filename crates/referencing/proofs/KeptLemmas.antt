@@ -1,6 +1,7 @@
 -- What an index keeps of a schema place leads to it again.
 use Rattle.std.proofs.Common.{◌≡◌, ◌∙◌, refl, sym, ap, subst, ℕ, zero, suc, List, [], ◌∷◌, Bool, true, false, ◌&&◌, Option, Some, None, map, reverse, option_map, length, ◌<◌, Result, Ok, Err, IfOk, slice_get, slice_index_or, IsSomeAnd, Contains, arith}
 use Rattle.std.specs.List.{list_all}
+use Rattle.serde_json.specs.Data.{Data}
 use Rattle.json_paths.specs.Pointers.{value_at}
 use Rattle.schema_documents.specs.Places.{SchemaPlace, places}
 use Rattle.schema_documents.specs.Bearers.{Document, Standing, standing_in}
@@ -54,6 +55,16 @@ kept-same documents kept (Some s) d answer at all =
     ap (λ p. option_map (kept_at d kept) (value_at (reverse p) d.contents)) answer.path
     ∙ ap (option_map (kept_at d kept)) found.1
     ∙ ap Some (again d kept s answer.path answer.base answer.dialect answer.awaits found.0)
+
+-- where there is no answer, there is no place
+pub none-answered : (documents : List Document) (o : Option Standing) → IsAnswer documents None o → o ≡ None
+none-answered documents None answer = refl
+none-answered documents (Some s) answer = absurd answer
+
+-- what a place holds that was put together again
+pub contents-again : (d : Document) (kept : Kept) (o : Option Data) → option_map (λ (s : Standing). s.place.contents) (option_map (kept_at d kept) o) ≡ o
+contents-again d kept None = refl
+contents-again d kept (Some e) = refl
 
 pub got-mapped : {X Y : Type 0} (f : X → Y) (xs : List X) (i : ℕ) (x : X) → slice_get xs i ≡ Some x → slice_get (map f xs) i ≡ Some (f x)
 got-mapped f [] i x e = absurd (cc (e))

@@ -5,3 +5,5 @@ pub mod RefusedLemmas
 pub mod SettledLemmas
 pub mod Extending
 pub mod DocumentLemmas
+pub mod DynamicLemmas
+pub mod KeyLemmas

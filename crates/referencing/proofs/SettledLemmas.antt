@@ -1,14 +1,21 @@
 -- Documents without a cause await no meta-schema, so they alone tell what a reference leads to.
-use Rattle.std.proofs.Common.{◌≡◌, refl, ℕ, zero, suc, List, [], ◌∷◌, ◌++◌, Bool, true, Option, Some, None, length, ◌<◌, slice_index_or, arith}
+use Rattle.std.proofs.Common.{◌≡◌, Ok, ◌∙◌, sym, ap, refl, ℕ, zero, suc, List, [], ◌∷◌, ◌++◌, Bool, true, Option, Some, None, length, ◌<◌, slice_index_or, arith}
 use Rattle.std.specs.List.{flat_map}
 use Rattle.schema_meaning.specs.Members.{is_empty}
-use Rattle.schema_documents.specs.Bearers.{Document, Standing, standings, is_root, meta, bearer, bearer_under}
-use Rattle.schema_documents.specs.Lookup.{lookup, lookup_under}
+use Rattle.schema_documents.specs.Bearers.{Document, Standing, standings, is_root, meta, bearer, bearer_under, bears_anchor, dynamically_anchored}
+use Rattle.schema_documents.specs.Identifiers.{dynamic_anchors}
+use Rattle.schema_documents.specs.Lookup.{lookup, lookup_under, unretrievable, Target, target_of}
+use Rattle.schema_documents.specs.Scopes.{dynamic_lookup, recursive_lookup}
+use Rattle.schema_documents.specs.Words.{or, result_map, ok_or, and_then}
+use Rattle.uri_grammar.specs.Texts.{cut_at}
+use Rattle.schema_reading.specs.CompileKeys.{run_end}
 use Rattle.schema_documents.specs.Places.{schema_in_force}
 use Rattle.schema_documents.specs.DocumentCauses.{DocumentCause, unless_reference}
 use Rattle.schema_identifiers.specs.Unknown.{no_meta}
-use Rattle.place_laws.proofs.Alone.{documents_alone_tell}
+use Rattle.place_laws.proofs.Alone.{documents_alone_tell, same_last}
+use Rattle.document_index.specs.Answers.{dynamically_anchored_under}
 use Rattle.place_laws.proofs.Looked.{lookups_alone_tell}
+use Rattle.referencing.specs.Found.{redirect}
 use Rattle.referencing.specs.Causes.{of_text, awaited_from, awaited_causes, causes_at, causes_of}
 
 empty-second : (xs ys : List DocumentCause) → is_empty (xs ++ ys) ≡ true → is_empty ys ≡ true
@@ -36,3 +43,24 @@ alone documents accepted base reference = lookups_alone_tell documents (settled 
 
 pub alone-bearer : (documents : List Document) → is_empty (causes_of documents) ≡ true → (uri : List ℕ) → bearer (documents ∷ []) uri ≡ bearer_under no_meta (documents ∷ []) uri
 alone-bearer documents accepted uri = (documents_alone_tell documents (settled _ (standings no_meta documents) accepted) (meta (documents ∷ []))).bearers uri
+
+pub alone-dynamic : (documents : List Document) → is_empty (causes_of documents) ≡ true → (base k : List ℕ)
+    → dynamically_anchored (documents ∷ []) base k ≡ dynamically_anchored_under no_meta (documents ∷ []) base k
+alone-dynamic documents accepted base k =
+    let told = meta (documents ∷ []) in
+    same_last (bears_anchor dynamic_anchors base k) documents told (documents_alone_tell documents (settled _ (standings no_meta documents) accepted) told).places
+
+-- the target of a recursive reference, by who bears the end of the run
+pub recursive-at : (documents : List Document) → is_empty (causes_of documents) ≡ true → (base : List ℕ) (scope : List (List ℕ)) (text : List ℕ) (o : Option Standing)
+    → text ≡ run_end (documents ∷ []) base scope → o ≡ bearer_under no_meta (documents ∷ []) text
+    → recursive_lookup (documents ∷ []) base scope ≡ result_map target_of (ok_or (unretrievable (run_end (documents ∷ []) base scope)) o)
+recursive-at documents accepted base scope text o same borne =
+    let end = run_end (documents ∷ []) base scope in
+    ap (λ p. result_map target_of (ok_or (unretrievable end) p)) (alone-bearer documents accepted end ∙ ap (bearer_under no_meta (documents ∷ [])) (sym same) ∙ sym borne)
+
+-- what a dynamic reference leads to, by what it leads to as a plain one
+pub dynamic-at : (documents : List Document) → is_empty (causes_of documents) ≡ true → (base : List ℕ) (scope : List (List ℕ)) (reference : List ℕ) (t : Target)
+    → lookup_under no_meta (documents ∷ []) base reference ≡ Ok t
+    → dynamic_lookup (documents ∷ []) base scope reference ≡ redirect (documents ∷ []) scope (or [] (cut_at 35 reference).1) t
+dynamic-at documents accepted base scope reference t found =
+    ap (λ r. and_then r (redirect (documents ∷ []) scope (or [] (cut_at 35 reference).1))) (alone documents accepted base reference ∙ found)

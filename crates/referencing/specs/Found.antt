@@ -1,9 +1,10 @@
 -- What references lead to.
-use Rattle.std.specs.Prelude.{ℕ, List, [], ◌∷◌, Result}
-use Rattle.schema_documents.specs.Words.{ok_or, and_then}
-use Rattle.schema_documents.specs.Identifiers.{resolved}
-use Rattle.schema_documents.specs.Bearers.{Document, Standing, bearer_under}
+use Rattle.std.specs.Prelude.{ℕ, List, [], ◌∷◌, ◌&&◌, if◌then◌else◌, Result, Ok}
+use Rattle.schema_documents.specs.Words.{ok_or, and_then, has_text}
+use Rattle.schema_documents.specs.Identifiers.{resolved, is_name, dynamic_anchors}
+use Rattle.schema_documents.specs.Bearers.{Document, Documents, Standing, bearer_under}
 use Rattle.schema_documents.specs.Lookup.{LookupCause, invalid_uri, unretrievable, Target}
+use Rattle.schema_documents.specs.Scopes.{outermost}
 use Rattle.schema_identifiers.specs.Unknown.{no_meta}
 use Rattle.reference_walks.specs.Reached.{target_of}
 use Rattle.referencing.specs.declared.resolving.Found.{Found}
@@ -17,3 +18,7 @@ bearer_at documents uri = ok_or (unretrievable uri) (bearer_under no_meta (docum
 
 abbrev pub bearer_wanted : List Document → List ℕ → List ℕ → Result Standing LookupCause
 bearer_wanted documents base text = and_then (ok_or (invalid_uri text) (resolved base text)) (bearer_at documents)
+
+-- what a dynamic reference leads to, by the name in its fragment and what it leads to as a plain one
+abbrev pub redirect : Documents → List (List ℕ) → List ℕ → Target → Result Target LookupCause
+redirect docs scope k t = if is_name k && has_text k (dynamic_anchors t.dialect.draft t.contents) then outermost docs k (t.base ∷ scope) else Ok t

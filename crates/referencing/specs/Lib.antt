@@ -6,3 +6,6 @@ pub mod Kept
 pub mod Found
 pub mod Resolved
 pub mod Built
+pub mod Keys
+pub mod Followed
+pub mod Chains

@@ -1,7 +1,11 @@
 //! Who bears a URI or an anchor.
 
-ghost use Rattle.std.specs.Prelude.{◌≡◌, ◌∷◌, [], IfOk, option_map, is_some};
+ghost use Rattle.std.specs.Prelude.{◌≡◌, ◌∷◌, [], IfOk, option_map, option_and_then, is_some, false, codes};
+ghost use Rattle.serde_json.specs.View.{view};
+ghost use Rattle.serde_json.specs.Find.{get, as_bool};
+ghost use Rattle.schema_documents.specs.Words as words;
 ghost use Rattle.schema_documents.specs.Bearers as bearers;
+ghost use Rattle.schema_documents.specs.Scopes as scopes;
 ghost use Rattle.schema_identifiers.specs.Unknown.{no_meta};
 ghost use Rattle.document_index.specs.Seen.{document_of, standing_of};
 ghost use Rattle.document_index.specs.Indexes.{bearer_of};
@@ -14,6 +18,7 @@ use document_index::document::Document;
 use document_index::index::Bearer;
 use document_index::standing::Standing;
 use schema_places::place::Place;
+use serde_json::Value;
 use std::alloc::{AllocError, Global};
 
 fn standing_at<'r>(
@@ -36,6 +41,15 @@ fn standing_at<'r>(
             awaits: None,
         },
     }))
+}
+
+fn says_recursive(contents: &Value) -> bool
+    ensures { result ≡ words.or false (option_and_then as_bool (get (codes "$recursiveAnchor") (view contents.now))) }
+{
+    match contents.get("$recursiveAnchor") {
+        Some(value) => value.as_bool() == Some(true),
+        None => false,
+    }
 }
 
 impl<'a> Registry<'a> {
@@ -75,6 +89,46 @@ impl<'a> Registry<'a> {
         match answers::anchored(&self.documents, &self.index, base, name) {
             Some((document, bearer)) => standing_at(document, bearer),
             None => Ok(None),
+        }
+    }
+
+    /// The last schema place with a dynamic anchor under a base.
+    ///
+    /// Two searches, and a look-up for each step of the place's path. It copies nothing.
+    ///
+    /// # Errors
+    ///
+    /// Where a count of owners is full.
+    pub fn dynamically_anchored(
+        &self,
+        base: &str,
+        name: &str,
+    ) -> Result<Option<Standing<'_>>, AllocError>
+        ensures { IfOk result (λ s. option_map standing_of s ≡ bearers.dynamically_anchored (documents_of self.now ∷ []) base.now name.now) }
+    {
+        match answers::dynamically_anchored(&self.documents, &self.index, base, name) {
+            Some((document, bearer)) => standing_at(document, bearer),
+            None => Ok(None),
+        }
+    }
+
+    // What the last schema place that bears a URI holds.
+    fn contents_of(&self, uri: &str) -> Option<&Value>
+        ensures { option_map (λ v. view v.now) result ≡ option_map (λ (s : bearers.Standing). s.place.contents) (bearers.bearer (documents_of self.now ∷ []) uri.now) }
+    {
+        let (document, bearer) = answers::bearer(&self.documents, &self.index, uri)?;
+        bearer.path.find_in(document.contents.value())
+    }
+
+    /// Whether the resource that a URI names says `$recursiveAnchor: true` (2019-09, Core 8.2.4.2).
+    ///
+    /// One search by the URI, and a look-up for each step of the place's path.
+    pub fn is_recursive(&self, uri: &str) -> bool
+        ensures { result ≡ scopes.recurs (documents_of self.now ∷ []) uri.now }
+    {
+        match self.contents_of(uri) {
+            Some(contents) => says_recursive(contents),
+            None => false,
         }
     }
 

@@ -6,14 +6,18 @@
 
 pub mod builder;
 mod causes;
+mod dynamic;
 mod finding;
+pub mod following;
 mod lookup;
 mod prepare;
 pub mod registry;
 pub mod resolver;
 mod resolving;
+pub mod scope_key;
 
 pub use builder::{Refused, RegistryBuilder};
+pub use following::{Step, follow};
 pub use given_documents::resource::IntoRegistryResource;
 pub use json_pointers::{
     JsonPointerNode, JsonPointerSegment, parse_index, pointer, unescape_segment, write_escaped_str,
@@ -25,5 +29,6 @@ pub use resolver::{Resolved, Resolver};
 pub use schema_drafts::children::ChildIter;
 pub use schema_drafts::draft::Draft;
 pub use schema_drafts::resource::{Resource, ResourceRef};
+pub use scope_key::ScopeKey;
 pub use shared_lists::{Iter, List};
 pub use uri_references::uri;

@@ -5,12 +5,13 @@ ghost use Rattle.serde_json.specs.View.{view};
 ghost use Rattle.schema_documents.specs.Lookup as spec;
 ghost use Rattle.schema_documents.specs.Scopes.{entered_scope};
 ghost use Rattle.referencing_errors.specs.Causes.{RefusesLookup};
+ghost use Rattle.referencing.specs.Found.{found_target};
 ghost use Rattle.referencing.specs.Seen.{documents_of};
 ghost use Rattle.referencing.specs.Resolved.{base_of, scope_of, documents_in, target_in, entered_at, entered_by};
 
 use crate::registry::Registry;
 use crate::resolver::{Resolved, Resolver};
-use crate::resolving::look_up;
+use crate::resolving::{Found, look_up};
 use referencing_errors::error::Error;
 use referencing_errors::named::invalid_uri;
 use schema_drafts::draft::Draft;
@@ -154,6 +155,23 @@ impl<'r> Resolver<'r> {
         }
     }
 
+    // What was found, with the resolver there.
+    pub(crate) fn arrived(&self, found: Found<'r>) -> Result<Resolved<'r>, AllocError>
+        ensures target { IfOk result (λ r. target_in r ≡ found_target found.entry) }
+        ensures scope { IfOk result (λ r. scope_of r.resolver ≡ entered_scope (base_of r.resolver) (base_of self.now) (scope_of self.now)) }
+        ensures documents { IfOk result (λ r. documents_in r.resolver ≡ documents_in self.now) }
+    {
+        let reached = found.reached;
+        Ok(Resolved {
+            contents: reached.contents,
+            resolver: self.at(reached.base)?,
+            draft: reached.draft,
+            document: found.document,
+            path: reached.path,
+            is_place: reached.is_place,
+        })
+    }
+
     /// What a reference leads to from the base (Core 8.2.3.1): a plain reference, also where its fragment is a dynamic anchor.
     ///
     /// One search by the URI, and a look-up for each step of the place's path and for each part of a pointer. What is copied are URIs,
@@ -169,15 +187,7 @@ impl<'r> Resolver<'r> {
         ensures refused { IfErr result (RefusesLookup (spec.lookup (documents_in self.now ∷ []) (base_of self.now) reference.now)) }
     {
         let found = look_up(self.registry, &self.base, reference)?;
-        let reached = found.reached;
-        Ok(Resolved {
-            contents: reached.contents,
-            resolver: self.at(reached.base)?,
-            draft: reached.draft,
-            document: found.document,
-            path: reached.path,
-            is_place: reached.is_place,
-        })
+        Ok(self.arrived(found)?)
     }
 
     /// The resolver inside a subschema: its identifier, if it has one, changes the base (Core 8.2.1).

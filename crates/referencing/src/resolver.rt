@@ -1,5 +1,8 @@
 //! Resolvers.
 
+ghost use Rattle.std.specs.Prelude.{map};
+ghost use Rattle.scope_laws.specs.Laws.{IsPresent};
+
 use crate::registry::Registry;
 use schema_drafts::draft::Draft;
 use schema_steps::Path;
@@ -14,6 +17,7 @@ pub struct Resolver<'r> {
     pub(crate) registry: &'r Registry<'r>,
     pub(crate) base: Rc<Uri>,
     pub(crate) scope: List<Rc<Uri>>,
+    ghost present: { IsPresent base.value (map (λ u. u.value) scope) },
 }
 
 /// What a reference leads to: a value of a document, lent, with its draft, the document's URI, the path in it, and a resolver there.

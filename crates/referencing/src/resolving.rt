@@ -43,7 +43,7 @@ fn walk_refused(error: WalkError) -> Error
 }
 
 // The schema place itself.
-fn whole<'r>(standing: Standing<'r>) -> Found<'r>
+pub(crate) fn whole<'r>(standing: Standing<'r>) -> Found<'r>
     ensures { found_target result ≡ spec.target_of (standing_of standing.entry) }
 {
     let place = standing.place;
@@ -72,7 +72,7 @@ fn by_pointer<'r>(alloc: Global, standing: Standing<'r>, fragment: &str) -> Resu
     }
 }
 
-fn has_slash(text: &str) -> bool
+pub(crate) fn has_slash(text: &str) -> bool
     ensures { result ≡ has 47 text.now }
 {
     text.contains('/')
@@ -128,7 +128,7 @@ fn wanted<'r>(registry: &'r Registry<'_>, base: &Uri, text: &str) -> Result<Stan
     }
 }
 
-fn fragment_or_empty(fragment: Option<&str>) -> &str
+pub(crate) fn fragment_or_empty(fragment: Option<&str>) -> &str
     ensures { result.now ≡ words.or [] (option_map (λ t. t.now) fragment.entry) }
 {
     match fragment {

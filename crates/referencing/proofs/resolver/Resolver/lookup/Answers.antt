@@ -22,6 +22,4 @@ returns-clause-ok c =
     let reference = c.args.reference.now in
     let found = c.in_ok-found.found in
     let ok = subst (λ b. lookup_under no_meta (documents_in self ∷ []) b reference ≡ Ok (found_target found)) c.deref.ensures c.in_ok-found.ensures.ok in
-    let there = found_target found in
-    let same = ap (λ b. Ok (record { document = there.document; path = there.path; contents = there.contents; base = b; dialect = there.dialect; is_place = there.is_place })) (sym c.in_ok-at.ensures.base) in
-    alone (documents_in self) self.registry.now.stands.accepted (base_of self) reference ∙ ok ∙ same
+    alone (documents_in self) self.registry.now.stands.accepted (base_of self) reference ∙ ok ∙ ap Ok (sym c.in_ok-arrived.ensures.target)
