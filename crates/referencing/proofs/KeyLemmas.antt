@@ -1,8 +1,8 @@
 -- Resources by their first occurrence, and scope keys that are equal.
-use Rattle.std.proofs.Common.{◌≡◌, ℕ, List, [], ◌∷◌, ◌++◌, Bool, true, false, ◌&&◌, ◌||◌, cond, if◌then◌else◌, map, reverse, Decides, refl, sym, ap, ap₂, ◌∙◌, bytes_eq, append-assoc}
+use Rattle.std.proofs.Common.{◌≡◌, ℕ, List, [], ◌∷◌, ◌++◌, Bool, true, false, ◌&&◌, ◌||◌, cond, if◌then◌else◌, map, reverse, Decides, refl, sym, ap, ap₂, ◌∙◌, bytes_eq}
 use Rattle.std.specs.List.{list_any}
 use Rattle.std.specs.Cmp.Lexicographic.{pointwise, nat_list_eq_equiv}
-use Rattle.std.proofs.lemmas.List.{reverse-append, map-append}
+use Rattle.std.proofs.lemmas.List.{reverse-append, append_assoc}
 use Rattle.std.proofs.lemmas.Slice.Eq.{slice_eq-Decides, bytes_eq-Decides}
 use Rattle.schema_reading.specs.CompileKeys.{ScopeKey, first_ones, reversed_onto}
 use Rattle.referencing.specs.Keys.{keys_eq}
@@ -33,7 +33,7 @@ not_seen u seen us e = ap (λ b. if b then first_ones seen us else u ∷ first_o
 pub one_more : (u : List ℕ) (firsts us : List (List ℕ)) → list_any (bytes_eq u) (reverse firsts) ≡ false
     → (firsts ++ u ∷ []) ++ first_ones (reverse (firsts ++ u ∷ [])) us ≡ firsts ++ first_ones (reverse firsts) (u ∷ us)
 one_more u firsts us e =
-    append-assoc firsts (u ∷ []) (first_ones (reverse (firsts ++ u ∷ [])) us)
+    append_assoc firsts (u ∷ []) (first_ones (reverse (firsts ++ u ∷ [])) us)
     ∙ ap (λ seen. firsts ++ u ∷ first_ones seen us) (reverse-append firsts (u ∷ []))
     ∙ ap (λ vs. firsts ++ vs) (sym (not_seen u (reverse firsts) us e))
 
