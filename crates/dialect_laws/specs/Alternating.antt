@@ -1,0 +1,25 @@
+-- Documents whose stages do not come to rest.
+use Rattle.std.specs.Prelude.{ℕ, ◌≡◌, List, [], ◌∷◌, map, codes, Option, Some, None, option_map}
+use Rattle.serde_json.specs.Data.{Data, null}
+use Rattle.serde_json.specs.Read.{read}
+use Rattle.schema_drafts.specs.declared.draft.Draft.{Draft}
+use Rattle.schema_drafts.specs.declared.draft.Draft.TheVariants.{Draft4, Draft202012}
+use Rattle.schema_documents.specs.Words.{or}
+use Rattle.schema_documents.specs.Bearers.{Document, Documents, dialects, how_many}
+use Rattle.schema_documents.specs.DocumentCauses.{DocumentCause, document_causes}
+
+abbrev pub document : List ℕ × List ℕ → Document
+document d = record { uri = d.0; contents = or null (read d.1); default = Draft202012 }
+
+abbrev pub alternating : Documents
+alternating = map document
+    ((codes "http://a.test/m", codes "{\"$schema\":\"https://json-schema.org/draft/2020-12/schema\"}")
+    ∷ (codes "http://a.test/b", codes "{\"$schema\":\"http://a.test/m\",\"$defs\":{\"x\":{\"$schema\":\"http://json-schema.org/draft-04/schema#\",\"id\":\"http://a.test/m\"}}}")
+    ∷ []) ∷ []
+
+abbrev pub draft_after : ℕ → Option Draft
+draft_after n = option_map (λ d. d.draft) (dialects alternating n (codes "http://a.test/m"))
+
+abbrev pub Alternates : Type 0
+Alternates = (how_many alternating ≡ 3) × (draft_after 1 ≡ Some Draft202012) × (draft_after 2 ≡ Some Draft4) × (draft_after 3 ≡ Some Draft202012) × (draft_after 4 ≡ Some Draft4)
+    × (document_causes alternating ≡ [])
