@@ -1,1 +1,4 @@
 pub mod Computed
+pub mod Alone
+pub mod Agreeing
+pub mod Resting
