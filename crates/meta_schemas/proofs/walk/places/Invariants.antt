@@ -1,0 +1,17 @@
+use Rattle.std.proofs.Common.{◌≡◌, ◌++◌, ◌∷◌, ◌≤◌, [], map, take, drop, length}
+use Rattle.std.specs.List.{flat_map, sum_by}
+use Rattle.serde_json.specs.View.{view}
+use Rattle.schema_documents.specs.Places.{children, root_place}
+use Rattle.meta_schemas.specs.Known.{drafts_of}
+use Rattle.schema_places.specs.Seen.{place_of}
+use Rattle.schema_places.proofs.Weights.{size}
+use Rattle.meta_schemas.proofs.walk.places.Given as goal
+
+abbrev pub invariant-loop-next : goal.invariant-loop-next
+invariant-loop-next l = record {
+  within : l.next ≤ length l.found.items;
+  queue : map place_of l.found.items ≡ (root_place (drafts_of l.known) l.uri.value l.fn.default (view l.contents) ∷ []) ++ flat_map (children (drafts_of l.known)) (take l.next (map place_of l.found.items));
+}
+
+abbrev pub decreases-loop-next : goal.decreases-loop-next
+decreases-loop-next l = sum_by size (drop l.next (map place_of l.found.items))

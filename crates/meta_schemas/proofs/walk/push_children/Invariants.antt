@@ -1,0 +1,11 @@
+use Rattle.std.proofs.Common.{◌≡◌, ◌++◌, map}
+use Rattle.serde_json.specs.View.{members_view}
+use Rattle.schema_documents.specs.Places.{children, children_of}
+use Rattle.meta_schemas.specs.Known.{drafts_of}
+use Rattle.schema_places.specs.Seen.{place_of}
+use Rattle.meta_schemas.proofs.walk.push_children.Given as goal
+
+abbrev pub invariant-loop-name : goal.invariant-loop-name
+invariant-loop-name l =
+    map place_of l.fn.found.items ++ children (drafts_of l.known) (place_of l.outer)
+    ≡ map place_of l.found.items ++ children_of (drafts_of l.known) (place_of l.outer) l.hidden (members_view l.name-iterator)
