@@ -1,7 +1,6 @@
 -- Stages at rest stay at rest.
 use Rattle.std.proofs.Common.{◌≡◌, ◌∙◌, ◌+◌, ◌-◌, ℕ, zero, suc, List, [], ◌∷◌, Bool, Option, option_map, refl, ap, ap₂, sym, arith}
-use Rattle.std.proofs.lemmas.List.Elements.{recursion_from_All}
-use Rattle.std.specs.List.{All, AllByRecursion}
+use Rattle.std.specs.List.{AllByRecursion}
 use Rattle.schema_documents.specs.Words.{or_else, last_that}
 use Rattle.schema_documents.specs.Places.{Dialect, standard}
 use Rattle.schema_documents.specs.Bearers.{Document, Documents, Standing, standings, bears, last_standing, dialect_by, dialects, how_many}
@@ -19,10 +18,10 @@ module _ (told after : List ℕ → Option Dialect) where
   same_last test [] h = refl
   same_last test (own ∷ parents) h = ap₂ (λ o p. or_else o p) (ap (last_that test) h.0) (same_last test parents h.1)
 
-  pub at_rest : (docs : Documents) → AllByRecursion (λ own. All (Agrees told after) (standings told own)) docs → Layers docs
+  pub at_rest : (docs : Documents) → AllByRecursion (λ own. AllByRecursion (Agrees told after) (standings told own)) docs → Layers docs
   unfolding Layers
   at_rest [] h = tt
-  at_rest (own ∷ parents) h = (same_standings told after own (recursion_from_All (Agrees told after) (standings told own) h.0), at_rest parents h.1)
+  at_rest (own ∷ parents) h = (same_standings told after own h.0, at_rest parents h.1)
 
   pub alike : ((uri : List ℕ) → after uri ≡ told uri) → (docs : Documents) → Layers docs
   unfolding Layers
@@ -58,7 +57,7 @@ module _ (docs : Documents) where
   one_more n rest =
       let told = drafts_alone (dialects docs n) in
       let after = drafts_alone (dialects docs (suc n)) in
-      more n (suc n) (at_rest told after docs (recursion_from_All (λ own. All (Agrees told after) (standings told own)) docs rest))
+      more n (suc n) (at_rest told after docs rest)
 
 pub rest_stays : RestStays
 rest_stays docs n rest m less uri =

@@ -1,6 +1,6 @@
 -- The stages by which the dialects of meta-schemas are told, and when they are at rest.
 use Rattle.std.specs.Prelude.{ℕ, suc, ◌<◌, ◌≡◌, map, List, [], ◌∷◌, Bool, true, false, not, ◌&&◌, ◌||◌, bytes_eq, Option, Some, None, option_map, option_and_then, is_some}
-use Rattle.std.specs.List.{All}
+use Rattle.std.specs.List.{AllByRecursion}
 use Rattle.serde_json.specs.Data.{Data}
 use Rattle.schema_drafts.specs.Drafts.{draft_named}
 use Rattle.schema_drafts.specs.declared.draft.Draft.{Draft}
@@ -44,7 +44,7 @@ pub record Agrees (told after : List ℕ → Option Dialect) (s : Standing) : Ty
 -- one stage more tells the same drafts of all meta-schemas that are named
 abbrev pub AtRest : Documents → ℕ → Type 0
 AtRest docs n =
-    All (λ own. All (Agrees (drafts_alone (dialects docs n)) (drafts_alone (dialects docs (suc n)))) (standings (drafts_alone (dialects docs n)) own)) docs
+    AllByRecursion (λ own. AllByRecursion (Agrees (drafts_alone (dialects docs n)) (drafts_alone (dialects docs (suc n)))) (standings (drafts_alone (dialects docs n)) own)) docs
 
 -- where n stages are at rest, no stage after the next tells another dialect of any URI
 abbrev pub RestStays : Type 0
