@@ -1,3 +1,4 @@
 pub mod KnownLemmas
 pub mod StandingLemmas
 pub mod BorneLemmas
+pub mod StageLemmas

@@ -7,4 +7,5 @@ pub mod place;
 pub mod settling;
 pub mod stages;
 pub mod standing;
+pub mod told;
 pub mod walk;

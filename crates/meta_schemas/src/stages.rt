@@ -91,7 +91,7 @@ fn put_uris(
 }
 
 // The meta-schemas that schema places bear: of several bearers of a URI the last counts.
-fn borne_by(alloc: Global, standings: &[Standing<'_>]) -> Result<MetaSchemas, AllocError>
+pub(crate) fn borne_by(alloc: Global, standings: &[Standing<'_>]) -> Result<MetaSchemas, AllocError>
     ensures { IfOk result (λ k. (q : List ℕ) → IsBorne (known_under k q) (last_that (bearers.bears q) (map standing_of standings.now))) }
 {
     let mut by_uri = BTreeMap::new(alloc);
@@ -134,7 +134,7 @@ fn agrees(
     }
 }
 
-fn is_at_rest(
+pub(crate) fn is_at_rest(
     alloc: Global,
     standings: &[Standing<'_>],
     told: &MetaSchemas,
