@@ -1,3 +1,4 @@
 pub mod Known
 pub mod Seen
 pub mod Borne
+pub mod Awaited
