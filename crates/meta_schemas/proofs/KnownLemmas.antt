@@ -8,7 +8,7 @@ use Rattle.std.specs.Map.{lookup}
 use Rattle.meta_schemas.specs.declared.known.MetaSchema.{MetaSchema}
 
 -- what a look-up lends
-pub lent : (o : Option (Bor MetaSchema)) (p : Option MetaSchema) → option_copied o ≡ p → option_map (λ b. b.now) o ≡ p
+pub lent : {X : Type 0} (o : Option (Bor X)) (p : Option X) → option_copied o ≡ p → option_map (λ b. b.now) o ≡ p
 lent None p e = e
 lent (Some b) p e = e
 

@@ -2,3 +2,4 @@ pub mod KnownLemmas
 pub mod StandingLemmas
 pub mod BorneLemmas
 pub mod StageLemmas
+pub mod AwaitedLemmas

@@ -49,7 +49,7 @@ fn would_be(alloc: Global, uri: &str, standing: &Standing<'_>) -> Result<bool, A
     }
     match own_uri(alloc, standing)? {
         Some(own) => Ok(uri == own.as_str()),
-        None => Ok(uri == ""),
+        None => Ok(uri.is_empty()),
     }
 }
 
@@ -98,16 +98,16 @@ pub fn awaited_cause(
     standings: &[Standing<'_>],
     uri: Uri,
 ) -> Result<Unsettled, AllocError>
-    ensures { IfOk result (λ c. (own : List bearers.Document) → AwaitedIn own (map standing_of standings.now) → cause_of c ≡ causes.awaited_cause (own ∷ []) (suc (causes.how_many_await (own ∷ []) (own ∷ []))) uri.entry) }
+    ensures { IfOk result (λ c. (own : List bearers.Document) → AwaitedIn own (map standing_of standings.now) → cause_of c ≡ causes.awaited_cause (own ∷ []) (suc (causes.how_many_await (own ∷ []) (own ∷ []))) uri) }
 {
-    let mut uri = uri;
+    let mut awaited = uri;
     let mut left = how_many_await(standings);
-    while let Some(next) = next_awaited(alloc, standings, uri.as_str())? {
-        uri = next;
+    while let Some(next) = next_awaited(alloc, standings, awaited.as_str())? {
+        awaited = next;
         if left == 0 {
-            return Ok(Unsettled::Circular(uri));
+            return Ok(Unsettled::Circular(awaited));
         }
         left -= 1;
     }
-    Ok(Unsettled::Unknown(uri))
+    Ok(Unsettled::Unknown(awaited))
 }

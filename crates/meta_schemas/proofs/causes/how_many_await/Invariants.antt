@@ -1,0 +1,13 @@
+use Rattle.std.proofs.Common.{◌≡◌, ◌+◌, ◌≤◌, map, drop, length, is_some}
+use Rattle.std.specs.List.{filter}
+use Rattle.schema_documents.specs.Bearers.{Standing}
+use Rattle.meta_schemas.specs.Seen.{standing_of}
+use Rattle.meta_schemas.proofs.causes.how_many_await.Given as goal
+
+abbrev pub invariant-loop-standing : goal.invariant-loop-standing
+invariant-loop-standing l =
+    record {
+      within : l.count ≤ l.standing-index;
+      counted : length (filter (λ (s : Standing). is_some s.place.awaits) (map standing_of l.standings))
+          ≡ l.count + length (filter (λ (s : Standing). is_some s.place.awaits) (map standing_of (drop l.standing-index l.standings)));
+    }
