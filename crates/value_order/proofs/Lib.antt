@@ -1,0 +1,4 @@
+pub mod Keys
+pub mod Ties
+pub mod Trees
+pub mod Sorting

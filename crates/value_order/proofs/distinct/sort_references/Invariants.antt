@@ -1,0 +1,11 @@
+use Rattle.std.proofs.Common.{◌≡◌, drop, take}
+use Rattle.serde_json.specs.View.{items_view}
+use Rattle.place_laws.specs.Rising.{items_rise}
+use Rattle.value_order.specs.Sorts.{values_of}
+use Rattle.value_order.proofs.distinct.sort_references.Given as goal
+
+abbrev pub invariant-loop-value : goal.invariant-loop-value
+invariant-loop-value l = record {
+  gathered : values_of l.references.items ≡ take l.value-index l.values;
+  rise : items_rise (items_view l.values) ≡ items_rise (items_view (drop l.value-index l.values));
+}
