@@ -2,3 +2,4 @@ pub mod Keys
 pub mod Ties
 pub mod Trees
 pub mod Sorting
+pub mod Searching

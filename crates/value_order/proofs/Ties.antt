@@ -96,7 +96,7 @@ mutual
   ties_are_equal (object ms) (number n) p q = refl
   ties_are_equal (object ms) (string t) p q = refl
   ties_are_equal (object ms) (array es) p q = refl
-  ties_are_equal (object ms) (object ns) p q = 
+  ties_are_equal (object ms) (object ns) p q =
       same_in_step ms ns (first_so (are_rising ms) (members_rise ms) p) (first_so (are_rising ns) (members_rise ns) q)
       ∙ members_tie ms ns (first_so (are_rising ms) (members_rise ms) p) (second_so (are_rising ms) (members_rise ms) p) (second_so (are_rising ns) (members_rise ns) q)
 
@@ -117,6 +117,6 @@ mutual
       ap (λ b. b && equal d e && in_step ms ns) (sym (is_eq-slice_cmp k l))
       ∙ ap (λ b. is_eq (slice_cmp nat_cmp k l) && b && in_step ms ns) (ties_are_equal d e (first_so (rises d) (members_rise ms) p) (first_so (rises e) (members_rise ns) q))
       ∙ ap (λ b. is_eq (slice_cmp nat_cmp k l) && (is_eq (order d e) && is_tree d) && b)
-        (members_tie ms ns (rising_rest k ms r) (second_so (rises d) (members_rise ms) p) (second_so (rises e) (members_rise ns) q))
+      (members_tie ms ns (rising_rest k ms r) (second_so (rises d) (members_rise ms) p) (second_so (rises e) (members_rise ns) q))
       ∙ named_parts (slice_cmp nat_cmp k l) (order d e) (members_order ms ns) (is_tree d) (are_member_trees ms)
       ∙ ap (λ b. is_eq (members_order (member k d ms) (member l e ns)) && b) (sym (once k ms (is_tree d) r))

@@ -1,5 +1,5 @@
 //! Values sorted once, to be searched.
-ghost use Rattle.std.specs.Prelude.{◌≡◌, IfOk};
+ghost use Rattle.std.specs.Prelude.{◌≡◌, IfOk, true};
 ghost use Rattle.schema_values.specs.Equality.{is_among};
 ghost use Rattle.serde_json.specs.View.{view, items_view};
 ghost use Rattle.std.specs.List.{list_any};
