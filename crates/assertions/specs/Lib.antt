@@ -1,0 +1,6 @@
+pub mod Names
+pub mod Shapes
+pub mod Wrong
+pub mod Texts
+pub mod Arms
+pub mod Reads

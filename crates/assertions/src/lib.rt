@@ -1,0 +1,8 @@
+//! Keywords that only assert: read from their values, accepted or refused, and what is wrong with a value that they refuse.
+#![tactic(auto)]
+
+pub mod accepting;
+pub mod assertion;
+pub mod keyword;
+pub mod missing;
+pub mod reading;
