@@ -1,0 +1,20 @@
+-- The rows compute.
+use Rattle.std.proofs.Common.{refl}
+use Rattle.std.specs.List.{AllByRecursion}
+use Rattle.std.specs.Str.{is_utf8, chars}
+use Rattle.std.specs.Fmt.{digits}
+use Rattle.serde_json.proofs.OnLiterals.{serde_json_on_literals}
+use Rattle.uri_grammar.specs.Parts.{split}
+use Rattle.uri_grammar.specs.Grammar.{is_reference}
+use Rattle.uri_resolution.specs.Resolution.{resolve}
+use Rattle.uri_resolution.specs.NormalForm.{normal}
+use Rattle.uri_resolution.specs.Dots.{remove_dots}
+use Rattle.schema_documents.specs.Identifiers.{resolved}
+use Rattle.schema_documents.specs.Places.{places}
+use Rattle.schema_documents.specs.Bearers.{standings, dialects}
+use Rattle.retrieval_rounds.specs.Rounds.{wanted}
+use Rattle.retrieval_rounds.specs.Examples.{Wants, wants}
+
+pub wants_hold : AllByRecursion Wants wants
+unfolding digits serde_json_on_literals lib.Utf8.encode is_utf8 chars split is_reference resolve normal remove_dots resolved places standings dialects wanted
+wants_hold = (refl, (refl, (refl, (refl, (refl, (refl, tt))))))

@@ -1,0 +1,10 @@
+//! Documents that are wanted and not at hand, by rounds of retrieval.
+#![tactic(auto)]
+
+ghost use Rattle.std.specs.List.{AllByRecursion};
+ghost use Rattle.retrieval_rounds.specs.Examples.{Wants, wants};
+
+/// What documents want, round by round: references, meta-schemas, and what a meta-schema at last lets be seen.
+pub fn wants_hold()
+    ensures { AllByRecursion Wants wants }
+{}
