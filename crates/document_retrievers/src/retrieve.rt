@@ -1,8 +1,9 @@
 //! What a retriever does.
 
-ghost use Rattle.std.specs.Prelude.{ℕ, List, IfOk};
+ghost use Rattle.std.specs.Prelude.{◌≡◌, ℕ, List, IfOk, Err};
 ghost use Rattle.serde_json.specs.Data.{Data};
 ghost use Rattle.serde_json.specs.View.{view};
+ghost use Rattle.referencing_errors.specs.declared.error.RetrieveError.TheVariants.{Refused};
 
 use referencing_errors::error::RetrieveError;
 use serde_json::Value;
@@ -13,6 +14,8 @@ use uri_references::uri::Uri;
 pub trait Retrieve {
     // What may be answered for a URI.
     ghost may_answer: { Self → List ℕ → Data → Type 0 };
+    // Whether a URI may be refused.
+    ghost may_refuse: { Self → List ℕ → Type 0 };
 
     /// The document of that URI.
     ///
@@ -20,5 +23,6 @@ pub trait Retrieve {
     ///
     /// Where the retriever refuses, or where memory was refused.
     fn retrieve(&self, alloc: Global, uri: &Uri) -> Result<Value, RetrieveError>
-        ensures { IfOk result (λ v. may_answer self.now uri.now (view v)) };
+        ensures answered { IfOk result (λ v. may_answer self.now uri.now (view v)) }
+        ensures may_be_refused { result ≡ Err Refused → may_refuse self.now uri.now };
 }

@@ -12,9 +12,9 @@ use Rattle.uri_resolution.specs.Dots.{remove_dots}
 use Rattle.schema_documents.specs.Identifiers.{resolved}
 use Rattle.schema_documents.specs.Places.{places}
 use Rattle.schema_documents.specs.Bearers.{standings, dialects}
-use Rattle.retrieval_rounds.specs.Rounds.{wanted}
-use Rattle.retrieval_rounds.specs.Examples.{Wants, wants}
+use Rattle.retrieval_rounds.specs.Rounds.{wants_under}
+use Rattle.retrieval_rounds.specs.Examples.{Wants, rows}
 
-pub wants_hold : AllByRecursion Wants wants
-unfolding digits serde_json_on_literals lib.Utf8.encode is_utf8 chars split is_reference resolve normal remove_dots resolved places standings dialects wanted
+pub wants_hold : AllByRecursion Wants rows
+unfolding digits serde_json_on_literals lib.Utf8.encode is_utf8 chars split is_reference resolve normal remove_dots resolved places standings dialects wants_under
 wants_hold = (refl, (refl, (refl, (refl, (refl, (refl, tt))))))

@@ -1,57 +1,81 @@
 -- Documents that are wanted and not at hand, and how they are retrieved: by rounds (Core 8.2.3.2, 9.1.2).
-use Rattle.std.specs.Prelude.{◌≡◌, ℕ, List, [], ◌∷◌, ◌++◌, Bool, false, not, ◌||◌, map, codes, bytes_eq, Some, None, option_and_then, is_some}
-use Rattle.std.specs.List.{filter, flat_map, list_any, AllByRecursion}
+use Rattle.std.specs.Prelude.{◌≡◌, ◌<◌, ◌≤◌, ◌+◌, ℕ, List, [], ◌∷◌, ◌++◌, length, Bool, false, ◌||◌, map, codes, bytes_eq, if◌then◌else◌, Option, Some, None, option_and_then, is_some}
+use Rattle.std.specs.List.{flat_map, list_any, AllByRecursion}
 use Rattle.serde_json.specs.Data.{Data}
 use Rattle.uri_grammar.specs.Texts.{cut_at}
 use Rattle.schema_drafts.specs.declared.draft.Draft.{Draft}
 use Rattle.schema_documents.specs.Words.{listed, text_at}
 use Rattle.schema_documents.specs.Identifiers.{resolved}
-use Rattle.schema_documents.specs.Bearers.{Document, Documents, Standing, standings, meta, bearer}
-use Rattle.schema_documents.specs.DocumentCauses.{waiting}
+use Rattle.schema_documents.specs.Places.{Dialect}
+use Rattle.schema_documents.specs.Bearers.{Document, Documents, Standing, standings, meta, bearer_under}
+use Rattle.schema_documents.specs.DocumentCauses.{DocumentCause, unretrieved, unknown_specification}
 
 -- ---- what is wanted
 
--- the URI of the document that a `$ref` wants
-abbrev pub referred : Standing → List (List ℕ)
-referred s = listed (option_and_then (λ t. resolved s.place.base (cut_at 35 t).0) (text_at (codes "$ref") s.place.contents))
+-- a document of this URI, and what documents are refused for where nobody gives it
+pub record Want : Type 0 where
+  pub uri : List ℕ
+  pub cause : DocumentCause
 
--- a place wants its meta-schema where it awaits one, and else what its `$ref` does
-abbrev pub wanted_at : Standing → List (List ℕ)
-wanted_at s = elim s.place.awaits [ None ↦ referred s | Some uri ↦ uri ∷ [] ]
+abbrev pub as_reference : List ℕ → Want
+as_reference uri = record { uri = uri; cause = unretrieved uri }
+
+abbrev pub as_meta_schema : List ℕ → Want
+as_meta_schema uri = record { uri = uri; cause = unknown_specification uri }
+
+-- the document that a `$ref` leads into
+abbrev pub referred : Standing → Option (List ℕ)
+referred s = option_and_then (λ t. resolved s.place.base (cut_at 35 t).0) (text_at (codes "$ref") s.place.contents)
+
+-- a place wants its meta-schema where it awaits one, and else what its `$ref` leads into
+abbrev pub wanted_at : Standing → List Want
+wanted_at s = elim s.place.awaits [ None ↦ map as_reference (listed (referred s)) | Some uri ↦ as_meta_schema uri ∷ [] ]
 
 -- a document of this URI is there
-abbrev pub is_added : List ℕ → Documents → Bool
-is_added uri [] = false
-is_added uri (own ∷ parents) = list_any (λ d. bytes_eq d.uri uri) own || is_added uri parents
+abbrev pub is_added : Documents → List ℕ → Bool
+is_added [] uri = false
+is_added (own ∷ parents) uri = list_any (λ d. bytes_eq d.uri uri) own || is_added parents uri
 
--- some place bears the URI, or will once its meta-schema is known
-abbrev pub is_at_hand : Documents → List ℕ → Bool
-is_at_hand docs uri = is_some (bearer docs uri) || is_added uri docs || is_some (waiting docs docs uri)
+-- it is, or some place bears the URI
+abbrev pub is_at_hand : (List ℕ → Option Dialect) → Documents → List ℕ → Bool
+is_at_hand told docs uri = is_some (bearer_under told docs uri) || is_added docs uri
 
--- each once, in the order in which they come first
-abbrev pub behind_first : List ℕ → List (List ℕ) → List (List ℕ)
-behind_first t ts = filter (λ u. not (bytes_eq t u)) ts
+-- those that are not known, each URI once, in the order in which they come first
+abbrev pub further : (List ℕ → Bool) → List Want → List Want
+further known [] = []
+further known (w ∷ ws) = if known w.uri then further known ws else w ∷ further (λ uri. known uri || bytes_eq w.uri uri) ws
 
-abbrev pub each_once : List (List ℕ) → List (List ℕ)
-each_once [] = []
-each_once (t ∷ ts) = t ∷ behind_first t (each_once ts)
+-- what the own documents want and is not at hand, in the order met
+unfoldable pub wants_under : (List ℕ → Option Dialect) → Documents → List Want
+wants_under told [] = []
+wants_under told (own ∷ parents) = further (is_at_hand told (own ∷ parents)) (flat_map wanted_at (standings told own))
 
--- what the own documents want and is not at hand, each once, in the order met
-unfoldable pub wanted : Documents → List (List ℕ)
-wanted [] = []
-wanted (own ∷ parents) = each_once (filter (λ uri. not (is_at_hand (own ∷ parents) uri)) (flat_map wanted_at (standings (meta (own ∷ parents)) own)))
+abbrev pub wants : Documents → List Want
+wants docs = wants_under (meta docs) docs
 
 -- ---- rounds
 
--- the answers of a round: a document for each URI that is wanted, in that order, each one that the retriever may answer
-pub record IsRound (may : List ℕ → Data → Type 0) (draft : Draft) (docs : Documents) (answers : List Document) : Type 0 where
-  pub asked : map (λ d. d.uri) answers ≡ wanted docs
-  pub answered : AllByRecursion (λ d. may d.uri d.contents × (d.default ≡ draft)) answers
+-- Whom documents are asked of: what may be answered for a URI and what may be refused, and the draft of answers that name none.
+-- `told` says what documents tell of meta-schemas.
+pub record Asking : Type 1 where
+  pub answers : List ℕ → Data → Type 0
+  pub refuses : List ℕ → Type 0
+  pub default : Draft
+  pub told : Documents → List ℕ → Option Dialect
+  pub parents : Documents
+
+abbrev pub wanted_by : Asking → List Document → List Want
+wanted_by a own = wants_under (a.told (own ∷ a.parents)) (own ∷ a.parents)
+
+-- the answers of a round: a document for each that is wanted, in that order
+pub record IsRound (a : Asking) (own answers : List Document) : Type 0 where
+  pub asked : map (λ d. d.uri) answers ≡ map (λ w. w.uri) (wanted_by a own)
+  pub answered : AllByRecursion (λ d. a.answers d.uri d.contents × (d.default ≡ a.default)) answers
 
 -- rounds one after another: all documents at hand are walked, and then what they want is asked for
-abbrev pub AreRounds : (List ℕ → Data → Type 0) → Draft → Documents → List Document → List (List Document) → Type 0
-AreRounds may draft parents own [] = Unit {0}
-AreRounds may draft parents own (answers ∷ rounds) = IsRound may draft (own ∷ parents) answers × AreRounds may draft parents (own ++ answers) rounds
+abbrev pub AreRounds : Asking → List Document → List (List Document) → Type 0
+AreRounds a own [] = Unit {0}
+AreRounds a own (answers ∷ rounds) = IsRound a own answers × AreRounds a (own ++ answers) rounds
 
 -- the documents after some rounds, and the URIs that were answered, in order
 abbrev pub gathered : List Document → List (List Document) → List Document

@@ -2,9 +2,9 @@
 #![tactic(auto)]
 
 ghost use Rattle.std.specs.List.{AllByRecursion};
-ghost use Rattle.retrieval_rounds.specs.Examples.{Wants, wants};
+ghost use Rattle.retrieval_rounds.specs.Examples.{Wants, rows};
 
 /// What documents want, round by round: references, meta-schemas, and what a meta-schema at last lets be seen.
 pub fn wants_hold()
-    ensures { AllByRecursion Wants wants }
+    ensures { AllByRecursion Wants rows }
 {}

@@ -1,0 +1,8 @@
+//! Documents that are wanted and not at hand, asked for by rounds.
+#![tactic(auto)]
+
+mod names;
+
+pub mod wants;
+
+
