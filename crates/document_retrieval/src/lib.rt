@@ -2,7 +2,6 @@
 #![tactic(auto)]
 
 mod names;
-
+mod round;
+pub mod rounds;
 pub mod wants;
-
-

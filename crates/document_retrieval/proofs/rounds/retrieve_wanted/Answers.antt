@@ -1,0 +1,26 @@
+use Rattle.std.proofs.Common.{◌≡◌, ◌∙◌, ◌++◌, ◌∷◌, ◌+◌, [], map, length, sym, ap, subst, arith}
+use Rattle.schema_documents.specs.Bearers.{Document}
+use Rattle.schema_identifiers.specs.Unknown.{no_meta}
+use Rattle.document_index.specs.Seen.{document_of}
+use Rattle.retrieval_rounds.specs.Rounds.{Want, wants_under, wanted_by, gathered, retrieved}
+use Rattle.document_retrieval.specs.Known.{want_of}
+use Rattle.document_retrieval.specs.Stages.{asking, documents_in, uris_in}
+use Rattle.document_retrieval.proofs.StageLemmas.{rounds-push, gathered-push, retrieved-push}
+use Rattle.document_retrieval.proofs.rounds.retrieve_wanted.Goals as goal
+
+pub loop-gathered-preserved : goal.loop-gathered-preserved
+loop-gathered-preserved g c =
+    let a = asking g.R.Retrieve.may_answer g.R.Retrieve.may_refuse c.args.retriever.now c.args.default in
+    let own = map document_of c.args.documents.items in
+    let before = c.loop-gathered.invariant in
+    let adds = c.in_ok-push_round.ensures.ok in
+    let answers = adds.all.answers in
+    let wanted : map want_of c.deref-in-loop-gathered.result.now ≡ wanted_by a (gathered own before.rounds) =
+    ap (map want_of) c.deref-in-loop-gathered.ensures.value ∙ c.in_ok-wants.ensures ∙ ap (λ ds. wants_under no_meta (ds ∷ [])) (ap (map document_of) c.deref.ensures.value ∙ before.documents) in
+    record {
+      rounds = before.rounds ++ answers ∷ [];
+      are = rounds-push a own before.rounds answers before.are (record { asked = adds.all.asked ∙ ap (map (λ (w : Want). w.uri)) wanted; answered = adds.all.answered });
+      documents = adds.all.documents ∙ ap (λ l. l ++ answers) before.documents ∙ sym (gathered-push own before.rounds answers);
+      uris = adds.all.uris ∙ ap (λ l. uris_in c.loop-gathered.gathered ++ l) (sym adds.all.asked) ∙ ap (λ l. l ++ map (λ (d : Document). d.uri) answers) before.uris ∙ sym (retrieved-push before.rounds answers);
+      within = adds.within before.within;
+    }

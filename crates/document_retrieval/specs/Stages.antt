@@ -1,0 +1,88 @@
+-- How far documents are retrieved, and why no further.
+use Rattle.std.specs.Prelude.{◌≡◌, ◌≤◌, ◌<◌, ◌+◌, ◌⊎◌, ℕ, List, [], ◌∷◌, ◌++◌, map, length}
+use Rattle.std.specs.List.{AllByRecursion}
+use Rattle.serde_json.specs.Data.{Data}
+use Rattle.schema_drafts.specs.declared.draft.Draft.{Draft}
+use Rattle.schema_meaning.specs.Members.{In}
+use Rattle.schema_documents.specs.Bearers.{Document}
+use Rattle.schema_identifiers.specs.Unknown.{no_meta}
+use Rattle.document_index.specs.Seen.{document_of}
+use Rattle.referencing_errors.specs.Causes.{NamesDocument}
+use Rattle.referencing_errors.specs.declared.error.Error.{Error}
+use Rattle.referencing_errors.specs.declared.error.Error.TheVariants.{RetrievalLimit}
+use Rattle.retrieval_rounds.specs.Rounds.{Want, Asking, wanted_by, AreRounds, gathered, retrieved}
+use Rattle.document_retrieval.specs.declared.rounds.Retrieved.{Retrieved}
+
+-- a retriever is asked, and no meta-schema of one's own is read yet
+abbrev pub asking : {R : Type 0} → (R → List ℕ → Data → Type 0) → (R → List ℕ → Type 0) → R → Draft → Asking
+asking may_answer may_refuse retriever draft =
+    record { answers = may_answer retriever; refuses = may_refuse retriever; default = draft; told = λ docs. no_meta; parents = [] }
+
+abbrev pub documents_in : Retrieved → List Document
+documents_in r = map document_of r.documents.items
+
+abbrev pub uris_in : Retrieved → List (List ℕ)
+uris_in r = map (λ u. u.value) r.uris.items
+
+-- ---- one want
+
+abbrev pub MayAnswer : Asking → Document → Type 0
+MayAnswer a d = a.answers d.uri d.contents × (d.default ≡ a.default)
+
+pub record IsAnswer (a : Asking) (w : Want) (d : Document) : Type 0 where
+  pub uri : d.uri ≡ w.uri
+  pub may : MayAnswer a d
+
+pub record HasAnswer (a : Asking) (w : Want) (old new : Retrieved) : Type 0 where
+  pub answer : Document
+  pub is : IsAnswer a w answer
+  pub documents : documents_in new ≡ documents_in old ++ answer ∷ []
+  pub uris : uris_in new ≡ uris_in old ++ w.uri ∷ []
+
+-- what is wanted may be refused, and the error says for what
+pub record RefusesWant (a : Asking) (w : Want) (e : Error) : Type 0 where
+  pub refused : a.refuses w.uri
+  pub named : NamesDocument w.cause e
+
+-- ---- one round
+
+-- an answer to each want stands behind the documents
+pub record HasAnswers (a : Asking) (ws : List Want) (old new : Retrieved) : Type 0 where
+  pub answers : List Document
+  pub asked : map (λ d. d.uri) answers ≡ map (λ w. w.uri) ws
+  pub answered : AllByRecursion (MayAnswer a) answers
+  pub documents : documents_in new ≡ documents_in old ++ answers
+  pub uris : uris_in new ≡ uris_in old ++ map (λ w. w.uri) ws
+
+-- and no more were retrieved than may be
+pub record Adds (a : Asking) (limit : ℕ) (ws : List Want) (old new : Retrieved) : Type 0 where
+  pub all : HasAnswers a ws old new
+  pub within : length (uris_in old) ≤ limit → length (uris_in new) ≤ limit
+
+abbrev pub SomeRefused : Asking → List Want → Error → Type 0
+SomeRefused a ws e = (w : Want) × In w ws × RefusesWant a w e
+
+-- more are wanted than may be retrieved
+pub record AreTooMany (limit retrieved_now wanted : ℕ) (e : Error) : Type 0 where
+  pub error : e ≡ RetrievalLimit limit
+  pub more : limit < retrieved_now + wanted
+
+abbrev pub RefusesRound : Asking → ℕ → List Want → Retrieved → Error → Type 0
+RefusesRound a limit ws old e = SomeRefused a ws e ⊎ AreTooMany limit (length (uris_in old)) (length ws) e
+
+-- ---- rounds
+
+-- the documents after some rounds
+pub record IsGathered (a : Asking) (limit : ℕ) (own : List Document) (r : Retrieved) : Type 0 where
+  pub rounds : List (List Document)
+  pub are : AreRounds a own rounds
+  pub documents : documents_in r ≡ gathered own rounds
+  pub uris : uris_in r ≡ retrieved rounds
+  pub within : length (uris_in r) ≤ limit
+
+-- after some rounds the retriever may refuse what is wanted, or more is wanted than may be retrieved
+pub record Stops (a : Asking) (limit : ℕ) (own : List Document) (e : Error) : Type 0 where
+  pub rounds : List (List Document)
+  pub are : AreRounds a own rounds
+  pub why : SomeRefused a (wanted_by a (gathered own rounds)) e
+      ⊎ AreTooMany limit (length (retrieved rounds)) (length (wanted_by a (gathered own rounds))) e

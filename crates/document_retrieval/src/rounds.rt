@@ -1,0 +1,60 @@
+//! Documents asked for by rounds.
+
+ghost use Rattle.std.specs.Prelude.{◌≡◌, ◌⊎◌, [], ◌∷◌, map, IfOk, IfErr};
+ghost use Rattle.schema_identifiers.specs.Unknown.{no_meta};
+ghost use Rattle.document_index.specs.Seen.{document_of};
+ghost use Rattle.referencing_errors.specs.Causes.{IsMemory};
+ghost use Rattle.retrieval_rounds.specs.Rounds.{wants_under};
+ghost use Rattle.document_retrieval.specs.Stages.{asking, IsGathered, Stops};
+
+use crate::round::push_round;
+use crate::wants::wants_of;
+use document_index::document::Document;
+use document_retrievers::Retrieve;
+use referencing_errors::error::Error;
+use schema_drafts::draft::Draft;
+use std::alloc::Global;
+use std::rc::Rc;
+use uri_references::uri::Uri;
+
+/// Documents, and those among them that were retrieved.
+#[derive(Drop)]
+pub struct Retrieved<'a> {
+    /// Those that were given, and behind them the answers in their order.
+    pub documents: Vec<Document<'a>>,
+    /// The URIs that the retriever answered, in order, each once.
+    pub uris: Vec<Rc<Uri>>,
+}
+
+/// The documents with all that they want and is not at hand, and with what that wants in turn.
+///
+/// All documents are walked, then what they want is asked for in the order met, each URI once; then their answers are walked with
+/// them, until nothing is wanted any more. An answer is read by the default draft where it names none. It costs a walk of the documents
+/// for each round.
+///
+/// # Errors
+///
+/// Where the retriever refuses what is wanted, where more is wanted than the limit, or where memory was refused.
+pub fn retrieve_wanted<'a, R: Retrieve>(
+    alloc: Global,
+    documents: Vec<Document<'a>>,
+    default: Draft,
+    retriever: &R,
+    limit: u64,
+) -> Result<Retrieved<'a>, Error>
+    ensures ok { IfOk result (IsGathered (asking R.may_answer R.may_refuse retriever.now default) limit (map document_of documents.entry.items)) }
+    ensures complete { IfOk result (λ r. wants_under no_meta (map document_of r.documents.items ∷ []) ≡ []) }
+    ensures refused { IfErr result (λ e. IsMemory e ⊎ Stops (asking R.may_answer R.may_refuse retriever.now default) limit (map document_of documents.entry.items) e) }
+{
+    let mut gathered = Retrieved {
+        documents,
+        uris: Vec::new(alloc),
+    };
+    loop {
+        let wants = wants_of(alloc, &gathered.documents)?;
+        if wants.is_empty() {
+            return Ok(gathered);
+        }
+        push_round(alloc, &mut gathered, &wants, default, retriever, limit)?;
+    }
+}
