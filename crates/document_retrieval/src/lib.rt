@@ -4,4 +4,6 @@
 mod names;
 mod round;
 pub mod rounds;
+#[cfg(test)]
+mod tests;
 pub mod wants;

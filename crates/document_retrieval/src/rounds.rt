@@ -1,11 +1,11 @@
 //! Documents asked for by rounds.
 
-ghost use Rattle.std.specs.Prelude.{◌≡◌, ◌⊎◌, [], ◌∷◌, map, IfOk, IfErr};
+ghost use Rattle.std.specs.Prelude.{◌≡◌, ◌⊎◌, [], ◌∷◌, map, true, IfOk, IfErr};
 ghost use Rattle.schema_identifiers.specs.Unknown.{no_meta};
 ghost use Rattle.document_index.specs.Seen.{document_of};
 ghost use Rattle.referencing_errors.specs.Causes.{IsMemory};
-ghost use Rattle.retrieval_rounds.specs.Rounds.{wants_under};
-ghost use Rattle.document_retrieval.specs.Stages.{asking, IsGathered, Stops};
+ghost use Rattle.retrieval_rounds.specs.Rounds.{wants_under, none_twice};
+ghost use Rattle.document_retrieval.specs.Stages.{asking, uris_in, IsGathered, Stops};
 
 use crate::round::push_round;
 use crate::wants::wants_of;
@@ -43,6 +43,7 @@ pub fn retrieve_wanted<'a, R: Retrieve>(
     limit: u64,
 ) -> Result<Retrieved<'a>, Error>
     ensures ok { IfOk result (IsGathered (asking R.may_answer R.may_refuse retriever.now default) limit (map document_of documents.entry.items)) }
+    ensures once { IfOk result (λ r. none_twice (uris_in r) ≡ true) }
     ensures complete { IfOk result (λ r. wants_under no_meta (map document_of r.documents.items ∷ []) ≡ []) }
     ensures refused { IfErr result (λ e. IsMemory e ⊎ Stops (asking R.may_answer R.may_refuse retriever.now default) limit (map document_of documents.entry.items) e) }
 {

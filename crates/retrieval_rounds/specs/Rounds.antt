@@ -1,10 +1,10 @@
 -- Documents that are wanted and not at hand, and how they are retrieved: by rounds (Core 8.2.3.2, 9.1.2).
-use Rattle.std.specs.Prelude.{◌≡◌, ◌<◌, ◌≤◌, ◌+◌, ℕ, List, [], ◌∷◌, ◌++◌, length, Bool, false, ◌||◌, map, codes, bytes_eq, if◌then◌else◌, Option, Some, None, option_and_then, is_some}
+use Rattle.std.specs.Prelude.{◌≡◌, ℕ, List, [], ◌∷◌, ◌++◌, Bool, true, false, not, ◌&&◌, ◌||◌, map, codes, bytes_eq, if◌then◌else◌, Option, Some, None, option_and_then, is_some}
 use Rattle.std.specs.List.{flat_map, list_any, AllByRecursion}
 use Rattle.serde_json.specs.Data.{Data}
 use Rattle.uri_grammar.specs.Texts.{cut_at}
 use Rattle.schema_drafts.specs.declared.draft.Draft.{Draft}
-use Rattle.schema_documents.specs.Words.{listed, text_at}
+use Rattle.schema_documents.specs.Words.{listed, text_at, has_text}
 use Rattle.schema_documents.specs.Identifiers.{resolved}
 use Rattle.schema_documents.specs.Places.{Dialect}
 use Rattle.schema_documents.specs.Bearers.{Document, Documents, Standing, standings, meta, bearer_under}
@@ -84,3 +84,8 @@ gathered own (answers ∷ rounds) = gathered (own ++ answers) rounds
 
 abbrev pub retrieved : List (List Document) → List (List ℕ)
 retrieved rounds = flat_map (λ answers. map (λ d. d.uri) answers) rounds
+
+-- no text twice
+abbrev pub none_twice : List (List ℕ) → Bool
+none_twice [] = true
+none_twice (t ∷ ts) = not (has_text t ts) && none_twice ts

@@ -1,8 +1,7 @@
-use Rattle.std.proofs.Common.{◌≡◌, ◌∙◌, ◌++◌, ◌∷◌, ◌+◌, [], inl, map, take, drop, length, sym, ap, subst, arith, take-append-drop}
-use Rattle.std.proofs.lemmas.List.{take_more, length-map}
+use Rattle.std.proofs.Common.{◌≡◌, ◌∙◌, ◌++◌, ◌∷◌, ◌+◌, [], inl, take, drop, sym, ap, take-append-drop}
+use Rattle.std.proofs.lemmas.List.{take_more}
 use Rattle.document_retrieval.specs.Known.{want_of}
-use Rattle.document_retrieval.specs.Stages.{asking, SomeRefused, RefusesRound, RefusesWant, HasAnswers}
-use Rattle.document_retrieval.proofs.StageLemmas.{in-front, no-answers, more-answers, how-many, memory-or, kept}
+use Rattle.document_retrieval.proofs.StageLemmas.{in-front, memory-or, kept}
 use Rattle.document_retrieval.proofs.round.push_round.Goals as goal
 
 pub returns-in_err-push_answer-clause-refused : goal.returns-in_err-push_answer-clause-refused

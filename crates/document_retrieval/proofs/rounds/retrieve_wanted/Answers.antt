@@ -1,11 +1,12 @@
-use Rattle.std.proofs.Common.{◌≡◌, ◌∙◌, ◌++◌, ◌∷◌, ◌+◌, [], map, length, sym, ap, subst, arith}
+use Rattle.std.proofs.Common.{◌≡◌, ◌∙◌, ◌++◌, ◌∷◌, [], map, sym, ap}
 use Rattle.schema_documents.specs.Bearers.{Document}
 use Rattle.schema_identifiers.specs.Unknown.{no_meta}
 use Rattle.document_index.specs.Seen.{document_of}
-use Rattle.retrieval_rounds.specs.Rounds.{Want, wants_under, wanted_by, gathered, retrieved}
+use Rattle.retrieval_rounds.specs.Rounds.{Want, wants_under, wanted_by, gathered, none_twice}
 use Rattle.document_retrieval.specs.Known.{want_of}
-use Rattle.document_retrieval.specs.Stages.{asking, documents_in, uris_in}
+use Rattle.document_retrieval.specs.Stages.{asking, uris_in}
 use Rattle.document_retrieval.proofs.StageLemmas.{rounds-push, gathered-push, retrieved-push}
+use Rattle.document_retrieval.proofs.OnceLemmas.{asked-once}
 use Rattle.document_retrieval.proofs.rounds.retrieve_wanted.Goals as goal
 
 pub loop-gathered-preserved : goal.loop-gathered-preserved
@@ -24,3 +25,9 @@ loop-gathered-preserved g c =
       uris = adds.all.uris ∙ ap (λ l. uris_in c.loop-gathered.gathered ++ l) (sym adds.all.asked) ∙ ap (λ l. l ++ map (λ (d : Document). d.uri) answers) before.uris ∙ sym (retrieved-push before.rounds answers);
       within = adds.within before.within;
     }
+
+pub returns-then-is_empty-clause-once : goal.returns-then-is_empty-clause-once
+returns-then-is_empty-clause-once g c =
+    let a = asking g.R.Retrieve.may_answer g.R.Retrieve.may_refuse c.args.retriever.now c.args.default in
+    let here = c.loop-gathered.invariant in
+    ap none_twice here.uris ∙ (asked-once a (map document_of c.args.documents.items) here.rounds here.are).once

@@ -1,10 +1,9 @@
-use Rattle.std.proofs.Common.{◌≡◌, ◌∙◌, ◌++◌, ◌∷◌, [], ℕ, List, ◌||◌, map, false, ap, sym, is_some, option_map, bytes_eq, append-nil, drop, arith}
+use Rattle.std.proofs.Common.{◌≡◌, ◌∙◌, ◌++◌, ◌∷◌, [], ℕ, List, ◌||◌, map, ap, sym, is_some, option_map, bytes_eq, append-nil, drop, arith}
 use Rattle.std.proofs.lemmas.List.{drop_all}
 use Rattle.std.specs.List.{flat_map, list_any}
-use Rattle.schema_documents.specs.Bearers.{Standing, bears, standings, bearer_under}
+use Rattle.schema_documents.specs.Bearers.{bears, standings, bearer_under}
 use Rattle.schema_identifiers.specs.Unknown.{no_meta}
 use Rattle.document_index.specs.Located.{Located, located_standings, last_located, kept_of}
-use Rattle.document_index.specs.Indexes.{bearer_in}
 use Rattle.document_index.specs.Seen.{document_of, standing_of, located_of}
 use Rattle.document_index.proofs.AnswerLemmas.{last-of-own}
 use Rattle.retrieval_rounds.specs.Rounds.{further, wanted_at, is_at_hand, wants_under}
