@@ -1,12 +1,15 @@
 //! What validators answer, held against the check of faults.
 
-ghost use Rattle.std.specs.Prelude.{◌≡◌, ◌≢◌, IfOk, true, false};
+ghost use Rattle.std.specs.Prelude.{◌≡◌, IfOk, IfSome, false, is_none};
 ghost use Rattle.serde_json.specs.View.{view};
+ghost use Rattle.schema_meaning.specs.Readings.{verdicts};
 ghost use Rattle.schema_reports.specs.Left.{errors_left};
 ghost use Rattle.schema_reports.specs.Told.{fault_of, faults_of};
 ghost use Rattle.schema_roots.specs.Roots.{IsSound, root_on};
+ghost use Rattle.schema_roots.specs.Answers.{IsAnswer};
 ghost use Rattle.schema_roots.specs.Certified.{HasCertificate, HaveCertificates};
-ghost use Rattle.json_schema_validator.specs.Joined.{IsFaultChecked, IsYes};
+ghost use Rattle.fault_checks.specs.Checked.{IsChecked};
+ghost use Rattle.json_schema_validator.specs.Joined.{IsFaultChecked, WhereStraight, AreAccepted, each_accepted};
 
 use crate::validator::Validator;
 use fault_checks::checking::{CheckAnswer, FaultPath, check_fault};
@@ -15,7 +18,7 @@ use schema_reports::{ErrorIterator, ValidationError};
 use serde_json::Value;
 use std::alloc::{AllocError, Global};
 
-/// What `check_fault` says of the two paths of a fault.
+/// What `check_fault` says of the two paths of a fault. Where no references come back, it accepts those of a fault of the value.
 ///
 /// # Errors
 ///
@@ -27,7 +30,8 @@ pub fn check_error(
     value: &Value,
     error: &ValidationError<'_>,
 ) -> Result<CheckAnswer, AllocError>
-    ensures { IfOk result (λ answer. IsSound (root_on registry.now root.now) → IsFaultChecked (root_on registry.now root.now) (view value.now) (fault_of error.now) answer) }
+    ensures checked { IfOk result (λ a. IsSound (root_on registry.now root.now) → IsFaultChecked (root_on registry.now root.now) (view value.now) (fault_of error.now) a) }
+    ensures accepted { IfOk result (λ a. IsSound (root_on registry.now root.now) → HasCertificate (root_on registry.now root.now) (view value.now) (fault_of error.now) → WhereStraight (root_on registry.now root.now) (view value.now) (a ≡ CheckAnswer.Accepted)) }
 {
     let instance = error.instance_path().to_pointer(alloc)?;
     let evaluation = error.evaluation_path().to_pointer(alloc)?;
@@ -38,100 +42,95 @@ pub fn check_error(
     check_fault(alloc, registry, root, value, path)
 }
 
-// Whether `check_fault` accepts two paths.
-fn is_accepted(answer: CheckAnswer) -> bool
-    ensures yes { result ≡ true → answer ≡ CheckAnswer.Accepted }
-    ensures no { result ≡ false → answer ≢ CheckAnswer.Accepted }
-{
-    match answer {
-        CheckAnswer::Accepted => true,
-        CheckAnswer::Refused => false,
-        CheckAnswer::Circular => false,
-    }
-}
-
-// Whether a fault is accepted.
-fn is_error_accepted(
-    alloc: Global,
-    registry: &SchemaRegistry,
-    root: &str,
-    value: &Value,
-    error: &ValidationError<'_>,
-) -> Result<bool, AllocError>
-    ensures { IfOk result (λ b. IsSound (root_on registry.now root.now) → HasCertificate (root_on registry.now root.now) (view value.now) (fault_of error.now) → IsYes (root_on registry.now root.now) (view value.now) b) }
-{
-    Ok(is_accepted(check_error(alloc, registry, root, value, error)?))
-}
-
-// Whether each of these faults is accepted.
-fn are_accepted(
+// What `check_fault` says of each of these faults.
+fn check_each(
     alloc: Global,
     registry: &SchemaRegistry,
     root: &str,
     value: &Value,
     errors: ErrorIterator<'_>,
-) -> Result<bool, AllocError>
-    ensures { IfOk result (λ b. IsSound (root_on registry.now root.now) → HaveCertificates (root_on registry.now root.now) (view value.now) (faults_of (errors_left errors.entry)) → IsYes (root_on registry.now root.now) (view value.now) b) }
+) -> Result<Vec<CheckAnswer>, AllocError>
+    ensures { IfOk result (λ v. IsSound (root_on registry.now root.now) → HaveCertificates (root_on registry.now root.now) (view value.now) (faults_of (errors_left errors.entry)) → WhereStraight (root_on registry.now root.now) (view value.now) (v.items ≡ each_accepted (faults_of (errors_left errors.entry)))) }
 {
+    let mut answers = Vec::new(alloc);
     for error in errors {
-        if !is_error_accepted(alloc, registry, root, value, &error)? {
-            return Ok(false);
-        }
+        let answer = check_error(alloc, registry, root, value, &error)?;
+        answers.push(answer)?;
     }
-    Ok(true)
+    Ok(answers)
 }
 
 impl Validator {
     ghost use Rattle.json_schema_validator.specs.Seen.{root_in};
 
-    /// Whether `check_fault` accepts the fault that `validate` gives of a value, if any, and each that `iter_errors` gives.
+    /// What `check_fault` says of each fault of a value that `iter_errors` gives, in that order.
     ///
-    /// The registry and the reference are those that the validator was built on. It does, unless references come back to where they
-    /// were.
+    /// The registry and the reference are those that the validator was built on. Where no references come back, each is accepted.
     ///
     /// # Errors
     ///
     /// Where memory was refused or a count of owners is full.
-    pub fn faults_are_accepted(
+    pub fn check_errors(
         &self,
         registry: &SchemaRegistry,
         root: &str,
         value: &Value,
-    ) -> Result<bool, AllocError>
+    ) -> Result<Vec<CheckAnswer>, AllocError>
         requires built { root_in self.now ≡ root_on registry.now root.now }
-        ensures { IfOk result (IsYes (root_in self.now) (view value.now)) }
+        ensures accepted { IfOk result (λ v. AreAccepted (root_in self.now) (view value.now) v.items) }
     {
         let errors = self.iter_errors(value)?;
-        if !are_accepted(self.alloc, registry, root, value, errors)? {
-            return Ok(false);
-        }
-        match self.validate(value)? {
-            Ok(()) => Ok(true),
-            Err(error) => is_error_accepted(self.alloc, registry, root, value, &error),
-        }
+        check_each(self.alloc, registry, root, value, errors)
     }
 
-    /// Whether a value is refused by `is_valid` where `check_fault` accepts some two paths of it.
+    /// What `check_fault` says of the fault of a value that `validate` gives, and nothing of a valid value.
     ///
-    /// The registry and the reference are those that the validator was built on. It is, unless references come back to where they were.
+    /// The registry and the reference are those that the validator was built on. Where no references come back, it is accepted.
     ///
     /// # Errors
     ///
     /// Where memory was refused or a count of owners is full.
-    pub fn accepted_is_refused(
+    pub fn check_first(
+        &self,
+        registry: &SchemaRegistry,
+        root: &str,
+        value: &Value,
+    ) -> Result<Option<CheckAnswer>, AllocError>
+        requires built { root_in self.now ≡ root_on registry.now root.now }
+        ensures verdict { IfOk result (λ o. IsAnswer verdicts (root_in self.now) (view value.now) (is_none o)) }
+        ensures accepted { IfOk result (λ o. IfSome o (λ a. WhereStraight (root_in self.now) (view value.now) (a ≡ CheckAnswer.Accepted))) }
+    {
+        match self.validate(value)? {
+            Ok(()) => Ok(None),
+            Err(error) => {
+                let answer = check_error(self.alloc, registry, root, value, &error)?;
+                Ok(Some(answer))
+            }
+        }
+    }
+
+    /// What `check_fault` says of two paths, and `is_valid` of the value.
+    ///
+    /// The registry and the reference are those that the validator was built on. Where no references come back and the paths are accepted,
+    /// the value is not valid.
+    ///
+    /// # Errors
+    ///
+    /// Where memory was refused or a count of owners is full.
+    pub fn check_path(
         &self,
         registry: &SchemaRegistry,
         root: &str,
         value: &Value,
         path: FaultPath<'_>,
-    ) -> Result<bool, AllocError>
+    ) -> Result<(CheckAnswer, bool), AllocError>
         requires built { root_in self.now ≡ root_on registry.now root.now }
-        ensures { IfOk result (IsYes (root_in self.now) (view value.now)) }
+        ensures checked { IfOk result (λ both. IsChecked (root_in self.now) (view value.now) path.entry.instance_path.now path.entry.evaluation_path.now both.0) }
+        ensures verdict { IfOk result (λ both. IsAnswer verdicts (root_in self.now) (view value.now) both.1) }
+        ensures refused { IfOk result (λ both. both.0 ≡ CheckAnswer.Accepted → WhereStraight (root_in self.now) (view value.now) (both.1 ≡ false)) }
     {
-        if is_accepted(check_fault(self.alloc, registry, root, value, path)?) {
-            Ok(!self.is_valid(value)?)
-        } else {
-            Ok(true)
-        }
+        let answer = check_fault(self.alloc, registry, root, value, path)?;
+        let verdict = self.is_valid(value)?;
+        Ok((answer, verdict))
     }
 }

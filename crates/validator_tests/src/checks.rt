@@ -1,6 +1,6 @@
 // Paths that are and are not certificates, over documents that refer to one another.
 use json_schema_validator::{
-    CheckAnswer, Documents, FaultPath, SchemaRegistry, Validator, check_error, check_fault,
+    CheckAnswer, Documents, FaultPath, SchemaRegistry, Validator, check_fault,
 };
 use serde_json::Value;
 use std::alloc::Global;
@@ -17,7 +17,11 @@ fn registry(alloc: Global, root: &str) -> Result<SchemaRegistry, Fail> {
     documents.add_text("http://a.test/root.json", root.as_bytes())?;
     documents.add_text("http://a.test/leaf.json", LEAF.as_bytes())?;
     let base = from_str(alloc, "http://a.test/root.json")?;
-    Ok(Validator::options(alloc)?.with_base(base).prepare(&documents)?)
+    Ok(
+        Validator::options(alloc)?
+            .with_base(base)
+            .prepare(&documents)?,
+    )
 }
 
 fn word(answer: CheckAnswer) -> &'static str {
@@ -147,34 +151,44 @@ fn each_fault_of_a_validator(rt: HostRuntime) -> Result<(), Fail> {
     let alloc = rt.alloc();
     let registry = registry(alloc, ROOT)?;
     let validator = Validator::options(alloc)?.build_on(&registry, "")?;
-    let mut count: usize = 0;
-    for text in ["[1]", "{}", "[1,\"a\",null]", "[\"a\",\"b\"]"] {
+    for (text, count) in [
+        ("[1]", 2),
+        ("{}", 1),
+        ("[1,\"a\",null]", 2),
+        ("[\"a\",\"b\"]", 0),
+    ] {
         let value = Value::from_str(alloc, text)?;
-        for error in validator.iter_errors(&value)? {
-            let answer = check_error(alloc, &registry, "", &value, &error)?;
+        let answers = validator.check_errors(&registry, "", &value)?;
+        assert_eq!(rt; answers.len(), count);
+        for answer in answers {
             assert_eq!(rt; word(answer), "accepted");
-            count += 1;
         }
-        assert!(rt; validator.faults_are_accepted(&registry, "", &value)?);
+        match validator.check_first(&registry, "", &value)? {
+            None => assert_eq!(rt; count, 0),
+            Some(answer) => assert_eq!(rt; word(answer), "accepted"),
+        }
     }
-    assert_eq!(rt; count, 5);
     Ok(())
 }
 
 #[test]
-fn accepted_paths_of_refused_values(rt: HostRuntime) -> Result<(), Fail> {
+fn paths_beside_the_verdict(rt: HostRuntime) -> Result<(), Fail> {
     let alloc = rt.alloc();
     let registry = registry(alloc, ROOT)?;
     let validator = Validator::options(alloc)?.build_on(&registry, "")?;
-    for text in ["[1]", "[\"a\",\"b\"]"] {
+    for (text, evaluation_path, want, is_valid) in [
+        ("[1]", "/minItems", "accepted", false),
+        ("[1]", "/type", "refused", false),
+        ("[\"a\",\"b\"]", "/minItems", "refused", true),
+    ] {
         let value = Value::from_str(alloc, text)?;
-        for evaluation_path in ["/minItems", "/items", "/type"] {
-            let path = FaultPath {
-                instance_path: "",
-                evaluation_path,
-            };
-            assert!(rt; validator.accepted_is_refused(&registry, "", &value, path)?);
-        }
+        let path = FaultPath {
+            instance_path: "",
+            evaluation_path,
+        };
+        let (answer, verdict) = validator.check_path(&registry, "", &value, path)?;
+        assert_eq!(rt; word(answer), want);
+        assert!(rt; verdict == is_valid);
     }
     Ok(())
 }

@@ -9,18 +9,18 @@ use uri_references::uri::from_str;
 
 // A validator with the registry that it was built on.
 #[derive(Drop)]
-struct Built {
+struct Subject {
     registry: SchemaRegistry,
     validator: Validator,
 }
 
-fn built(alloc: Global, text: &str) -> Result<Built, Fail> {
+fn built(alloc: Global, text: &str) -> Result<Subject, Fail> {
     let mut documents = Documents::new(alloc);
     documents.add_text("", text.as_bytes())?;
     let options = Validator::options(alloc)?;
     let registry = options.prepare(&documents)?;
     let validator = options.build_on(&registry, "")?;
-    Ok(Built {
+    Ok(Subject {
         registry,
         validator,
     })
@@ -37,9 +37,9 @@ fn lines(alloc: Global, errors: ErrorIterator<'_>) -> Result<String, Fail> {
 }
 
 // Whether the check accepts each fault of a value.
-fn are_accepted(alloc: Global, built: &Built, value: &Value) -> Result<bool, Fail> {
-    for error in built.validator.iter_errors(value)? {
-        match check_error(alloc, &built.registry, "", value, &error)? {
+fn are_accepted(alloc: Global, subject: &Subject, value: &Value) -> Result<bool, Fail> {
+    for error in subject.validator.iter_errors(value)? {
+        match check_error(alloc, &subject.registry, "", value, &error)? {
             CheckAnswer::Accepted => {}
             CheckAnswer::Refused => return Ok(false),
             CheckAnswer::Circular => return Ok(false),
@@ -49,12 +49,12 @@ fn are_accepted(alloc: Global, built: &Built, value: &Value) -> Result<bool, Fai
 }
 
 // The lines of a value, where the three observers agree on it and the check accepts each fault.
-fn told(alloc: Global, built: &Built, instance: &str) -> Result<String, Fail> {
+fn told(alloc: Global, subject: &Subject, instance: &str) -> Result<String, Fail> {
     let value = Value::from_str(alloc, instance)?;
-    let text = lines(alloc, built.validator.iter_errors(&value)?)?;
-    let is_valid = built.validator.is_valid(&value)?;
-    let validates = built.validator.validate(&value)?.is_ok();
-    if !are_accepted(alloc, built, &value)? {
+    let text = lines(alloc, subject.validator.iter_errors(&value)?)?;
+    let is_valid = subject.validator.is_valid(&value)?;
+    let validates = subject.validator.validate(&value)?.is_ok();
+    if !are_accepted(alloc, subject, &value)? {
         return Ok(String::from_str(alloc, "a fault is not accepted")?);
     }
     if is_valid == text.is_empty() && validates == is_valid {
@@ -84,16 +84,16 @@ fn between_two_documents(rt: HostRuntime) -> Result<(), Fail> {
     let options = Validator::options(alloc)?.with_base(base);
     let registry = options.prepare(&documents)?;
     let validator = options.build_on(&registry, "")?;
-    let built = Built {
+    let subject = Subject {
         registry,
         validator,
     };
     assert_eq!(rt;
-        told(alloc, &built, "[1]")?.as_str(),
+        told(alloc, &subject, "[1]")?.as_str(),
         "/0 /items/$ref/type\n /minItems\n"
     );
-    assert_eq!(rt; told(alloc, &built, "[\"a\",\"b\"]")?.as_str(), "");
-    assert_eq!(rt; told(alloc, &built, "{}")?.as_str(), " /type\n");
+    assert_eq!(rt; told(alloc, &subject, "[\"a\",\"b\"]")?.as_str(), "");
+    assert_eq!(rt; told(alloc, &subject, "{}")?.as_str(), " /type\n");
     Ok(())
 }
 
@@ -115,19 +115,16 @@ fn of_a_linked_list(rt: HostRuntime) -> Result<(), Fail> {
     let alloc = rt.alloc();
     let schema =
         "{\"$ref\":\"#/$defs/node\",\"$defs\":{\"node\":{\"type\":\"object\",\"properties\":{\"next\":{\"$ref\":\"#/$defs/node\"},\"v\":{\"type\":\"integer\"}}}}}";
-    let built = built(alloc, schema)?;
+    let subject = built(alloc, schema)?;
     assert_eq!(rt;
-        told(alloc, &built, "{\"v\":1,\"next\":{\"v\":\"x\"}}")?.as_str(),
+        told(alloc, &subject, "{\"v\":1,\"next\":{\"v\":\"x\"}}")?.as_str(),
         "/next/v /$ref/properties/next/$ref/properties/v/type\n"
     );
     assert_eq!(rt;
-        told(alloc, &built, "{\"next\":{\"next\":{\"next\":1}}}")?.as_str(),
+        told(alloc, &subject, "{\"next\":{\"next\":{\"next\":1}}}")?.as_str(),
         "/next/next/next /$ref/properties/next/$ref/properties/next/$ref/properties/next/$ref/type\n"
     );
-    assert_eq!(rt;
-        told(alloc, &built, "{\"next\":{\"v\":2}}")?.as_str(),
-        ""
-    );
+    assert_eq!(rt; told(alloc, &subject, "{\"next\":{\"v\":2}}")?.as_str(), "");
     Ok(())
 }
 
@@ -181,13 +178,13 @@ fn nested(
 fn of_a_deep_instance(rt: HostRuntime) -> Result<(), Fail> {
     let alloc = rt.alloc();
     let schema = "{\"type\":\"array\",\"items\":{\"$ref\":\"#\"}}";
-    let built = built(alloc, schema)?;
+    let subject = built(alloc, schema)?;
     let lists = nested(alloc, 127, "[", "", "]")?;
-    assert_eq!(rt; told(alloc, &built, lists.as_str())?.as_str(), "");
+    assert_eq!(rt; told(alloc, &subject, lists.as_str())?.as_str(), "");
     let number = nested(alloc, 126, "[", "1", "]")?;
     let mut wanted = nested(alloc, 126, "/0", " ", "/items/$ref")?;
     wanted.push_str("/type\n")?;
-    let faults = told(alloc, &built, number.as_str())?;
+    let faults = told(alloc, &subject, number.as_str())?;
     assert_eq!(rt; faults.as_str(), wanted.as_str());
     Ok(())
 }
@@ -196,9 +193,9 @@ fn of_a_deep_instance(rt: HostRuntime) -> Result<(), Fail> {
 fn with_schema_paths_that_begin_anew(rt: HostRuntime) -> Result<(), Fail> {
     let alloc = rt.alloc();
     let schema = "{\"items\":{\"$ref\":\"#/$defs/a~1b\"},\"$defs\":{\"a/b\":{\"minItems\":1}}}";
-    let built = built(alloc, schema)?;
+    let subject = built(alloc, schema)?;
     let value = Value::from_str(alloc, "[[]]")?;
-    let Err(error) = built.validator.validate(&value)? else {
+    let Err(error) = subject.validator.validate(&value)? else {
         return Err(Fail::new("an error was wanted"));
     };
     assert_eq!(rt;
