@@ -11,13 +11,15 @@ use std::alloc::Global;
 use std::test::Fail;
 use uri_references::uri::from_str;
 
-const LIST: &str = "{\"$id\":\"http://a.test/list\",\"$schema\":\"https://json-schema.org/draft/2020-12/schema\",\"type\":\"array\",
+const LIST: &str =
+    "{\"$id\":\"http://a.test/list\",\"$schema\":\"https://json-schema.org/draft/2020-12/schema\",\"type\":\"array\",
     \"items\":{\"$dynamicRef\":\"#item\"},\"$defs\":{\"d\":{\"$dynamicAnchor\":\"item\"}}}";
 
 const STRINGS: &str =
     "{\"$id\":\"http://a.test/strings\",\"$ref\":\"list\",\"$defs\":{\"s\":{\"$dynamicAnchor\":\"item\",\"type\":\"string\"}}}";
 
-const TREE: &str = "{\"$schema\":\"https://json-schema.org/draft/2019-09/schema\",\"$id\":\"http://a.test/tree\",\"$recursiveAnchor\":true,
+const TREE: &str =
+    "{\"$schema\":\"https://json-schema.org/draft/2019-09/schema\",\"$id\":\"http://a.test/tree\",\"$recursiveAnchor\":true,
     \"type\":\"object\",\"properties\":{\"data\":true,\"children\":{\"type\":\"array\",\"items\":{\"$recursiveRef\":\"#\"}}}}";
 
 const STRICT: &str =
@@ -81,11 +83,7 @@ fn dynamic_references(rt: HostRuntime) -> Result<(), Fail> {
         ),
         (
             "http://a.test/list",
-            [
-                Step::Lookup(""),
-                Step::Enter(items),
-                Step::Dynamic("#item"),
-            ],
+            [Step::Lookup(""), Step::Enter(items), Step::Dynamic("#item")],
             "http://a.test/list#/$defs/d http://a.test/list",
         ),
         (
@@ -125,7 +123,12 @@ fn recursive_references(rt: HostRuntime) -> Result<(), Fail> {
     let to_tree = Step::Lookup("tree");
     let to_plain = Step::Lookup("plain");
     assert_eq!(rt;
-        led(&registry, "http://a.test/strict", &[to_tree, Step::Recursive])?.as_str(),
+        led(
+            &registry,
+            "http://a.test/strict",
+            &[to_tree, Step::Recursive]
+        )?
+        .as_str(),
         "http://a.test/strict# http://a.test/strict"
     );
     assert_eq!(rt;
@@ -133,11 +136,21 @@ fn recursive_references(rt: HostRuntime) -> Result<(), Fail> {
         "http://a.test/tree# http://a.test/tree"
     );
     assert_eq!(rt;
-        led(&registry, "http://a.test/strict", &[to_plain, to_tree, Step::Recursive])?.as_str(),
+        led(
+            &registry,
+            "http://a.test/strict",
+            &[to_plain, to_tree, Step::Recursive]
+        )?
+        .as_str(),
         "http://a.test/tree# http://a.test/tree"
     );
     assert_eq!(rt;
-        led(&registry, "http://a.test/strict", &[to_plain, Step::Recursive])?.as_str(),
+        led(
+            &registry,
+            "http://a.test/strict",
+            &[to_plain, Step::Recursive]
+        )?
+        .as_str(),
         "http://a.test/plain# http://a.test/plain"
     );
     assert_eq!(rt;
@@ -145,10 +158,7 @@ fn recursive_references(rt: HostRuntime) -> Result<(), Fail> {
         "Resource 'http://a.test/none' is not present and retrieving it failed"
     );
     let resolver = registry.resolver(from_str(alloc, "http://a.test/strict")?)?;
-    let end = resolver
-        .lookup("tree")?
-        .resolver()
-        .lookup_recursive_ref()?;
+    let end = resolver.lookup("tree")?.resolver().lookup_recursive_ref()?;
     assert_eq!(rt;
         shown(alloc, Some(end))?.as_str(),
         "http://a.test/strict# http://a.test/strict"
@@ -193,7 +203,10 @@ fn chains_of_plain_references(rt: HostRuntime) -> Result<(), Fail> {
     ] {
         let document = Value::from_str(alloc, text)?;
         let registry = added(Registry::new(alloc), uri, &document)?.prepare()?;
-        assert_eq!(rt; led(&registry, uri, &[Step::Lookup(reference)])?.as_str(), want);
+        assert_eq!(rt;
+            led(&registry, uri, &[Step::Lookup(reference)])?.as_str(),
+            want
+        );
         assert_eq!(rt; led(&registry, uri, &[])?.as_str(), "nothing looked up");
     }
     Ok(())
@@ -269,7 +282,11 @@ fn scope_keys_tell_the_end_of_a_run(rt: HostRuntime) -> Result<(), Fail> {
     let builder = added(builder, "http://a.test/strict", &strict)?;
     let registry = added(builder, "http://a.test/tree", &tree)?.prepare()?;
     let run = reached(&registry, "http://a.test/plain", &["tree", "strict", ""])?;
-    let broken = reached(&registry, "http://a.test/plain", &["tree", "plain", "strict"])?;
+    let broken = reached(
+        &registry,
+        "http://a.test/plain",
+        &["tree", "plain", "strict"],
+    )?;
     assert!(rt; run.resolver().scope_key()? != broken.resolver().scope_key()?);
     assert!(rt; run.resolver().scope_key()? == run.resolver().scope_key()?);
     Ok(())

@@ -1,4 +1,4 @@
-use Rattle.std.proofs.Common.{rules, ◌≡◌, ◌∙◌, [], ◌∷◌, ap, ap₂, sym}
+use Rattle.std.proofs.Common.{rules, ◌≡◌, ◌∙◌, [], ◌∷◌, ap, ap₂, subst}
 use Rattle.schema_reading.specs.CompileKeys.{ScopeKey, first_ones, run_end, scope_key}
 use Rattle.scope_laws.proofs.Keys.{keys_decide}
 use Rattle.referencing.specs.Resolved.{base_of, scope_of, documents_in}
@@ -10,4 +10,4 @@ returns-clause-alike c = λ scope there same.
     let docs = documents_in self ∷ [] in
     let run : c.in_ok-clone.field-0.value ≡ run_end docs (base_of self) (scope_of self) = search rules in
     let own = ap₂ (λ us u. record { resources = us; run = u }) (c.in_ok-first_occurrences.ensures ∙ ap (first_ones []) c.in_ok-resources.ensures) run in
-    keys_decide docs (base_of self) (scope_of self) scope self.present there (sym own ∙ same)
+    keys_decide docs (base_of self) (scope_of self) scope self.present there (subst (λ k. k ≡ scope_key docs (base_of self) scope) own same)

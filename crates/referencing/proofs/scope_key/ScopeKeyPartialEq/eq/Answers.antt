@@ -3,10 +3,10 @@ use Rattle.std.specs.Cmp.Lexicographic.{pointwise}
 use Rattle.schema_steps.proofs.EqualLemmas.{pointwise-map}
 use Rattle.referencing.specs.Keys.{key_of, keys_eq}
 use Rattle.referencing.proofs.KeyLemmas.{keys_eq-Decides}
-use Rattle.referencing.proofs.scope_key.ScopeKeyPartialEq.eq.Goals.{Then-eq, Else-eq}
+use Rattle.referencing.proofs.scope_key.ScopeKeyPartialEq.eq.Goals.{After-eq-then-eq, Else-eq}
 use Rattle.referencing.proofs.scope_key.ScopeKeyPartialEq.eq.Goals as goal
 
-same : (c : Then-eq) → c.eq-then-eq.result ≡ keys_eq (key_of c.args.self.now) (key_of c.args.other.now)
+same : (c : After-eq-then-eq) → c.eq-then-eq.result ≡ keys_eq (key_of c.args.self.now) (key_of c.args.other.now)
 same c =
     let a = c.args.self.now in
     let b = c.args.other.now in
