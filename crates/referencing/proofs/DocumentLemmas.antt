@@ -1,6 +1,6 @@
 -- Documents that have no cause while no meta-schema of one's own is read have none at all.
-use Rattle.std.proofs.Common.{◌≡◌, ◌∙◌, refl, sym, ap, ℕ, zero, suc, List, [], ◌∷◌, ◌++◌, Bool, true, Option, Some, None, is_some, append-nil, map, length, ◌<◌, slice_index_or, ◌+◌, arith, codes, if◌then◌else◌}
-use Rattle.std.specs.List.{flat_map, All}
+use Rattle.std.proofs.Common.{◌≡◌, ◌∙◌, refl, sym, ap, ℕ, suc, List, [], ◌∷◌, ◌++◌, Bool, true, Option, Some, None, is_some, append-nil, map, length, ◌<◌, slice_index_or, arith, codes, if◌then◌else◌}
+use Rattle.std.specs.List.{flat_map}
 use Rattle.uri_grammar.specs.Texts.{cut_at}
 use Rattle.schema_meaning.specs.Members.{is_empty}
 use Rattle.schema_documents.specs.Words.{listed, text_at}
@@ -11,7 +11,7 @@ use Rattle.schema_documents.specs.DocumentCauses as all
 use Rattle.schema_documents.specs.DocumentCauses.{DocumentCause, unless_reference, place_causes, document_causes}
 use Rattle.schema_identifiers.specs.Unknown.{no_meta}
 use Rattle.place_laws.proofs.Alone.{documents_alone_tell}
-use Rattle.referencing.specs.Causes.{wanted_from, wanted_at, of_text, settled_causes, awaited_from, causes_at, causes_of}
+use Rattle.referencing.specs.Causes.{wanted_from, wanted_at, of_text, awaited_from, causes_at, causes_of}
 use Rattle.referencing.proofs.CauseLemmas.{same_causes}
 use Rattle.referencing.proofs.SettledLemmas.{settled}
 

@@ -45,7 +45,8 @@ both false b e = absurd (cc (e))
 pub keys_eq-Decides : (a b : ScopeKey) (r : Bool) → r ≡ keys_eq a b → Decides r (a ≡ b)
 keys_eq-Decides a b r e =
     let resources = slice_eq-Decides bytes_eq-Decides a.resources b.resources (pointwise bytes_eq a.resources b.resources) refl in
-    let run = bytes_eq-Decides a.run b.run in
-    (λ h. let parts = both (pointwise bytes_eq a.resources b.resources) (bytes_eq a.run b.run) (sym e ∙ h) in
-    ap₂ (λ us u. record { resources = us; run = u }) (resources.0 parts.0) (run.0 parts.1),
-    λ h. e ∙ ap₂ (λ x y. x && y) (resources.1 (ap (λ (k : ScopeKey). k.resources) h)) (run.1 (ap (λ (k : ScopeKey). k.run) h)))
+    let run = bytes_eq-Decides a.run b.run in (
+      λ h. let parts = both (pointwise bytes_eq a.resources b.resources) (bytes_eq a.run b.run) (sym e ∙ h) in
+          ap₂ (λ us u. record { resources = us; run = u }) (resources.0 parts.0) (run.0 parts.1),
+      λ h. e ∙ ap₂ (λ x y. x && y) (resources.1 (ap (λ (k : ScopeKey). k.resources) h)) (run.1 (ap (λ (k : ScopeKey). k.run) h)),
+    )

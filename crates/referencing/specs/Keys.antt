@@ -1,5 +1,5 @@
 -- What the code's scope keys stand for, and when they are equal.
-use Rattle.std.specs.Prelude.{ℕ, List, Bool, ◌&&◌, map, bytes_eq}
+use Rattle.std.specs.Prelude.{Bool, ◌&&◌, map, bytes_eq}
 use Rattle.std.specs.Cmp.{IsEquivalence, IsPartialEquivalence, on_equiv, and_equiv, partial_equiv_from_equiv}
 use Rattle.std.specs.Cmp.Lexicographic.{pointwise, lists_equiv, nat_list_eq_equiv}
 use Rattle.schema_reading.specs.CompileKeys.{ScopeKey}

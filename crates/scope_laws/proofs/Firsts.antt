@@ -43,8 +43,8 @@ module _ (test : List ℕ → Bool) where
 
   one_more_fails : (u : List ℕ) (seen : List (List ℕ)) → NonePasses seen → test u ≡ false → NonePasses (u ∷ seen)
   one_more_fails u seen none fails v e = elim (either (bytes_eq v u) (list_any (bytes_eq v) seen) e) [
-        inl same ↦ ap test ((bytes_eq-Decides v u).0 same) ∙ fails
-      | inr among ↦ none v among
+    | inl same ↦ ap test ((bytes_eq-Decides v u).0 same) ∙ fails
+    | inr among ↦ none v among
   ]
 
   once : (seen us : List (List ℕ)) → NonePasses seen → first_that test (first_ones seen us) ≡ first_that test us

@@ -1,15 +1,15 @@
 -- Scopes with one key are alike.
-use Rattle.std.proofs.Common.{◌≡◌, ℕ, List, [], ◌∷◌, ◌++◌, Bool, true, false, ◌&&◌, if◌then◌else◌, Option, Some, None, option_and_then, is_some, Result, Ok, Err, slice_get, refl, sym, ap, ap₂, subst, ◌∙◌, bytes_eq}
+use Rattle.std.proofs.Common.{◌≡◌, ℕ, List, [], ◌∷◌, ◌++◌, Bool, true, false, ◌&&◌, if◌then◌else◌, Some, None, option_and_then, is_some, Result, Ok, Err, refl, sym, ap, ap₂, subst, ◌∙◌, bytes_eq}
 use Rattle.std.specs.List.{list_any}
 use Rattle.std.proofs.lemmas.Slice.Eq.{bytes_eq-Decides}
 use Rattle.uri_grammar.specs.Texts.{cut_at}
 use Rattle.schema_documents.specs.Words.{or, or_else, last_that, has_text, result_map, ok_or, and_then}
 use Rattle.schema_documents.specs.Identifiers.{is_name, dynamic_anchors}
 use Rattle.schema_documents.specs.Bearers.{Documents, bearer, dynamically_anchored}
-use Rattle.schema_documents.specs.Lookup.{LookupCause, unretrievable, no_such_anchor, Target, target_of, lookup}
-use Rattle.schema_documents.specs.Scopes.{entered_scope, outermost, dynamic_lookup, recurs, end_of_run, recursive_lookup}
+use Rattle.schema_documents.specs.Lookup.{unretrievable, no_such_anchor, target_of, lookup}
+use Rattle.schema_documents.specs.Scopes.{outermost, dynamic_lookup, recurs, end_of_run}
 use Rattle.schema_reading.specs.CompileKeys.{ScopeKey, first_ones, reversed_onto, run_end, scope_key}
-use Rattle.scope_laws.specs.Laws.{IsPresent, Alike, KeysDecide, EnteredIsPresent}
+use Rattle.scope_laws.specs.Laws.{IsPresent, KeysDecide, EnteredIsPresent}
 use Rattle.scope_laws.proofs.Firsts.{first_that, by_firsts, one_inside}
 
 -- ---- the present resource

@@ -1,4 +1,4 @@
-use Rattle.std.proofs.Common.{rules, ◌≡◌, ◌∙◌, ◌++◌, ◌∷◌, [], ◌||◌, map, reverse, bytes_eq, false, true, ap, ap₂, sym}
+use Rattle.std.proofs.Common.{◌≡◌, ◌∙◌, ◌++◌, ◌∷◌, [], ◌||◌, map, reverse, bytes_eq, false, true, ap, ap₂, sym}
 use Rattle.std.specs.List.{list_any}
 use Rattle.std.specs.BTreeSet.{contains_text}
 use Rattle.std.specs.Vec.Iter.{into_iter_items}

@@ -9,5 +9,5 @@ abbrev pub invariant-loop-resource : goal.invariant-loop-resource
 invariant-loop-resource l = record {
   seen : (q : List ℕ) → contains_text l.seen q ≡ list_any (bytes_eq q) (reverse (map (λ u. u.value) l.firsts.items));
   firsts : map (λ u. u.value) l.firsts.items ++ first_ones (reverse (map (λ u. u.value) l.firsts.items)) (map (λ u. u.value) (into_iter_items l.resource-iterator))
-    ≡ first_ones [] (map (λ u. u.value) (into_iter_items l.initial.resource-iterator));
+      ≡ first_ones [] (map (λ u. u.value) (into_iter_items l.initial.resource-iterator));
 }

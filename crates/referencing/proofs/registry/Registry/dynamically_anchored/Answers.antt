@@ -1,5 +1,4 @@
 use Rattle.std.proofs.Common.{◌≡◌, ◌∙◌, sym, subst, map, [], ◌∷◌, Some, None, slice_get}
-use Rattle.schema_documents.specs.Bearers.{dynamically_anchored}
 use Rattle.schema_identifiers.specs.Unknown.{no_meta}
 use Rattle.document_index.specs.Seen.{document_of}
 use Rattle.document_index.specs.Indexes.{bearer_of}
