@@ -52,9 +52,11 @@ module _ (ds : List Document) (n : ℕ) (told after : MetaSchemas) (ss : List St
   pub is_rest : AllByRecursion (Agrees (drafts_of told) (drafts_of after)) ss → AtRest (ds ∷ []) n
   is_rest h =
       let now = drafts_alone (dialects (ds ∷ []) n) in
-      let later = drafts_alone (dialects (ds ∷ []) (suc n)) in
-      (subst (AllByRecursion (Agrees now later)) same
-      (agree-alike (drafts_of told) (drafts_of after) now later (tells-drafts told (dialects (ds ∷ []) n) tells) (tells-drafts after (dialects (ds ∷ []) (suc n)) next) ss h), tt)
+      let later = drafts_alone (dialects (ds ∷ []) (suc n)) in (
+        subst (AllByRecursion (Agrees now later)) same
+            (agree-alike (drafts_of told) (drafts_of after) now later (tells-drafts told (dialects (ds ∷ []) n) tells) (tells-drafts after (dialects (ds ∷ []) (suc n)) next) ss h),
+        tt,
+      )
 
   pub from_rest : AtRest (ds ∷ []) n → AllByRecursion (Agrees (drafts_of told) (drafts_of after)) ss
   from_rest r =

@@ -13,7 +13,8 @@ use std::rc::Rc;
 use std::test::Fail;
 use uri_references::uri::Uri;
 
-const META: &str = "{\"$schema\": \"https://json-schema.org/draft/2020-12/schema\", \"$vocabulary\": {
+const META: &str =
+    "{\"$schema\": \"https://json-schema.org/draft/2020-12/schema\", \"$vocabulary\": {
     \"https://json-schema.org/draft/2020-12/vocab/core\": true, \"https://json-schema.org/draft/2020-12/vocab/validation\": true,
     \"https://json-schema.org/draft/2020-12/vocab/applicator\": false, \"http://v.test/own\": true, \"http://v.test/other\": false}}";
 
@@ -78,19 +79,34 @@ fn draft_and_vocabularies_of_a_meta_schema(rt: HostRuntime) -> Result<(), Fail> 
     let documents = documents(
         alloc,
         &[
-            ("http://a.test/s", "{\"$schema\": \"http://a.test/m\", \"$defs\": {\"a\": {\"$id\": \"inner\"}}}"),
+            (
+                "http://a.test/s",
+                "{\"$schema\": \"http://a.test/m\", \"$defs\": {\"a\": {\"$id\": \"inner\"}}}",
+            ),
             ("http://a.test/m", META),
         ],
     )?;
     assert_eq!(rt; how_many(&documents), Some(2));
     let told = meta_schemas(alloc, &documents)?;
     let meta = written(alloc, &told.meta_schemas, "http://a.test/m")?;
-    assert_eq!(rt; meta.as_str(), "Draft202012 Core Validation http://v.test/own");
+    assert_eq!(rt;
+        meta.as_str(),
+        "Draft202012 Core Validation http://v.test/own"
+    );
     let outer = written(alloc, &told.meta_schemas, "http://a.test/s")?;
-    assert_eq!(rt; outer.as_str(), "Draft202012 Core Validation Applicator Metadata");
+    assert_eq!(rt;
+        outer.as_str(),
+        "Draft202012 Core Validation Applicator Metadata"
+    );
     let inner = written(alloc, &told.meta_schemas, "http://a.test/inner")?;
-    assert_eq!(rt; inner.as_str(), "Draft202012 Core Validation Applicator Metadata");
-    assert_eq!(rt; written(alloc, &told.meta_schemas, "http://a.test/t")?.as_str(), "none");
+    assert_eq!(rt;
+        inner.as_str(),
+        "Draft202012 Core Validation Applicator Metadata"
+    );
+    assert_eq!(rt;
+        written(alloc, &told.meta_schemas, "http://a.test/t")?.as_str(),
+        "none"
+    );
     assert!(rt; told.is_at_rest || told.meta_schemas.get("http://a.test/s").is_some());
     assert_eq!(rt; written_causes(alloc, &documents)?.as_str(), "");
     Ok(())
@@ -101,7 +117,10 @@ fn no_stage_tells_nothing(rt: HostRuntime) -> Result<(), Fail> {
     let alloc = rt.alloc();
     let documents = documents(alloc, &[("http://a.test/m", META)])?;
     let none = told_after(alloc, &documents, 0)?;
-    assert_eq!(rt; written(alloc, &none.meta_schemas, "http://a.test/m")?.as_str(), "none");
+    assert_eq!(rt;
+        written(alloc, &none.meta_schemas, "http://a.test/m")?.as_str(),
+        "none"
+    );
     assert!(rt; !none.is_at_rest);
     let one = told_after(alloc, &documents, 1)?;
     assert!(rt; one.is_at_rest && one.meta_schemas.get("http://a.test/m").is_some());
@@ -115,27 +134,54 @@ fn a_chain_of_two(rt: HostRuntime) -> Result<(), Fail> {
         alloc,
         &[
             ("http://a.test/s", "{\"$schema\": \"http://a.test/m\"}"),
-            ("http://a.test/m", "{\"$schema\": \"http://a.test/n#\", \"id\": \"http://b.test/m\"}"),
-            ("http://a.test/n", "{\"$schema\": \"http://json-schema.org/draft-04/schema#\"}"),
+            (
+                "http://a.test/m",
+                "{\"$schema\": \"http://a.test/n#\", \"id\": \"http://b.test/m\"}",
+            ),
+            (
+                "http://a.test/n",
+                "{\"$schema\": \"http://json-schema.org/draft-04/schema#\"}",
+            ),
         ],
     )?;
     let told = meta_schemas(alloc, &documents)?;
-    assert_eq!(rt; written(alloc, &told.meta_schemas, "http://a.test/m")?.as_str(), "Draft4");
-    assert_eq!(rt; written(alloc, &told.meta_schemas, "http://b.test/m")?.as_str(), "Draft4");
-    assert_eq!(rt; written(alloc, &told.meta_schemas, "http://a.test/s")?.as_str(), "Draft4");
+    assert_eq!(rt;
+        written(alloc, &told.meta_schemas, "http://a.test/m")?.as_str(),
+        "Draft4"
+    );
+    assert_eq!(rt;
+        written(alloc, &told.meta_schemas, "http://b.test/m")?.as_str(),
+        "Draft4"
+    );
+    assert_eq!(rt;
+        written(alloc, &told.meta_schemas, "http://a.test/s")?.as_str(),
+        "Draft4"
+    );
     let early = told_after(alloc, &documents, 1)?;
-    assert_eq!(rt; written(alloc, &early.meta_schemas, "http://a.test/m")?.as_str(), "none");
+    assert_eq!(rt;
+        written(alloc, &early.meta_schemas, "http://a.test/m")?.as_str(),
+        "none"
+    );
     let late = told_after(alloc, &documents, 4)?;
     assert!(rt; late.is_at_rest);
-    assert_eq!(rt; written(alloc, &late.meta_schemas, "http://a.test/s")?.as_str(), "Draft4");
+    assert_eq!(rt;
+        written(alloc, &late.meta_schemas, "http://a.test/s")?.as_str(),
+        "Draft4"
+    );
     Ok(())
 }
 
 #[test]
 fn unknown_and_circular(rt: HostRuntime) -> Result<(), Fail> {
     let alloc = rt.alloc();
-    let unknown = documents(alloc, &[("http://a.test/s", "{\"$schema\": \"http://a.test/m\"}")])?;
-    assert_eq!(rt; written_causes(alloc, &unknown)?.as_str(), "Unknown(\"http://a.test/m\")\n");
+    let unknown = documents(
+        alloc,
+        &[("http://a.test/s", "{\"$schema\": \"http://a.test/m\"}")],
+    )?;
+    assert_eq!(rt;
+        written_causes(alloc, &unknown)?.as_str(),
+        "Unknown(\"http://a.test/m\")\n"
+    );
     let circular = documents(
         alloc,
         &[
@@ -143,15 +189,24 @@ fn unknown_and_circular(rt: HostRuntime) -> Result<(), Fail> {
             ("http://a.test/b", "{\"$schema\": \"http://a.test/a\"}"),
         ],
     )?;
-    assert_eq!(rt; written_causes(alloc, &circular)?.as_str(), "Circular(\"http://a.test/a\")\nCircular(\"http://a.test/b\")\n");
+    assert_eq!(rt;
+        written_causes(alloc, &circular)?.as_str(),
+        "Circular(\"http://a.test/a\")\nCircular(\"http://a.test/b\")\n"
+    );
     let upward = documents(
         alloc,
         &[
             ("http://a.test/s", "{\"$schema\": \"http://a.test/own\"}"),
-            ("http://a.test/m", "{\"$schema\": \"http://a.test/n\", \"$id\": \"own\"}"),
+            (
+                "http://a.test/m",
+                "{\"$schema\": \"http://a.test/n\", \"$id\": \"own\"}",
+            ),
         ],
     )?;
-    assert_eq!(rt; written_causes(alloc, &upward)?.as_str(), "Unknown(\"http://a.test/n\")\nUnknown(\"http://a.test/n\")\n");
+    assert_eq!(rt;
+        written_causes(alloc, &upward)?.as_str(),
+        "Unknown(\"http://a.test/n\")\nUnknown(\"http://a.test/n\")\n"
+    );
     Ok(())
 }
 
@@ -161,14 +216,26 @@ fn a_meta_schema_inside_a_document(rt: HostRuntime) -> Result<(), Fail> {
     let documents = documents(
         alloc,
         &[
-            ("http://a.test/s", "{\"$defs\": {\"a\": {\"$id\": \"inner\", \"$schema\": \"http://m.test/m\"}}}"),
-            ("http://a.test/d", "{\"$defs\": {\"m\": {\"$id\": \"http://m.test/m\", \"$schema\": \"https://json-schema.org/draft/2019-09/schema\",
-                \"$vocabulary\": {\"https://json-schema.org/draft/2019-09/vocab/applicator\": true}}}}"),
+            (
+                "http://a.test/s",
+                "{\"$defs\": {\"a\": {\"$id\": \"inner\", \"$schema\": \"http://m.test/m\"}}}",
+            ),
+            (
+                "http://a.test/d",
+                "{\"$defs\": {\"m\": {\"$id\": \"http://m.test/m\", \"$schema\": \"https://json-schema.org/draft/2019-09/schema\",
+                \"$vocabulary\": {\"https://json-schema.org/draft/2019-09/vocab/applicator\": true}}}}",
+            ),
         ],
     )?;
     let told = meta_schemas(alloc, &documents)?;
-    assert_eq!(rt; written(alloc, &told.meta_schemas, "http://m.test/m")?.as_str(), "Draft201909 Applicator");
-    assert_eq!(rt; written(alloc, &told.meta_schemas, "http://a.test/inner")?.as_str(), "Draft201909 Core Validation Applicator Metadata");
+    assert_eq!(rt;
+        written(alloc, &told.meta_schemas, "http://m.test/m")?.as_str(),
+        "Draft201909 Applicator"
+    );
+    assert_eq!(rt;
+        written(alloc, &told.meta_schemas, "http://a.test/inner")?.as_str(),
+        "Draft201909 Core Validation Applicator Metadata"
+    );
     Ok(())
 }
 
@@ -178,14 +245,28 @@ fn stages_that_never_rest(rt: HostRuntime) -> Result<(), Fail> {
     let documents = documents(
         alloc,
         &[
-            ("http://a.test/m", "{\"$schema\": \"https://json-schema.org/draft/2020-12/schema\"}"),
-            ("http://a.test/b", "{\"$schema\": \"http://a.test/m\", \"$defs\": {\"x\": {
-                \"$schema\": \"http://json-schema.org/draft-04/schema#\", \"id\": \"http://a.test/m\"}}}"),
+            (
+                "http://a.test/m",
+                "{\"$schema\": \"https://json-schema.org/draft/2020-12/schema\"}",
+            ),
+            (
+                "http://a.test/b",
+                "{\"$schema\": \"http://a.test/m\", \"$defs\": {\"x\": {
+                \"$schema\": \"http://json-schema.org/draft-04/schema#\", \"id\": \"http://a.test/m\"}}}",
+            ),
         ],
     )?;
-    for (stages, want) in [(1, "Draft202012 Core Validation Applicator Metadata"), (2, "Draft4"), (3, "Draft202012 Core Validation Applicator Metadata"), (8, "Draft4")] {
+    for (stages, want) in [
+        (1, "Draft202012 Core Validation Applicator Metadata"),
+        (2, "Draft4"),
+        (3, "Draft202012 Core Validation Applicator Metadata"),
+        (8, "Draft4"),
+    ] {
         let told: Told = told_after(alloc, &documents, stages)?;
-        assert_eq!(rt; written(alloc, &told.meta_schemas, "http://a.test/m")?.as_str(), want);
+        assert_eq!(rt;
+            written(alloc, &told.meta_schemas, "http://a.test/m")?.as_str(),
+            want
+        );
         assert!(rt; !told.is_at_rest);
     }
     Ok(())

@@ -48,7 +48,14 @@ fn push_list<'d>(
 {
     if let Value::Array(items) = part {
         for (position, item) in items.iter().enumerate() {
-            push_schema(alloc, known, found, outer, path.push_item(alloc, position)?, item)?;
+            push_schema(
+                alloc,
+                known,
+                found,
+                outer,
+                path.push_item(alloc, position)?,
+                item,
+            )?;
         }
     }
     Ok(())

@@ -19,7 +19,7 @@ returns-then-left-eq0 c =
     let left : ℕ = c.loop-awaited.left in
     let led : awaited_among ss uri ≡ Some next = sym (c.in_ok-next.ensures ∙ ap (awaited_among ss) c.as_str.ensures.value) ∙ c.in-Some.is in
     λ own there.
-        sym (one_up own ss there left uri next led ∙ ap (λ (n : ℕ). awaited_cause (own ∷ []) n next) c.if-left-eq0.true) ∙ c.loop-awaited.invariant own there
+    sym (one_up own ss there left uri next led ∙ ap (λ (n : ℕ). awaited_cause (own ∷ []) n next) c.if-left-eq0.true) ∙ c.loop-awaited.invariant own there
 
 pub loop-awaited-preserved : goal.loop-awaited-preserved
 loop-awaited-preserved c =
@@ -30,7 +30,7 @@ loop-awaited-preserved c =
     let led : awaited_among ss uri ≡ Some next = sym (c.in_ok-next.ensures ∙ ap (awaited_among ss) c.as_str.ensures.value) ∙ c.in-Some.is in
     let less : suc (left - 1) ≡ left = omega (arith, c.if-left-eq0.false) in
     λ own there.
-        ap (λ (n : ℕ). awaited_cause (own ∷ []) n next) less ∙ sym (one_up own ss there left uri next led) ∙ c.loop-awaited.invariant own there
+    ap (λ (n : ℕ). awaited_cause (own ∷ []) n next) less ∙ sym (one_up own ss there left uri next led) ∙ c.loop-awaited.invariant own there
 
 pub returns : goal.returns
 returns c =

@@ -14,8 +14,7 @@ returns-in-Some c =
     let uri : List ℕ = c.in-Some.uri in
     let named : named_meta_schema (is_root s.place.path) (view s.place.contents.now) ≡ Some uri =
     ap (λ b. named_meta_schema b (view s.place.contents.now)) (sym (c.is_root.ensures ∙ no_parts s.place.path)) ∙ sym c.in_ok-uri.ensures ∙ c.in-Some.is in
-    let text : c.as_str.result.now ≡ uri = c.as_str.ensures.value in
-    (
+    let text : c.as_str.result.now ≡ uri = c.as_str.ensures.value in (
       λ e. record {
         agrees = λ u h.
             let same : Some uri ≡ Some u = sym named ∙ h in

@@ -18,7 +18,7 @@ loop-standing-preserved c =
     let more : map standing_of (take (i + 1) xs) ≡ ss ++ standing_of s ∷ [] =
     ap (map standing_of) (take_more xs i s c.loop-standing-test.true ∙ ap (λ x. take i xs ++ x ∷ []) (sym c.standing-item.is)) ∙ map-append standing_of (take i xs) (s ∷ []) in
     λ q. subst (IsBorne (get_by_text c.put_uris.new.by_uri q)) (sym (ap (last_that (bears q)) more ∙ last_that-push (bears q) ss (standing_of s)))
-        (c.in_ok-put_uris.ensures q (last_that (bears q) ss) (c.loop-standing.invariant q))
+    (c.in_ok-put_uris.ensures q (last_that (bears q) ss) (c.loop-standing.invariant q))
 
 pub returns : goal.returns
 unfolding known_under

@@ -13,8 +13,7 @@ returns-then-not-branch c =
     let xs = c.args.standings.now in
     let s = c.standing-item.result in
     let agree : Standing → Type 0 = Agrees (drafts_of c.args.told.now) (drafts_of c.args.after.now) in
-    let next : drop i xs ≡ s ∷ drop (i + 1) xs = drop_more xs i s c.loop-standing-test.true ∙ ap (λ x. x ∷ drop (i + 1) xs) (sym c.standing-item.is) in
-    (
+    let next : drop i xs ≡ s ∷ drop (i + 1) xs = drop_more xs i s c.loop-standing-test.true ∙ ap (λ x. x ∷ drop (i + 1) xs) (sym c.standing-item.is) in (
       λ no. (let e : false ≡ true = no in cc),
       λ a. sym c.if-not-branch.true ∙ c.in_ok-agrees.ensures.1 (subst (λ l. AllByRecursion agree (map standing_of l)) next (c.loop-standing.invariant.those a)).0,
     )
