@@ -82,7 +82,10 @@ fn has_count(count: Count, limit: u64, value: &Value) -> bool
 fn out_of_bound<'a>(bound: Bound, limit: i128, value: &Value) -> Option<Wrong<'a>>
     ensures { option_map (note_of (view value.now)) result ≡ head (note_unless (number_is (bound_test bound limit) (view value.now)) (bound_kind bound limit) (view value.now)) }
 {
-    unless(is_within(bound, limit, value), Wrong::Limit { bound, limit })
+    unless(
+        is_within(bound, limit, value),
+        Wrong::Limit { bound, limit },
+    )
 }
 
 fn has_distinct_items(alloc: Global, value: &Value) -> Result<bool, AllocError>
@@ -150,12 +153,17 @@ impl<'s> Assertion<'s> {
                 Wrong::MultipleOf(*divisor),
             ),
             Assertion::Limit { bound, limit } => out_of_bound(*bound, *limit, value),
-            Assertion::LimitOfDraft4 { side, limit, strict } => {
-                out_of_bound(old_bound_of(*side, *strict), *limit, value)
-            }
+            Assertion::LimitOfDraft4 {
+                side,
+                limit,
+                strict,
+            } => { out_of_bound(old_bound_of(*side, *strict), *limit, value) }
             Assertion::Count { count, limit } => unless(
                 has_count(*count, *limit, value),
-                Wrong::Count { count: *count, limit: *limit },
+                Wrong::Count {
+                    count: *count,
+                    limit: *limit,
+                },
             ),
             Assertion::UniqueItems => unless(has_distinct_items(alloc, value)?, Wrong::UniqueItems),
             Assertion::Required(names) => first_missing(*names, value).map(Wrong::Required),

@@ -22,10 +22,20 @@ pub enum Assertion<'s> {
     Enumeration(SortedValues<'s>),
     Constant(&'s Value),
     MultipleOf(NonZeroU64),
-    Limit { bound: Bound, limit: i128 },
+    Limit {
+        bound: Bound,
+        limit: i128,
+    },
     /// Draft 4's limit, with the boolean beside that makes it strict.
-    LimitOfDraft4 { side: Limit, limit: i128, strict: bool },
-    Count { count: Count, limit: u64 },
+    LimitOfDraft4 {
+        side: Limit,
+        limit: i128,
+        strict: bool,
+    },
+    Count {
+        count: Count,
+        limit: u64,
+    },
     UniqueItems,
     /// The texts of a list.
     Required(&'s [Value]),

@@ -29,7 +29,11 @@ fn missing_text<'a>(name: &'a Value, members: &Map<String, Value>) -> Option<&'a
     ensures { option_map (λ t. t.now) result ≡ missing_of (view name.now) (members_view members.now.entries) }
 {
     let text = name.as_str()?;
-    if lacks(members, text) { Some(text) } else { None }
+    if lacks(members, text) {
+        Some(text)
+    } else {
+        None
+    }
 }
 
 fn first_missing_member<'a>(names: &'a [Value], members: &Map<String, Value>) -> Option<&'a str>

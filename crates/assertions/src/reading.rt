@@ -9,7 +9,6 @@ ghost use Rattle.assertions.specs.declared.keyword.AssertionKeyword.TheVariants 
 
 use crate::assertion::{Assertion, Bound};
 use crate::keyword::{AssertionKeyword, Count, Limit};
-
 use schema_drafts::draft::Draft;
 use schema_types::read as read_type_names;
 use serde_json::Value;
@@ -24,9 +23,14 @@ pub enum Reading<'s> {
     /// It asserts nothing.
     Nothing,
     /// The keyword may not have the value: what was expected in its place.
-    Value { expected: &'static str },
+    Value {
+        expected: &'static str,
+    },
     /// The same of an entry of the value.
-    Entry { name: &'s str, expected: &'static str },
+    Entry {
+        name: &'s str,
+        expected: &'static str,
+    },
 }
 
 fn types<'s>(alloc: Global, value: &Value) -> Result<Reading<'s>, AllocError>

@@ -15,6 +15,7 @@ pub struct DefaultRetriever;
 
 impl Retrieve for DefaultRetriever {
     ghost may_answer = { λ _ uri document. ⊥ };
+
     ghost may_refuse = { λ _ uri. Unit {0} };
 
     fn retrieve(&self, _alloc: Global, _uri: &Uri) -> Result<Value, RetrieveError>

@@ -56,6 +56,7 @@ impl MapRetriever {
 
 impl Retrieve for MapRetriever {
     ghost may_answer = { λ r uri document. answer_for r uri ≡ Some document };
+
     ghost may_refuse = { λ r uri. answer_for r uri ≡ None };
 
     // A URI is looked up as it is spelled.
