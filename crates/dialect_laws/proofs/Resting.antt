@@ -3,7 +3,7 @@ use Rattle.std.proofs.Common.{◌≡◌, ◌∙◌, ◌+◌, ◌-◌, ℕ, zero,
 use Rattle.std.specs.List.{AllByRecursion}
 use Rattle.schema_documents.specs.Words.{or_else, last_that}
 use Rattle.schema_documents.specs.Places.{Dialect, standard}
-use Rattle.schema_documents.specs.Bearers.{Document, Documents, Standing, standings, bears, last_standing, dialect_by, dialects, how_many}
+use Rattle.schema_documents.specs.Bearers.{Document, Documents, Standing, standings, bears, last_standing, dialect_by, dialects}
 use Rattle.dialect_laws.specs.Stages.{drafts_alone, Agrees, AtRest, RestStays, RestIsFixed}
 use Rattle.dialect_laws.proofs.Alone.{drafts_tell_stages}
 use Rattle.dialect_laws.proofs.Agreeing.{same_standings, told_alike}
@@ -66,5 +66,4 @@ rest_stays docs n rest m less uri =
 
 pub rest_is_fixed : RestIsFixed
 unfolding dialects
-rest_is_fixed docs n rest less uri =
-    rest_stays docs n rest (how_many docs) less uri ∙ sym (rest_stays docs n rest (suc (how_many docs)) (omega (arith, less)) uri)
+rest_is_fixed docs n rest m less uri = rest_stays docs n rest m less uri ∙ sym (rest_stays docs n rest (suc m) (omega (arith, less)) uri)

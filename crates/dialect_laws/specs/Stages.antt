@@ -5,7 +5,7 @@ use Rattle.serde_json.specs.Data.{Data}
 use Rattle.schema_drafts.specs.Drafts.{draft_named}
 use Rattle.schema_drafts.specs.declared.draft.Draft.{Draft}
 use Rattle.schema_documents.specs.Places.{Dialect, standard, SchemaPlace, meta_schema_uri, schema_in_force}
-use Rattle.schema_documents.specs.Bearers.{Document, Documents, Standing, standings, is_root, bears, bearer, last_standing, dialect_by, dialects, how_many, meta}
+use Rattle.schema_documents.specs.Bearers.{Document, Documents, Standing, standings, is_root, bears, bearer_under, last_standing, dialect_by, dialects}
 
 -- the URI of the meta-schema that a schema names, where it is none of the drafts' own (Core 8.1.1)
 abbrev pub uri_named : List ℕ → Option Draft → Option (List ℕ)
@@ -50,6 +50,6 @@ AtRest docs n =
 abbrev pub RestStays : Type 0
 RestStays = (docs : Documents) (n : ℕ) → AtRest docs n → (m : ℕ) → n < m → (uri : List ℕ) → dialects docs m uri ≡ dialects docs (suc n) uri
 
--- where that is so before the last of the stages that are counted, what the documents tell of a meta-schema is the dialect by its bearer
+-- and what any later stage tells of a meta-schema is the dialect by its bearer under what that stage tells
 abbrev pub RestIsFixed : Type 0
-RestIsFixed = (docs : Documents) (n : ℕ) → AtRest docs n → n < how_many docs → (uri : List ℕ) → meta docs uri ≡ option_map dialect_by (bearer docs uri)
+RestIsFixed = (docs : Documents) (n : ℕ) → AtRest docs n → (m : ℕ) → n < m → (uri : List ℕ) → dialects docs m uri ≡ option_map dialect_by (bearer_under (dialects docs m) docs uri)

@@ -20,8 +20,9 @@ pub fn rest_stays()
     ensures { RestStays }
 {}
 
-/// Where the stages come to rest before the last that is counted, what the documents tell of a meta-schema is the dialect by the schema that
-/// bears its URI: its draft, and the vocabularies that it requires.
+/// Where stages are at rest, what any later stage tells of a meta-schema is the dialect by the schema that bears its URI under what that stage
+/// tells: its draft, and the vocabularies that it requires. So it is for all that documents tell where the stages come to rest before the last
+/// that is counted.
 pub fn rest_is_fixed()
     ensures { RestIsFixed }
 {}
