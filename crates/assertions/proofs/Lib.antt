@@ -1,2 +1,5 @@
 pub mod MissingLemmas
 pub mod WrongLemmas
+pub mod ReadLemmas
+pub mod NameLemmas
+pub mod EntryLemmas

@@ -28,6 +28,14 @@ bound_assertion bound.ExclusiveMaximum z = told.exclusive_maximum z
 bound_assertion bound.Minimum z = told.minimum z
 bound_assertion bound.ExclusiveMinimum z = told.exclusive_minimum z
 
+abbrev pub plain_bound : Limit → Bound
+plain_bound side.Maximum = bound.Maximum
+plain_bound side.Minimum = bound.Minimum
+
+abbrev pub strict_bound : Limit → Bound
+strict_bound side.Maximum = bound.ExclusiveMaximum
+strict_bound side.Minimum = bound.ExclusiveMinimum
+
 abbrev pub old_assertion : Limit → ℤ → Bool → told.Assertion
 old_assertion side.Maximum z strict = told.maximum_of_draft_4 z strict
 old_assertion side.Minimum z strict = told.minimum_of_draft_4 z strict

@@ -5,4 +5,6 @@ pub mod accepting;
 pub mod assertion;
 pub mod keyword;
 pub mod missing;
+mod names;
 pub mod reading;
+mod values;
