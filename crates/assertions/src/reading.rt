@@ -26,9 +26,14 @@ pub enum Reading<'s> {
     /// It asserts nothing.
     Nothing,
     /// The keyword may not have the value: what was expected in its place.
-    Value { expected: &'static str },
+    Value {
+        expected: &'static str,
+    },
     /// The same of an entry of the value.
-    Entry { name: &'s str, expected: &'static str },
+    Entry {
+        name: &'s str,
+        expected: &'static str,
+    },
 }
 
 fn asserted<'s>(read: Option<Assertion<'s>>, expected: &'static str) -> Reading<'s>
@@ -40,16 +45,14 @@ fn asserted<'s>(read: Option<Assertion<'s>>, expected: &'static str) -> Reading<
     }
 }
 
-fn limit<'s>(
-    draft: Draft,
-    side: Limit,
-    value: &Value,
-    strict_beside: Option<&Value>,
-) -> Reading<'s>
+fn limit<'s>(draft: Draft, side: Limit, value: &Value, strict_beside: Option<&Value>) -> Reading<'s>
     ensures { (c : Context) → Surrounds draft (option_map (λ v. view v.now) strict_beside.entry) (limit_name side) c → ReadsAs c (limit_name side) (limit_row side c (view value.now)) result }
 {
     if is_draft_4(draft) {
-        return asserted(bounded_in_draft_4(side, is_true(strict_beside), value), "number");
+        return asserted(
+            bounded_in_draft_4(side, is_true(strict_beside), value),
+            "number",
+        );
     }
     asserted(bounded(bound_of(side), value), "number")
 }

@@ -1,4 +1,3 @@
-
 use crate::reading::{Reading, read};
 use schema_drafts::draft::Draft;
 use serde_json::Value;
@@ -38,38 +37,90 @@ fn accepts_and_refuses(rt: HostRuntime) {
         ("type", r#""integer""#, "3", Some((true, 0))),
         ("type", r#"["string","null"]"#, "3", Some((false, 1))),
         ("enum", "[]", "1", Some((false, 1))),
-        ("enum", r#"[6,"foo",[],true,{"foo":12}]"#, r#"{"foo":12}"#, Some((true, 0))),
-        ("enum", r#"[6,"foo",[],true,{"foo":12}]"#, r#"{"foo":false}"#, Some((false, 1))),
-        ("const", r#"{"foo":"bar","baz":"bax"}"#, r#"{"baz":"bax","foo":"bar"}"#, Some((true, 0))),
+        (
+            "enum",
+            r#"[6,"foo",[],true,{"foo":12}]"#,
+            r#"{"foo":12}"#,
+            Some((true, 0)),
+        ),
+        (
+            "enum",
+            r#"[6,"foo",[],true,{"foo":12}]"#,
+            r#"{"foo":false}"#,
+            Some((false, 1)),
+        ),
+        (
+            "const",
+            r#"{"foo":"bar","baz":"bax"}"#,
+            r#"{"baz":"bax","foo":"bar"}"#,
+            Some((true, 0)),
+        ),
         ("const", "false", "0", Some((false, 1))),
         ("multipleOf", "2", "-10", Some((true, 0))),
         ("multipleOf", "2", "-7", Some((false, 1))),
         ("multipleOf", "2", r#""x""#, Some((true, 0))),
         ("maximum", "3", "3", Some((true, 0))),
         ("exclusiveMaximum", "3", "3", Some((false, 1))),
-        ("minimum", "-9223372036854775808", "-9223372036854775808", Some((true, 0))),
-        ("exclusiveMinimum", "18446744073709551614", "18446744073709551615", Some((true, 0))),
+        (
+            "minimum",
+            "-9223372036854775808",
+            "-9223372036854775808",
+            Some((true, 0)),
+        ),
+        (
+            "exclusiveMinimum",
+            "18446744073709551614",
+            "18446744073709551615",
+            Some((true, 0)),
+        ),
         ("maxLength", "2", "\"\u{1f600}\u{1f600}\"", Some((true, 0))),
         ("minLength", "2", "\"\u{1f600}\"", Some((false, 1))),
         ("maxItems", "2", "[1,2,3]", Some((false, 1))),
         ("minItems", "1", "{}", Some((true, 0))),
-        ("uniqueItems", "true", r#"[{"a":1,"b":2},{"b":2,"a":1}]"#, Some((false, 1))),
+        (
+            "uniqueItems",
+            "true",
+            r#"[{"a":1,"b":2},{"b":2,"a":1}]"#,
+            Some((false, 1)),
+        ),
         ("uniqueItems", "true", "[1,true]", Some((true, 0))),
         ("uniqueItems", "false", "[1,1]", None),
         ("minProperties", "1", "{}", Some((false, 1))),
         ("maxProperties", "1", r#"{"a":1,"b":2}"#, Some((false, 1))),
-        ("required", r#"["a","b","c"]"#, r#"{"b":1}"#, Some((false, 2))),
+        (
+            "required",
+            r#"["a","b","c"]"#,
+            r#"{"b":1}"#,
+            Some((false, 2)),
+        ),
         ("required", r#"["a"]"#, "[]", Some((true, 0))),
         ("required", "[]", "{}", None),
-        ("dependentRequired", r#"{"a":["b","c"],"d":["e"]}"#, r#"{"a":1,"c":2}"#, Some((false, 1))),
-        ("dependentRequired", r#"{"a":["b"]}"#, r#"{"b":1}"#, Some((true, 0))),
+        (
+            "dependentRequired",
+            r#"{"a":["b","c"],"d":["e"]}"#,
+            r#"{"a":1,"c":2}"#,
+            Some((false, 1)),
+        ),
+        (
+            "dependentRequired",
+            r#"{"a":["b"]}"#,
+            r#"{"b":1}"#,
+            Some((true, 0)),
+        ),
     ] {
         let found = judged(&rt, alloc, Draft::Draft202012, name, keyword, value);
         assert!(rt; found == want, "{name} {keyword} at {value}");
     }
 }
 
-fn expected(rt: &impl Abort, alloc: Global, name: &str, keyword: &str, want: &str, at: &str) -> bool {
+fn expected(
+    rt: &impl Abort,
+    alloc: Global,
+    name: &str,
+    keyword: &str,
+    want: &str,
+    at: &str,
+) -> bool {
     let keyword = json(rt, alloc, keyword);
     let read = read(alloc, Draft::Draft202012, name, &keyword, None).expect(rt, "memory");
     match read.expect(rt, "a keyword") {
@@ -93,10 +144,18 @@ fn names_what_was_expected(rt: HostRuntime) {
         ("required", r#"["a",1]"#, "unique names", ""),
         ("dependentRequired", "[]", "object", ""),
         ("dependentRequired", r#"{"a":["b"],"c":{}}"#, "list", "c"),
-        ("dependentRequired", r#"{"a":["b","b"]}"#, "unique names", "a"),
+        (
+            "dependentRequired",
+            r#"{"a":["b","b"]}"#,
+            "unique names",
+            "a",
+        ),
         ("dependentRequired", r#"{"a":["b",2]}"#, "unique names", ""),
     ] {
-        assert!(rt; expected(&rt, alloc, name, keyword, want, at), "{name} {keyword}");
+        assert!(rt;
+            expected(&rt, alloc, name, keyword, want, at),
+            "{name} {keyword}"
+        );
     }
     let value = json(&rt, alloc, "{}");
     let other = read(alloc, Draft::Draft202012, "properties", &value, None).expect(&rt, "memory");
@@ -116,6 +175,8 @@ fn strict_limits_of_draft_4(rt: HostRuntime) {
             assert!(rt; false, "an assertion");
         }
     }
-    let boolean = read(alloc, Draft::Draft4, "exclusiveMaximum", &strict, None).expect(&rt, "memory");
+    let boolean = read(alloc, Draft::Draft4, "exclusiveMaximum", &strict, None).expect(
+        &rt, "memory",
+    );
     assert!(rt; matches!(boolean, Some(Reading::Nothing)));
 }

@@ -78,7 +78,11 @@ pub(crate) fn bounded_in_draft_4<'s>(
     ensures { option_map assertion_of result ≡ option_map (λ z. old_assertion side z strict) (whole_number (view value.now)) }
 {
     match whole(value) {
-        Some(limit) => Some(Assertion::LimitOfDraft4 { side, limit, strict }),
+        Some(limit) => Some(Assertion::LimitOfDraft4 {
+            side,
+            limit,
+            strict,
+        }),
         None => None,
     }
 }
