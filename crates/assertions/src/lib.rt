@@ -7,4 +7,6 @@ pub mod keyword;
 pub mod missing;
 mod names;
 pub mod reading;
+#[cfg(test)]
+mod tests;
 mod values;
