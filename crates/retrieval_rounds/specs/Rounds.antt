@@ -1,4 +1,4 @@
--- Documents that are wanted and not at hand, and how they are retrieved: by rounds (Core 8.2.3.2, 9.1.2).
+-- Documents that are wanted and not at hand, and how they are retrieved: by rounds (Core 8.1.1, 8.2.3.1, 9.1.2).
 use Rattle.std.specs.Prelude.{◌≡◌, ℕ, List, [], ◌∷◌, ◌++◌, Bool, true, false, not, ◌&&◌, ◌||◌, map, codes, bytes_eq, if◌then◌else◌, Option, Some, None, option_and_then, is_some}
 use Rattle.std.specs.List.{flat_map, list_any, AllByRecursion}
 use Rattle.serde_json.specs.Data.{Data}
