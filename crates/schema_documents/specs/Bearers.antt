@@ -4,7 +4,7 @@ use Rattle.std.specs.List.{flat_map}
 use Rattle.serde_json.specs.Data.{Data, null, boolean, number, string, array, object, Items, no_items, item, Members, no_members, member}
 use Rattle.serde_json.specs.Find.{get}
 use Rattle.json_paths.specs.Parts.{Part}
-use Rattle.schema_drafts.specs.Vocabularies.{Vocabulary, vocabulary_named, Vocabularies, all_of_draft, only}
+use Rattle.schema_drafts.specs.Vocabularies.{Vocabulary, vocabulary_named, Vocabularies, all_of_draft, only, known_among}
 use Rattle.schema_drafts.specs.declared.draft.Draft.{Draft}
 use Rattle.schema_documents.specs.Words.{or_else, last_that, has_text}
 use Rattle.schema_documents.specs.Identifiers.{identifier, anchors, dynamic_anchors}
@@ -59,14 +59,22 @@ required_in (member k (string s) ms) = required_in ms
 required_in (member k (array ds) ms) = required_in ms
 required_in (member k (object ns) ms) = required_in ms
 
+abbrev pub declared_by : Option Data → Vocabularies
+declared_by None = all_of_draft
+declared_by (Some null) = all_of_draft
+declared_by (Some (boolean b)) = all_of_draft
+declared_by (Some (number n)) = all_of_draft
+declared_by (Some (string s)) = all_of_draft
+declared_by (Some (array ds)) = all_of_draft
+declared_by (Some (object ms)) = only (required_in ms)
+
+-- those of them by which keywords count: all of the draft, or the ones that the drafts know
+abbrev pub counting : Vocabularies → Vocabularies
+counting all_of_draft = all_of_draft
+counting (only vs) = only (known_among vs)
+
 abbrev pub required_by : Option Data → Vocabularies
-required_by None = all_of_draft
-required_by (Some null) = all_of_draft
-required_by (Some (boolean b)) = all_of_draft
-required_by (Some (number n)) = all_of_draft
-required_by (Some (string s)) = all_of_draft
-required_by (Some (array ds)) = all_of_draft
-required_by (Some (object ms)) = only (required_in ms)
+required_by vocabulary = counting (declared_by vocabulary)
 
 -- the dialect of schemas that name this one as their meta-schema: its draft, and the vocabularies that it requires
 abbrev pub dialect_by : Standing → Dialect
@@ -103,9 +111,9 @@ abbrev pub how_many : Documents → ℕ
 how_many [] = 0
 how_many (own ∷ parents) = schemas_of_each own + how_many parents
 
--- what the documents tell of meta-schemas: each stands above others at most as often as one is named
+-- What the documents tell of meta-schemas. Each stands above others at most as often as one is named, and one stage more tells those that nobody names.
 abbrev pub meta : Documents → List ℕ → Option Dialect
-meta docs uri = dialects docs (how_many docs) uri
+meta docs uri = dialects docs (suc (how_many docs)) uri
 
 -- ---- bearers, under what is told of meta-schemas, and by the documents alone
 

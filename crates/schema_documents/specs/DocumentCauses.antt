@@ -1,14 +1,16 @@
 -- What makes documents no registry: a bad URI at a schema place, a document that is wanted and not there, a meta-schema that is not known or is circular.
-use Rattle.std.specs.Prelude.{ℕ, zero, suc, ◌+◌, length, map, List, [], ◌∷◌, ◌++◌, Bool, ◌&&◌, ◌||◌, codes, bytes_eq, if◌then◌else◌, Option, Some, None, option_and_then, is_some}
+use Rattle.std.specs.Prelude.{ℕ, zero, suc, ◌+◌, length, map, List, [], ◌∷◌, ◌++◌, Bool, true, false, ◌&&◌, ◌||◌, codes, bytes_eq, nat_eq, if◌then◌else◌, Option, Some, None, option_and_then, is_some}
 use Rattle.std.specs.List.{filter, flat_map}
 use Rattle.uri_grammar.specs.Texts.{cut_at}
 use Rattle.uri_grammar.specs.Parts.{split}
 use Rattle.uri_grammar.specs.Grammar.{is_reference}
-use Rattle.schema_drafts.specs.declared.draft.Draft.TheVariants.{Unknown}
+use Rattle.schema_drafts.specs.Vocabularies.{Vocabulary, Vocabularies, all_of_draft, only, is_same}
+use Rattle.schema_drafts.specs.declared.draft.Draft.{Draft}
+use Rattle.schema_drafts.specs.declared.draft.Draft.TheVariants.{Draft4, Draft6, Draft7, Draft201909, Draft202012, Unknown}
 use Rattle.schema_documents.specs.Words.{or, or_else, last_that, listed, text_at}
 use Rattle.schema_documents.specs.Identifiers.{resolved, identifier_text, identifier}
-use Rattle.schema_documents.specs.Places.{schema_in_force}
-use Rattle.schema_documents.specs.Bearers.{Documents, Standing, standings, is_root, meta, bearer}
+use Rattle.schema_documents.specs.Places.{Dialect, schema_in_force, named_meta_schema}
+use Rattle.schema_documents.specs.Bearers.{Document, Documents, Standing, standings, is_root, dialects, how_many, meta, bearer}
 
 pub data DocumentCause : Type 0 where
   no_reference : List ℕ → DocumentCause
@@ -44,6 +46,45 @@ abbrev pub how_many_await : Documents → Documents → ℕ
 how_many_await docs [] = 0
 how_many_await docs (own ∷ parents) = length (filter (λ s. is_some s.place.awaits) (standings (meta docs) own)) + how_many_await docs parents
 
+-- ---- a meta-schema that each stage tells anew: what bears its URI hangs on what is told of it
+
+abbrev pub number_of_draft : Draft → ℕ
+number_of_draft Draft4 = 0
+number_of_draft Draft6 = 1
+number_of_draft Draft7 = 2
+number_of_draft Draft201909 = 3
+number_of_draft Draft202012 = 4
+number_of_draft Unknown = 5
+
+abbrev pub are_listed_alike : List Vocabulary → List Vocabulary → Bool
+are_listed_alike [] [] = true
+are_listed_alike [] (w ∷ ws) = false
+are_listed_alike (v ∷ vs) [] = false
+are_listed_alike (v ∷ vs) (w ∷ ws) = is_same v w && are_listed_alike vs ws
+
+abbrev pub are_alike : Vocabularies → Vocabularies → Bool
+are_alike all_of_draft all_of_draft = true
+are_alike all_of_draft (only ws) = false
+are_alike (only vs) all_of_draft = false
+are_alike (only vs) (only ws) = are_listed_alike vs ws
+
+abbrev pub is_told_alike : Option Dialect → Option Dialect → Bool
+is_told_alike None None = true
+is_told_alike None (Some e) = false
+is_told_alike (Some d) None = false
+is_told_alike (Some d) (Some e) = nat_eq (number_of_draft d.draft) (number_of_draft e.draft) && are_alike d.vocabularies e.vocabularies
+
+-- where the last stage tells another dialect than the one before
+abbrev pub unless_told_again : Documents → List ℕ → List DocumentCause
+unless_told_again docs uri = if is_told_alike (dialects docs (how_many docs) uri) (meta docs uri) then [] else circular_metaschema uri ∷ []
+
+-- of the meta-schema that a schema place names
+abbrev pub told_anew_at : Documents → Standing → List DocumentCause
+told_anew_at docs s = flat_map (unless_told_again docs) (listed (named_meta_schema (is_root s.place.path) s.place.contents))
+
+abbrev pub told_anew : Documents → List DocumentCause
+told_anew docs = flat_map (λ own. flat_map (told_anew_at docs) (standings (dialects docs (how_many docs)) own)) docs
+
 -- ---- the causes of a place
 
 -- what its identifier, its `$schema` where it counts, and its `$ref` are in the way of
@@ -64,4 +105,4 @@ place_causes docs s =
 -- the causes of a registry's own documents; its parents were prepared before it
 abbrev pub document_causes : Documents → List DocumentCause
 document_causes [] = []
-document_causes (own ∷ parents) = flat_map (place_causes (own ∷ parents)) (standings (meta (own ∷ parents)) own)
+document_causes (own ∷ parents) = told_anew (own ∷ parents) ++ flat_map (place_causes (own ∷ parents)) (standings (meta (own ∷ parents)) own)

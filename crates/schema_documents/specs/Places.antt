@@ -44,6 +44,14 @@ abbrev pub schema_in_force : Bool → Data → Option (List ℕ)
 schema_in_force is_root d =
     option_and_then (λ t. if is_root || is_some (identifier (draft_beside t) d) then Some t else None) (text_at (codes "$schema") d)
 
+-- the URI of the meta-schema that a schema names, where it is none of the drafts' own
+abbrev pub uri_named : List ℕ → Option Draft → Option (List ℕ)
+uri_named t None = meta_schema_uri t
+uri_named t (Some draft) = None
+
+abbrev pub named_meta_schema : Bool → Data → Option (List ℕ)
+named_meta_schema at_root d = option_and_then (λ t. uri_named t (draft_named t)) (schema_in_force at_root d)
+
 -- what a `$schema` gives: a dialect, or the URI of a meta-schema that is awaited
 pub data Named : Type 0 where
   settled : Dialect → Named

@@ -1,6 +1,6 @@
 -- Vocabularies (Core 8.1.2).
-use Rattle.std.specs.Prelude.{ℕ, List, [], ◌∷◌, ◌++◌, Bool, true, false, ◌||◌, codes, bytes_eq, if◌then◌else◌, Option, Some, None}
-use Rattle.std.specs.List.{list_any}
+use Rattle.std.specs.Prelude.{ℕ, List, [], ◌∷◌, ◌++◌, Bool, true, false, ◌||◌, ◌&&◌, codes, bytes_eq, nat_eq, if◌then◌else◌, Option, Some, None}
+use Rattle.std.specs.List.{list_any, filter}
 
 pub data Vocabulary : Type 0 where
   core : Vocabulary
@@ -88,3 +88,40 @@ pub data Vocabularies : Type 0 where
 abbrev pub has_some : (Vocabulary → Bool) → Vocabularies → Bool
 has_some test all_of_draft = true
 has_some test (only vs) = list_any test vs
+
+-- ---- those that the drafts know
+
+abbrev pub the_known : List Vocabulary
+the_known = core ∷ applicator ∷ unevaluated ∷ validation ∷ metadata ∷ format ∷ format_annotation ∷ format_assertion ∷ content ∷ []
+
+abbrev pub number_of : Vocabulary → ℕ
+number_of core = 0
+number_of applicator = 1
+number_of unevaluated = 2
+number_of validation = 3
+number_of metadata = 4
+number_of format = 5
+number_of format_annotation = 6
+number_of format_assertion = 7
+number_of content = 8
+number_of (custom uri) = 9
+
+abbrev pub uri_of : Vocabulary → List ℕ
+uri_of core = []
+uri_of applicator = []
+uri_of unevaluated = []
+uri_of validation = []
+uri_of metadata = []
+uri_of format = []
+uri_of format_annotation = []
+uri_of format_assertion = []
+uri_of content = []
+uri_of (custom uri) = uri
+
+-- of one kind, and custom ones under one URI
+abbrev pub is_same : Vocabulary → Vocabulary → Bool
+is_same v w = nat_eq (number_of v) (number_of w) && bytes_eq (uri_of v) (uri_of w)
+
+-- those of a list that the drafts know, each once and in one order: no keyword of the drafts is of a custom one
+abbrev pub known_among : List Vocabulary → List Vocabulary
+known_among vs = filter (λ v. list_any (is_same v) vs) the_known
