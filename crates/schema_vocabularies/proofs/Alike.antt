@@ -1,9 +1,15 @@
--- Questions on vocabularies that agree.
-use Rattle.std.proofs.Common.{◌≡◌, ◌∙◌, List, [], ◌∷◌, Bool, true, false, ◌||◌, ◌&&◌, refl, sym, ap}
+-- Questions on vocabularies, and on those of them that the drafts know.
+use Rattle.std.proofs.Common.{◌≡◌, ◌∙◌, ℕ, List, Bool, true, false, ◌||◌, ◌&&◌, not, refl, sym, ap, codes, bytes_eq}
 use Rattle.std.proofs.lemmas.Bool.{false≢true}
-use Rattle.std.specs.List.{list_any}
-use Rattle.schema_drafts.specs.Vocabularies.{Vocabulary, core, applicator, unevaluated, validation, metadata, format, format_annotation, format_assertion, content, custom, Vocabularies, all_of_draft, only, has_some, is_applicator, is_unevaluated, is_validation}
-use Rattle.schema_vocabularies.specs.Sets.{is_same}
+use Rattle.schema_drafts.specs.Drafts.{is_listed, ignores_siblings}
+use Rattle.schema_drafts.specs.Counts.{is_keyword, references, applicators, unevaluated_ones, validations, in_vocabularies, counts}
+use Rattle.schema_drafts.specs.Vocabularies.{Vocabularies, only, has_some, is_applicator, is_unevaluated, is_validation}
+use Rattle.schema_drafts.specs.declared.draft.Draft.{Draft}
+use Rattle.schema_drafts.specs.declared.draft.Draft.TheVariants.{Draft4, Draft6, Draft7, Draft201909, Draft202012, Unknown}
+use Rattle.schema_vocabularies.specs.Sets.{required, listed}
+use Rattle.schema_vocabularies.specs.declared.known.KnownVocabularies.{KnownVocabularies}
+use Rattle.schema_vocabularies.specs.declared.set.VocabularySet.{VocabularySet}
+use Rattle.schema_vocabularies.proofs.Listed.{is_marked, any_known}
 
 -- a second test is asked only where the first holds
 pub and_then : (a b r x : Bool) → r ≡ a → r ≡ true → x ≡ b → x ≡ (a && b)
@@ -11,55 +17,42 @@ and_then true b r x first holds second = second
 and_then false b true x first holds second = absurd (false≢true (sym first))
 and_then false b false x first holds second = absurd (false≢true holds)
 
-any_alike : (p q : Vocabulary → Bool) → ((v : Vocabulary) → p v ≡ q v) → (vs : List Vocabulary) → list_any p vs ≡ list_any q vs
-any_alike p q alike [] = refl
-any_alike p q alike (v ∷ vs) = ap (λ t. t || list_any p vs) (alike v) ∙ ap (λ t. q v || t) (any_alike p q alike vs)
+pub marked_applicator : (k : KnownVocabularies) → k.applicator ≡ has_some is_applicator (only (required k))
+marked_applicator k = is_marked is_applicator k.applicator k refl
 
-some_alike : (p q : Vocabulary → Bool) → ((v : Vocabulary) → p v ≡ q v) → (vs : Vocabularies) → has_some p vs ≡ has_some q vs
-some_alike p q alike all_of_draft = refl
-some_alike p q alike (only vs) = any_alike p q alike vs
+pub marked_unevaluated : (k : KnownVocabularies) → k.unevaluated ≡ has_some is_unevaluated (only (required k))
+marked_unevaluated k = is_marked is_unevaluated k.unevaluated k refl
 
-same_applicator : (v : Vocabulary) → is_same applicator v ≡ is_applicator v
-same_applicator core = refl
-same_applicator applicator = refl
-same_applicator unevaluated = refl
-same_applicator validation = refl
-same_applicator metadata = refl
-same_applicator format = refl
-same_applicator format_annotation = refl
-same_applicator format_assertion = refl
-same_applicator content = refl
-same_applicator (custom uri) = refl
+pub marked_validation : (k : KnownVocabularies) → k.validation ≡ has_some is_validation (only (required k))
+marked_validation k = is_marked is_validation k.validation k refl
 
-pub some_applicator : (vs : Vocabularies) → has_some (is_same applicator) vs ≡ has_some is_applicator vs
-some_applicator vs = some_alike (is_same applicator) is_applicator same_applicator vs
+-- the questions on whether a keyword counts
+abbrev by_questions : Bool → Bool → Bool → List ℕ → Bool
+by_questions a u v k = is_listed k references || (is_listed k applicators && a) || (is_listed k unevaluated_ones && u) || (is_listed k validations && v)
 
-same_unevaluated : (v : Vocabulary) → is_same unevaluated v ≡ is_unevaluated v
-same_unevaluated core = refl
-same_unevaluated applicator = refl
-same_unevaluated unevaluated = refl
-same_unevaluated validation = refl
-same_unevaluated metadata = refl
-same_unevaluated format = refl
-same_unevaluated format_annotation = refl
-same_unevaluated format_assertion = refl
-same_unevaluated content = refl
-same_unevaluated (custom uri) = refl
+module _ (vs ws : Vocabularies) (a : has_some is_applicator vs ≡ has_some is_applicator ws)
+    (u : has_some is_unevaluated vs ≡ has_some is_unevaluated ws) (v : has_some is_validation vs ≡ has_some is_validation ws) where
+  in_alike : (draft : Draft) (k : List ℕ) → in_vocabularies draft vs k ≡ in_vocabularies draft ws k
+  in_alike Draft4 k = refl
+  in_alike Draft6 k = refl
+  in_alike Draft7 k = refl
+  in_alike Draft201909 k =
+      ap (λ x. by_questions x x (has_some is_validation vs) k) a ∙ ap (λ x. by_questions (has_some is_applicator ws) (has_some is_applicator ws) x k) v
+  in_alike Draft202012 k =
+      ap (λ x. by_questions x (has_some is_unevaluated vs) (has_some is_validation vs) k) a
+      ∙ ap (λ x. by_questions (has_some is_applicator ws) x (has_some is_validation vs) k) u
+      ∙ ap (λ x. by_questions (has_some is_applicator ws) (has_some is_unevaluated ws) x k) v
+  in_alike Unknown k =
+      ap (λ x. by_questions x (has_some is_unevaluated vs) (has_some is_validation vs) k) a
+      ∙ ap (λ x. by_questions (has_some is_applicator ws) x (has_some is_validation vs) k) u
+      ∙ ap (λ x. by_questions (has_some is_applicator ws) (has_some is_unevaluated ws) x k) v
 
-pub some_unevaluated : (vs : Vocabularies) → has_some (is_same unevaluated) vs ≡ has_some is_unevaluated vs
-some_unevaluated vs = some_alike (is_same unevaluated) is_unevaluated same_unevaluated vs
+  count_alike : (draft : Draft) (beside_ref : Bool) (k : List ℕ) → counts draft vs beside_ref k ≡ counts draft ws beside_ref k
+  count_alike draft beside_ref k =
+      ap (λ x. is_keyword draft k && x && (not (ignores_siblings draft && beside_ref) || bytes_eq k (codes "$ref"))) (in_alike draft k)
 
-same_validation : (v : Vocabulary) → is_same validation v ≡ is_validation v
-same_validation core = refl
-same_validation applicator = refl
-same_validation unevaluated = refl
-same_validation validation = refl
-same_validation metadata = refl
-same_validation format = refl
-same_validation format_annotation = refl
-same_validation format_assertion = refl
-same_validation content = refl
-same_validation (custom uri) = refl
-
-pub some_validation : (vs : Vocabularies) → has_some (is_same validation) vs ≡ has_some is_validation vs
-some_validation vs = some_alike (is_same validation) is_validation same_validation vs
+-- no keyword is of a custom one
+pub known_count : (s : VocabularySet) (draft : Draft) (beside_ref : Bool) (k : List ℕ) → counts draft (only (required s.known)) beside_ref k ≡ counts draft (only (listed s)) beside_ref k
+known_count s draft beside_ref k =
+    count_alike (only (required s.known)) (only (listed s)) (any_known is_applicator s (λ uri. refl)) (any_known is_unevaluated s (λ uri. refl)) (any_known is_validation s (λ uri. refl)) draft
+    beside_ref k

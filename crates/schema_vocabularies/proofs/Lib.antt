@@ -1,3 +1,4 @@
 mod Listed
 mod Required
 mod Alike
+mod Dialects

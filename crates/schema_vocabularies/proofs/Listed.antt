@@ -11,8 +11,9 @@ use Rattle.std.specs.BTreeSet.{insert_key}
 use Rattle.std.proofs.lemmas.List.Folds.{list_any-append}
 use Rattle.std.proofs.lemmas.Map.Text.{is_eq-slice_cmp}
 use Rattle.std.proofs.lemmas.Slice.Eq.{bytes_eq-Decides}
-use Rattle.schema_drafts.specs.Vocabularies.{Vocabulary, core, custom}
-use Rattle.schema_vocabularies.specs.Sets.{is_same, marked, the_known, flags, listed}
+use Rattle.schema_drafts.specs.Vocabularies.{Vocabulary, core, custom, is_same, the_known}
+use Rattle.schema_vocabularies.specs.Sets.{marked, flags, required, listed}
+use Rattle.schema_vocabularies.specs.declared.known.KnownVocabularies.{KnownVocabularies}
 use Rattle.schema_vocabularies.specs.declared.set.VocabularySet.{VocabularySet}
 
 and_true : (b : Bool) → (b && true) ≡ b
@@ -145,3 +146,26 @@ custom_added test k old new same inserted =
     ∙ ap (λ t. any_flag test (flags old.known) the_known || t) (any_inserted test old.custom.keys k)
     ∙ exchanged (any_flag test (flags old.known) the_known) (test (custom (string_bytes k))) (any_custom test old.custom.keys)
     ∙ ap (λ t. test (custom (string_bytes k)) || t) (sym (any_listed test old))
+
+-- ---- known ones alone
+
+-- one more is marked
+pub one_marked : (test : Vocabulary → Bool) (i : ℕ) (old new : KnownVocabularies) → i < 9 → flags new ≡ slice_set (flags old) i true
+    → list_any test (required new) ≡ (test (get_or the_known i core) || list_any test (required old))
+one_marked test i old new small set =
+    any_marked test (flags new) the_known
+    ∙ ap (λ bs. any_flag test bs the_known) set
+    ∙ flag-set test (flags old) the_known i small small
+    ∙ ap (λ t. test (get_or the_known i core) || t) (sym (any_marked test (flags old) the_known))
+
+-- what is marked
+pub is_marked : (test : Vocabulary → Bool) (b : Bool) (k : KnownVocabularies) → any_flag test (flags k) the_known ≡ (b || false) → b ≡ list_any test (required k)
+is_marked test b k told = sym (any_marked test (flags k) the_known ∙ told ∙ or_false b)
+
+-- a test that no custom one passes sees the known ones alone
+pub any_known : (test : Vocabulary → Bool) (s : VocabularySet) → ((uri : List ℕ) → test (custom uri) ≡ false) → list_any test (required s.known) ≡ list_any test (listed s)
+any_known test s never =
+    sym (any_listed test s
+    ∙ ap (λ t. any_flag test (flags s.known) the_known || t) (no_custom test s.custom.keys never)
+    ∙ or_false (any_flag test (flags s.known) the_known)
+    ∙ sym (any_marked test (flags s.known) the_known))

@@ -1,47 +1,14 @@
 -- Sets of vocabularies.
-use Rattle.std.specs.Prelude.{◌≡◌, ℕ, List, [], ◌∷◌, ◌++◌, Bool, ◌&&◌, map, if◌then◌else◌, bytes_eq, nat_eq, string_bytes}
-use Rattle.schema_drafts.specs.Vocabularies.{Vocabulary, core, applicator, unevaluated, validation, metadata, format, format_annotation, format_assertion, content, custom, Vocabularies, all_of_draft, only, has_some, is_applicator, is_unevaluated}
+use Rattle.std.specs.Prelude.{◌≡◌, ℕ, List, [], ◌∷◌, ◌++◌, Bool, map, if◌then◌else◌, string_bytes}
+use Rattle.schema_drafts.specs.Vocabularies.{Vocabulary, core, applicator, unevaluated, validation, metadata, format, format_annotation, content, custom, Vocabularies, all_of_draft, only, has_some, is_applicator, is_unevaluated, the_known}
 use Rattle.schema_drafts.specs.declared.draft.Draft.{Draft}
 use Rattle.schema_drafts.specs.declared.draft.Draft.TheVariants.{Draft4, Draft6, Draft7, Draft201909, Draft202012, Unknown}
-use Rattle.schema_vocabularies.specs.declared.set.Flags.{Flags}
+use Rattle.schema_vocabularies.specs.declared.known.KnownVocabularies.{KnownVocabularies}
 use Rattle.schema_vocabularies.specs.declared.set.VocabularySet.{VocabularySet}
-
--- ---- the same vocabulary
-
-abbrev pub place_of : Vocabulary → ℕ
-place_of core = 0
-place_of applicator = 1
-place_of unevaluated = 2
-place_of validation = 3
-place_of metadata = 4
-place_of format = 5
-place_of format_annotation = 6
-place_of format_assertion = 7
-place_of content = 8
-place_of (custom uri) = 9
-
-abbrev pub uri_of : Vocabulary → List ℕ
-uri_of core = []
-uri_of applicator = []
-uri_of unevaluated = []
-uri_of validation = []
-uri_of metadata = []
-uri_of format = []
-uri_of format_annotation = []
-uri_of format_assertion = []
-uri_of content = []
-uri_of (custom uri) = uri
-
--- of one kind, and custom ones under one URI
-abbrev pub is_same : Vocabulary → Vocabulary → Bool
-is_same v w = nat_eq (place_of v) (place_of w) && bytes_eq (uri_of v) (uri_of w)
 
 -- ---- what a set has
 
-abbrev pub the_known : List Vocabulary
-the_known = core ∷ applicator ∷ unevaluated ∷ validation ∷ metadata ∷ format ∷ format_annotation ∷ format_assertion ∷ content ∷ []
-
-abbrev pub flags : Flags → List Bool
+abbrev pub flags : KnownVocabularies → List Bool
 flags k =
     k.core ∷ k.applicator ∷ k.unevaluated ∷ k.validation ∷ k.metadata ∷ k.format ∷ k.format_annotation ∷ k.format_assertion ∷ k.content ∷ []
 
@@ -50,13 +17,17 @@ marked [] vs = []
 marked (b ∷ bs) [] = []
 marked (b ∷ bs) (v ∷ vs) = if b then v ∷ marked bs vs else marked bs vs
 
+-- those that are marked
+abbrev pub required : KnownVocabularies → List Vocabulary
+required k = marked (flags k) the_known
+
 -- the URIs of the custom ones, in order
 abbrev pub custom_uris : VocabularySet → List (List ℕ)
 custom_uris s = map string_bytes s.custom.keys
 
 -- its vocabularies, each once
 abbrev pub listed : VocabularySet → List Vocabulary
-listed s = marked (flags s.known) the_known ++ map custom (custom_uris s)
+listed s = required s.known ++ map custom (custom_uris s)
 
 -- the vocabularies that it stands for: all of a draft, or those that it has
 abbrev pub vocabularies_of : VocabularySet → Vocabularies

@@ -39,8 +39,8 @@ pub fn find_vocabularies(
     draft: Draft,
     contents: &Value,
 ) -> Result<VocabularySet, AllocError>
-    ensures same { IfOk result (λ s. sets.AreSame (sets.vocabularies_of s) (bearers.required_by (get (codes "$vocabulary") (view contents.now)))) }
-    ensures whole { IfOk result (λ s. bearers.required_by (get (codes "$vocabulary") (view contents.now)) ≡ spec.all_of_draft → sets.listed s ≡ sets.own draft) }
+    ensures same { IfOk result (λ s. sets.AreSame (sets.vocabularies_of s) (bearers.declared_by (get (codes "$vocabulary") (view contents.now)))) }
+    ensures whole { IfOk result (λ s. bearers.declared_by (get (codes "$vocabulary") (view contents.now)) ≡ spec.all_of_draft → sets.listed s ≡ sets.own draft) }
 {
     match contents.get("$vocabulary").and_then(Value::as_object) {
         Some(members) => required_in(alloc, members),

@@ -1,76 +1,27 @@
 //! Sets of vocabularies.
 
-ghost use Rattle.std.specs.Prelude.{◌≡◌, [], true, false, Bool, ◌||◌, OnOk, OnErr, map, string_bytes};
+ghost use Rattle.std.specs.Prelude.{◌≡◌, ℕ, List, [], true, false, Bool, ◌||◌, OnOk, OnErr, map, string_bytes};
 ghost use Rattle.std.specs.List.{list_any};
 ghost use Rattle.std.specs.List.Sorted.{IsStrictlySortedBy};
 ghost use Rattle.std.specs.String.{string_cmp};
+ghost use Rattle.schema_drafts.specs.Counts as tables;
 ghost use Rattle.schema_drafts.specs.Vocabularies as spec;
 ghost use Rattle.schema_vocabularies.specs.Named.{vocabulary_of};
 ghost use Rattle.schema_vocabularies.specs.Sets as sets;
+ghost use Rattle.schema_vocabularies.specs.Dialects.{in_force};
 
+use crate::known::{KnownVocabularies, NONE, known_to};
 use crate::vocabulary::Vocabulary;
 use schema_drafts::draft::Draft;
 use std::alloc::{AllocError, Global};
 use std::collections::BTreeSet;
 use std::collections::btree_set::Iter;
 
-// Which of the drafts' vocabularies a set has.
-#[derive(Clone, Copy, Debug)]
-pub(crate) struct Flags {
-    pub(crate) core: bool,
-    pub(crate) applicator: bool,
-    pub(crate) unevaluated: bool,
-    pub(crate) validation: bool,
-    pub(crate) metadata: bool,
-    pub(crate) format: bool,
-    pub(crate) format_annotation: bool,
-    pub(crate) format_assertion: bool,
-    pub(crate) content: bool,
-}
-
-const NONE: Flags = Flags {
-    core: false,
-    applicator: false,
-    unevaluated: false,
-    validation: false,
-    metadata: false,
-    format: false,
-    format_annotation: false,
-    format_assertion: false,
-    content: false,
-};
-
-// What the draft's own meta-schema names.
-fn known_to(draft: Draft) -> Flags
-    ensures { sets.marked (sets.flags result) sets.the_known ≡ sets.own draft }
-{
-    let both = Flags {
-        core: true,
-        applicator: true,
-        validation: true,
-        metadata: true,
-        content: true,
-        ..NONE
-    };
-    match draft {
-        Draft::Draft4 | Draft::Draft6 | Draft::Draft7 => NONE,
-        Draft::Draft201909 => Flags {
-            format: true,
-            ..both
-        },
-        Draft::Draft202012 | Draft::Unknown => Flags {
-            unevaluated: true,
-            format_annotation: true,
-            ..both
-        },
-    }
-}
-
 /// A set of vocabularies: all that a draft has, or those that were added.
 #[derive(Debug, Drop)]
 pub struct VocabularySet {
     is_whole: bool,
-    known: Flags,
+    known: KnownVocabularies,
     custom: BTreeSet<String>,
 }
 
@@ -127,7 +78,7 @@ impl VocabularySet {
 
     /// Whether the set has a vocabulary. It allocates nothing; for a custom one it searches among the custom ones.
     pub fn contains(&self, vocabulary: &Vocabulary) -> bool
-        ensures { result ≡ list_any (sets.is_same (vocabulary_of vocabulary.now)) (sets.listed self.now) }
+        ensures { result ≡ list_any (spec.is_same (vocabulary_of vocabulary.now)) (sets.listed self.now) }
     {
         match vocabulary {
             Vocabulary::Core => self.known.core,
@@ -151,10 +102,14 @@ impl VocabularySet {
         self.custom.iter()
     }
 
-    // Whether a vocabulary is in force: the set stands for all of a draft, or has it.
-    pub(crate) fn is_in_force(&self, vocabulary: &Vocabulary) -> bool
-        ensures { result ≡ spec.has_some (sets.is_same (vocabulary_of vocabulary.now)) (sets.vocabularies_of self.now) }
+    // Those of its vocabularies that the drafts know, or none where it stands for all of a draft.
+    pub(crate) fn required(&self) -> Option<KnownVocabularies>
+        ensures { (draft : Draft) (beside_ref : Bool) (name : List ℕ) → tables.counts draft (in_force result) beside_ref name ≡ tables.counts draft (sets.vocabularies_of self.now) beside_ref name }
     {
-        self.is_whole || self.contains(vocabulary)
+        if self.is_whole {
+            None
+        } else {
+            Some(self.known)
+        }
     }
 }

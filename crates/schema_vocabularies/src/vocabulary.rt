@@ -29,7 +29,7 @@ pub enum Vocabulary {
 
 // A vocabulary that a draft knows.
 #[derive(Clone, Copy)]
-enum Known {
+pub(crate) enum Known {
     Core,
     Applicator,
     Unevaluated,
@@ -41,7 +41,7 @@ enum Known {
     Content,
 }
 
-const KNOWN_URIS: [(&str, Known); 14] = [
+pub(crate) const KNOWN_URIS: [(&str, Known); 14] = [
     (
         "https://json-schema.org/draft/2019-09/vocab/core",
         Known::Core,
@@ -101,7 +101,7 @@ const KNOWN_URIS: [(&str, Known); 14] = [
 ];
 
 // The first row of that text; where there is none, it would be a custom vocabulary.
-fn known_among(rows: &[(&str, Known)], text: &str) -> Option<Known>
+pub(crate) fn known_among(rows: &[(&str, Known)], text: &str) -> Option<Known>
     ensures { unwrap_or (option_map known_of result) (spec.custom text.now) ≡ spec.vocabulary_among (map (λ r. (r.0.now, known_of r.1)) rows.now) text.now }
 {
     for row in rows {

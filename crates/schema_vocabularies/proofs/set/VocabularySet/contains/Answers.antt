@@ -4,8 +4,9 @@ use Rattle.std.specs.BTreeMap.{is_at}
 use Rattle.std.specs.Cmp.Lexicographic.{slice_cmp}
 use Rattle.std.specs.Ordering.{nat_cmp}
 use Rattle.schema_drafts.specs.Vocabularies as spec
+use Rattle.schema_drafts.specs.Vocabularies.{is_same}
 use Rattle.schema_vocabularies.specs.Named.{vocabulary_of}
-use Rattle.schema_vocabularies.specs.Sets.{is_same, listed}
+use Rattle.schema_vocabularies.specs.Sets.{listed}
 use Rattle.schema_vocabularies.proofs.Listed.{known_listed, custom_listed}
 use Rattle.schema_vocabularies.proofs.set.VocabularySet.contains.Goals as goal
 
