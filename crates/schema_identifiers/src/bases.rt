@@ -1,4 +1,4 @@
-//! The base URI and the draft of a schema.
+//! The base URI and the dialect of a schema.
 
 ghost use Rattle.std.specs.Prelude.{◌≡◌, IfOk, codes, option_map, option_and_then};
 ghost use Rattle.std.specs.Prelude as std;
@@ -8,11 +8,12 @@ ghost use Rattle.uri_grammar.specs.Texts.{cut_at};
 ghost use Rattle.schema_documents.specs.Identifiers as identifiers;
 ghost use Rattle.schema_documents.specs.Places as places;
 ghost use Rattle.schema_drafts.specs.Drafts as drafts;
-ghost use Rattle.schema_identifiers.specs.Unknown.{no_meta};
+ghost use Rattle.schema_vocabularies.specs.Dialects.{dialect_of, dialects_in};
 ghost use Rattle.schema_identifiers.specs.Seen.{named_of, place_at};
 
 use crate::identifiers::{identifier, schema_in_force};
 use schema_drafts::draft::{Draft, draft_named};
+use schema_vocabularies::{Dialect, MetaSchemas};
 use serde_json::Value;
 use std::alloc::{AllocError, Global};
 use std::rc::Rc;
@@ -21,19 +22,19 @@ use uri_references::error::Error;
 use uri_references::uri;
 use uri_references::uri::Uri;
 
-/// What a `$schema` gives: a draft, or the URI of a meta-schema that is not known.
+/// What a `$schema` gives: a dialect, or the URI of a meta-schema that is not known.
 #[derive(Drop)]
 pub enum Named {
-    Known(Draft),
+    Known(Dialect),
     Awaited(Uri),
 }
 
-/// The base URI and the draft of a schema, and the URI of the meta-schema that it names where that is not known. The identifier of such
-/// a schema is not read.
+/// The base URI and the dialect of a schema, and the URI of the meta-schema that it names where that is not known. The identifier of
+/// such a schema is not read.
 #[derive(Drop)]
 pub struct Settled {
     pub base: Rc<Uri>,
-    pub draft: Draft,
+    pub dialect: Dialect,
     pub awaits: Option<Uri>,
 }
 
@@ -81,52 +82,114 @@ fn meta_schema_uri(alloc: Global, text: &str) -> Result<Option<Uri>, AllocError>
     resolved(alloc, &base, split_fragment(text).0)
 }
 
-fn named_by(alloc: Global, outer: Draft, text: &str) -> Result<Named, AllocError>
-    ensures { IfOk result (λ n. named_of n ≡ places.by_draft no_meta (places.standard outer) text.now (drafts.draft_named text.now)) }
+fn uri_named(alloc: Global, text: &str) -> Result<Option<Uri>, AllocError>
+    ensures { IfOk result (λ u. u ≡ places.uri_named text.now (drafts.draft_named text.now)) }
 {
-    if let Some(draft) = draft_named(text) {
-        return Ok(Named::Known(draft));
-    }
-    match meta_schema_uri(alloc, text)? {
-        Some(uri) => Ok(Named::Awaited(uri)),
-        None => Ok(Named::Known(outer)),
+    match draft_named(text) {
+        Some(_) => Ok(None),
+        None => meta_schema_uri(alloc, text),
     }
 }
 
-fn by_schema(alloc: Global, outer: Draft, text: Option<&str>) -> Result<Named, AllocError>
-    ensures { IfOk result (λ n. named_of n ≡ places.by_schema no_meta (places.standard outer) (option_map (λ t. t.now) text.entry)) }
+/// The URI of the meta-schema that a schema names, where its `$schema` counts and names none of the drafts' own.
+///
+/// It takes time in the length of that text, and one text.
+///
+/// # Errors
+///
+/// Where memory was refused.
+pub fn named_meta_schema(
+    alloc: Global,
+    is_root: bool,
+    contents: &Value,
+) -> Result<Option<Uri>, AllocError>
+    ensures { IfOk result (λ u. u ≡ places.named_meta_schema is_root (view contents.now)) }
+{
+    match schema_in_force(is_root, contents) {
+        Some(text) => uri_named(alloc, text),
+        None => Ok(None),
+    }
+}
+
+// What the meta-schema of a URI gives, or the dialect around where there is no URI.
+fn by_meta_schema(known: &MetaSchemas, outer: Dialect, uri: Option<Uri>) -> Named
+    ensures { named_of result ≡ places.by_meta_schema (dialects_in known.now) (dialect_of outer) uri }
+{
+    let Some(uri) = uri else {
+        return Named::Known(outer);
+    };
+    match known.get(uri.as_str()) {
+        Some(dialect) => Named::Known(dialect),
+        None => Named::Awaited(uri),
+    }
+}
+
+// What a text gives that is the URI of none of the drafts' own meta-schemas.
+fn by_unknown(
+    alloc: Global,
+    known: &MetaSchemas,
+    outer: Dialect,
+    text: &str,
+) -> Result<Named, AllocError>
+    ensures { IfOk result (λ n. named_of n ≡ places.by_draft (dialects_in known.now) (dialect_of outer) text.now std.None) }
+{
+    Ok(by_meta_schema(known, outer, meta_schema_uri(alloc, text)?))
+}
+
+fn named_by(
+    alloc: Global,
+    known: &MetaSchemas,
+    outer: Dialect,
+    text: &str,
+) -> Result<Named, AllocError>
+    ensures { IfOk result (λ n. named_of n ≡ places.by_draft (dialects_in known.now) (dialect_of outer) text.now (drafts.draft_named text.now)) }
+{
+    match draft_named(text) {
+        Some(draft) => Ok(Named::Known(Dialect::standard(draft))),
+        None => by_unknown(alloc, known, outer, text),
+    }
+}
+
+fn by_schema(
+    alloc: Global,
+    known: &MetaSchemas,
+    outer: Dialect,
+    text: Option<&str>,
+) -> Result<Named, AllocError>
+    ensures { IfOk result (λ n. named_of n ≡ places.by_schema (dialects_in known.now) (dialect_of outer) (option_map (λ t. t.now) text.entry)) }
 {
     match text {
-        Some(text) => named_by(alloc, outer, text),
+        Some(text) => named_by(alloc, known, outer, text),
         None => Ok(Named::Known(outer)),
     }
 }
 
-/// The base URI and the draft of a schema inside one with that base and that draft, or of a document's root under its URI.
+/// The base URI and the dialect of a schema inside one with that base and that dialect, or of a document's root under its URI.
 ///
-/// It takes time in the length of the identifier and of the outer base.
+/// It takes time in the length of the identifier and of the outer base, and a look-up where a `$schema` names none of the drafts' own.
 ///
 /// # Errors
 ///
 /// Where memory was refused.
 pub fn settle(
     alloc: Global,
+    known: &MetaSchemas,
     outer: &Rc<Uri>,
-    draft: Draft,
+    dialect: Dialect,
     is_root: bool,
     contents: &Value,
 ) -> Result<Settled, AllocError>
-    ensures { IfOk result (λ s. (path : std.List Part) → place_at path (view contents.now) s ≡ places.placed outer.now.value (places.standard draft) path (view contents.now) (places.by_schema no_meta (places.standard draft) (places.schema_in_force is_root (view contents.now)))) }
+    ensures { IfOk result (λ s. (path : std.List Part) → place_at path (view contents.now) s ≡ places.placed outer.now.value (dialect_of dialect) path (view contents.now) (places.by_schema (dialects_in known.now) (dialect_of dialect) (places.schema_in_force is_root (view contents.now)))) }
 {
-    match by_schema(alloc, draft, schema_in_force(is_root, contents))? {
-        Named::Known(draft) => Ok(Settled {
-            base: own_base(alloc, outer, draft, contents)?,
-            draft,
+    match by_schema(alloc, known, dialect, schema_in_force(is_root, contents))? {
+        Named::Known(dialect) => Ok(Settled {
+            base: own_base(alloc, outer, dialect.draft, contents)?,
+            dialect,
             awaits: None,
         }),
         Named::Awaited(uri) => Ok(Settled {
             base: outer.clone()?,
-            draft,
+            dialect,
             awaits: Some(uri),
         }),
     }

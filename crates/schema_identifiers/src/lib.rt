@@ -1,4 +1,4 @@
-//! Identifiers and anchors of schemas, and the base URI and the draft that they give.
+//! Identifiers and anchors of schemas, and the base URI and the dialect that they give.
 #![tactic(auto)]
 
 pub mod bases;

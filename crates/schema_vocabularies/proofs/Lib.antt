@@ -1,4 +1,4 @@
 mod Listed
 mod Required
 mod Alike
-mod Dialects
+pub mod Dialects
