@@ -1,7 +1,8 @@
 -- The schema place that the code's place is.
 use Rattle.serde_json.specs.View.{view}
-use Rattle.schema_documents.specs.Places.{SchemaPlace, standard}
+use Rattle.schema_documents.specs.Places.{SchemaPlace}
+use Rattle.schema_vocabularies.specs.Dialects.{dialect_of}
 use Rattle.schema_places.specs.declared.place.Place.{Place}
 
 abbrev pub place_of : Place → SchemaPlace
-place_of p = record { path = p.path; contents = view p.contents.now; base = p.base.value; dialect = standard p.draft; awaits = p.awaits }
+place_of p = record { path = p.path; contents = view p.contents.now; base = p.base.value; dialect = dialect_of p.dialect; awaits = p.awaits }

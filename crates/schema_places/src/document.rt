@@ -5,14 +5,15 @@ ghost use Rattle.serde_json.specs.View.{view};
 ghost use Rattle.json_paths.specs.Parts as parts;
 ghost use Rattle.schema_drafts.specs.Subschemas as tables;
 ghost use Rattle.schema_documents.specs.Places as spec;
-ghost use Rattle.schema_identifiers.specs.Unknown.{no_meta};
 ghost use Rattle.schema_places.specs.Seen.{place_of};
+ghost use Rattle.schema_vocabularies.specs.Dialects.{dialects_in};
 
 use crate::place::{Place, enter, is_schema, root};
 use schema_drafts::draft::Draft;
 use schema_drafts::subschemas::{Subschemas, held_by};
 use schema_identifiers::identifiers::is_hidden;
 use schema_steps::Path;
+use schema_vocabularies::MetaSchemas;
 use serde_json::Value;
 use std::alloc::{AllocError, Global};
 use std::rc::Rc;
@@ -20,31 +21,40 @@ use uri_references::uri::Uri;
 
 fn push_schema<'d>(
     alloc: Global,
+    known: &MetaSchemas,
     found: &mut Vec<Place<'d>>,
     outer: &Place<'d>,
     path: Path,
     part: &'d Value,
 ) -> Result<(), AllocError>
-    ensures { OnOk result (map place_of found.new.items ≡ map place_of found.old.items ++ spec.if_schema no_meta (place_of outer.now) path (view part.now)) }
+    ensures { OnOk result (map place_of found.new.items ≡ map place_of found.old.items ++ spec.if_schema (dialects_in known.now) (place_of outer.now) path (view part.now)) }
 {
     if is_schema(part) {
-        found.push(enter(alloc, &outer.base, outer.draft, path, part)?)?;
+        found.push(enter(alloc, known, &outer.base, outer.dialect, path, part)?)?;
     }
     Ok(())
 }
 
 fn push_list<'d>(
     alloc: Global,
+    known: &MetaSchemas,
     found: &mut Vec<Place<'d>>,
     outer: &Place<'d>,
     path: &Path,
     part: &'d Value,
 ) -> Result<(), AllocError>
-    ensures { OnOk result (map place_of found.new.items ≡ map place_of found.old.items ++ spec.in_list no_meta (place_of outer.now) path.now (view part.now)) }
+    ensures { OnOk result (map place_of found.new.items ≡ map place_of found.old.items ++ spec.in_list (dialects_in known.now) (place_of outer.now) path.now (view part.now)) }
 {
     if let Value::Array(items) = part {
         for (position, item) in items.iter().enumerate() {
-            push_schema(alloc, found, outer, path.push_item(alloc, position)?, item)?;
+            push_schema(
+                alloc,
+                known,
+                found,
+                outer,
+                path.push_item(alloc, position)?,
+                item,
+            )?;
         }
     }
     Ok(())
@@ -52,17 +62,19 @@ fn push_list<'d>(
 
 fn push_map<'d>(
     alloc: Global,
+    known: &MetaSchemas,
     found: &mut Vec<Place<'d>>,
     outer: &Place<'d>,
     path: &Path,
     part: &'d Value,
 ) -> Result<(), AllocError>
-    ensures { OnOk result (map place_of found.new.items ≡ map place_of found.old.items ++ spec.in_map no_meta (place_of outer.now) path.now (view part.now)) }
+    ensures { OnOk result (map place_of found.new.items ≡ map place_of found.old.items ++ spec.in_map (dialects_in known.now) (place_of outer.now) path.now (view part.now)) }
 {
     if let Value::Object(members) = part {
         for (name, member) in members.iter() {
             push_schema(
                 alloc,
+                known,
                 found,
                 outer,
                 path.push_name(alloc, name.as_str())?,
@@ -76,70 +88,74 @@ fn push_map<'d>(
 // The schema that a member is, or those in the list that it is.
 fn push_either<'d>(
     alloc: Global,
+    known: &MetaSchemas,
     found: &mut Vec<Place<'d>>,
     outer: &Place<'d>,
     path: Path,
     part: &'d Value,
 ) -> Result<(), AllocError>
-    ensures { OnOk result (map place_of found.new.items ≡ map place_of found.old.items ++ spec.held no_meta (place_of outer.now) path tables.one_or_several (view part.now)) }
+    ensures { OnOk result (map place_of found.new.items ≡ map place_of found.old.items ++ spec.held (dialects_in known.now) (place_of outer.now) path tables.one_or_several (view part.now)) }
 {
     match part {
-        Value::Array(_) => push_list(alloc, found, outer, &path, part),
-        _ => push_schema(alloc, found, outer, path, part),
+        Value::Array(_) => push_list(alloc, known, found, outer, &path, part),
+        _ => push_schema(alloc, known, found, outer, path, part),
     }
 }
 
 fn push_held<'d>(
     alloc: Global,
+    known: &MetaSchemas,
     found: &mut Vec<Place<'d>>,
     outer: &Place<'d>,
     path: Path,
     holds: Subschemas,
     part: &'d Value,
 ) -> Result<(), AllocError>
-    ensures { OnOk result (map place_of found.new.items ≡ map place_of found.old.items ++ spec.held no_meta (place_of outer.now) path (tables.holds_of holds) (view part.now)) }
+    ensures { OnOk result (map place_of found.new.items ≡ map place_of found.old.items ++ spec.held (dialects_in known.now) (place_of outer.now) path (tables.holds_of holds) (view part.now)) }
 {
     match holds {
         Subschemas::None => Ok(()),
-        Subschemas::One => push_schema(alloc, found, outer, path, part),
-        Subschemas::Several => push_list(alloc, found, outer, &path, part),
-        Subschemas::OneOrSeveral => push_either(alloc, found, outer, path, part),
-        Subschemas::ByName => push_map(alloc, found, outer, &path, part),
+        Subschemas::One => push_schema(alloc, known, found, outer, path, part),
+        Subschemas::Several => push_list(alloc, known, found, outer, &path, part),
+        Subschemas::OneOrSeveral => push_either(alloc, known, found, outer, path, part),
+        Subschemas::ByName => push_map(alloc, known, found, outer, &path, part),
     }
 }
 
 fn push_member<'d>(
     alloc: Global,
+    known: &MetaSchemas,
     found: &mut Vec<Place<'d>>,
     outer: &Place<'d>,
     hidden: bool,
     name: &str,
     part: &'d Value,
 ) -> Result<(), AllocError>
-    ensures { OnOk result (map place_of found.new.items ≡ map place_of found.old.items ++ spec.held no_meta (place_of outer.now) (parts.name name.now ∷ (place_of outer.now).path) (tables.held_by outer.now.draft hidden name.now) (view part.now)) }
+    ensures { OnOk result (map place_of found.new.items ≡ map place_of found.old.items ++ spec.held (dialects_in known.now) (place_of outer.now) (parts.name name.now ∷ (place_of outer.now).path) (tables.held_by outer.now.dialect.draft hidden name.now) (view part.now)) }
 {
-    let holds = held_by(outer.draft, hidden, name);
+    let holds = held_by(outer.dialect.draft, hidden, name);
     if holds == Subschemas::None {
         return Ok(());
     }
     let path = outer.path.push_name(alloc, name)?;
-    push_held(alloc, found, outer, path, holds, part)
+    push_held(alloc, known, found, outer, path, holds, part)
 }
 
 fn push_children<'d>(
     alloc: Global,
+    known: &MetaSchemas,
     found: &mut Vec<Place<'d>>,
     outer: &Place<'d>,
 ) -> Result<(), AllocError>
-    ensures { OnOk result (map place_of found.new.items ≡ map place_of found.old.items ++ spec.children no_meta (place_of outer.now)) }
+    ensures { OnOk result (map place_of found.new.items ≡ map place_of found.old.items ++ spec.children (dialects_in known.now) (place_of outer.now)) }
 {
     if outer.awaits.is_some() {
         return Ok(());
     }
     if let Value::Object(members) = outer.contents {
-        let hidden = is_hidden(outer.draft, outer.contents);
+        let hidden = is_hidden(outer.dialect.draft, outer.contents);
         for (name, part) in members.iter() {
-            push_member(alloc, found, outer, hidden, name.as_str(), part)?;
+            push_member(alloc, known, found, outer, hidden, name.as_str(), part)?;
         }
     }
     Ok(())
@@ -148,18 +164,20 @@ fn push_children<'d>(
 // Puts the places below the one at that position behind all.
 fn push_below<'d>(
     alloc: Global,
+    known: &MetaSchemas,
     found: &mut Vec<Place<'d>>,
     position: usize,
 ) -> Result<(), AllocError>
     requires { position < length found.old.items }
-    ensures { OnOk result ((p : spec.SchemaPlace) → map place_of found.new.items ≡ map place_of found.old.items ++ spec.children no_meta (slice_index_or (map place_of found.old.items) position p)) }
+    ensures { OnOk result ((p : spec.SchemaPlace) → map place_of found.new.items ≡ map place_of found.old.items ++ spec.children (dialects_in known.now) (slice_index_or (map place_of found.old.items) position p)) }
 {
     let place = found[position].clone()?;
-    push_children(alloc, found, &place)
+    push_children(alloc, known, found, &place)
 }
 
 /// The schema places of a document, by levels from its root: the root, the places in its members in their order, then the places in
-/// those. `default` is the draft where the root names none.
+/// those. `default` is the draft where the root names none. A schema that names a meta-schema takes the dialect that this gives, and
+/// awaits it where it is not known.
 ///
 /// It looks once at each member of a schema and at each schema that one holds, and copies the text of a base only where an identifier
 /// stands. The paths share their fronts, and the places their bases.
@@ -169,17 +187,18 @@ fn push_below<'d>(
 /// Where memory was refused, or a count of owners is full.
 pub fn places<'d>(
     alloc: Global,
+    known: &MetaSchemas,
     uri: &Rc<Uri>,
     default: Draft,
     contents: &'d Value,
 ) -> Result<Vec<Place<'d>>, AllocError>
-    ensures { IfOk result (λ v. map place_of v.items ≡ spec.places no_meta uri.now.value default (view contents.now)) }
+    ensures { IfOk result (λ v. map place_of v.items ≡ spec.places (dialects_in known.now) uri.now.value default (view contents.now)) }
 {
     let mut found = Vec::new(alloc);
-    found.push(root(alloc, uri, default, contents)?)?;
+    found.push(root(alloc, known, uri, default, contents)?)?;
     let mut next: usize = 0;
     while next < found.len() {
-        push_below(alloc, &mut found, next)?;
+        push_below(alloc, known, &mut found, next)?;
         next += 1;
     }
     Ok(found)

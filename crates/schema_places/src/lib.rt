@@ -1,4 +1,4 @@
-//! The schema places of a document: the parts of it that are schemas, each with its base URI and its draft.
+//! The schema places of a document: the parts of it that are schemas, each with its base URI and its dialect.
 #![tactic(auto)]
 
 pub mod document;

@@ -4,12 +4,13 @@ ghost use Rattle.std.specs.Prelude.{◌≡◌, IfOk};
 ghost use Rattle.serde_json.specs.View.{view};
 ghost use Rattle.schema_documents.specs.Places as places;
 ghost use Rattle.schema_identifiers.specs.Seen.{place_at};
-ghost use Rattle.schema_identifiers.specs.Unknown.{no_meta};
+ghost use Rattle.schema_vocabularies.specs.Dialects.{dialect_of, dialects_in};
 ghost use Rattle.schema_places.specs.Seen.{place_of};
 
 use schema_drafts::draft::Draft;
 use schema_identifiers::bases::{Settled, settle};
 use schema_steps::Path;
+use schema_vocabularies::{Dialect, MetaSchemas};
 use serde_json::Value;
 use std::alloc::{AllocError, Global};
 use std::rc::Rc;
@@ -24,9 +25,9 @@ pub struct Place<'d> {
     pub contents: &'d Value,
     /// The URI against which references in the schema are resolved.
     pub base: Rc<Uri>,
-    /// The draft by which the schema is read.
-    pub draft: Draft,
-    /// The meta-schema that the schema names, where it is none of the drafts' own. Such a schema has no identifier, and no places
+    /// The dialect by which the schema is read.
+    pub dialect: Dialect,
+    /// The meta-schema that the schema names, where it is none of the drafts' own and is not known. Such a schema has no identifier, and no places
     /// below it.
     pub awaits: Option<Uri>,
 }
@@ -43,7 +44,7 @@ impl<'d> Clone for Place<'d> {
             path: self.path.clone()?,
             contents: self.contents,
             base: self.base.clone()?,
-            draft: self.draft,
+            dialect: self.dialect,
             awaits: self.awaits.clone()?,
         })
     }
@@ -66,12 +67,12 @@ fn settled_place<'d>(path: Path, contents: &'d Value, settled: Settled) -> Place
         path,
         contents,
         base: settled.base,
-        draft: settled.draft,
+        dialect: settled.dialect,
         awaits: settled.awaits,
     }
 }
 
-/// The place of a schema inside another, whose base and draft are given.
+/// The place of a schema inside another, whose base and dialect are given.
 ///
 /// It shares the base where the schema has no identifier of its own. It takes time in the length of the identifier and of the base.
 ///
@@ -80,14 +81,15 @@ fn settled_place<'d>(path: Path, contents: &'d Value, settled: Settled) -> Place
 /// Where memory was refused, or the base's count of owners is full.
 pub fn enter<'d>(
     alloc: Global,
+    known: &MetaSchemas,
     base: &Rc<Uri>,
-    draft: Draft,
+    dialect: Dialect,
     path: Path,
     contents: &'d Value,
 ) -> Result<Place<'d>, AllocError>
-    ensures { IfOk result (λ p. place_of p ≡ places.entered no_meta base.now.value (places.standard draft) path (view contents.now)) }
+    ensures { IfOk result (λ p. place_of p ≡ places.entered (dialects_in known.now) base.now.value (dialect_of dialect) path (view contents.now)) }
 {
-    let settled = settle(alloc, base, draft, false, contents)?;
+    let settled = settle(alloc, known, base, dialect, false, contents)?;
     Ok(settled_place(path, contents, settled))
 }
 
@@ -98,12 +100,20 @@ pub fn enter<'d>(
 /// As [`enter`].
 pub fn root<'d>(
     alloc: Global,
+    known: &MetaSchemas,
     uri: &Rc<Uri>,
     default: Draft,
     contents: &'d Value,
 ) -> Result<Place<'d>, AllocError>
-    ensures { IfOk result (λ p. place_of p ≡ places.root_place no_meta uri.now.value default (view contents.now)) }
+    ensures { IfOk result (λ p. place_of p ≡ places.root_place (dialects_in known.now) uri.now.value default (view contents.now)) }
 {
-    let settled = settle(alloc, uri, default, true, contents)?;
+    let settled = settle(
+        alloc,
+        known,
+        uri,
+        Dialect::standard(default),
+        true,
+        contents,
+    )?;
     Ok(settled_place(Path::root(), contents, settled))
 }
