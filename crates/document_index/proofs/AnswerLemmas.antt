@@ -5,7 +5,7 @@ use Rattle.std.specs.List.{flat_map, enumerate_from, AllByRecursion}
 use Rattle.std.proofs.lemmas.List.Elements.{Contains-append_right}
 use Rattle.schema_documents.specs.Words.{or_else, last_that}
 use Rattle.schema_documents.specs.Bearers.{Document, Standing, standing_in, standings, last_standing}
-use Rattle.schema_identifiers.specs.Unknown.{no_meta}
+use Rattle.schema_documents.specs.Places.{Dialect}
 use Rattle.document_index.specs.Located.{Located, standings_at, located_standings, last_located, Kept, kept_of}
 use Rattle.document_index.specs.Answers.{IsAnswer}
 use Rattle.document_index.proofs.LocatedLemmas.{standings-located}
@@ -19,25 +19,25 @@ all-map P f [] h = tt
 all-map P f (x ∷ xs) h = (h x (0, omega arith, refl), all-map P f xs (λ y m. h y (Contains-append_right (x ∷ []) xs y m)))
 
 -- each place is one of the document at its position
-all-from : (P : Located → Type 0) (n : ℕ) (documents : List Document)
-    → ((k : ℕ) (d : Document) (s : Standing) → slice_get documents k ≡ Some d → Contains (standing_in no_meta d) s → P (record { document = n + k; standing = s }))
-    → AllByRecursion P (flat_map standings_at (enumerate_from n documents))
-all-from P n [] h = tt
-all-from P n (d ∷ ds) h =
-    all-append P (standings_at (n, d)) (flat_map standings_at (enumerate_from (n + 1) ds))
-    (all-map P (λ s. record { document = n; standing = s }) (standing_in no_meta d) (λ s m. subst (λ i. P (record { document = i; standing = s })) (add-zero n) (h 0 d s refl m)))
-    (all-from P (n + 1) ds (λ k e s is m.
+all-from : (meta : List ℕ → Option Dialect) (P : Located → Type 0) (n : ℕ) (documents : List Document)
+    → ((k : ℕ) (d : Document) (s : Standing) → slice_get documents k ≡ Some d → Contains (standing_in meta d) s → P (record { document = n + k; standing = s }))
+    → AllByRecursion P (flat_map (standings_at meta) (enumerate_from n documents))
+all-from meta P n [] h = tt
+all-from meta P n (d ∷ ds) h =
+    all-append P (standings_at meta (n, d)) (flat_map (standings_at meta) (enumerate_from (n + 1) ds))
+    (all-map P (λ s. record { document = n; standing = s }) (standing_in meta d) (λ s m. subst (λ i. P (record { document = i; standing = s })) (add-zero n) (h 0 d s refl m)))
+    (all-from meta P (n + 1) ds (λ k e s is m.
     let shifted : n + suc k ≡ n + 1 + k = omega arith in
     subst (λ i. P (record { document = i; standing = s })) shifted (h (suc k) e s is m)))
 
-abbrev Stands : List Document → Located → Type 0
-Stands documents l = IsSomeAnd (slice_get documents l.document) (λ d. Contains (standing_in no_meta d) l.standing)
+abbrev Stands : (List ℕ → Option Dialect) → List Document → Located → Type 0
+Stands meta documents l = IsSomeAnd (slice_get documents l.document) (λ d. Contains (standing_in meta d) l.standing)
 
-all-stand : (documents : List Document) → AllByRecursion (Stands documents) (located_standings documents)
+all-stand : (meta : List ℕ → Option Dialect) (documents : List Document) → AllByRecursion (Stands meta documents) (located_standings meta documents)
 unfolding located_standings
-all-stand documents =
-    all-from (Stands documents) 0 documents (λ k d s is m.
-    subst (λ o. IsSomeAnd o (λ e. Contains (standing_in no_meta e) s)) (sym (ap (slice_get documents) (zero-add k) ∙ is)) m)
+all-stand meta documents =
+    all-from meta (Stands meta documents) 0 documents (λ k d s is m.
+    subst (λ o. IsSomeAnd o (λ e. Contains (standing_in meta e) s)) (sym (ap (slice_get documents) (zero-add k) ∙ is)) m)
 
 -- the last that passes is one of them, and passes
 module _ {X : Type 0} (test : X → Bool) (P : X → Type 0) where
@@ -67,35 +67,35 @@ alone : {X : Type 0} (o : Option X) → or_else o None ≡ o
 alone None = refl
 alone (Some x) = refl
 
-pub last-of-own : (test : Standing → Bool) (documents : List Document) → last_standing test no_meta (documents ∷ []) ≡ option_map (λ (l : Located). l.standing) (last_located test (located_standings documents))
-last-of-own test documents =
-    alone (last_that test (standings no_meta documents))
-    ∙ ap (last_that test) (sym (standings-located documents))
-    ∙ last_that-map (λ (l : Located). l.standing) test (located_standings documents)
+pub last-of-own : (meta : List ℕ → Option Dialect) (test : Standing → Bool) (documents : List Document) → last_standing test meta (documents ∷ []) ≡ option_map (λ (l : Located). l.standing) (last_located test (located_standings meta documents))
+last-of-own meta test documents =
+    alone (last_that test (standings meta documents))
+    ∙ ap (last_that test) (sym (standings-located meta documents))
+    ∙ last_that-map (λ (l : Located). l.standing) test (located_standings meta documents)
 
 pub settled : {X : Type 0} (o : Option X) (b : Bool) → (not (is_some o) && b) ≡ true → o ≡ None
 settled None b e = refl
 settled (Some x) b e = absurd (cc (e))
 
-by_last : (test : Standing → Bool) (documents : List Document) → ((s : Standing) → test s ≡ true → s.place.awaits ≡ None)
-    → (o : Option Located) → last_located test (located_standings documents) ≡ o → IsAnswer documents (option_map kept_of o) (option_map (λ (l : Located). l.standing) o)
-by_last test documents knows None is = tt
-by_last test documents knows (Some l) is =
-    let holds = last_that-holds (λ (m : Located). test m.standing) (Stands documents) (located_standings documents) l (all-stand documents) is in
+by_last : (meta : List ℕ → Option Dialect) (test : Standing → Bool) (documents : List Document) → ((s : Standing) → test s ≡ true → s.place.awaits ≡ None)
+    → (o : Option Located) → last_located test (located_standings meta documents) ≡ o → IsAnswer meta documents (option_map kept_of o) (option_map (λ (l : Located). l.standing) o)
+by_last meta test documents knows None is = tt
+by_last meta test documents knows (Some l) is =
+    let holds = last_that-holds (λ (m : Located). test m.standing) (Stands meta documents) (located_standings meta documents) l (all-stand meta documents) is in
     record { path = refl; base = refl; dialect = refl; awaits = knows l.standing holds.1; stands = holds.0 }
 
-pub answers : (test : Standing → Bool) (documents : List Document) → ((s : Standing) → test s ≡ true → s.place.awaits ≡ None)
-    → (o : Option Kept) → o ≡ option_map kept_of (last_located test (located_standings documents)) → IsAnswer documents o (last_standing test no_meta (documents ∷ []))
-answers test documents knows o e =
-    subst (λ p. IsAnswer documents p (last_standing test no_meta (documents ∷ []))) (sym e)
-    (subst (λ p. IsAnswer documents (option_map kept_of (last_located test (located_standings documents))) p) (sym (last-of-own test documents))
-    (by_last test documents knows (last_located test (located_standings documents)) refl))
+pub answers : (meta : List ℕ → Option Dialect) (test : Standing → Bool) (documents : List Document) → ((s : Standing) → test s ≡ true → s.place.awaits ≡ None)
+    → (o : Option Kept) → o ≡ option_map kept_of (last_located test (located_standings meta documents)) → IsAnswer meta documents o (last_standing test meta (documents ∷ []))
+answers meta test documents knows o e =
+    subst (λ p. IsAnswer meta documents p (last_standing test meta (documents ∷ []))) (sym e)
+    (subst (λ p. IsAnswer meta documents (option_map kept_of (last_located test (located_standings meta documents))) p) (sym (last-of-own meta test documents))
+    (by_last meta test documents knows (last_located test (located_standings meta documents)) refl))
 
 within : {X : Type 0} (P : X → Type 0) (xs : List X) (i : ℕ) → IsSomeAnd (slice_get xs i) P → i < length xs
 within P [] i h = absurd h
 within P (x ∷ xs) zero h = omega arith
 within P (x ∷ xs) (suc i) h = let below = within P xs i h in omega arith
 
-pub answer-within : (documents : List Document) (kept : Kept) (o : Option Standing) → IsAnswer documents (Some kept) o → kept.document < length documents
-answer-within documents kept None h = absurd h
-answer-within documents kept (Some s) h = within (λ d. Contains (standing_in no_meta d) s) documents kept.document h.stands
+pub answer-within : (meta : List ℕ → Option Dialect) (documents : List Document) (kept : Kept) (o : Option Standing) → IsAnswer meta documents (Some kept) o → kept.document < length documents
+answer-within meta documents kept None h = absurd h
+answer-within meta documents kept (Some s) h = within (λ d. Contains (standing_in meta d) s) documents kept.document h.stands

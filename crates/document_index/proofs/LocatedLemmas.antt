@@ -1,11 +1,10 @@
 -- The schema places of several documents, one more at a time.
-use Rattle.std.proofs.Common.{◌≡◌, ℕ, ◌+◌, suc, List, [], ◌∷◌, ◌++◌, map, length, refl, sym, ap, ◌∙◌, append-nil, add-zero, zero-add, arith}
+use Rattle.std.proofs.Common.{◌≡◌, ℕ, ◌+◌, suc, List, [], ◌∷◌, ◌++◌, map, length, refl, sym, ap, ◌∙◌, append-nil, Option, add-zero, zero-add, arith}
 use Rattle.std.specs.List.{flat_map, enumerate_from}
 use Rattle.std.proofs.lemmas.Grind.{flat_map-append}
 use Rattle.std.proofs.lemmas.List.{map-append}
-use Rattle.schema_documents.specs.Places.{SchemaPlace, places}
+use Rattle.schema_documents.specs.Places.{Dialect, SchemaPlace, places}
 use Rattle.schema_documents.specs.Bearers.{Document, Standing, standing_in, standings}
-use Rattle.schema_identifiers.specs.Unknown.{no_meta}
 use Rattle.document_index.specs.Located.{Located, standings_at, located_standings}
 
 abbrev pub located_at : ℕ → List ℕ → SchemaPlace → Located
@@ -20,11 +19,11 @@ no_items [] e = refl
 no_items (x ∷ xs) e = absurd (omega (arith, e))
 
 -- those of a document, from its places
-pub located-places : (n : ℕ) (d : Document) (ps : List SchemaPlace) → ps ≡ places no_meta d.uri d.default d.contents → map (located_at n d.uri) ps ≡ standings_at (n, d)
-located-places n d ps e =
+pub located-places : (meta : List ℕ → Option Dialect) (n : ℕ) (d : Document) (ps : List SchemaPlace) → ps ≡ places meta d.uri d.default d.contents → map (located_at n d.uri) ps ≡ standings_at meta (n, d)
+located-places meta n d ps e =
     let stand : SchemaPlace → Standing = λ p. record { document = d.uri; place = p } in
     let located : Standing → Located = λ s. record { document = n; standing = s } in
-    ap (map (located_at n d.uri)) e ∙ sym (map-through located stand (places no_meta d.uri d.default d.contents))
+    ap (map (located_at n d.uri)) e ∙ sym (map-through located stand (places meta d.uri d.default d.contents))
 
 enumerate-push : {X : Type 0} (n : ℕ) (xs : List X) (x : X) → enumerate_from n (xs ++ x ∷ []) ≡ enumerate_from n xs ++ (n + length xs, x) ∷ []
 enumerate-push n [] x = ap (λ k. (k, x) ∷ []) (sym (add-zero n))
@@ -32,25 +31,25 @@ enumerate-push {X} n (y ∷ xs) x =
     let e : n + 1 + length xs ≡ n + suc (length xs) = omega arith in
     ap (λ l. (n, y) ∷ l) (enumerate-push (n + 1) xs x ∙ ap (λ k. enumerate_from (n + 1) xs ++ (k, x) ∷ []) e)
 
-pub located-push : (documents : List Document) (d : Document) → located_standings (documents ++ d ∷ []) ≡ located_standings documents ++ standings_at (length documents, d)
+pub located-push : (meta : List ℕ → Option Dialect) (documents : List Document) (d : Document) → located_standings meta (documents ++ d ∷ []) ≡ located_standings meta documents ++ standings_at meta (length documents, d)
 unfolding located_standings
-located-push documents d =
-    ap (flat_map standings_at) (enumerate-push 0 documents d)
-    ∙ flat_map-append standings_at (enumerate_from 0 documents) ((0 + length documents, d) ∷ [])
-    ∙ ap (λ l. flat_map standings_at (enumerate_from 0 documents) ++ l) (append-nil (standings_at (0 + length documents, d)) ∙ ap (λ k. standings_at (k, d)) (zero-add (length documents)))
+located-push meta documents d =
+    ap (flat_map (standings_at meta)) (enumerate-push 0 documents d)
+    ∙ flat_map-append (standings_at meta) (enumerate_from 0 documents) ((0 + length documents, d) ∷ [])
+    ∙ ap (λ l. flat_map (standings_at meta) (enumerate_from 0 documents) ++ l) (append-nil (standings_at meta (0 + length documents, d)) ∙ ap (λ k. standings_at meta (k, d)) (zero-add (length documents)))
 
 -- without the positions
 same : (n : ℕ) (ss : List Standing) → map (λ (l : Located). l.standing) (map (λ s. record { document = n; standing = s }) ss) ≡ ss
 same n [] = refl
 same n (s ∷ ss) = ap (λ l. s ∷ l) (same n ss)
 
-standings-from : (n : ℕ) (documents : List Document) → map (λ (l : Located). l.standing) (flat_map standings_at (enumerate_from n documents)) ≡ flat_map (standing_in no_meta) documents
-standings-from n [] = refl
-standings-from n (d ∷ ds) =
-    map-append (λ (l : Located). l.standing) (standings_at (n, d)) (flat_map standings_at (enumerate_from (n + 1) ds))
-    ∙ ap (λ l. l ++ map (λ (l : Located). l.standing) (flat_map standings_at (enumerate_from (n + 1) ds))) (same n (standing_in no_meta d))
-    ∙ ap (λ l. standing_in no_meta d ++ l) (standings-from (n + 1) ds)
+standings-from : (meta : List ℕ → Option Dialect) (n : ℕ) (documents : List Document) → map (λ (l : Located). l.standing) (flat_map (standings_at meta) (enumerate_from n documents)) ≡ flat_map (standing_in meta) documents
+standings-from meta n [] = refl
+standings-from meta n (d ∷ ds) =
+    map-append (λ (l : Located). l.standing) (standings_at meta (n, d)) (flat_map (standings_at meta) (enumerate_from (n + 1) ds))
+    ∙ ap (λ l. l ++ map (λ (l : Located). l.standing) (flat_map (standings_at meta) (enumerate_from (n + 1) ds))) (same n (standing_in meta d))
+    ∙ ap (λ l. standing_in meta d ++ l) (standings-from meta (n + 1) ds)
 
-pub standings-located : (documents : List Document) → map (λ (l : Located). l.standing) (located_standings documents) ≡ standings no_meta documents
+pub standings-located : (meta : List ℕ → Option Dialect) (documents : List Document) → map (λ (l : Located). l.standing) (located_standings meta documents) ≡ standings meta documents
 unfolding located_standings standings
-standings-located documents = standings-from 0 documents
+standings-located meta documents = standings-from meta 0 documents

@@ -1,5 +1,5 @@
 -- What stands under a name.
-use Rattle.std.proofs.Common.{◌≡◌, ℕ, List, [], ◌∷◌, ◌++◌, Bool, true, false, ◌&&◌, cond, if◌then◌else◌, Option, Some, None, option_map, option_and_then, Bor, String, Global, string_bytes, refl, sym, ap, ◌∙◌, bytes_eq}
+use Rattle.std.proofs.Common.{◌≡◌, ℕ, List, [], ◌∷◌, ◌++◌, Bool, true, false, not, ◌&&◌, ◌||◌, cond, if◌then◌else◌, Option, Some, None, option_map, option_and_then, Bor, String, Global, string_bytes, refl, sym, ap, ◌∙◌, bytes_eq}
 use Rattle.std.specs.Option.{option_copied}
 use Rattle.std.specs.String.{string_cmp}
 use Rattle.std.specs.Ordering.{nat_cmp}
@@ -8,6 +8,8 @@ use Rattle.std.specs.BTreeMap.{BTreeMap, get_by_text, UpdatesBy, is_at}
 use Rattle.std.specs.Map.{lookup}
 use Rattle.std.proofs.lemmas.Map.Text.{btree_map_updates_text}
 use Rattle.std.proofs.lemmas.Slice.Eq.{bytes_eq-Decides}
+use Rattle.std.proofs.lemmas.List.Folds.{list_any-append}
+use Rattle.schema_documents.specs.Words.{has_text}
 use Rattle.schema_documents.specs.Bearers.{Standing}
 use Rattle.document_index.specs.Located.{Located, Kept, kept_of, last_located}
 use Rattle.document_index.specs.Indexes.{bearer_of, named, anchor_named}
@@ -66,3 +68,20 @@ last-push test ls l o e =
     ap (λ p. if test l.standing then Some (kept_of l) else p) e
     ∙ sym (map-if kept_of (test l.standing) l (last_located test ls))
     ∙ sym (ap (option_map kept_of) (last_that-push (λ (m : Located). test m.standing) ls l))
+
+-- two names put one after the other
+twice : (a first second : Bool) (k : Kept) (o : Option Kept) → (if a && second then Some k else (if a && first then Some k else o)) ≡ (if a && (first || second) then Some k else o)
+twice false first second k o = refl
+twice true true true k o = refl
+twice true true false k o = refl
+twice true false second k o = refl
+
+pub both-put : (is a : Bool) (q : List ℕ) (first second all : List (List ℕ)) (k : Kept) (old mid new : Option Kept) → is ≡ false → first ++ second ≡ all
+    → mid ≡ (if a && has_text q first then Some k else old) → new ≡ (if a && has_text q second then Some k else mid)
+    → new ≡ (if not is && a && has_text q all then Some k else old)
+both-put true a q first second all k old mid new settled join one other = absurd cc
+both-put false a q first second all k old mid new settled join one other =
+    other ∙ ap (λ m. if a && has_text q second then Some k else m) one
+    ∙ twice a (has_text q first) (has_text q second) k old
+    ∙ ap (λ h. if a && h then Some k else old) (sym (list_any-append (bytes_eq q) first second))
+    ∙ ap (λ ts. if a && has_text q ts then Some k else old) join

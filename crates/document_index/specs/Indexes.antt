@@ -2,15 +2,16 @@
 use Rattle.std.specs.Prelude.{◌≡◌, ℕ, List, Option, option_map, option_and_then, String}
 use Rattle.std.specs.Global.{Global}
 use Rattle.std.specs.BTreeMap.{BTreeMap, get_by_text}
-use Rattle.schema_documents.specs.Places.{standard}
+use Rattle.schema_documents.specs.Places.{Dialect}
 use Rattle.schema_documents.specs.Identifiers.{anchors, dynamic_anchors}
-use Rattle.schema_documents.specs.Bearers.{bears, bears_anchor}
-use Rattle.document_index.specs.Located.{Located, Kept, kept_of, last_located}
+use Rattle.schema_documents.specs.Bearers.{Document, bears, bears_anchor}
+use Rattle.schema_vocabularies.specs.Dialects.{dialect_of}
+use Rattle.document_index.specs.Located.{Located, Kept, kept_of, last_located, located_standings}
 use Rattle.document_index.specs.declared.index.Bearer.{Bearer}
 use Rattle.document_index.specs.declared.index.Index.{Index}
 
 abbrev pub bearer_of : Bearer → Kept
-bearer_of b = record { document = b.document; path = b.path; base = b.base.value; dialect = standard b.draft }
+bearer_of b = record { document = b.document; path = b.path; base = b.base.value; dialect = dialect_of b.dialect }
 
 -- the bearer under a name
 abbrev pub named : BTreeMap (String Global) Bearer → List ℕ → Option Kept
@@ -35,3 +36,7 @@ pub record Indexes (index : Index) (all : List Located) : Type 0 where
   pub by_uri : (uri : List ℕ) → bearer_in index uri ≡ option_map kept_of (last_located (bears uri) all)
   pub by_anchor : (base name : List ℕ) → anchored_in index base name ≡ option_map kept_of (last_located (bears_anchor anchors base name) all)
   pub by_dynamic_anchor : (base name : List ℕ) → dynamically_anchored_in index base name ≡ option_map kept_of (last_located (bears_anchor dynamic_anchors base name) all)
+
+-- an index is of documents, whatever was told of meta-schemas when it was built
+abbrev pub IsIndexed : List Document → Index → Type 0
+IsIndexed documents index = (meta : List ℕ → Option Dialect) × Indexes index (located_standings meta documents)

@@ -5,20 +5,19 @@ use Rattle.json_paths.specs.Parts.{Part}
 use Rattle.schema_documents.specs.Words.{last_that}
 use Rattle.schema_documents.specs.Places.{Dialect}
 use Rattle.schema_documents.specs.Bearers.{Document, Standing, standing_in}
-use Rattle.schema_identifiers.specs.Unknown.{no_meta}
 
 -- a schema place, and its document's position
 pub record Located : Type 0 where
   pub document : ℕ
   pub standing : Standing
 
--- those of the document at a position
-abbrev pub standings_at : ℕ × Document → List Located
-standings_at e = map (λ s. record { document = e.0; standing = s }) (standing_in no_meta e.1)
+-- those of the document at a position, under what is told of meta-schemas
+abbrev pub standings_at : (List ℕ → Option Dialect) → ℕ × Document → List Located
+standings_at meta e = map (λ s. record { document = e.0; standing = s }) (standing_in meta e.1)
 
 -- those of documents in their order
-unfoldable pub located_standings : List Document → List Located
-located_standings documents = flat_map standings_at (enumerate_from 0 documents)
+unfoldable pub located_standings : (List ℕ → Option Dialect) → List Document → List Located
+located_standings meta documents = flat_map (standings_at meta) (enumerate_from 0 documents)
 
 -- the last that passes
 abbrev pub last_located : (Standing → Bool) → List Located → Option Located

@@ -1,16 +1,18 @@
 //! What an index says of the documents that it was built from.
 
-ghost use Rattle.std.specs.Prelude.{◌≡◌, ◌<◌, length, ◌∷◌, [], map, Some, option_map, IfOk, IfSome, slice_get};
+ghost use Rattle.std.specs.Prelude.{◌≡◌, ◌<◌, ℕ, List, length, ◌∷◌, [], map, Option, Some, option_map, IfOk, IfSome, slice_get};
 ghost use Rattle.schema_documents.specs.Bearers as bearers;
-ghost use Rattle.schema_identifiers.specs.Unknown.{no_meta};
+ghost use Rattle.schema_documents.specs.Places.{Dialect};
+ghost use Rattle.schema_vocabularies.specs.Dialects.{dialects_in};
 ghost use Rattle.document_index.specs.Seen.{document_of};
 ghost use Rattle.document_index.specs.Located.{located_standings};
-ghost use Rattle.document_index.specs.Indexes.{bearer_of, Indexes};
+ghost use Rattle.document_index.specs.Indexes.{bearer_of, Indexes, IsIndexed};
 ghost use Rattle.document_index.specs.Answers.{IsAnswer, dynamically_anchored_under};
 
 use crate::document::Document;
 use crate::index::{Bearer, Index};
 use crate::standing::standings;
+use schema_vocabularies::MetaSchemas;
 use std::alloc::{AllocError, Global};
 
 /// The index of the schema places of documents.
@@ -20,10 +22,14 @@ use std::alloc::{AllocError, Global};
 /// # Errors
 ///
 /// Where memory was refused, or a count of owners is full.
-pub fn index_of(alloc: Global, documents: &[Document<'_>]) -> Result<Index, AllocError>
-    ensures { IfOk result (λ i. Indexes i (located_standings (map document_of documents.now))) }
+pub fn index_of(
+    alloc: Global,
+    known: &MetaSchemas,
+    documents: &[Document<'_>],
+) -> Result<Index, AllocError>
+    ensures { IfOk result (λ i. Indexes i (located_standings (dialects_in known.now) (map document_of documents.now))) }
 {
-    let places = standings(alloc, documents)?;
+    let places = standings(alloc, known, documents)?;
     Index::of(alloc, &places)
 }
 
@@ -40,8 +46,8 @@ pub fn bearer<'i, 'd>(
     index: &'i Index,
     uri: &str,
 ) -> Option<(&'i Document<'d>, &'i Bearer)>
-    requires { Indexes index.now (located_standings (map document_of documents.now)) }
-    ensures answer { IsAnswer (map document_of documents.now) (option_map (λ r. bearer_of r.1.now) result) (bearers.bearer_under no_meta (map document_of documents.now ∷ []) uri.now) }
+    requires { IsIndexed (map document_of documents.now) index.now }
+    ensures answer { (meta : List ℕ → Option Dialect) → Indexes index.now (located_standings meta (map document_of documents.now)) → IsAnswer meta (map document_of documents.now) (option_map (λ r. bearer_of r.1.now) result) (bearers.bearer_under meta (map document_of documents.now ∷ []) uri.now) }
     ensures document { IfSome result (λ r. slice_get documents.now r.1.now.document ≡ Some r.0.now) }
 {
     let bearer = index.bearer(uri)?;
@@ -55,8 +61,8 @@ pub fn anchored<'i, 'd>(
     base: &str,
     name: &str,
 ) -> Option<(&'i Document<'d>, &'i Bearer)>
-    requires { Indexes index.now (located_standings (map document_of documents.now)) }
-    ensures answer { IsAnswer (map document_of documents.now) (option_map (λ r. bearer_of r.1.now) result) (bearers.anchored_under no_meta (map document_of documents.now ∷ []) base.now name.now) }
+    requires { IsIndexed (map document_of documents.now) index.now }
+    ensures answer { (meta : List ℕ → Option Dialect) → Indexes index.now (located_standings meta (map document_of documents.now)) → IsAnswer meta (map document_of documents.now) (option_map (λ r. bearer_of r.1.now) result) (bearers.anchored_under meta (map document_of documents.now ∷ []) base.now name.now) }
     ensures document { IfSome result (λ r. slice_get documents.now r.1.now.document ≡ Some r.0.now) }
 {
     let bearer = index.anchored(base, name)?;
@@ -70,8 +76,8 @@ pub fn dynamically_anchored<'i, 'd>(
     base: &str,
     name: &str,
 ) -> Option<(&'i Document<'d>, &'i Bearer)>
-    requires { Indexes index.now (located_standings (map document_of documents.now)) }
-    ensures answer { IsAnswer (map document_of documents.now) (option_map (λ r. bearer_of r.1.now) result) (dynamically_anchored_under no_meta (map document_of documents.now ∷ []) base.now name.now) }
+    requires { IsIndexed (map document_of documents.now) index.now }
+    ensures answer { (meta : List ℕ → Option Dialect) → Indexes index.now (located_standings meta (map document_of documents.now)) → IsAnswer meta (map document_of documents.now) (option_map (λ r. bearer_of r.1.now) result) (dynamically_anchored_under meta (map document_of documents.now ∷ []) base.now name.now) }
     ensures document { IfSome result (λ r. slice_get documents.now r.1.now.document ≡ Some r.0.now) }
 {
     let bearer = index.dynamically_anchored(base, name)?;

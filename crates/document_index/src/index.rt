@@ -11,9 +11,9 @@ ghost use Rattle.document_index.specs.Located.{kept_of};
 ghost use Rattle.document_index.specs.Indexes.{bearer_of, named, anchor_named};
 
 use crate::standing::Standing;
-use schema_drafts::draft::Draft;
 use schema_identifiers::identifiers::{anchor, dynamic_anchor, identifier};
 use schema_steps::Path;
+use schema_vocabularies::Dialect;
 use std::alloc::{AllocError, Global};
 use std::collections::BTreeMap;
 use std::rc::Rc;
@@ -28,8 +28,8 @@ pub struct Bearer {
     pub path: Path,
     /// The URI against which references in the schema are resolved.
     pub base: Rc<Uri>,
-    /// The draft by which the schema is read.
-    pub draft: Draft,
+    /// The dialect by which the schema is read.
+    pub dialect: Dialect,
 }
 
 /// The last bearer of each URI, and of each anchor and each dynamic anchor under its base.
@@ -47,7 +47,7 @@ fn bearer_at(standing: &Standing<'_>) -> Result<Bearer, AllocError>
         document: standing.document,
         path: standing.place.path.clone()?,
         base: standing.place.base.clone()?,
-        draft: standing.place.draft,
+        dialect: standing.place.dialect,
     })
 }
 
@@ -84,9 +84,9 @@ fn put_base(
     by_uri: &mut BTreeMap<String, Bearer>,
     standing: &Standing<'_>,
 ) -> Result<(), AllocError>
-    ensures { OnOk result ((q : List ℕ) → named by_uri.new q ≡ (if is_some (identifiers.identifier standing.now.place.draft (view standing.now.place.contents.now)) && bytes_eq standing.now.place.base.value q then Some (kept_of (located_of standing.now)) else named by_uri.old q)) }
+    ensures { OnOk result ((q : List ℕ) → named by_uri.new q ≡ (if is_some (identifiers.identifier standing.now.place.dialect.draft (view standing.now.place.contents.now)) && bytes_eq standing.now.place.base.value q then Some (kept_of (located_of standing.now)) else named by_uri.old q)) }
 {
-    if identifier(standing.place.draft, standing.place.contents).is_some() {
+    if identifier(standing.place.dialect.draft, standing.place.contents).is_some() {
         put(alloc, by_uri, standing.place.base.as_str(), standing)?;
     }
     Ok(())
@@ -152,9 +152,10 @@ fn put_anchors(
     if place.awaits.is_some() {
         return Ok(());
     }
-    let name = anchor(place.draft, place.contents);
+    let draft = place.dialect.draft;
+    let name = anchor(draft, place.contents);
     put_anchor(alloc, by_anchor, name, standing)?;
-    let dynamic_name = dynamic_anchor(place.draft, place.contents);
+    let dynamic_name = dynamic_anchor(draft, place.contents);
     put_anchor(alloc, by_anchor, dynamic_name, standing)
 }
 
@@ -169,7 +170,7 @@ fn put_dynamic_anchor(
     if place.awaits.is_some() {
         return Ok(());
     }
-    let name = dynamic_anchor(place.draft, place.contents);
+    let name = dynamic_anchor(place.dialect.draft, place.contents);
     put_anchor(alloc, by_anchor, name, standing)
 }
 

@@ -2,13 +2,14 @@
 
 ghost use Rattle.std.specs.Prelude.{◌≡◌, ◌++◌, map, IfOk, OnOk};
 ghost use Rattle.schema_documents.specs.Bearers as bearers;
-ghost use Rattle.schema_identifiers.specs.Unknown.{no_meta};
+ghost use Rattle.schema_vocabularies.specs.Dialects.{dialects_in};
 ghost use Rattle.document_index.specs.Located.{located_standings, standings_at};
 ghost use Rattle.document_index.specs.Seen.{document_of, standing_of, located_of};
 
 use crate::document::Document;
 use schema_places::document::places;
 use schema_places::place::Place;
+use schema_vocabularies::MetaSchemas;
 use std::alloc::{AllocError, Global};
 use std::rc::Rc;
 use uri_references::uri::Uri;
@@ -26,14 +27,16 @@ pub struct Standing<'d> {
 
 fn push_standings<'d>(
     alloc: Global,
+    known: &MetaSchemas,
     found: &mut Vec<Standing<'d>>,
     position: usize,
     document: &'d Document<'_>,
 ) -> Result<(), AllocError>
-    ensures { OnOk result (map located_of found.new.items ≡ map located_of found.old.items ++ standings_at (position, document_of document.now)) }
+    ensures { OnOk result (map located_of found.new.items ≡ map located_of found.old.items ++ standings_at (dialects_in known.now) (position, document_of document.now)) }
 {
     for place in places(
         alloc,
+        known,
         &document.uri,
         document.default,
         document.contents.value(),
@@ -56,14 +59,15 @@ fn push_standings<'d>(
 /// Where memory was refused, or a count of owners is full.
 pub fn standings<'d>(
     alloc: Global,
+    known: &MetaSchemas,
     documents: &'d [Document<'_>],
 ) -> Result<Vec<Standing<'d>>, AllocError>
-    ensures stand { IfOk result (λ v. map standing_of v.items ≡ bearers.standings no_meta (map document_of documents.now)) }
-    ensures located { IfOk result (λ v. map located_of v.items ≡ located_standings (map document_of documents.now)) }
+    ensures stand { IfOk result (λ v. map standing_of v.items ≡ bearers.standings (dialects_in known.now) (map document_of documents.now)) }
+    ensures located { IfOk result (λ v. map located_of v.items ≡ located_standings (dialects_in known.now) (map document_of documents.now)) }
 {
     let mut found = Vec::new(alloc);
     for (position, document) in documents.iter().enumerate() {
-        push_standings(alloc, &mut found, position, document)?;
+        push_standings(alloc, known, &mut found, position, document)?;
     }
     Ok(found)
 }

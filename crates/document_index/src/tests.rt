@@ -4,6 +4,7 @@ use crate::document::{Contents, Document};
 use crate::index::{Bearer, Index};
 use crate::standing::standings;
 use schema_drafts::draft::Draft;
+use schema_vocabularies::MetaSchemas;
 use serde_json::Value;
 use std::alloc::Global;
 use std::rc::Rc;
@@ -34,7 +35,7 @@ fn shown(alloc: Global, found: Option<&Bearer>) -> Result<String, Fail> {
                 "{}#{pointer} {} {:?}",
                 place.document,
                 place.base.as_str(),
-                place.draft
+                place.dialect.draft
             )?)
         }
         None => Ok(String::from_str(alloc, "none")?),
@@ -50,7 +51,7 @@ fn the_last_bearer_of_a_uri(rt: HostRuntime) -> Result<(), Fail> {
         document(alloc, "http://a.test/first", Contents::Lent(&lent))?,
         document(alloc, "http://a.test/second", Contents::Shared(shared))?,
     ]?;
-    let index = Index::of(alloc, &standings(alloc, &documents)?)?;
+    let index = Index::of(alloc, &standings(alloc, &MetaSchemas::none(alloc), &documents)?)?;
     for (uri, want) in [
         ("http://a.test/first", "0# http://a.test/own/ Draft202012"),
         ("http://a.test/own/", "0# http://a.test/own/ Draft202012"),
@@ -82,7 +83,7 @@ fn the_last_bearer_of_an_anchor(rt: HostRuntime) -> Result<(), Fail> {
             Contents::Owned(Value::from_str(alloc, SECOND)?)
         )?,
     ]?;
-    let index = index_of(alloc, &documents)?;
+    let index = index_of(alloc, &MetaSchemas::none(alloc), &documents)?;
     for (base, name, want) in [
         (
             "http://a.test/own/",
@@ -129,7 +130,7 @@ fn the_last_bearer_of_a_dynamic_anchor(rt: HostRuntime) -> Result<(), Fail> {
         \"d\": {\"$schema\": \"https://json-schema.org/draft/2019-09/schema\", \"$id\": \"old\", \"$dynamicAnchor\": \"n\"}}}",
     )?;
     let documents = vec![in alloc; document(alloc, "http://a.test/d", Contents::Owned(contents))?]?;
-    let index = index_of(alloc, &documents)?;
+    let index = index_of(alloc, &MetaSchemas::none(alloc), &documents)?;
     for (base, name, want) in [
         (
             "http://a.test/d",
@@ -171,7 +172,7 @@ fn answers_have_the_document(rt: HostRuntime) -> Result<(), Fail> {
             Contents::Owned(Value::from_str(alloc, "{\"$dynamicAnchor\": \"y\"}")?)
         )?,
     ]?;
-    let index = index_of(alloc, &documents)?;
+    let index = index_of(alloc, &MetaSchemas::none(alloc), &documents)?;
     let (held, place) = bearer(&documents, &index, "http://a.test/").ok_or("bearer")?;
     assert_eq!(rt; place.document, 1);
     assert!(rt; held.contents.value().get("$dynamicAnchor").is_some());
