@@ -1,4 +1,4 @@
-//! Walks from a schema place along a JSON pointer (RFC 6901), with the base URI and the draft of what they reach.
+//! Walks from a schema place along a JSON pointer (RFC 6901), with the base URI and the dialect of what they reach.
 #![tactic(auto)]
 
 pub mod error;

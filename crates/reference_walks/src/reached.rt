@@ -6,6 +6,7 @@ ghost use Rattle.std.specs.Str.{is_utf8};
 ghost use Rattle.percent_encoding.specs.Percent.{percent_decode};
 ghost use Rattle.schema_documents.specs.Bearers.{Standing};
 ghost use Rattle.schema_documents.specs.Lookup as spec;
+ghost use Rattle.schema_vocabularies.specs.Dialects.{dialects_in};
 ghost use Rattle.reference_walks.specs.Causes.{cause_of, Refuses};
 ghost use Rattle.reference_walks.specs.Walks.{walk_of};
 ghost use Rattle.reference_walks.specs.Reached.{target_of, pointed};
@@ -14,22 +15,22 @@ use crate::error::{WalkError, percent_encoding};
 use crate::walk::Walk;
 use crate::within::Within;
 use percent_encoding::{DecodeError, percent_decode_str};
-use schema_drafts::draft::Draft;
 use schema_places::place::Place;
 use schema_steps::Path;
+use schema_vocabularies::{Dialect, MetaSchemas};
 use serde_json::Value;
 use std::alloc::Global;
 use std::borrow::CowStr;
 use std::rc::Rc;
 use uri_references::uri::Uri;
 
-/// A value that a reference leads to inside a document, with the base URI and the draft there.
+/// A value that a reference leads to inside a document, with the base URI and the dialect there.
 #[derive(Drop)]
 pub struct Reached<'d> {
     pub path: Path,
     pub contents: &'d Value,
     pub base: Rc<Uri>,
-    pub draft: Draft,
+    pub dialect: Dialect,
     /// Whether a schema place stands there.
     pub is_place: bool,
 }
@@ -37,7 +38,7 @@ pub struct Reached<'d> {
 /// Follows a fragment that begins with `/` from a schema place (RFC 6901, section 6): it is percent-decoded whole, and then
 /// read as a pointer, what stands before its first `/` left out.
 ///
-/// The base URI and the draft are those of the last schema place that the walk comes to, of which the first is the one it
+/// The base URI and the dialect are those of the last schema place that the walk comes to, of which the first is the one it
 /// begins at. It takes one look-up for each part of the pointer, and shares the path of the place.
 ///
 /// # Errors
@@ -46,14 +47,15 @@ pub struct Reached<'d> {
 /// is full.
 pub fn follow_pointer<'d>(
     alloc: Global,
+    known: &MetaSchemas,
     from: &Place<'d>,
     fragment: &str,
 ) -> Result<Reached<'d>, WalkError>
-    ensures reached { IfOk result (λ r. (document : List ℕ) → pointed document from.now fragment.now ≡ Ok (target_of document r)) }
-    ensures refused { IfErr result (λ e. (document : List ℕ) → Refuses (pointed document from.now fragment.now) e) }
+    ensures reached { IfOk result (λ r. (document : List ℕ) → pointed (dialects_in known.now) document from.now fragment.now ≡ Ok (target_of document r)) }
+    ensures refused { IfErr result (λ e. (document : List ℕ) → Refuses (pointed (dialects_in known.now) document from.now fragment.now) e) }
 {
     let pointer = decode(alloc, fragment)?;
-    let end = Walk::begin(from)?.by_pointer(alloc, pointer.as_str(), fragment)?;
+    let end = Walk::begin(from)?.by_pointer(alloc, known, pointer.as_str(), fragment)?;
     Ok(ended(end))
 }
 
@@ -78,7 +80,7 @@ fn ended<'d>(walk: Walk<'d>) -> Reached<'d>
         path: walk.path,
         contents: walk.contents,
         base: last.base,
-        draft: last.draft,
+        dialect: last.dialect,
         is_place,
     }
 }

@@ -9,7 +9,7 @@ ghost use Rattle.schema_steps.specs.Steps.{step_part};
 ghost use Rattle.schema_drafts.specs.Subschemas.{holds_of};
 ghost use Rattle.uri_grammar.specs.Texts.{pieces};
 ghost use Rattle.schema_documents.specs.Lookup as spec;
-ghost use Rattle.schema_identifiers.specs.Unknown.{no_meta};
+ghost use Rattle.schema_vocabularies.specs.Dialects.{dialects_in};
 ghost use Rattle.schema_places.specs.Seen.{place_of};
 ghost use Rattle.reference_walks.specs.Causes.{Refuses};
 ghost use Rattle.reference_walks.specs.Held.{IsList};
@@ -20,6 +20,7 @@ use json_pointers::{PointerError, parse_index, step, unescape_segment};
 use schema_drafts::subschemas::Subschemas;
 use schema_places::place::{Place, enter};
 use schema_steps::{Path, Step};
+use schema_vocabularies::MetaSchemas;
 use serde_json::Value;
 use std::alloc::{AllocError, Global};
 use std::rc::RcStr;
@@ -53,11 +54,12 @@ impl<'d> Walk<'d> {
     fn arrive(
         self,
         alloc: Global,
+        known: &MetaSchemas,
         held: Subschemas,
         step: Step,
         contents: &'d Value,
     ) -> Result<Self, AllocError>
-        ensures { IfOk result (λ w. walk_of w ≡ spec.arrived no_meta (walk_of self.entry) (holds_of held) (step_part step) (view contents.now)) }
+        ensures { IfOk result (λ w. walk_of w ≡ spec.arrived (dialects_in known.now) (walk_of self.entry) (holds_of held) (step_part step) (view contents.now)) }
     {
         let path = self.path.push(alloc, step)?;
         if !holds_schema(held, contents) {
@@ -69,7 +71,14 @@ impl<'d> Walk<'d> {
             });
         }
         let outer = self.last;
-        let last = enter(alloc, &outer.base, outer.draft, path.clone()?, contents)?;
+        let last = enter(
+            alloc,
+            known,
+            &outer.base,
+            outer.dialect,
+            path.clone()?,
+            contents,
+        )?;
         Ok(Walk {
             path,
             contents,
@@ -78,9 +87,15 @@ impl<'d> Walk<'d> {
         })
     }
 
-    fn to_member(self, alloc: Global, token: &str, written: &str) -> Result<Self, WalkError>
-        ensures reached { IfOk result (λ w. to_member no_meta written.now token.now (walk_of self.entry) ≡ Ok (walk_of w)) }
-        ensures refused { IfErr result (Refuses (to_member no_meta written.now token.now (walk_of self.entry))) }
+    fn to_member(
+        self,
+        alloc: Global,
+        known: &MetaSchemas,
+        token: &str,
+        written: &str,
+    ) -> Result<Self, WalkError>
+        ensures reached { IfOk result (λ w. to_member (dialects_in known.now) written.now token.now (walk_of self.entry) ≡ Ok (walk_of w)) }
+        ensures refused { IfErr result (Refuses (to_member (dialects_in known.now) written.now token.now (walk_of self.entry))) }
     {
         let name = unescape_segment(alloc, token)?;
         let Some(contents) = self.contents.get(name.as_str()) else {
@@ -88,53 +103,77 @@ impl<'d> Walk<'d> {
         };
         let held = self.within.in_member(&self.last, name.as_str());
         let step = Step::Name(RcStr::from_str(alloc, name.as_str())?);
-        Ok(self.arrive(alloc, held, step, contents)?)
+        Ok(self.arrive(alloc, known, held, step, contents)?)
     }
 
-    fn to_item(self, alloc: Global, token: &str, written: &str) -> Result<Self, WalkError>
+    fn to_item(
+        self,
+        alloc: Global,
+        known: &MetaSchemas,
+        token: &str,
+        written: &str,
+    ) -> Result<Self, WalkError>
         requires { IsList (view self.contents.now) }
-        ensures reached { IfOk result (λ w. spec.step_to no_meta written.now token.now (walk_of self.entry) (view self.entry.contents.now) ≡ Ok (walk_of w)) }
-        ensures refused { IfErr result (Refuses (spec.step_to no_meta written.now token.now (walk_of self.entry) (view self.entry.contents.now))) }
+        ensures reached { IfOk result (λ w. spec.step_to (dialects_in known.now) written.now token.now (walk_of self.entry) (view self.entry.contents.now) ≡ Ok (walk_of w)) }
+        ensures refused { IfErr result (Refuses (spec.step_to (dialects_in known.now) written.now token.now (walk_of self.entry) (view self.entry.contents.now))) }
     {
         match item(self.contents, token) {
             Ok((index, contents)) => {
                 let held = self.within.in_element();
-                Ok(self.arrive(alloc, held, Step::Item(index), contents)?)
+                Ok(self.arrive(alloc, known, held, Step::Item(index), contents)?)
             }
             Err(PointerError::InvalidArrayIndex(_)) => Err(array_index(alloc, token, written)),
             Err(_) => Err(nowhere(alloc, written)),
         }
     }
 
-    fn step(self, alloc: Global, token: &str, written: &str) -> Result<Self, WalkError>
-        ensures reached { IfOk result (λ w. spec.step_to no_meta written.now token.now (walk_of self.entry) (view self.entry.contents.now) ≡ Ok (walk_of w)) }
-        ensures refused { IfErr result (Refuses (spec.step_to no_meta written.now token.now (walk_of self.entry) (view self.entry.contents.now))) }
+    fn step(
+        self,
+        alloc: Global,
+        known: &MetaSchemas,
+        token: &str,
+        written: &str,
+    ) -> Result<Self, WalkError>
+        ensures reached { IfOk result (λ w. spec.step_to (dialects_in known.now) written.now token.now (walk_of self.entry) (view self.entry.contents.now) ≡ Ok (walk_of w)) }
+        ensures refused { IfErr result (Refuses (spec.step_to (dialects_in known.now) written.now token.now (walk_of self.entry) (view self.entry.contents.now))) }
     {
         match self.contents {
-            Value::Object(_) => self.to_member(alloc, token, written),
-            Value::Array(_) => self.to_item(alloc, token, written),
+            Value::Object(_) => self.to_member(alloc, known, token, written),
+            Value::Array(_) => self.to_item(alloc, known, token, written),
             _ => Err(nowhere(alloc, written)),
         }
     }
 
-    fn along(self, alloc: Global, tokens: &str, written: &str) -> Result<Self, WalkError>
-        ensures reached { IfOk result (λ w. spec.walk no_meta written.now (pieces 47 tokens.now) (walk_of self.entry) ≡ Ok (walk_of w)) }
-        ensures refused { IfErr result (Refuses (spec.walk no_meta written.now (pieces 47 tokens.now) (walk_of self.entry))) }
+    fn along(
+        self,
+        alloc: Global,
+        known: &MetaSchemas,
+        tokens: &str,
+        written: &str,
+    ) -> Result<Self, WalkError>
+        ensures reached { IfOk result (λ w. spec.walk (dialects_in known.now) written.now (pieces 47 tokens.now) (walk_of self.entry) ≡ Ok (walk_of w)) }
+        ensures refused { IfErr result (Refuses (spec.walk (dialects_in known.now) written.now (pieces 47 tokens.now) (walk_of self.entry))) }
     {
         let mut walk = self;
         for token in tokens.split('/') {
-            walk = walk.step(alloc, token, written)?;
+            walk = walk.step(alloc, known, token, written)?;
         }
         Ok(walk)
     }
 
     /// The walk by the parts behind the slashes of a pointer, as they are escaped. A refusal names the pointer as it is written.
-    pub fn by_pointer(self, alloc: Global, pointer: &str, written: &str) -> Result<Self, WalkError>
-        ensures reached { IfOk result (λ w. spec.walk no_meta written.now (spec.behind_first (pieces 47 pointer.now)) (walk_of self.entry) ≡ Ok (walk_of w)) }
-        ensures refused { IfErr result (Refuses (spec.walk no_meta written.now (spec.behind_first (pieces 47 pointer.now)) (walk_of self.entry))) }
+    pub fn by_pointer(
+        self,
+        alloc: Global,
+        known: &MetaSchemas,
+        pointer: &str,
+        written: &str,
+    ) -> Result<Self, WalkError>
+        ensures reached { IfOk result (λ w. spec.walk (dialects_in known.now) written.now (spec.behind_first (pieces 47 pointer.now)) (walk_of self.entry) ≡ Ok (walk_of w)) }
+        ensures refused { IfErr result (Refuses (spec.walk (dialects_in known.now) written.now (spec.behind_first (pieces 47 pointer.now)) (walk_of self.entry))) }
     {
         match pointer.split_once('/') {
-            Some((_, tokens)) => self.along(alloc, tokens, written),
+            Some((_, tokens)) => self.along(alloc, known, tokens, written),
             None => Ok(self),
         }
     }

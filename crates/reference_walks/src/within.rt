@@ -35,7 +35,10 @@ impl Within {
         ensures { holds_of result ≡ spec.in_member (place_of last.now) (within_of self) name.now }
     {
         match self {
-            Within::AtPlace => held_by(last.draft, is_hidden(last.draft, last.contents), name),
+            Within::AtPlace => {
+                let draft = last.dialect.draft;
+                held_by(draft, is_hidden(draft, last.contents), name)
+            }
             Within::PartOf(Subschemas::ByName) => Subschemas::One,
             Within::PartOf(_) => Subschemas::None,
         }

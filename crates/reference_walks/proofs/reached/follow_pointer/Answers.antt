@@ -4,7 +4,7 @@ use Rattle.uri_grammar.specs.Texts.{pieces}
 use Rattle.schema_documents.specs.Words.{result_map}
 use Rattle.schema_documents.specs.Bearers.{Standing}
 use Rattle.schema_documents.specs.Lookup as spec
-use Rattle.schema_identifiers.specs.Unknown.{no_meta}
+use Rattle.schema_vocabularies.specs.Dialects.{dialects_in}
 use Rattle.schema_places.specs.Seen.{place_of}
 use Rattle.reference_walks.specs.Walks.{walk_of}
 use Rattle.reference_walks.proofs.WalkLemmas.{decoded}
@@ -15,9 +15,9 @@ returns-clause-reached c = λ document.
     let s : Standing = record { document = document; place = place_of c.args.from.now } in
     let written = c.args.fragment.now in
     let text = c.as_str.ensures.value ∙ c.in_ok-pointer.ensures.value in
-    let walked = λ (bytes : List ℕ). spec.walk no_meta written (spec.behind_first (pieces 47 bytes)) (walk_of c.in_ok-begin.field-0) in
+    let walked = λ (bytes : List ℕ). spec.walk (dialects_in c.args.known.now) written (spec.behind_first (pieces 47 bytes)) (walk_of c.in_ok-begin.field-0) in
     let reached = ap walked (sym text) ∙ c.in_ok-end.ensures.reached in
-    decoded s written (percent_decode written) c.in_ok-pointer.ensures.valid
-    ∙ ap (λ w. result_map (spec.ended s) (spec.walk no_meta written (spec.behind_first (pieces 47 (percent_decode written))) w)) (sym c.in_ok-begin.ensures)
+    decoded (dialects_in c.args.known.now) s written (percent_decode written) c.in_ok-pointer.ensures.valid
+    ∙ ap (λ w. result_map (spec.ended s) (spec.walk (dialects_in c.args.known.now) written (spec.behind_first (pieces 47 (percent_decode written))) w)) (sym c.in_ok-begin.ensures)
     ∙ ap (result_map (spec.ended s)) reached
     ∙ ap Ok (sym (c.ended.ensures s))
