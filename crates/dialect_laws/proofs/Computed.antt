@@ -11,12 +11,8 @@ use Rattle.uri_resolution.specs.Dots.{remove_dots}
 use Rattle.schema_documents.specs.Identifiers.{resolved}
 use Rattle.schema_documents.specs.Places.{places}
 use Rattle.schema_documents.specs.Bearers.{standings, dialects}
-use Rattle.dialect_laws.specs.Alternating.{Alternates, FallsShort}
+use Rattle.dialect_laws.specs.Alternating.{Alternates}
 
 pub stages_alternate : Alternates
 unfolding digits serde_json_on_literals lib.Utf8.encode is_utf8 chars percent_decode split is_reference resolve normal remove_dots resolved places standings dialects
-stages_alternate = record { counted = refl; first = refl; second = refl; third = refl; fourth = refl; no_cause = refl }
-
-pub stages_fall_short : FallsShort
-unfolding digits serde_json_on_literals lib.Utf8.encode is_utf8 chars percent_decode split is_reference resolve normal remove_dots resolved places standings dialects
-stages_fall_short = record { counted = refl; untold = refl; borne = refl }
+stages_alternate = record { counted = refl; first = refl; second = refl; third = refl; fourth = refl; anew = refl; cause = refl }

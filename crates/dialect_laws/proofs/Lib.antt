@@ -1,4 +1,4 @@
 pub mod Computed
-pub mod Alone
-pub mod Agreeing
+pub mod Same
 pub mod Resting
+pub mod Told

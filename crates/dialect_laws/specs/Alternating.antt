@@ -1,12 +1,12 @@
--- Documents whose stages do not come to rest, and documents of which the stages that are counted do not tell all.
-use Rattle.std.specs.Prelude.{ℕ, ◌≡◌, List, [], ◌∷◌, map, codes, Option, Some, None, option_map}
-use Rattle.serde_json.specs.Data.{Data, null}
+-- Documents whose stages do not come to rest.
+use Rattle.std.specs.Prelude.{ℕ, ◌≡◌, List, [], ◌∷◌, map, codes, Option, Some, option_map}
+use Rattle.serde_json.specs.Data.{null}
 use Rattle.serde_json.specs.Read.{read}
 use Rattle.schema_drafts.specs.declared.draft.Draft.{Draft}
 use Rattle.schema_drafts.specs.declared.draft.Draft.TheVariants.{Draft4, Draft202012}
 use Rattle.schema_documents.specs.Words.{or}
-use Rattle.schema_documents.specs.Bearers.{Document, Documents, dialects, how_many, meta, bearer}
-use Rattle.schema_documents.specs.DocumentCauses.{DocumentCause, document_causes}
+use Rattle.schema_documents.specs.Bearers.{Document, Documents, dialects, how_many}
+use Rattle.schema_documents.specs.DocumentCauses.{circular_metaschema, told_anew, document_causes}
 
 abbrev pub document : List ℕ × List ℕ → Document
 document d = record { uri = d.0; contents = or null (read d.1); default = Draft202012 }
@@ -20,23 +20,12 @@ alternating = map document
 abbrev pub draft_after : ℕ → Option Draft
 draft_after n = option_map (λ d. d.draft) (dialects alternating n (codes "http://a.test/m"))
 
--- the draft that is told of the first document changes with every stage, and the documents have no cause
+-- the draft that is told of the first document changes with every stage, so that it is circular
 pub record Alternates : Type 0 where
   pub counted : how_many alternating ≡ 3
   pub first : draft_after 1 ≡ Some Draft202012
   pub second : draft_after 2 ≡ Some Draft4
   pub third : draft_after 3 ≡ Some Draft202012
   pub fourth : draft_after 4 ≡ Some Draft4
-  pub no_cause : document_causes alternating ≡ []
-
--- the second is read by the first, and nobody reads by the second
-abbrev pub short : Documents
-short = map document
-    ((codes "http://a.test/m", codes "{}")
-    ∷ (codes "http://a.test/b", codes "{\"$schema\":\"http://a.test/m\"}")
-    ∷ []) ∷ []
-
-pub record FallsShort : Type 0 where
-  pub counted : how_many short ≡ 1
-  pub untold : meta short (codes "http://a.test/b") ≡ None
-  pub borne : option_map (λ s. s.document) (bearer short (codes "http://a.test/b")) ≡ Some (codes "http://a.test/b")
+  pub anew : told_anew alternating ≡ circular_metaschema (codes "http://a.test/m") ∷ []
+  pub cause : document_causes alternating ≡ circular_metaschema (codes "http://a.test/m") ∷ []

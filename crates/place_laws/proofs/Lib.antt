@@ -8,3 +8,5 @@ pub mod Lasting
 pub mod Walks
 pub mod Looked
 pub mod Contents
+pub mod Agreeing
+pub mod Alike

@@ -1,3 +1,4 @@
 pub mod Rising
 pub mod Laws
+pub mod Agreeing
 pub mod Subschemas

@@ -8,17 +8,17 @@ use Rattle.schema_drafts.specs.Subschemas.{Holds, nothing, one, several, one_or_
 use Rattle.schema_drafts.specs.declared.draft.Draft.{Draft}
 use Rattle.schema_documents.specs.Words.{levels}
 use Rattle.schema_documents.specs.Identifiers.{is_hidden}
-use Rattle.schema_documents.specs.Places.{Dialect, SchemaPlace, standard, Named, settled, awaited, meta_schema_uri, by_meta_schema, by_draft, by_schema, schema_in_force, placed, entered, root_place, if_schema, each_item, each_member, in_list, in_map, held, children_of, children_in, children, places}
-use Rattle.schema_documents.specs.Bearers.{Document, Standing, standing_in, standings, is_root}
+use Rattle.schema_documents.specs.Places.{Dialect, SchemaPlace, standard, Named, settled, awaited, meta_schema_uri, uri_named, named_meta_schema, by_meta_schema, by_draft, by_schema, schema_in_force, placed, entered, root_place, if_schema, each_item, each_member, in_list, in_map, held, children_of, children_in, children, places}
+use Rattle.schema_documents.specs.Bearers.{Document, standing_in, standings, is_root}
 use Rattle.place_laws.proofs.Lists.{first_part, second_part}
-use Rattle.dialect_laws.specs.Stages.{uri_named, named_meta_schema, Agrees}
+use Rattle.place_laws.specs.Agreeing.{Agrees, AgreeingTellPlaces}
 
 module _ (told after : List ℕ → Option Dialect) where
   -- of what a place names
-  record AgreesAt (p : SchemaPlace) : Type 0 where
-    same : (uri : List ℕ) → named_meta_schema (is_root p.path) p.contents ≡ Some uri → after uri ≡ told uri
+  pub record AgreesAt (p : SchemaPlace) : Type 0 where
+    pub same : (uri : List ℕ) → named_meta_schema (is_root p.path) p.contents ≡ Some uri → after uri ≡ told uri
 
-  AllAgree : List SchemaPlace → Type 0
+  unfoldable pub AllAgree : List SchemaPlace → Type 0
   AllAgree ps = AllByRecursion AgreesAt ps
 
   -- ---- one place
@@ -32,7 +32,7 @@ module _ (told after : List ℕ → Option Dialect) where
   by_named around t None h = by_uri around (meta_schema_uri t) h
   by_named around t (Some draft) h = refl
 
-  by_text : (around : Dialect) (t : Option (List ℕ)) → ((u : List ℕ) → option_and_then (λ t. uri_named t (draft_named t)) t ≡ Some u → after u ≡ told u)
+  pub by_text : (around : Dialect) (t : Option (List ℕ)) → ((u : List ℕ) → option_and_then (λ t. uri_named t (draft_named t)) t ≡ Some u → after u ≡ told u)
       → by_schema after around t ≡ by_schema told around t
   by_text around None h = refl
   by_text around (Some t) h = by_named around t (draft_named t) h
@@ -48,7 +48,7 @@ module _ (told after : List ℕ → Option Dialect) where
       let t = schema_in_force false d in
       ap (placed outer around (part ∷ path) d) (by_text around t (names_there outer around (part ∷ path) d (by_schema told around t) a))
 
-  same_root : (uri : List ℕ) (default : Draft) (d : Data) → AgreesAt (root_place told uri default d) → root_place after uri default d ≡ root_place told uri default d
+  pub same_root : (uri : List ℕ) (default : Draft) (d : Data) → AgreesAt (root_place told uri default d) → root_place after uri default d ≡ root_place told uri default d
   same_root uri default d a =
       let t = schema_in_force true d in
       ap (placed uri (standard default) [] d) (by_text (standard default) t (names_there uri (standard default) [] d (by_schema told (standard default) t) a))
@@ -129,7 +129,7 @@ module _ (told after : List ℕ → Option Dialect) where
     same_unless true ps qs f k = refl
     same_unless false ps qs f k = f k
 
-    same_children : AllAgree (children told p) → children after p ≡ children told p
+    pub same_children : AllAgree (children told p) → children after p ≡ children told p
     same_children k = same_unless (is_some p.awaits) (children_in told p p.contents) (children_in after p p.contents) (same_inside p.contents) k
 
   -- ---- by levels
@@ -152,7 +152,7 @@ module _ (told after : List ℕ → Option Dialect) where
       ap (λ qs. ps ++ levels (children after) (suc n) qs) (same_below ps (first_part AgreesAt next (levels (children told) n (flat_map (children told) next)) deeper))
       ∙ ap (λ qs. ps ++ qs) (same_levels (suc n) next deeper)
 
-  same_places : (uri : List ℕ) (default : Draft) (d : Data) → AllAgree (places told uri default d) → places after uri default d ≡ places told uri default d
+  pub same_places : (uri : List ℕ) (default : Draft) (d : Data) → AllAgree (places told uri default d) → places after uri default d ≡ places told uri default d
   unfolding places AllAgree
   same_places uri default d k =
       ap (λ p. levels (children after) (suc (depth d)) (p ∷ [])) (same_root uri default d k.0)
@@ -177,10 +177,5 @@ module _ (told after : List ℕ → Option Dialect) where
   unfolding standings
   same_standings own k = same_each_document own k
 
-  all_agree : ((uri : List ℕ) → after uri ≡ told uri) → (ss : List Standing) → AllByRecursion (Agrees told after) ss
-  all_agree h [] = tt
-  all_agree h (s ∷ ss) = (record { agrees = λ uri e. h uri }, all_agree h ss)
-
-  -- two that tell the same of every URI
-  pub told_alike : ((uri : List ℕ) → after uri ≡ told uri) → (own : List Document) → standings after own ≡ standings told own
-  told_alike h own = same_standings own (all_agree h (standings told own))
+pub agreeing_tell_places : AgreeingTellPlaces
+agreeing_tell_places told after own = same_standings told after own
