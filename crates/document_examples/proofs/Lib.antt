@@ -5,3 +5,4 @@ pub mod Neighbours
 pub mod Lines
 pub mod Lookups
 pub mod Refusals
+pub mod Dialects

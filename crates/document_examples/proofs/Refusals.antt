@@ -19,4 +19,4 @@ use Rattle.document_examples.specs.Lookups.{Refuses, refusals}
 
 pub refusals_hold : AllByRecursion Refuses refusals
 unfolding digits serde_json_on_literals lib.Utf8.encode is_utf8 chars percent_decode split is_reference resolve normal remove_dots escape resolved places standings dialects lookup_under
-refusals_hold = (refl, (refl, (refl, (refl, (refl, tt)))))
+refusals_hold = (refl, (refl, (refl, (refl, (refl, (refl, tt))))))

@@ -1,4 +1,5 @@
 pub mod Texts
 pub mod Rows
 pub mod Lookups
+pub mod Dialects
 pub mod Lines

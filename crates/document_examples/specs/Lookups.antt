@@ -64,6 +64,10 @@ refusals =
       texts = (codes "http://a.test/a", codes "{\"$schema\":\"http://a.test/b\"}") ∷ (codes "http://a.test/b", codes "{\"$schema\":\"http://a.test/a\"}") ∷ [];
       causes = circular_metaschema (codes "http://a.test/a") ∷ circular_metaschema (codes "http://a.test/b") ∷ [];
     }
+    ∷ record {
+      texts = (codes "http://a.test/m", codes "{\"$schema\":\"https://json-schema.org/draft/2020-12/schema\"}") ∷ (codes "http://a.test/b", codes "{\"$schema\":\"http://a.test/m\",\"$defs\":{\"x\":{\"$schema\":\"http://json-schema.org/draft-04/schema#\",\"id\":\"http://a.test/m\"}}}") ∷ [];
+      causes = circular_metaschema (codes "http://a.test/m") ∷ [];
+    }
     ∷ record { texts = (codes "http://a.test/a", codes "{\"$id\":\"#%zz\"}") ∷ []; causes = no_reference (codes "#%zz") ∷ [] }
     ∷ record { texts = (codes "http://a.test/a", codes "{\"items\":{\"$ref\":\"b\"}}") ∷ []; causes = unretrieved (codes "http://a.test/b") ∷ [] }
     ∷ record { texts = (codes "http://a.test/a", codes "{\"const\":{\"$ref\":\"b\"}}") ∷ []; causes = [] }

@@ -2,6 +2,7 @@
 #![tactic(auto)]
 
 ghost use Rattle.std.specs.List.{AllByRecursion};
+ghost use Rattle.document_examples.specs.Dialects.{Gives, meta_schemas};
 ghost use Rattle.document_examples.specs.Lines.{Written, lines, InputsAreCut};
 ghost use Rattle.document_examples.specs.Lookups.{Answers, lookups, Refuses, refusals};
 ghost use Rattle.document_examples.specs.Rows.{Holds, references, scopes, vocabularies, neighbours};
@@ -19,6 +20,11 @@ pub fn scopes_hold()
 /// Drafts and vocabularies.
 pub fn vocabularies_hold()
     ensures { AllByRecursion Holds vocabularies }
+{}
+
+/// Vocabularies of the dialects that meta-schemas give: those that the drafts know, each once and in one order.
+pub fn dialects_hold()
+    ensures { AllByRecursion Gives meta_schemas }
 {}
 
 /// Keywords that read their neighbours.
