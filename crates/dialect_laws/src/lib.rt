@@ -2,7 +2,7 @@
 #![tactic(auto)]
 
 ghost use Rattle.dialect_laws.specs.Alternating.{Alternates};
-ghost use Rattle.dialect_laws.specs.Stages.{RestStays, RestIsFixed, ToldAlikeIsSame, RestIsTold, NoneAnewRests, MetaIsFixed};
+ghost use Rattle.dialect_laws.specs.Stages.{RestStays, RestIsFixed, ToldAlikeIsSame, OnlyRestTellsNoneAnew, RestIsTold, MetaIsFixed};
 
 /// Where one stage more tells the same of all meta-schemas that are named at schema places, no later stage tells another dialect of any URI
 /// than the next one does.
@@ -21,14 +21,14 @@ pub fn told_alike_is_same()
     ensures { ToldAlikeIsSame }
 {}
 
+/// A stage is at rest where the next tells no meta-schema anew that is named at a schema place, and only there.
+pub fn only_rest_tells_none_anew()
+    ensures { OnlyRestTellsNoneAnew }
+{}
+
 /// Where one of the stages that are counted is at rest, documents tell what the next stage does, and no meta-schema is told anew.
 pub fn rest_is_told()
     ensures { RestIsTold }
-{}
-
-/// Where no meta-schema is told anew, the stages that are counted are at rest before the last.
-pub fn none_anew_rests()
-    ensures { NoneAnewRests }
 {}
 
 /// Where no meta-schema is told anew, documents tell of each meta-schema the dialect by the schema that bears its URI.
