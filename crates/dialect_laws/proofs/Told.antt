@@ -94,17 +94,17 @@ module _ (docs : Documents) where
   rest_after : (n m : ℕ) → AtRest docs n → n < m → AtRest docs m
   rest_after n m rest less = all_at_rest m (λ uri. rest_stays docs n rest (suc m) (omega (arith, less)) uri ∙ sym (rest_stays docs n rest m less uri)) docs
 
-  rest_at_last : (n : ℕ) → AtRest docs n → n ≤ how_many docs → AtRest docs (how_many docs)
-  rest_at_last n rest less = by (n == how_many docs) refl
+  pub rest_from : (n m : ℕ) → AtRest docs n → n ≤ m → AtRest docs m
+  rest_from n m rest less = by (n == m) refl
     where
-      by : (b : Bool) → (n == how_many docs) ≡ b → AtRest docs (how_many docs)
-      by true is = subst (λ (m : ℕ). AtRest docs m) (eqb-true n (how_many docs) is) rest
-      by false is = rest_after n (how_many docs) rest (omega (arith, less, eqb-false n (how_many docs) is))
+      by : (b : Bool) → (n == m) ≡ b → AtRest docs m
+      by true is = subst (λ (k : ℕ). AtRest docs k) (eqb-true n m is) rest
+      by false is = rest_after n m rest (omega (arith, less, eqb-false n m is))
 
 pub rest_is_told : RestIsTold
 rest_is_told docs n rest less = record {
   told = λ uri. rest_stays docs n rest (suc (how_many docs)) (omega (arith, less)) uri;
-  none_anew = (only_rest_tells_none_anew docs).none (how_many docs) (rest_at_last docs n rest less);
+  none_anew = (only_rest_tells_none_anew docs).none (how_many docs) (rest_from docs n (how_many docs) rest less);
 }
 
 pub meta_is_fixed : MetaIsFixed

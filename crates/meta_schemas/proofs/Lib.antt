@@ -1,5 +1,3 @@
-pub mod KnownLemmas
-pub mod StandingLemmas
-pub mod BorneLemmas
+pub mod SameLemmas
 pub mod StageLemmas
 pub mod AwaitedLemmas

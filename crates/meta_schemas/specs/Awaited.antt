@@ -1,10 +1,8 @@
 -- Meta-schemas that are awaited, among schema places.
-use Rattle.std.specs.Prelude.{◌≡◌, ℕ, length, List, [], ◌∷◌, Option, option_and_then, is_some}
-use Rattle.std.specs.List.{filter}
+use Rattle.std.specs.Prelude.{◌≡◌, ℕ, List, [], ◌∷◌, Option, option_and_then}
 use Rattle.schema_documents.specs.Words.{last_that}
 use Rattle.schema_documents.specs.Bearers.{Document, Standing, standings, meta}
 use Rattle.schema_documents.specs.DocumentCauses.{DocumentCause, unknown_specification, circular_metaschema, would_bear}
-use Rattle.dialect_laws.specs.Stages.{drafts_alone}
 use Rattle.meta_schemas.specs.declared.causes.Unsettled.{Unsettled}
 use Rattle.meta_schemas.specs.declared.causes.Unsettled.TheVariants.{Unknown, Circular}
 
@@ -16,6 +14,6 @@ cause_of (Circular uri) = circular_metaschema uri
 abbrev pub awaited_among : List Standing → List ℕ → Option (List ℕ)
 awaited_among ss uri = option_and_then (λ s. s.place.awaits) (last_that (would_bear uri) ss)
 
--- these are the schema places of documents under the drafts of all meta-schemas of which they tell
+-- these are the schema places of documents under all of which they tell
 abbrev pub AwaitedIn : List Document → List Standing → Type 0
-AwaitedIn own ss = ss ≡ standings (drafts_alone (meta (own ∷ []))) own
+AwaitedIn own ss = ss ≡ standings (meta (own ∷ [])) own

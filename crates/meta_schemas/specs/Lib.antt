@@ -1,4 +1,2 @@
-pub mod Known
-pub mod Seen
-pub mod Borne
+pub mod Told
 pub mod Awaited

@@ -9,10 +9,10 @@ ghost use Rattle.schema_documents.specs.Words.{last_that};
 ghost use Rattle.schema_documents.specs.Identifiers as identifiers;
 ghost use Rattle.schema_documents.specs.Bearers as bearers;
 ghost use Rattle.schema_documents.specs.DocumentCauses as causes;
+ghost use Rattle.document_index.specs.Seen.{standing_of};
 ghost use Rattle.meta_schemas.specs.Awaited.{AwaitedIn, cause_of, awaited_among};
-ghost use Rattle.meta_schemas.specs.Seen.{standing_of};
 
-use crate::standing::Standing;
+use document_index::standing::Standing;
 use schema_drafts::draft::Draft;
 use schema_identifiers::bases::resolved;
 use schema_identifiers::identifiers::identifier;

@@ -1,63 +1,47 @@
-//! The meta-schemas that documents bear, found by stages: each stage knows those that the places of the stage before bear.
+//! One stage: what the schema places of documents bear, and of which meta-schemas that tells another dialect than the stage before.
 
-ghost use Rattle.std.specs.Prelude.{◌≡◌, ◌<◌, ℕ, suc, List, [], ◌∷◌, map, IfOk, OnOk, Decides, Option, Some, option_map, if◌then◌else◌, bytes_eq, ◌&&◌, is_some, true};
-ghost use Rattle.std.specs.List.{AllByRecursion};
-ghost use Rattle.std.specs.BTreeMap.{get_by_text};
+ghost use Rattle.std.specs.Prelude.{◌≡◌, ℕ, List, map, IfOk, OnOk, Decides, Some, option_map, if◌then◌else◌, bytes_eq, ◌&&◌, is_some, slice_get};
+ghost use Rattle.std.specs.List.{flat_map};
 ghost use Rattle.serde_json.specs.View.{view};
-ghost use Rattle.schema_documents.specs.Words.{last_that};
+ghost use Rattle.schema_documents.specs.Words.{last_that, listed};
 ghost use Rattle.schema_documents.specs.Identifiers as identifiers;
 ghost use Rattle.schema_documents.specs.Bearers as bearers;
-ghost use Rattle.document_index.specs.Seen.{document_of};
+ghost use Rattle.schema_documents.specs.DocumentCauses as causes;
+ghost use Rattle.schema_vocabularies.specs.Dialects.{dialect_of, dialects_in};
+ghost use Rattle.document_index.specs.Seen.{standing_of};
 ghost use Rattle.dialect_laws.specs.Stages as laws;
-ghost use Rattle.meta_schemas.specs.Known.{known_under, drafts_of, Gives, Tells};
-ghost use Rattle.meta_schemas.specs.Seen.{standing_of};
-ghost use Rattle.meta_schemas.specs.Borne.{IsBorne};
 
-use crate::known::{MetaSchema, MetaSchemas};
-use crate::settling::named_meta_schema;
-use crate::standing::Standing;
-use schema_drafts::draft::Draft;
+use document_index::standing::Standing;
+use schema_identifiers::bases::named_meta_schema;
 use schema_identifiers::identifiers::identifier;
-use schema_vocabularies::find_vocabularies;
+use schema_vocabularies::{Dialect, KnownVocabularies, MetaSchemas};
 use std::alloc::{AllocError, Global};
-use std::collections::BTreeMap;
+use uri_references::uri::Uri;
 
-// What a schema place gives to the schemas that name it.
-fn meta_schema_at(alloc: Global, standing: &Standing<'_>) -> Result<MetaSchema, AllocError>
-    ensures { IfOk result (λ m. Gives m (bearers.dialect_by (standing_of standing.now))) }
-{
-    let place = &standing.place;
-    Ok(MetaSchema {
-        draft: place.draft,
-        vocabularies: find_vocabularies(alloc, place.draft, place.contents)?,
-    })
-}
-
+// Puts what a schema place gives to the schemas that name it under a URI.
 fn put(
     alloc: Global,
-    by_uri: &mut BTreeMap<String, MetaSchema>,
+    borne: &mut MetaSchemas,
     uri: &str,
     standing: &Standing<'_>,
 ) -> Result<(), AllocError>
-    ensures { OnOk result ((q : List ℕ) (o : Option bearers.Standing) → IsBorne (get_by_text by_uri.old q) o → IsBorne (get_by_text by_uri.new q) (if bytes_eq uri.now q then Some (standing_of standing.now) else o)) }
+    ensures { OnOk result ((q : List ℕ) → dialects_in borne.new q ≡ (if bytes_eq uri.now q then Some (bearers.dialect_by (standing_of standing.now)) else dialects_in borne.old q)) }
 {
-    by_uri.insert(
-        String::from_str(alloc, uri)?,
-        meta_schema_at(alloc, standing)?,
-    )?;
-    Ok(())
+    let place = &standing.place;
+    let dialect = Dialect::by_meta_schema(place.dialect.draft, place.contents);
+    borne.insert(alloc, uri, dialect)
 }
 
 // A root bears its document's URI.
 fn put_given_uri(
     alloc: Global,
-    by_uri: &mut BTreeMap<String, MetaSchema>,
+    borne: &mut MetaSchemas,
     standing: &Standing<'_>,
 ) -> Result<(), AllocError>
-    ensures { OnOk result ((q : List ℕ) (o : Option bearers.Standing) → IsBorne (get_by_text by_uri.old q) o → IsBorne (get_by_text by_uri.new q) (if bearers.is_root standing.now.place.path && bytes_eq standing.now.uri.value q then Some (standing_of standing.now) else o)) }
+    ensures { OnOk result ((q : List ℕ) → dialects_in borne.new q ≡ (if bearers.is_root standing.now.place.path && bytes_eq standing.now.uri.value q then Some (bearers.dialect_by (standing_of standing.now)) else dialects_in borne.old q)) }
 {
     if standing.place.path.is_root() {
-        put(alloc, by_uri, standing.uri.as_str(), standing)?;
+        put(alloc, borne, standing.uri.as_str(), standing)?;
     }
     Ok(())
 }
@@ -65,87 +49,112 @@ fn put_given_uri(
 // A place with an identifier bears its base.
 fn put_base(
     alloc: Global,
-    by_uri: &mut BTreeMap<String, MetaSchema>,
+    borne: &mut MetaSchemas,
     standing: &Standing<'_>,
 ) -> Result<(), AllocError>
-    ensures { OnOk result ((q : List ℕ) (o : Option bearers.Standing) → IsBorne (get_by_text by_uri.old q) o → IsBorne (get_by_text by_uri.new q) (if is_some (identifiers.identifier standing.now.place.draft (view standing.now.place.contents.now)) && bytes_eq standing.now.place.base.value q then Some (standing_of standing.now) else o)) }
+    ensures { OnOk result ((q : List ℕ) → dialects_in borne.new q ≡ (if is_some (identifiers.identifier standing.now.place.dialect.draft (view standing.now.place.contents.now)) && bytes_eq standing.now.place.base.value q then Some (bearers.dialect_by (standing_of standing.now)) else dialects_in borne.old q)) }
 {
-    if identifier(standing.place.draft, standing.place.contents).is_some() {
-        put(alloc, by_uri, standing.place.base.as_str(), standing)?;
+    if identifier(standing.place.dialect.draft, standing.place.contents).is_some() {
+        put(alloc, borne, standing.place.base.as_str(), standing)?;
     }
     Ok(())
 }
 
 fn put_uris(
     alloc: Global,
-    by_uri: &mut BTreeMap<String, MetaSchema>,
+    borne: &mut MetaSchemas,
     standing: &Standing<'_>,
 ) -> Result<(), AllocError>
-    ensures { OnOk result ((q : List ℕ) (o : Option bearers.Standing) → IsBorne (get_by_text by_uri.old q) o → IsBorne (get_by_text by_uri.new q) (if bearers.bears q (standing_of standing.now) then Some (standing_of standing.now) else o)) }
+    ensures { OnOk result ((q : List ℕ) → dialects_in borne.new q ≡ (if bearers.bears q (standing_of standing.now) then Some (bearers.dialect_by (standing_of standing.now)) else dialects_in borne.old q)) }
 {
     if standing.place.awaits.is_some() {
         return Ok(());
     }
-    put_given_uri(alloc, by_uri, standing)?;
-    put_base(alloc, by_uri, standing)
+    put_given_uri(alloc, borne, standing)?;
+    put_base(alloc, borne, standing)
 }
 
-// The meta-schemas that schema places bear: of several bearers of a URI the last counts.
+// What schema places give to the schemas that name them: of several bearers of a URI the last counts.
 pub(crate) fn borne_by(alloc: Global, standings: &[Standing<'_>]) -> Result<MetaSchemas, AllocError>
-    ensures { IfOk result (λ k. (q : List ℕ) → IsBorne (known_under k q) (last_that (bearers.bears q) (map standing_of standings.now))) }
+    ensures { IfOk result (λ borne. (q : List ℕ) → dialects_in borne q ≡ option_map bearers.dialect_by (last_that (bearers.bears q) (map standing_of standings.now))) }
 {
-    let mut by_uri = BTreeMap::new(alloc);
+    let mut borne = MetaSchemas::none(alloc);
     for standing in standings {
-        put_uris(alloc, &mut by_uri, standing)?;
+        put_uris(alloc, &mut borne, standing)?;
     }
-    Ok(MetaSchemas { by_uri })
+    Ok(borne)
 }
 
-fn is_same(left: Option<Draft>, right: Option<Draft>) -> bool
+fn are_same_vocabularies(left: KnownVocabularies, right: KnownVocabularies) -> bool
+    ensures { Decides result (left ≡ right) }
+{
+    left == right
+}
+
+fn are_same_required(left: Option<KnownVocabularies>, right: Option<KnownVocabularies>) -> bool
     ensures { Decides result (left ≡ right) }
 {
     match (left, right) {
-        (Some(left), Some(right)) => left == right,
+        (Some(left), Some(right)) => are_same_vocabularies(left, right),
         (None, None) => true,
         _ => false,
     }
 }
 
-// Whether two know the same draft of a meta-schema.
-fn agree_on(told: &MetaSchemas, after: &MetaSchemas, uri: &str) -> bool
-    ensures { Decides result (drafts_of after.now uri.now ≡ drafts_of told.now uri.now) }
+fn is_same(left: Dialect, right: Dialect) -> bool
+    ensures { Decides result (left ≡ right) }
 {
-    is_same(after.draft(uri), told.draft(uri))
+    left.draft == right.draft && are_same_required(left.required, right.required)
 }
 
-// Whether two know the same draft of the meta-schema that a schema place names.
-fn agrees(
+fn is_told_alike(left: Option<Dialect>, right: Option<Dialect>) -> bool
+    ensures { result ≡ causes.is_told_alike (option_map dialect_of left) (option_map dialect_of right) }
+{
+    match (left, right) {
+        (Some(left), Some(right)) => is_same(left, right),
+        (None, None) => true,
+        _ => false,
+    }
+}
+
+fn unless_alike(told: &MetaSchemas, after: &MetaSchemas, uri: Uri) -> Option<Uri>
+    ensures { listed (option_map causes.circular_metaschema result) ≡ laws.unless_alike (dialects_in told.now) (dialects_in after.now) uri }
+{
+    if is_told_alike(told.get(uri.as_str()), after.get(uri.as_str())) {
+        return None;
+    }
+    Some(uri)
+}
+
+// The meta-schema that a schema place names, where two tell other dialects of it.
+fn anew_at(
     alloc: Global,
     standing: &Standing<'_>,
     told: &MetaSchemas,
     after: &MetaSchemas,
-) -> Result<bool, AllocError>
-    ensures { IfOk result (λ b. Decides b (laws.Agrees (drafts_of told.now) (drafts_of after.now) (standing_of standing.now))) }
+) -> Result<Option<Uri>, AllocError>
+    ensures { IfOk result (λ u. listed (option_map causes.circular_metaschema u) ≡ laws.anew_at (dialects_in told.now) (dialects_in after.now) (standing_of standing.now)) }
 {
     let place = &standing.place;
     match named_meta_schema(alloc, place.path.is_root(), place.contents)? {
-        Some(uri) => Ok(agree_on(told, after, uri.as_str())),
-        None => Ok(true),
+        Some(uri) => Ok(unless_alike(told, after, uri)),
+        None => Ok(None),
     }
 }
 
-pub(crate) fn is_at_rest(
+// The first of those of which two tell other dialects.
+pub(crate) fn first_anew(
     alloc: Global,
     standings: &[Standing<'_>],
     told: &MetaSchemas,
     after: &MetaSchemas,
-) -> Result<bool, AllocError>
-    ensures { IfOk result (λ b. Decides b (AllByRecursion (laws.Agrees (drafts_of told.now) (drafts_of after.now)) (map standing_of standings.now))) }
+) -> Result<Option<Uri>, AllocError>
+    ensures { IfOk result (λ u. option_map causes.circular_metaschema u ≡ slice_get (flat_map (laws.anew_at (dialects_in told.now) (dialects_in after.now)) (map standing_of standings.now)) 0) }
 {
     for standing in standings {
-        if !agrees(alloc, standing, told, after)? {
-            return Ok(false);
+        if let Some(uri) = anew_at(alloc, standing, told, after)? {
+            return Ok(Some(uri));
         }
     }
-    Ok(true)
+    Ok(None)
 }

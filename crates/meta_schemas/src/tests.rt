@@ -1,12 +1,11 @@
 // Documents whose schemas name meta-schemas that other documents bear.
 use crate::causes::awaited_cause;
 use crate::counting::how_many;
-use crate::known::MetaSchemas;
-use crate::standing::standings;
 use crate::told::{Told, meta_schemas, told_after};
 use document_index::document::{Contents, Document};
+use document_index::standing::standings;
 use schema_drafts::draft::Draft;
-use schema_vocabularies::{Vocabulary, VocabularySet};
+use schema_vocabularies::{KnownVocabularies, MetaSchemas};
 use serde_json::Value;
 use std::alloc::Global;
 use std::rc::Rc;
@@ -30,32 +29,35 @@ fn documents(alloc: Global, texts: &[(&str, &str)]) -> Result<Vec<Document<'stat
     Ok(documents)
 }
 
-// The vocabularies of a set among four, or all.
-fn written_set(alloc: Global, set: &VocabularySet) -> Result<String, Fail> {
-    let mut line = String::new(alloc);
-    for vocabulary in [
-        Vocabulary::Core,
-        Vocabulary::Validation,
-        Vocabulary::Applicator,
-        Vocabulary::Metadata,
-    ] {
-        if set.contains(&vocabulary) {
-            line.push_str(&format!(in alloc; " {vocabulary:?}")?)?;
+fn written(alloc: Global, known: &MetaSchemas, uri: &str) -> Result<String, Fail> {
+    let Some(dialect) = known.get(uri) else {
+        return Ok(String::from_str(alloc, "none")?);
+    };
+    let mut line = format!(in alloc; "{:?}", dialect.draft)?;
+    if let Some(required) = dialect.required {
+        let KnownVocabularies {
+            core,
+            applicator,
+            validation,
+            ..
+        } = required;
+        for (is_required, name) in [
+            (core, " core"),
+            (applicator, " applicator"),
+            (validation, " validation"),
+        ] {
+            if is_required {
+                line.push_str(name)?;
+            }
         }
-    }
-    for uri in set.custom() {
-        line.push_str(&format!(in alloc; " {uri}")?)?;
     }
     Ok(line)
 }
 
-fn written(alloc: Global, known: &MetaSchemas, uri: &str) -> Result<String, Fail> {
-    match known.get(uri) {
-        Some(found) => {
-            let set = written_set(alloc, &found.vocabularies)?;
-            Ok(format!(in alloc; "{:?}{set}", found.draft)?)
-        }
-        None => Ok(String::from_str(alloc, "none")?),
+fn written_anew(alloc: Global, told: &Told) -> Result<String, Fail> {
+    match &told.anew {
+        Some(uri) => Ok(String::from_str(alloc, uri.as_str())?),
+        None => Ok(String::from_str(alloc, "at rest")?),
     }
 }
 
@@ -91,39 +93,37 @@ fn draft_and_vocabularies_of_a_meta_schema(rt: HostRuntime) -> Result<(), Fail> 
     let meta = written(alloc, &told.meta_schemas, "http://a.test/m")?;
     assert_eq!(rt;
         meta.as_str(),
-        "Draft202012 Core Validation http://v.test/own"
+        "Draft202012 core validation"
     );
     let outer = written(alloc, &told.meta_schemas, "http://a.test/s")?;
     assert_eq!(rt;
         outer.as_str(),
-        "Draft202012 Core Validation Applicator Metadata"
+        "Draft202012"
     );
     let inner = written(alloc, &told.meta_schemas, "http://a.test/inner")?;
     assert_eq!(rt;
         inner.as_str(),
-        "Draft202012 Core Validation Applicator Metadata"
+        "Draft202012"
     );
     assert_eq!(rt;
         written(alloc, &told.meta_schemas, "http://a.test/t")?.as_str(),
         "none"
     );
-    assert!(rt; told.is_at_rest || told.meta_schemas.get("http://a.test/s").is_some());
+    assert_eq!(rt; written_anew(alloc, &told)?.as_str(), "at rest");
     assert_eq!(rt; written_causes(alloc, &documents)?.as_str(), "");
     Ok(())
 }
 
 #[test]
-fn no_stage_tells_nothing(rt: HostRuntime) -> Result<(), Fail> {
+fn one_stage_where_nothing_is_named(rt: HostRuntime) -> Result<(), Fail> {
     let alloc = rt.alloc();
     let documents = documents(alloc, &[("http://a.test/m", META)])?;
-    let none = told_after(alloc, &documents, 0)?;
+    let told = told_after(alloc, &documents, 0)?;
     assert_eq!(rt;
-        written(alloc, &none.meta_schemas, "http://a.test/m")?.as_str(),
-        "none"
+        written(alloc, &told.meta_schemas, "http://a.test/m")?.as_str(),
+        "Draft202012 core validation"
     );
-    assert!(rt; !none.is_at_rest);
-    let one = told_after(alloc, &documents, 1)?;
-    assert!(rt; one.is_at_rest && one.meta_schemas.get("http://a.test/m").is_some());
+    assert_eq!(rt; written_anew(alloc, &told)?.as_str(), "at rest");
     Ok(())
 }
 
@@ -157,13 +157,15 @@ fn a_chain_of_two(rt: HostRuntime) -> Result<(), Fail> {
         written(alloc, &told.meta_schemas, "http://a.test/s")?.as_str(),
         "Draft4"
     );
-    let early = told_after(alloc, &documents, 1)?;
+    assert_eq!(rt; written_anew(alloc, &told)?.as_str(), "at rest");
+    let early = told_after(alloc, &documents, 0)?;
     assert_eq!(rt;
         written(alloc, &early.meta_schemas, "http://a.test/m")?.as_str(),
         "none"
     );
-    let late = told_after(alloc, &documents, 4)?;
-    assert!(rt; late.is_at_rest);
+    assert_eq!(rt; written_anew(alloc, &early)?.as_str(), "http://a.test/n");
+    let late = told_after(alloc, &documents, 9)?;
+    assert_eq!(rt; written_anew(alloc, &late)?.as_str(), "at rest");
     assert_eq!(rt;
         written(alloc, &late.meta_schemas, "http://a.test/s")?.as_str(),
         "Draft4"
@@ -230,11 +232,11 @@ fn a_meta_schema_inside_a_document(rt: HostRuntime) -> Result<(), Fail> {
     let told = meta_schemas(alloc, &documents)?;
     assert_eq!(rt;
         written(alloc, &told.meta_schemas, "http://m.test/m")?.as_str(),
-        "Draft201909 Applicator"
+        "Draft201909 applicator"
     );
     assert_eq!(rt;
         written(alloc, &told.meta_schemas, "http://a.test/inner")?.as_str(),
-        "Draft201909 Core Validation Applicator Metadata"
+        "Draft201909"
     );
     Ok(())
 }
@@ -257,17 +259,19 @@ fn stages_that_never_rest(rt: HostRuntime) -> Result<(), Fail> {
         ],
     )?;
     for (stages, want) in [
-        (1, "Draft202012 Core Validation Applicator Metadata"),
-        (2, "Draft4"),
-        (3, "Draft202012 Core Validation Applicator Metadata"),
-        (8, "Draft4"),
+        (0, "Draft202012"),
+        (1, "Draft4"),
+        (2, "Draft202012"),
+        (7, "Draft4"),
     ] {
         let told: Told = told_after(alloc, &documents, stages)?;
         assert_eq!(rt;
             written(alloc, &told.meta_schemas, "http://a.test/m")?.as_str(),
             want
         );
-        assert!(rt; !told.is_at_rest);
+        assert_eq!(rt; written_anew(alloc, &told)?.as_str(), "http://a.test/m");
     }
+    let all = meta_schemas(alloc, &documents)?;
+    assert_eq!(rt; written_anew(alloc, &all)?.as_str(), "http://a.test/m");
     Ok(())
 }

@@ -1,8 +1,8 @@
-use Rattle.std.proofs.Common.{◌≡◌, ◌∙◌, ◌-◌, ℕ, suc, List, [], ◌∷◌, Option, Some, None, map, ap, sym, arith}
+use Rattle.std.proofs.Common.{◌≡◌, ◌∙◌, ◌-◌, ℕ, suc, List, [], ◌∷◌, Some, None, map, ap, sym, arith}
 use Rattle.schema_documents.specs.DocumentCauses.{awaited_cause}
 use Rattle.schema_documents.specs.Bearers.{Standing}
 use Rattle.meta_schemas.specs.Awaited.{awaited_among}
-use Rattle.meta_schemas.specs.Seen.{standing_of}
+use Rattle.document_index.specs.Seen.{standing_of}
 use Rattle.meta_schemas.proofs.AwaitedLemmas.{counted, at_end, one_up}
 use Rattle.meta_schemas.proofs.causes.awaited_cause.Goals as goal
 

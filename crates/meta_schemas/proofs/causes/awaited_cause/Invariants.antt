@@ -2,7 +2,7 @@ use Rattle.std.proofs.Common.{◌≡◌, suc, List, [], ◌∷◌, map}
 use Rattle.schema_documents.specs.Bearers.{Document}
 use Rattle.schema_documents.specs.DocumentCauses.{awaited_cause, how_many_await}
 use Rattle.meta_schemas.specs.Awaited.{AwaitedIn}
-use Rattle.meta_schemas.specs.Seen.{standing_of}
+use Rattle.document_index.specs.Seen.{standing_of}
 use Rattle.meta_schemas.proofs.causes.awaited_cause.Given as goal
 
 abbrev pub invariant-loop-awaited : goal.invariant-loop-awaited

@@ -1,7 +1,7 @@
 use Rattle.std.proofs.Common.{◌≡◌, ◌+◌, ◌≤◌, map, drop, length, is_some}
 use Rattle.std.specs.List.{filter}
 use Rattle.schema_documents.specs.Bearers.{Standing}
-use Rattle.meta_schemas.specs.Seen.{standing_of}
+use Rattle.document_index.specs.Seen.{standing_of}
 use Rattle.meta_schemas.proofs.causes.how_many_await.Given as goal
 
 abbrev pub invariant-loop-standing : goal.invariant-loop-standing

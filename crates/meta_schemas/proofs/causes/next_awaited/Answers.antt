@@ -1,9 +1,8 @@
-use Rattle.std.proofs.Common.{◌≡◌, ◌∙◌, ◌++◌, ◌∷◌, [], ◌+◌, true, false, map, take, option_map, if◌then◌else◌, ap, sym}
+use Rattle.std.proofs.Common.{◌≡◌, ◌∙◌, ◌++◌, ◌∷◌, [], ◌+◌, map, take, option_map, if◌then◌else◌, ap, sym}
 use Rattle.std.proofs.lemmas.List.{take_more, map-append}
 use Rattle.meta_schemas.specs.Awaited.{awaited_among}
-use Rattle.meta_schemas.specs.Seen.{standing_of}
-use Rattle.meta_schemas.proofs.KnownLemmas.{lent}
-use Rattle.meta_schemas.proofs.AwaitedLemmas.{awaited-push}
+use Rattle.document_index.specs.Seen.{standing_of}
+use Rattle.meta_schemas.proofs.AwaitedLemmas.{lent, awaited-push}
 use Rattle.meta_schemas.proofs.causes.next_awaited.Goals.{then-branch, else-branch}
 use Rattle.meta_schemas.proofs.causes.next_awaited.Goals as goal
 

@@ -1,6 +1,6 @@
 use Rattle.std.proofs.Common.{◌≡◌, map, take, option_map}
 use Rattle.meta_schemas.specs.Awaited.{awaited_among}
-use Rattle.meta_schemas.specs.Seen.{standing_of}
+use Rattle.document_index.specs.Seen.{standing_of}
 use Rattle.meta_schemas.proofs.causes.next_awaited.Given as goal
 
 abbrev pub invariant-loop-standing : goal.invariant-loop-standing

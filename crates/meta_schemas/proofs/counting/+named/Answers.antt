@@ -1,4 +1,4 @@
-use Rattle.std.proofs.Common.{◌≡◌, ◌∙◌, ◌+◌, ap, sym, drop, arith, [], zero}
+use Rattle.std.proofs.Common.{◌≡◌, ap, drop, arith}
 use Rattle.serde_json.specs.View.{items_view, members_view}
 use Rattle.std.proofs.lemmas.List.{drop_all}
 use Rattle.schema_documents.specs.Bearers.{schemas_named_in, schemas_named_among}

@@ -1,4 +1,4 @@
-use Rattle.std.proofs.Common.{◌≡◌, ◌∙◌, ◌+◌, ap, sym, map, drop, arith, [], zero}
+use Rattle.std.proofs.Common.{◌≡◌, ap, map, drop, arith}
 use Rattle.std.proofs.lemmas.List.{drop_all}
 use Rattle.schema_documents.specs.Bearers.{schemas_of_each}
 use Rattle.document_index.specs.Seen.{document_of}

@@ -1,12 +1,22 @@
-use Rattle.std.proofs.Common.{◌≡◌, ◌∷◌, [], ℕ, suc, map, sym, subst}
-use Rattle.schema_documents.specs.Bearers.{dialects, how_many}
+use Rattle.std.proofs.Common.{◌≡◌, ◌∙◌, ◌∷◌, [], ℕ, map, option_map, ap, sym}
+use Rattle.std.specs.Prelude.{slice_get}
+use Rattle.schema_documents.specs.Bearers.{how_many}
+use Rattle.schema_documents.specs.DocumentCauses.{circular_metaschema, told_anew}
 use Rattle.document_index.specs.Seen.{document_of}
-use Rattle.meta_schemas.proofs.StageLemmas.{if_ok_weaker}
+use Rattle.dialect_laws.specs.Stages.{anew_after}
+use Rattle.meta_schemas.proofs.StageLemmas.{if_ok_weaker, no_first}
 use Rattle.meta_schemas.proofs.told.meta_schemas.Goals as goal
 
+pub returns-in-Some-clause-anew : goal.returns-in-Some-clause-anew
+returns-in-Some-clause-anew c =
+    let docs = map document_of c.args.documents.now ∷ [] in
+    let counted : c.in-Some.stages ≡ how_many docs = c.in-Some.ensures.1 in
+    if_ok_weaker c.told_after.result (λ t e. e ∙ ap (λ (n : ℕ). slice_get (anew_after docs n) 0) counted) c.told_after.ensures.anew
+
 pub returns-in-Some-clause-rests : goal.returns-in-Some-clause-rests
-unfolding dialects
 returns-in-Some-clause-rests c =
     let docs = map document_of c.args.documents.now ∷ [] in
     let counted : c.in-Some.stages ≡ how_many docs = c.in-Some.ensures.1 in
-    if_ok_weaker c.told_after.result (λ t h e uri. sym (subst (λ (n : ℕ). dialects docs (suc n) uri ≡ dialects docs n uri) counted (h e uri))) c.told_after.ensures.rests
+    if_ok_weaker c.told_after.result
+    (λ t e none. no_first (told_anew docs) (sym (e ∙ ap (λ (n : ℕ). slice_get (anew_after docs n) 0) counted) ∙ ap (option_map circular_metaschema) none))
+    c.told_after.ensures.anew

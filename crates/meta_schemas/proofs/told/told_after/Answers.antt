@@ -1,24 +1,53 @@
-use Rattle.std.proofs.Common.{◌∷◌, [], map, arith}
+use Rattle.std.proofs.Common.{◌≡◌, ◌∙◌, ◌+◌, ℕ, suc, ◌∷◌, [], None, map, option_map, ap, sym, subst, arith}
+use Rattle.std.specs.Prelude.{slice_get}
+use Rattle.schema_documents.specs.Bearers.{dialects}
+use Rattle.schema_documents.specs.DocumentCauses.{circular_metaschema}
 use Rattle.document_index.specs.Seen.{document_of}
-use Rattle.meta_schemas.proofs.StageLemmas.{none_told, later_told, later_rests}
+use Rattle.dialect_laws.specs.Stages.{anew_after}
+use Rattle.meta_schemas.specs.Told.{Tells}
+use Rattle.meta_schemas.proofs.StageLemmas.{none_told, not_some, later_told, later_none}
+use Rattle.meta_schemas.proofs.told.told_after.Goals.{then-loop-stage-test+else-is_some, else-loop-stage-test}
 use Rattle.meta_schemas.proofs.told.told_after.Goals as goal
 
 pub loop-stage-init : goal.loop-stage-init
 loop-stage-init c =
     let docs = map document_of c.args.documents.now ∷ [] in
-    record { within = omega arith; told = none_told c.none-told.result docs c.none-told.ensures; moves = λ n less r. absurd (omega (arith, less)) }
+    let none = none_told c.none.result docs c.none.ensures in
+    record { within = omega arith; told = c.in_ok-next.ensures.next 0 none; anew = c.in_ok-next.ensures.anew 0 none }
 
-pub returns-then-next-clause-told : goal.returns-then-next-clause-told
-returns-then-next-clause-told c =
+pub loop-stage-preserved : goal.loop-stage-preserved
+loop-stage-preserved c =
+    let docs = map document_of c.args.documents.now ∷ [] in
+    let n : ℕ = c.loop-stage.stage + 1 in
+    let k = c.loop-stage.next.meta_schemas in
+    let one : suc c.loop-stage.stage ≡ n = omega arith in
+    let tells : Tells k (dialects docs n) = subst (λ (i : ℕ). Tells k (dialects docs i)) one c.loop-stage.invariant.told in
+    record { within = omega (arith, c.loop-stage-test.true); told = c.in_ok-next-2.ensures.next n tells; anew = c.in_ok-next-2.ensures.anew n tells }
+
+pub returns-clause-told : goal.returns-clause-told
+returns-clause-told c =
     let docs = map document_of c.args.documents.now ∷ [] in
     let n = c.loop-stage.stage in
-    let tells = c.loop-stage.invariant.told in
-    let next = c.in_ok-next.next in
-    later_told docs n c.args.stages ((c.in_ok-next.ensures.rest n tells).0 c.if-next.true) c.loop-stage-test.true next.meta_schemas (c.in_ok-next.ensures.next n tells)
+    let m = c.args.stages in
+    let next = c.loop-stage.next in
+    let here = c.loop-stage.invariant in
+    elim c.loop-stage-test.branch [
+      | then-loop-stage-test+else-is_some w ↦
+          let none : next.anew ≡ None = not_some next.anew w.is_some.result w.is_some.ensures w.if-is_some.false in
+          later_told docs n m (sym here.anew ∙ ap (option_map circular_metaschema) none) here.within next.meta_schemas here.told
+      | else-loop-stage-test w ↦ let all : n ≡ m = omega (arith, here.within, w.loop-stage-test.false) in subst (λ (i : ℕ). Tells next.meta_schemas (dialects docs (suc i))) all here.told
+    ]
 
-pub returns-then-next-clause-rests : goal.returns-then-next-clause-rests
-returns-then-next-clause-rests c =
+pub returns-clause-anew : goal.returns-clause-anew
+returns-clause-anew c =
     let docs = map document_of c.args.documents.now ∷ [] in
     let n = c.loop-stage.stage in
-    let tells = c.loop-stage.invariant.told in
-    λ e. later_rests docs n c.args.stages ((c.in_ok-next.ensures.rest n tells).0 c.if-next.true) c.loop-stage-test.true
+    let m = c.args.stages in
+    let next = c.loop-stage.next in
+    let here = c.loop-stage.invariant in
+    elim c.loop-stage-test.branch [
+      | then-loop-stage-test+else-is_some w ↦
+          let none : next.anew ≡ None = not_some next.anew w.is_some.result w.is_some.ensures w.if-is_some.false in
+          ap (option_map circular_metaschema) none ∙ sym (later_none docs n m (sym here.anew ∙ ap (option_map circular_metaschema) none) here.within)
+      | else-loop-stage-test w ↦ let all : n ≡ m = omega (arith, here.within, w.loop-stage-test.false) in here.anew ∙ ap (λ (i : ℕ). slice_get (anew_after docs i) 0) all
+    ]

@@ -1,8 +1,10 @@
-use Rattle.std.proofs.Common.{ℕ, ◌<◌, ◌≤◌, ◌-◌, [], ◌∷◌, map}
+use Rattle.std.proofs.Common.{◌≡◌, ◌≤◌, ◌-◌, suc, [], ◌∷◌, map, option_map}
+use Rattle.std.specs.Prelude.{slice_get}
 use Rattle.schema_documents.specs.Bearers.{dialects}
+use Rattle.schema_documents.specs.DocumentCauses.{circular_metaschema}
 use Rattle.document_index.specs.Seen.{document_of}
-use Rattle.dialect_laws.specs.Stages.{AtRest}
-use Rattle.meta_schemas.specs.Known.{Tells}
+use Rattle.dialect_laws.specs.Stages.{anew_after}
+use Rattle.meta_schemas.specs.Told.{Tells}
 use Rattle.meta_schemas.proofs.told.told_after.Given as goal
 
 abbrev pub invariant-loop-stage : goal.invariant-loop-stage
@@ -10,8 +12,8 @@ invariant-loop-stage l =
     let docs = map document_of l.documents ∷ [] in
     record {
       within : l.stage ≤ l.stages;
-      told : Tells l.told (dialects docs l.stage);
-      moves : (n : ℕ) → n < l.stage → AtRest docs n → ⊥;
+      told : Tells l.next.meta_schemas (dialects docs (suc l.stage));
+      anew : option_map circular_metaschema l.next.anew ≡ slice_get (anew_after docs l.stage) 0;
     }
 
 abbrev pub decreases-loop-stage : goal.decreases-loop-stage
