@@ -1,11 +1,10 @@
 -- What an index keeps of a schema place leads to it again.
-use Rattle.std.proofs.Common.{◌≡◌, ◌∙◌, refl, sym, ap, subst, ℕ, zero, suc, List, [], ◌∷◌, Bool, true, false, ◌&&◌, Option, Some, None, map, reverse, option_map, length, ◌<◌, Result, Ok, Err, IfOk, slice_get, slice_index_or, IsSomeAnd, Contains, arith}
+use Rattle.std.proofs.Common.{◌≡◌, ◌∙◌, refl, sym, ap, subst, ℕ, zero, suc, List, [], ◌∷◌, Bool, true, false, ◌&&◌, Option, Some, None, map, reverse, option_map, is_some, length, ◌<◌, Result, Ok, Err, IfOk, slice_get, slice_index_or, IsSomeAnd, Contains, arith}
 use Rattle.std.specs.List.{list_all}
 use Rattle.serde_json.specs.Data.{Data}
 use Rattle.json_paths.specs.Pointers.{value_at}
-use Rattle.schema_documents.specs.Places.{SchemaPlace, places}
+use Rattle.schema_documents.specs.Places.{Dialect, SchemaPlace, places}
 use Rattle.schema_documents.specs.Bearers.{Document, Standing, standing_in}
-use Rattle.schema_identifiers.specs.Unknown.{no_meta}
 use Rattle.document_index.specs.Located.{Kept}
 use Rattle.document_index.specs.Answers.{IsAnswer}
 use Rattle.place_laws.specs.Laws.{Leads}
@@ -36,30 +35,36 @@ held f Q (x ∷ xs) (suc k) y lt e a = held f Q xs k y (omega (arith, lt)) e (λ
 abbrev Lies : Document → Standing → Type 0
 Lies d s = (s.document ≡ d.uri) × Leads d.contents s.place
 
-lies : (d : Document) (s : Standing) → contents_rise d ≡ true → Contains (standing_in no_meta d) s → Lies d s
-lies d s rises there =
-    held (λ (p : SchemaPlace). record { document = d.uri; place = p }) (Lies d) (places no_meta d.uri d.default d.contents) there.0 s there.1 there.2
-    (λ i p lt. (refl, places_lead d.contents rises no_meta d.uri d.default i p lt))
+lies : (meta : List ℕ → Option Dialect) (d : Document) (s : Standing) → contents_rise d ≡ true → Contains (standing_in meta d) s → Lies d s
+lies meta d s rises there =
+    held (λ (p : SchemaPlace). record { document = d.uri; place = p }) (Lies d) (places meta d.uri d.default d.contents) there.0 s there.1 there.2
+    (λ i p lt. (refl, places_lead d.contents rises meta d.uri d.default i p lt))
 
 -- the place, put together again
 again : (d : Document) (kept : Kept) (s : Standing) → kept.path ≡ s.place.path → kept.base ≡ s.place.base → kept.dialect ≡ s.place.dialect → s.place.awaits ≡ None → s.document ≡ d.uri
     → kept_at d kept s.place.contents ≡ s
 again d kept s path base dialect awaits uri = rw (path, base, dialect, sym awaits, sym uri) refl
 
-pub kept-same : (documents : List Document) (kept : Kept) (o : Option Standing) (d : Document) → IsAnswer documents (Some kept) o → slice_get documents kept.document ≡ Some d
+pub kept-same : (meta : List ℕ → Option Dialect) (documents : List Document) (kept : Kept) (o : Option Standing) (d : Document) → IsAnswer meta documents (Some kept) o → slice_get documents kept.document ≡ Some d
     → list_all contents_rise documents ≡ true → kept_standing d kept ≡ o
-kept-same documents kept None d answer at all = absurd answer
-kept-same documents kept (Some s) d answer at all =
-    let there = subst (λ x. IsSomeAnd x (λ e. Contains (standing_in no_meta e) s)) at answer.stands in
-    let found = lies d s (rises-at documents kept.document d all at) there in
+kept-same meta documents kept None d answer at all = absurd answer
+kept-same meta documents kept (Some s) d answer at all =
+    let there = subst (λ x. IsSomeAnd x (λ e. Contains (standing_in meta e) s)) at answer.stands in
+    let found = lies meta d s (rises-at documents kept.document d all at) there in
     ap (λ p. option_map (kept_at d kept) (value_at (reverse p) d.contents)) answer.path
     ∙ ap (option_map (kept_at d kept)) found.1
     ∙ ap Some (again d kept s answer.path answer.base answer.dialect answer.awaits found.0)
 
 -- where there is no answer, there is no place
-pub none-answered : (documents : List Document) (o : Option Standing) → IsAnswer documents None o → o ≡ None
-none-answered documents None answer = refl
-none-answered documents (Some s) answer = absurd answer
+pub none-answered : (meta : List ℕ → Option Dialect) (documents : List Document) (o : Option Standing) → IsAnswer meta documents None o → o ≡ None
+none-answered meta documents None answer = refl
+none-answered meta documents (Some s) answer = absurd answer
+
+pub some-answered : (meta : List ℕ → Option Dialect) (documents : List Document) (kept : Option Kept) (o : Option Standing) → IsAnswer meta documents kept o → is_some kept ≡ is_some o
+some-answered meta documents None None answer = refl
+some-answered meta documents None (Some s) answer = absurd answer
+some-answered meta documents (Some k) None answer = absurd answer
+some-answered meta documents (Some k) (Some s) answer = refl
 
 -- what a place holds that was put together again
 pub contents-again : (d : Document) (kept : Kept) (o : Option Data) → option_map (λ (s : Standing). s.place.contents) (option_map (kept_at d kept) o) ≡ o

@@ -1,9 +1,6 @@
-pub mod NamedLemmas
-pub mod CauseLemmas
 pub mod KeptLemmas
 pub mod RefusedLemmas
-pub mod SettledLemmas
+pub mod ToldLemmas
 pub mod Extending
-pub mod DocumentLemmas
 pub mod DynamicLemmas
 pub mod KeyLemmas

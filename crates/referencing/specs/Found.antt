@@ -2,10 +2,9 @@
 use Rattle.std.specs.Prelude.{ℕ, List, [], ◌∷◌, ◌&&◌, if◌then◌else◌, Result, Ok}
 use Rattle.schema_documents.specs.Words.{ok_or, and_then, has_text}
 use Rattle.schema_documents.specs.Identifiers.{resolved, is_name, dynamic_anchors}
-use Rattle.schema_documents.specs.Bearers.{Document, Documents, Standing, bearer_under}
+use Rattle.schema_documents.specs.Bearers.{Document, Documents, Standing, bearer}
 use Rattle.schema_documents.specs.Lookup.{LookupCause, invalid_uri, unretrievable, Target}
 use Rattle.schema_documents.specs.Scopes.{outermost}
-use Rattle.schema_identifiers.specs.Unknown.{no_meta}
 use Rattle.reference_walks.specs.Reached.{target_of}
 use Rattle.referencing.specs.declared.resolving.Found.{Found}
 
@@ -14,7 +13,7 @@ found_target f = target_of f.document.value f.reached
 
 -- the bearer of a reference without its fragment
 abbrev pub bearer_at : List Document → List ℕ → Result Standing LookupCause
-bearer_at documents uri = ok_or (unretrievable uri) (bearer_under no_meta (documents ∷ []) uri)
+bearer_at documents uri = ok_or (unretrievable uri) (bearer (documents ∷ []) uri)
 
 abbrev pub bearer_wanted : List Document → List ℕ → List ℕ → Result Standing LookupCause
 bearer_wanted documents base text = and_then (ok_or (invalid_uri text) (resolved base text)) (bearer_at documents)

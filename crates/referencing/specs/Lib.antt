@@ -1,5 +1,3 @@
-pub mod Causes
-pub mod Named
 pub mod Stands
 pub mod Seen
 pub mod Kept

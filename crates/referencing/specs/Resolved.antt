@@ -5,10 +5,10 @@ use Rattle.serde_json.specs.View.{view}
 use Rattle.schema_drafts.specs.declared.draft.Draft.{Draft}
 use Rattle.schema_documents.specs.Words.{ok_or, result_map}
 use Rattle.schema_documents.specs.Identifiers.{resolved, identifier}
-use Rattle.schema_documents.specs.Places.{standard}
 use Rattle.schema_documents.specs.Bearers.{Document}
 use Rattle.schema_documents.specs.Lookup.{LookupCause, invalid_uri, Target}
 use Rattle.schema_documents.specs.Scopes.{entered_scope}
+use Rattle.schema_vocabularies.specs.Dialects.{dialect_of}
 use Rattle.referencing.specs.Seen.{documents_of}
 use Rattle.referencing.specs.declared.resolver.Resolver.{Resolver}
 use Rattle.referencing.specs.declared.resolver.Resolved.{Resolved}
@@ -23,7 +23,7 @@ abbrev pub scope_of : Resolver → List (List ℕ)
 scope_of r = map (λ u. u.value) r.scope
 
 abbrev pub target_in : Resolved → Target
-target_in r = record { document = r.document.value; path = r.path; contents = view r.contents.now; base = base_of r.resolver; dialect = standard r.draft; is_place = r.is_place }
+target_in r = record { document = r.document.value; path = r.path; contents = view r.contents.now; base = base_of r.resolver; dialect = dialect_of r.dialect; is_place = r.is_place }
 
 -- a subschema entered: its identifier changes the base, and is then the present resource (Core 8.2.1)
 abbrev pub entered_at : List ℕ → List (List ℕ) → List ℕ → Result (List ℕ × List (List ℕ)) LookupCause

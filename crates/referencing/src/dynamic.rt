@@ -83,7 +83,7 @@ fn is_anchor_name(name: &str) -> bool
 fn is_dynamic(found: &Found<'_>, name: &str) -> bool
     ensures { result ≡ (is_name name.now && words.has_text name.now (dynamic_anchors (found_target found.now).dialect.draft (found_target found.now).contents)) }
 {
-    match dynamic_anchor(found.reached.draft, found.reached.contents) {
+    match dynamic_anchor(found.reached.dialect.draft, found.reached.contents) {
         Some(anchor) => is_anchor_name(name) && anchor == name,
         None => false,
     }

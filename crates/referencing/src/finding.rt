@@ -6,7 +6,6 @@ ghost use Rattle.serde_json.specs.Find.{get, as_bool};
 ghost use Rattle.schema_documents.specs.Words as words;
 ghost use Rattle.schema_documents.specs.Bearers as bearers;
 ghost use Rattle.schema_documents.specs.Scopes as scopes;
-ghost use Rattle.schema_identifiers.specs.Unknown.{no_meta};
 ghost use Rattle.document_index.specs.Seen.{document_of, standing_of};
 ghost use Rattle.document_index.specs.Indexes.{bearer_of};
 ghost use Rattle.referencing.specs.Kept.{kept_standing};
@@ -37,7 +36,7 @@ fn standing_at<'r>(
             path: bearer.path.clone()?,
             contents,
             base: bearer.base.clone()?,
-            draft: bearer.draft,
+            dialect: bearer.dialect,
             awaits: None,
         },
     }))
@@ -68,7 +67,7 @@ impl<'a> Registry<'a> {
     ///
     /// Where a count of owners is full.
     pub fn bearer(&self, uri: &str) -> Result<Option<Standing<'_>>, AllocError>
-        ensures { IfOk result (λ s. option_map standing_of s ≡ bearers.bearer_under no_meta (documents_of self.now ∷ []) uri.now) }
+        ensures { IfOk result (λ s. option_map standing_of s ≡ bearers.bearer (documents_of self.now ∷ []) uri.now) }
     {
         match answers::bearer(&self.documents, &self.index, uri) {
             Some((document, bearer)) => standing_at(document, bearer),
@@ -84,7 +83,7 @@ impl<'a> Registry<'a> {
     ///
     /// Where a count of owners is full.
     pub fn anchored(&self, base: &str, name: &str) -> Result<Option<Standing<'_>>, AllocError>
-        ensures { IfOk result (λ s. option_map standing_of s ≡ bearers.anchored_under no_meta (documents_of self.now ∷ []) base.now name.now) }
+        ensures { IfOk result (λ s. option_map standing_of s ≡ bearers.anchored (documents_of self.now ∷ []) base.now name.now) }
     {
         match answers::anchored(&self.documents, &self.index, base, name) {
             Some((document, bearer)) => standing_at(document, bearer),
@@ -132,17 +131,10 @@ impl<'a> Registry<'a> {
         }
     }
 
-    // Whether the index has a bearer.
-    fn has_bearer(&self, uri: &str) -> bool
-        ensures { result ≡ is_some (bearers.bearer_under no_meta (documents_of self.now ∷ []) uri.now) }
-    {
-        answers::bearer(&self.documents, &self.index, uri).is_some()
-    }
-
     /// Whether a schema place bears a URI. One search by the URI.
     pub fn contains_resource(&self, uri: &str) -> bool
         ensures { result ≡ is_some (bearers.bearer (documents_of self.now ∷ []) uri.now) }
     {
-        self.has_bearer(uri)
+        answers::bearer(&self.documents, &self.index, uri).is_some()
     }
 }

@@ -5,7 +5,6 @@
 #![tactic(auto)]
 
 pub mod builder;
-mod causes;
 mod dynamic;
 mod finding;
 pub mod following;

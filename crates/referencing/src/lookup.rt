@@ -18,6 +18,7 @@ use schema_drafts::draft::Draft;
 use schema_drafts::resource::ResourceRef;
 use schema_identifiers::bases::resolved;
 use schema_steps::Path;
+use schema_vocabularies::Dialect;
 use serde_json::Value;
 use shared_lists::List;
 use std::alloc::{AllocError, Global};
@@ -165,7 +166,7 @@ impl<'r> Resolver<'r> {
         Ok(Resolved {
             contents: reached.contents,
             resolver: self.at(reached.base)?,
-            draft: reached.draft,
+            dialect: reached.dialect,
             document: found.document,
             path: reached.path,
             is_place: reached.is_place,
@@ -224,9 +225,16 @@ impl<'r> Resolved<'r> {
 
     /// The draft there.
     pub fn draft(&self) -> Draft
-        ensures { result ≡ self.now.draft }
+        ensures { result ≡ self.now.dialect.draft }
     {
-        self.draft
+        self.dialect.draft
+    }
+
+    /// The dialect there: the draft, and the vocabularies that the meta-schema requires.
+    pub fn dialect(&self) -> Dialect
+        ensures { result ≡ self.now.dialect }
+    {
+        self.dialect
     }
 
     /// The URI of the document that the value is in.
@@ -254,8 +262,8 @@ impl<'r> Resolved<'r> {
     pub fn into_inner(self) -> (&'r Value, Resolver<'r>, Draft)
         ensures contents { result.0 ≡ self.entry.contents }
         ensures resolver { result.1 ≡ self.entry.resolver }
-        ensures draft { result.2 ≡ self.entry.draft }
+        ensures draft { result.2 ≡ self.entry.dialect.draft }
     {
-        (self.contents, self.resolver, self.draft)
+        (self.contents, self.resolver, self.dialect.draft)
     }
 }

@@ -4,10 +4,7 @@ ghost use Rattle.std.specs.Prelude.{◌≡◌, ◌∷◌, [], map, true, IfOk, I
 ghost use Rattle.std.specs.List.{list_all};
 ghost use Rattle.schema_documents.specs.DocumentCauses.{document_causes};
 ghost use Rattle.document_index.specs.Seen.{document_of};
-ghost use Rattle.document_index.specs.Located.{located_standings};
-ghost use Rattle.document_index.specs.Indexes.{Indexes};
-ghost use Rattle.referencing.specs.Causes.{causes_of};
-ghost use Rattle.referencing.specs.Named.{NamesOne};
+ghost use Rattle.document_causes.specs.Named.{NamesOne};
 ghost use Rattle.referencing.specs.Stands.{contents_rise};
 ghost use Rattle.referencing.specs.Seen.{documents_of};
 ghost use Rattle.schema_drafts.specs.Drafts.{newest};
@@ -16,27 +13,15 @@ ghost use Rattle.given_documents.specs.Seen.{given_of};
 ghost use Rattle.referencing.specs.Built.{given_in};
 
 use crate::builder::RegistryBuilder;
-use crate::causes::check_places;
 use crate::registry::Registry;
+use document_causes::prepared;
+use document_causes::prepared::Prepared;
 use document_index::document::Document;
-use document_index::index::Index;
-use document_index::standing::standings;
 use given_documents::document::Document as GivenDocument;
 use place_laws::places::names_rise;
 use referencing_errors::error::Error;
 use schema_drafts::draft::Draft;
 use std::alloc::{AllocError, Global};
-
-fn checked_index(alloc: Global, documents: &[Document<'_>]) -> Result<Index, Error>
-    ensures indexed { IfOk result (λ i. Indexes i (located_standings (map document_of documents.now))) }
-    ensures accepted { OnOk result (causes_of (map document_of documents.now) ≡ []) }
-    ensures refused { IfErr result (NamesOne (causes_of (map document_of documents.now))) }
-{
-    let places = standings(alloc, documents)?;
-    let index = Index::of(alloc, &places)?;
-    check_places(alloc, &index, &places)?;
-    Ok(index)
-}
 
 // Each object has its names in their order, each once.
 fn check_names(documents: &[Document<'_>])
@@ -50,8 +35,7 @@ fn check_names(documents: &[Document<'_>])
 impl<'a> Registry<'a> {
     /// The registry of documents, where they have no cause to be refused. The last document of a URI counts.
     ///
-    /// It finds the schema places of each document once and goes over them twice, with a look-up in a map for each URI and each
-    /// anchor borne and for each `$ref`; and it walks each document once more. What is copied are URIs, the names of anchors, and
+    /// It costs what [`prepared::prepare`] costs, and walks each document once more. What is copied are URIs, the names of anchors, and
     /// the names of the members that lead to schemas.
     ///
     /// # Errors
@@ -59,15 +43,15 @@ impl<'a> Registry<'a> {
     /// A cause that the documents have, or want of memory. Nothing of the registry is left then.
     pub fn of(alloc: Global, documents: Vec<Document<'a>>) -> Result<Registry<'a>, Error>
         ensures documents { IfOk result (λ r. documents_of r ≡ map document_of documents.entry.items) }
-        ensures accepted { OnOk result (causes_of (map document_of documents.entry.items) ≡ []) }
-        ensures no_cause { OnOk result (document_causes (map document_of documents.entry.items ∷ []) ≡ []) }
-        ensures refused { IfErr result (NamesOne (causes_of (map document_of documents.entry.items))) }
+        ensures accepted { OnOk result (document_causes (map document_of documents.entry.items ∷ []) ≡ []) }
+        ensures refused { IfErr result (NamesOne (document_causes (map document_of documents.entry.items ∷ []))) }
     {
-        let index = checked_index(alloc, &documents)?;
+        let Prepared { known, index } = prepared::prepare(alloc, &documents)?;
         check_names(&documents);
         Ok(Registry {
             alloc,
             documents,
+            known,
             index,
         })
     }
@@ -115,7 +99,8 @@ impl<'a> Registry<'a> {
 
 impl<'a> RegistryBuilder<'a> {
     /// The registry of the documents added, where they have no cause to be refused: an identifier, a `$schema` that counts or a `$ref` that is
-    /// no URI reference, a `$ref` to a document that was not added, a `$schema` that names none of the drafts.
+    /// no URI reference, a `$ref` to a document that was not added, a `$schema` that names a meta-schema which nobody bears, or one that is
+    /// circular.
     ///
     /// It costs what [`Registry::of`] costs.
     ///
@@ -124,9 +109,8 @@ impl<'a> RegistryBuilder<'a> {
     /// A cause that the documents have, or want of memory. Nothing of the registry is left then.
     pub fn prepare(self) -> Result<Registry<'a>, Error>
         ensures documents { IfOk result (λ r. documents_of r ≡ documents_by self.entry.draft (given_in self.entry)) }
-        ensures accepted { OnOk result (causes_of (documents_by self.entry.draft (given_in self.entry)) ≡ []) }
-        ensures no_cause { OnOk result (document_causes (documents_by self.entry.draft (given_in self.entry) ∷ []) ≡ []) }
-        ensures refused { IfErr result (NamesOne (causes_of (documents_by self.entry.draft (given_in self.entry)))) }
+        ensures accepted { OnOk result (document_causes (documents_by self.entry.draft (given_in self.entry) ∷ []) ≡ []) }
+        ensures refused { IfErr result (NamesOne (document_causes (documents_by self.entry.draft (given_in self.entry) ∷ []))) }
     {
         let alloc = self.allocator();
         let (given, draft) = self.into_parts();

@@ -6,6 +6,7 @@ ghost use Rattle.referencing.specs.Stands.{Stands};
 
 use document_index::document::Document;
 use document_index::index::Index;
+use schema_vocabularies::MetaSchemas;
 use std::alloc::Global;
 
 /// Documents that were prepared: each reference in them to a document leads to a schema place. Contracts see the list of the documents.
@@ -13,6 +14,7 @@ use std::alloc::Global;
 pub struct Registry<'a> {
     pub(crate) alloc: Global,
     pub(crate) documents: Vec<Document<'a>>,
+    pub(crate) known: MetaSchemas,
     pub(crate) index: Index,
-    ghost stands: { Stands index (map document_of documents.items) },
+    ghost stands: { Stands known index (map document_of documents.items) },
 }

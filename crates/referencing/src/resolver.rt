@@ -4,8 +4,8 @@ ghost use Rattle.std.specs.Prelude.{map};
 ghost use Rattle.scope_laws.specs.Laws.{IsPresent};
 
 use crate::registry::Registry;
-use schema_drafts::draft::Draft;
 use schema_steps::Path;
+use schema_vocabularies::Dialect;
 use serde_json::Value;
 use shared_lists::List;
 use std::rc::Rc;
@@ -20,12 +20,12 @@ pub struct Resolver<'r> {
     ghost present: { IsPresent base.value (map (λ u. u.value) scope) },
 }
 
-/// What a reference leads to: a value of a document, lent, with its draft, the document's URI, the path in it, and a resolver there.
+/// What a reference leads to: a value of a document, lent, with its dialect, the document's URI, the path in it, and a resolver there.
 #[derive(Drop)]
 pub struct Resolved<'r> {
     pub(crate) contents: &'r Value,
     pub(crate) resolver: Resolver<'r>,
-    pub(crate) draft: Draft,
+    pub(crate) dialect: Dialect,
     pub(crate) document: Rc<Uri>,
     pub(crate) path: Path,
     pub(crate) is_place: bool,

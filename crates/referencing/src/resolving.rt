@@ -5,12 +5,11 @@ ghost use Rattle.percent_encoding.specs.Percent.{percent_decode};
 ghost use Rattle.uri_grammar.specs.Texts.{has};
 ghost use Rattle.schema_documents.specs.Words as words;
 ghost use Rattle.schema_documents.specs.Lookup as spec;
-ghost use Rattle.schema_identifiers.specs.Unknown.{no_meta};
 ghost use Rattle.document_index.specs.Seen.{standing_of};
 ghost use Rattle.reference_walks.specs.Causes.{cause_of};
 ghost use Rattle.referencing_errors.specs.Causes.{IsMemory, NamesLookup, RefusesLookup};
 ghost use Rattle.referencing.specs.Found.{found_target, bearer_wanted};
-ghost use Rattle.referencing.specs.Seen.{documents_of};
+ghost use Rattle.referencing.specs.Seen.{documents_of, told_by};
 
 use crate::registry::Registry;
 use document_index::standing::Standing;
@@ -19,7 +18,6 @@ use reference_walks::reached::{Reached, follow_pointer};
 use referencing_errors::error::Error;
 use referencing_errors::named::{invalid_anchor, invalid_uri, no_such_anchor, not_borne};
 use schema_identifiers::bases::resolved;
-use std::alloc::Global;
 use std::rc::Rc;
 use uri_grammar::components::split_fragment;
 use uri_references::uri::Uri;
@@ -53,17 +51,21 @@ pub(crate) fn whole<'r>(standing: Standing<'r>) -> Found<'r>
             path: place.path,
             contents: place.contents,
             base: place.base,
-            draft: place.draft,
+            dialect: place.dialect,
             is_place: true,
         },
     }
 }
 
-fn by_pointer<'r>(alloc: Global, standing: Standing<'r>, fragment: &str) -> Result<Found<'r>, Error>
-    ensures ok { IfOk result (λ f. spec.by_pointer no_meta (standing_of standing.entry) fragment.now (percent_decode fragment.now) ≡ Ok (found_target f)) }
-    ensures refused { IfErr result (RefusesLookup (spec.by_pointer no_meta (standing_of standing.entry) fragment.now (percent_decode fragment.now))) }
+fn by_pointer<'r>(
+    registry: &'r Registry<'_>,
+    standing: Standing<'r>,
+    fragment: &str,
+) -> Result<Found<'r>, Error>
+    ensures ok { IfOk result (λ f. spec.by_pointer (told_by registry.now) (standing_of standing.entry) fragment.now (percent_decode fragment.now) ≡ Ok (found_target f)) }
+    ensures refused { IfErr result (RefusesLookup (spec.by_pointer (told_by registry.now) (standing_of standing.entry) fragment.now (percent_decode fragment.now))) }
 {
-    match follow_pointer(alloc, &standing.place, fragment) {
+    match follow_pointer(registry.alloc, &registry.known, &standing.place, fragment) {
         Ok(reached) => Ok(Found {
             document: standing.uri,
             reached,
@@ -83,8 +85,8 @@ fn by_anchor<'r>(
     standing: &Standing<'_>,
     name: &str,
 ) -> Result<Found<'r>, Error>
-    ensures ok { IfOk result (λ f. spec.by_anchor no_meta (documents_of registry.now ∷ []) (standing_of standing.now) name.now ≡ Ok (found_target f)) }
-    ensures refused { IfErr result (RefusesLookup (spec.by_anchor no_meta (documents_of registry.now ∷ []) (standing_of standing.now) name.now)) }
+    ensures ok { IfOk result (λ f. spec.by_anchor (told_by registry.now) (documents_of registry.now ∷ []) (standing_of standing.now) name.now ≡ Ok (found_target f)) }
+    ensures refused { IfErr result (RefusesLookup (spec.by_anchor (told_by registry.now) (documents_of registry.now ∷ []) (standing_of standing.now) name.now)) }
 {
     if has_slash(name) {
         return Err(invalid_anchor(registry.alloc, name));
@@ -100,14 +102,14 @@ fn by_fragment<'r>(
     standing: Standing<'r>,
     fragment: &str,
 ) -> Result<Found<'r>, Error>
-    ensures ok { IfOk result (λ f. spec.by_fragment no_meta (documents_of registry.now ∷ []) (standing_of standing.entry) fragment.now ≡ Ok (found_target f)) }
-    ensures refused { IfErr result (RefusesLookup (spec.by_fragment no_meta (documents_of registry.now ∷ []) (standing_of standing.entry) fragment.now)) }
+    ensures ok { IfOk result (λ f. spec.by_fragment (told_by registry.now) (documents_of registry.now ∷ []) (standing_of standing.entry) fragment.now ≡ Ok (found_target f)) }
+    ensures refused { IfErr result (RefusesLookup (spec.by_fragment (told_by registry.now) (documents_of registry.now ∷ []) (standing_of standing.entry) fragment.now)) }
 {
     match fragment.as_bytes() {
         [] => Ok(whole(standing)),
         [first, ..] => {
             if *first == b'/' {
-                by_pointer(registry.alloc, standing, fragment)
+                by_pointer(registry, standing, fragment)
             } else {
                 by_anchor(registry, &standing, fragment)
             }
@@ -143,8 +145,8 @@ pub fn look_up<'r>(
     base: &Uri,
     reference: &str,
 ) -> Result<Found<'r>, Error>
-    ensures ok { IfOk result (λ f. spec.lookup_under no_meta (documents_of registry.now ∷ []) base.now reference.now ≡ Ok (found_target f)) }
-    ensures refused { IfErr result (RefusesLookup (spec.lookup_under no_meta (documents_of registry.now ∷ []) base.now reference.now)) }
+    ensures ok { IfOk result (λ f. spec.lookup (documents_of registry.now ∷ []) base.now reference.now ≡ Ok (found_target f)) }
+    ensures refused { IfErr result (RefusesLookup (spec.lookup (documents_of registry.now ∷ []) base.now reference.now)) }
 {
     let (text, fragment) = split_fragment(reference);
     let bearer = wanted(registry, base, text)?;

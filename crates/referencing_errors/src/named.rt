@@ -59,3 +59,13 @@ pub fn invalid_anchor(alloc: Global, anchor: &str) -> Error
         Err(_) => Error::Memory,
     }
 }
+
+/// A meta-schema that waits for itself, through others.
+pub fn circular_metaschema(alloc: Global, uri: &str) -> Error
+    ensures { IsMemory result ⊎ NamesDocument (documents.circular_metaschema uri.now) result }
+{
+    match String::from_str(alloc, uri) {
+        Ok(uri) => Error::circular_metaschema(uri),
+        Err(_) => Error::Memory,
+    }
+}

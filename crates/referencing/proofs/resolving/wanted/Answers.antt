@@ -1,9 +1,8 @@
 use Rattle.std.proofs.Common.{◌≡◌, ◌∙◌, sym, ap, subst, [], ◌∷◌, Some, None, option_map, ◌⊎◌}
 use Rattle.schema_documents.specs.Words.{ok_or, and_then}
 use Rattle.schema_documents.specs.Identifiers.{resolved}
-use Rattle.schema_documents.specs.Bearers.{bearer_under}
+use Rattle.schema_documents.specs.Bearers.{bearer}
 use Rattle.schema_documents.specs.Lookup.{invalid_uri, unretrievable}
-use Rattle.schema_identifiers.specs.Unknown.{no_meta}
 use Rattle.document_index.specs.Seen.{standing_of}
 use Rattle.referencing_errors.specs.Causes.{IsMemory, NamesLookup}
 use Rattle.referencing.specs.Found.{bearer_at, bearer_wanted}
@@ -26,7 +25,7 @@ returns-clause-refused c =
     let text = c.args.text.now in
     let uri = c.in-Some.uri in
     let some : resolved base text ≡ Some uri = sym c.in_ok-uri.ensures ∙ c.in-Some.is in
-    let nobody : bearer_under no_meta (documents ∷ []) uri ≡ None = ap (bearer_under no_meta (documents ∷ [])) (sym c.as_str.ensures.value) ∙ sym c.in_ok-bearer.ensures ∙ ap (option_map standing_of) c.in-None.is in
+    let nobody : bearer (documents ∷ []) uri ≡ None = ap (bearer (documents ∷ [])) (sym c.as_str.ensures.value) ∙ sym c.in_ok-bearer.ensures ∙ ap (option_map standing_of) c.in-None.is in
     let e = c.not_borne.result in
     refused-one (bearer_wanted documents base text) (unretrievable uri) e
     (ap (λ o. and_then (ok_or (invalid_uri text) o) (bearer_at documents)) some ∙ ap (ok_or (unretrievable uri)) nobody)
