@@ -8,4 +8,6 @@ mod chains;
 #[cfg(test)]
 mod lookups;
 #[cfg(test)]
+mod meta_schemas;
+#[cfg(test)]
 mod refusals;
