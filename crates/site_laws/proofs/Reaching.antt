@@ -1,0 +1,45 @@
+-- What is reached from sites that are alike.
+use Rattle.std.proofs.Common.{ℕ, List, [], ◌∷◌, Bool, subst}
+use Rattle.std.specs.List.{AllZip}
+use Rattle.schema_meaning.specs.Members.{In, first, later}
+use Rattle.schema_documents.specs.Bearers.{Documents}
+use Rattle.schema_reading.specs.BuildCauses.{Reached, at_root, by_keyword}
+use Rattle.schema_reading.specs.NotYet.{Cause, IsBuildCause, is_wrong, is_not_yet}
+use Rattle.schema_reading.specs.Rows.{Place, BuildCause, rows_at}
+use Rattle.schema_reading.specs.Sites.{Site}
+use Rattle.site_laws.specs.Laws.{AreAlike, RowsAgree, AlikeReachAlike, AlikeHaveCauses}
+use Rattle.site_laws.proofs.Reading.{read_alike}
+
+-- the element beside one of a list
+pub in_step : {A : Type 0} (R : A → A → Type 0) (x : A) (xs ys : List A) → AllZip R xs ys → In x xs → (y : A) × In y ys × R x y
+in_step R x [] ys z i = elim i [ ]
+in_step R x (w ∷ xs) [] z i = absurd z
+in_step R x (w ∷ xs) (y ∷ ys) z first = (y, first, z.0)
+in_step R x (w ∷ xs) (y ∷ ys) z (later i) = (let h = in_step R x xs ys z.1 i in (h.0, later h.1, h.2))
+
+module _ (docs : Documents) (makes : List ℕ → Bool) (s t : Site) (a : AreAlike docs s t) where
+  abbrev Mirrored : Site → Type 0
+  Mirrored u = (v : Site) × Reached docs makes t v × AreAlike docs u v
+
+  reach_alike : (u : Site) → Reached docs makes s u → Mirrored u
+  reach_alike _ at_root = (t, at_root, a)
+  reach_alike _ (by_keyword {s = u} row x r i j) =
+      let h = reach_alike u r in
+      let row' = in_step (RowsAgree docs) row (rows_at docs makes u) (rows_at docs makes h.0) (read_alike docs makes u h.0 h.2).rows i in
+      let x' = in_step (AreAlike docs) x row.leads row'.0.leads row'.2.leads j in
+      (x'.0, by_keyword row'.0 x'.0 h.1 row'.1 x'.1, x'.2)
+
+  have_causes : (c : Cause) → IsBuildCause docs makes s c → IsBuildCause docs makes t c
+  have_causes _ (is_wrong {c = c} w) =
+      let h = reach_alike w.site w.reached in
+      let row = in_step (RowsAgree docs) w.row (rows_at docs makes w.site) (rows_at docs makes h.0) (read_alike docs makes w.site h.0 h.2).rows w.stands in
+      is_wrong (record { site = h.0; reached = h.1; row = row.0; stands = row.1; wrong = subst (λ (cs : List BuildCause). In c cs) row.2.causes w.wrong })
+  have_causes _ (is_not_yet {p = p} u) =
+      let h = reach_alike u.site u.reached in
+      is_not_yet (record { site = h.0; reached = h.1; stands = subst (λ (ps : List Place). In p ps) (read_alike docs makes u.site h.0 h.2).unread u.stands })
+
+pub alike_reach_alike : AlikeReachAlike
+alike_reach_alike = reach_alike
+
+pub alike_have_causes : AlikeHaveCauses
+alike_have_causes = have_causes

@@ -1,0 +1,4 @@
+//! Laws on sites: each is the contract of a function.
+#![tactic(auto)]
+
+pub mod sites;
