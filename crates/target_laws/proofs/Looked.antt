@@ -10,7 +10,7 @@ use Rattle.schema_documents.specs.Places.{Dialect}
 use Rattle.schema_documents.specs.Bearers.{Documents, Standing, bears, bears_anchor, bearer_under, bearer, anchored_under, dynamically_anchored, meta}
 use Rattle.schema_documents.specs.Lookup.{LookupCause, Target, Walk, at_place, unretrievable, invalid_uri, invalid_anchor, no_such_anchor, invalid_percent_encoding, behind_first, ended, target_of, walk, by_pointer, by_anchor, by_fragment, lookup_under, lookup}
 use Rattle.schema_documents.specs.Scopes.{outermost, dynamic_lookup, end_of_run, recurs, recursive_lookup}
-use Rattle.target_laws.specs.Laws.{LookupsLie, DynamicLookupsLie, RecursiveLookupsLie}
+use Rattle.target_laws.specs.Laws.{IsTarget, by_reference, by_scope, by_run, LookupsLie, DynamicLookupsLie, RecursiveLookupsLie}
 use Rattle.target_laws.proofs.Results.{ok_next, ok_map, ok_some, ok_either, some_next, of_ok}
 use Rattle.target_laws.proofs.Origins.{Origin, Stands, Comes, last_stands, comes_lies}
 use Rattle.target_laws.proofs.Walks.{WalkInside, walk_inside}
@@ -85,17 +85,25 @@ module _ (docs : Documents) where
       ok_map (Stands docs) (Comes docs) (ok_or (unretrievable uri) (bearer docs uri)) target_of
       (ok_some (Stands docs) (unretrievable uri) (bearer docs uri) (last_stands docs (bears uri) (meta docs))) target_comes
 
-  pub looked_comes : (base reference : List ℕ) (t : Target) → lookup docs base reference ≡ Ok t → Comes docs t
+  looked_comes : (base reference : List ℕ) (t : Target) → lookup docs base reference ≡ Ok t → Comes docs t
   looked_comes base reference t e = of_ok (Comes docs) (lookup docs base reference) t (lookup_comes (meta docs) base reference) e
+
+  scoped_comes : (base : List ℕ) (scope : List (List ℕ)) (reference : List ℕ) (t : Target) → dynamic_lookup docs base scope reference ≡ Ok t → Comes docs t
+  scoped_comes base scope reference t e = of_ok (Comes docs) (dynamic_lookup docs base scope reference) t (dynamic_comes base scope reference) e
+
+  run_comes : (base : List ℕ) (scope : List (List ℕ)) (t : Target) → recursive_lookup docs base scope ≡ Ok t → Comes docs t
+  run_comes base scope t e = of_ok (Comes docs) (recursive_lookup docs base scope) t (found_comes (if recurs docs base then end_of_run docs base scope else base)) e
+
+  pub target_comes_of : (t : Target) → IsTarget docs t → Comes docs t
+  target_comes_of t (by_reference base reference e) = looked_comes base reference t e
+  target_comes_of t (by_scope base scope reference e) = scoped_comes base scope reference t e
+  target_comes_of t (by_run base scope e) = run_comes base scope t e
 
 pub lookups_lie : LookupsLie
 lookups_lie docs base reference t e = comes_lies docs t (looked_comes docs base reference t e)
 
 pub dynamic_lookups_lie : DynamicLookupsLie
-dynamic_lookups_lie docs base scope reference t e =
-    comes_lies docs t (of_ok (Comes docs) (dynamic_lookup docs base scope reference) t (dynamic_comes docs base scope reference) e)
+dynamic_lookups_lie docs base scope reference t e = comes_lies docs t (scoped_comes docs base scope reference t e)
 
 pub recursive_lookups_lie : RecursiveLookupsLie
-recursive_lookups_lie docs base scope t e =
-    let uri = if recurs docs base then end_of_run docs base scope else base in
-    comes_lies docs t (of_ok (Comes docs) (recursive_lookup docs base scope) t (found_comes docs uri) e)
+recursive_lookups_lie docs base scope t e = comes_lies docs t (run_comes docs base scope t e)

@@ -12,7 +12,7 @@ use Rattle.schema_documents.specs.Lookup.{Target}
 use Rattle.place_laws.specs.Rising.{rises}
 use Rattle.target_laws.specs.Laws.{are_apart, contents_rise, ContentsAreOne}
 use Rattle.target_laws.proofs.Origins.{Comes}
-use Rattle.target_laws.proofs.Looked.{looked_comes}
+use Rattle.target_laws.proofs.Looked.{target_comes_of}
 
 uri_among : (d e : Document) (ds : List Document) → In e ds → d.uri ≡ e.uri → list_any (λ x. bytes_eq d.uri x.uri) ds ≡ true
 uri_among d e [] i same = elim i [ ]
@@ -59,9 +59,9 @@ found own r t c =
     record { document = o.document; listed = listed; named = o.named; leads = o.inside.leads (each_rises own r o.document listed) }
 
 pub contents_are_one : ContentsAreOne
-contents_are_one own apart r base reference other_base other_reference t u e f same_uri same_path =
-    let a = found own r t (looked_comes (own ∷ []) base reference t e) in
-    let b = found own r u (looked_comes (own ∷ []) other_base other_reference u f) in
+contents_are_one own apart r t u e f same_uri same_path =
+    let a = found own r t (target_comes_of (own ∷ []) t e) in
+    let b = found own r u (target_comes_of (own ∷ []) u f) in
     let one = same_document own apart a.document b.document a.listed b.listed (a.named ∙ same_uri ∙ sym b.named) in
     let value : Some t.contents ≡ Some u.contents =
     sym a.leads ∙ ap (λ (p : List Part). value_at (reverse p) a.document.contents) same_path

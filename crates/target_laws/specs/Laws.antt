@@ -43,12 +43,16 @@ are_apart (d ∷ ds) = not (list_any (λ e. bytes_eq d.uri e.uri) ds) && are_apa
 abbrev pub contents_rise : Document → Bool
 contents_rise d = rises d.contents
 
+-- a place that a reference leads to: a plain one, one by the dynamic scope, or a recursive one
+pub data IsTarget (docs : Documents) : Target → Type 0 where
+  by_reference : {t : Target} (base reference : List ℕ) → lookup docs base reference ≡ Ok t → IsTarget docs t
+  by_scope : {t : Target} (base : List ℕ) (scope : List (List ℕ)) (reference : List ℕ) → dynamic_lookup docs base scope reference ≡ Ok t → IsTarget docs t
+  by_run : {t : Target} (base : List ℕ) (scope : List (List ℕ)) → recursive_lookup docs base scope ≡ Ok t → IsTarget docs t
+
 -- one place holds one value
 abbrev pub ContentsAreOne : Type 0
 ContentsAreOne = (own : List Document) → are_apart own ≡ true → list_all contents_rise own ≡ true
-    → (base reference other_base other_reference : List ℕ) (t u : Target)
-    → lookup (own ∷ []) base reference ≡ Ok t → lookup (own ∷ []) other_base other_reference ≡ Ok u
-    → t.document ≡ u.document → t.path ≡ u.path → t.contents ≡ u.contents
+    → (t u : Target) → IsTarget (own ∷ []) t → IsTarget (own ∷ []) u → t.document ≡ u.document → t.path ≡ u.path → t.contents ≡ u.contents
 
 -- ---- pointers are texts
 
