@@ -1,29 +1,46 @@
--- The row of a member whose name is one of those that are read.
-use Rattle.std.proofs.Common.{◌≡◌, ◌∙◌, refl, sym, ap, subst, ℕ, List, [], ◌∷◌, Bool, true, false, true≢false, not, ◌&&◌, codes, if◌then◌else◌, Result, Ok, Err, IfOk}
-use Rattle.serde_json.specs.Data.{Data, Members}
-use Rattle.schema_drafts.specs.Counts.{in_2020, counts}
-use Rattle.schema_documents.specs.Places.{Dialect, is_schema}
+-- The row of a member by its name.
+use Rattle.std.proofs.Common.{◌≡◌, ◌∙◌, refl, sym, ap, subst, ℕ, List, [], ◌∷◌, Bool, true, false, true≢false, not, ◌&&◌, ◌||◌, bytes_eq, codes, if◌then◌else◌, is_some, None, Result, Ok, Err, IfOk}
+use Rattle.serde_json.specs.Data.{Data, null, boolean, number, string, array, object, Items, Members}
+use Rattle.serde_json.specs.Find.{get_member, as_array}
+use Rattle.schema_drafts.specs.Counts.{counts}
+use Rattle.schema_documents.specs.Places.{Dialect, standard, is_schema}
+use Rattle.schema_drafts.specs.declared.draft.Draft.{Draft}
 use Rattle.schema_meaning.specs.Keywords.{item_list}
 use Rattle.schema_meaning.specs.Members.{is_listed, first}
-use Rattle.schema_reading.specs.NotYet.{is_read_draft, is_unread, read_now}
-use Rattle.schema_reading.specs.Rows.{Row, nothing_read, refused, keyword_value, left_out, place_at, at, bad_value, Context, counts_here, has_reference, takes_list, schema_list, row_at}
+use Rattle.referencing.specs.Resolved.{scope_of}
+use Rattle.schema_reading.specs.NotYet.{is_unread, is_item_list, read_now}
+use Rattle.schema_reading.specs.Rows.{Row, nothing_read, refused, keyword_value, left_out, place_at, at, bad_value, Context, counts_here, has_reference, beside, takes_list, in_list, schema_list, row_of as row_by, each_subschema, row_at}
 use Rattle.schema_reading.specs.Sites.{Site}
-use Rattle.schema_sites.specs.Arms.{type_row, min_items_row, one_items_row, properties_row, reference_row}
+use Rattle.schema_sites.specs.Arms.{type_row, min_items_row, one_items_row, properties_row}
 use Rattle.schema_sites.specs.Read.{row_of, context_at, Surrounds}
 use Rattle.schema_sites.specs.Refused.{IsCause, Refuses}
-use Rattle.schema_sites.specs.Seen.{documents_at, Stands}
+use Rattle.schema_sites.specs.Seen.{documents_at, Stands, counts_at, beside_at}
 use Rattle.schema_sites.specs.declared.keyword.Keyword.{Keyword}
 use Rattle.schema_sites.specs.declared.keyword.Refusal.{Refusal}
 use Rattle.schema_sites.specs.declared.site.Site as code
-use Rattle.schema_sites.proofs.Counting.{read-dialect, counts-read}
 
-row-if : (b : Bool) (r s : Row) → b ≡ true → (if b then r else s) ≡ r
+pub row-if : (b : Bool) (r s : Row) → b ≡ true → (if b then r else s) ≡ r
 row-if true r s e = refl
 row-if false r s e = absurd (true≢false (sym e))
 
 row-else : (b : Bool) (r s : Row) → b ≡ false → (if b then r else s) ≡ s
 row-else true r s e = absurd (true≢false e)
 row-else false r s e = refl
+
+-- ---- what counts
+
+pub surrounding : (c : code.Site) (ms : Members) (makes : List ℕ → Bool) (s : Site) → Stands c s → s.scope ≡ scope_of c.resolver → Surrounds c ms (context_at c ms makes s)
+surrounding c ms makes s stands scope = record { documents = refl; members = refl; stands = stands; scope = scope }
+
+pub counts-there : (c : code.Site) (ms : Members) (s : Site) → Stands c s → (k : List ℕ) → counts s.dialect.draft s.dialect.vocabularies (has_reference ms) k ≡ counts_at c (has_reference ms) k
+counts-there c ms s stands k = ap (λ (y : Dialect). counts y.draft y.vocabularies (has_reference ms) k) stands.dialect
+
+pub neighbour : (c : code.Site) (ms : Members) (x : Context) → Surrounds c ms x → (k : List ℕ) → beside x k ≡ beside_at c ms k
+neighbour c ms x s k =
+    ap (λ (m : Members). if counts x.site.dialect.draft x.site.dialect.vocabularies (has_reference m) k then get_member k m else None) s.members
+    ∙ ap (λ (b : Bool). if b then get_member k ms else None) (counts-there c ms x.site s.stands k)
+
+-- ---- the rows of the names that are read
 
 pub type-row : (x : Context) (d : Data) → counts_here x (codes "type") ≡ true → row_at x (codes "type") d ≡ type_row x d
 type-row x d e = row-if (counts_here x (codes "type")) (type_row x d) nothing_read e
@@ -37,9 +54,6 @@ items-row x d e = row-if (counts_here x (codes "items")) (one_items_row x d) not
 pub properties-row : (x : Context) (d : Data) → counts_here x (codes "properties") ≡ true → row_at x (codes "properties") d ≡ properties_row x d
 properties-row x d e = row-if (counts_here x (codes "properties")) (properties_row x d) nothing_read e
 
-pub reference-row : (x : Context) (d : Data) → counts_here x (codes "$ref") ≡ true → row_at x (codes "$ref") d ≡ reference_row x d
-reference-row x d e = row-if (counts_here x (codes "$ref")) (reference_row x d) nothing_read e
-
 abbrev pub left_row : List ℕ → Context → Data → Row
 left_row k x d = refused (left_out (place_at x (at k)) ∷ [])
 
@@ -49,60 +63,130 @@ left-items-row x d e = row-if (counts_here x (codes "unevaluatedItems")) (left_r
 pub left-properties-row : (x : Context) (d : Data) → counts_here x (codes "unevaluatedProperties") ≡ true → row_at x (codes "unevaluatedProperties") d ≡ left_row (codes "unevaluatedProperties") x d
 left-properties-row x d e = row-if (counts_here x (codes "unevaluatedProperties")) (left_row (codes "unevaluatedProperties") x d) nothing_read e
 
-pub surrounding : (c : code.Site) (ms : Members) (makes : List ℕ → Bool) (s : Site) → Stands c s → is_read_draft s.dialect.draft ≡ true → Surrounds c ms (context_at c ms makes s)
-surrounding c ms makes s stands draft = record { documents = refl; members = refl; stands = stands; draft = draft }
-
-pub counts-there : (c : code.Site) (ms : Members) (x : Context) → Surrounds c ms x → (k : List ℕ) → counts_here x k ≡ in_2020 k
-counts-there c ms x s k = counts-read x.site.dialect (read-dialect x.site.dialect c.draft s.stands.dialect s.draft) (has_reference x.members) k
-
 -- a name that is known, with its row
-module _ (c : code.Site) (ms : Members) (k known : List ℕ) (d : Data) (row : Context → Data → Row) (is : k ≡ known) (there : in_2020 known ≡ true)
+module _ (c : code.Site) (ms : Members) (k known : List ℕ) (d : Data) (row : Context → Data → Row) (is : k ≡ known)
     (row-known : (x : Context) (e : Data) → counts_here x known ≡ true → row_at x known e ≡ row x e) where
-  row-here : (x : Context) → Surrounds c ms x → row_at x k d ≡ row x d
-  row-here x s = ap (λ (n : List ℕ). row_at x n d) is ∙ row-known x d (counts-there c ms x s known ∙ there)
+  there : (x : Context) → counts_here x k ≡ true → counts_here x known ≡ true
+  there x e = ap (λ (n : List ℕ). counts_here x n) (sym is) ∙ e
+
+  row-here : (x : Context) → counts_here x k ≡ true → row_at x k d ≡ row x d
+  row-here x e = ap (λ (n : List ℕ). row_at x n d) is ∙ row-known x d (there x e)
 
   pub read-here : (r : Keyword) → ((x : Context) → Surrounds c ms x → row x d ≡ row_of x.documents x.site r)
-      → (makes : List ℕ → Bool) (s : Site) → Stands c s → is_read_draft s.dialect.draft ≡ true → row_at (context_at c ms makes s) k d ≡ row_of (documents_at c) s r
-  read-here r h makes s stands draft = let around = surrounding c ms makes s stands draft in row-here (context_at c ms makes s) around ∙ h (context_at c ms makes s) around
+      → (x : Context) → Surrounds c ms x → counts_here x k ≡ true → row_at x k d ≡ row_of x.documents x.site r
+  read-here r h x s e = row-here x e ∙ h x s
 
-  pub refused-here : (e : Refusal) → ((x : Context) → Surrounds c ms x → Refuses x known (row x d) e)
-      → (makes : List ℕ → Bool) (s : Site) → Stands c s → is_read_draft s.dialect.draft ≡ true → Refuses (context_at c ms makes s) k (row_at (context_at c ms makes s) k d) e
-  refused-here e h makes s stands draft =
-      let x = context_at c ms makes s in
-      let around = surrounding c ms makes s stands draft in
-      subst (λ (r : Row). Refuses x k r e) (sym (row-here x around)) (subst (λ (n : List ℕ). Refuses x n (row x d) e) (sym is) (h x around))
+  pub refused-here : (e : Refusal) → ((x : Context) → Surrounds c ms x → counts_here x known ≡ true → Refuses x known d (row x d) e)
+      → (x : Context) → Surrounds c ms x → counts_here x k ≡ true → Refuses x k d (row_at x k d) e
+  refused-here e h x s counted =
+      subst (λ (r : Row). Refuses x k d r e) (sym (row-here x counted)) (subst (λ (n : List ℕ). Refuses x n d (row x d) e) (sym is) (h x s (there x counted)))
 
-never-unread : (a b : Bool) → b ≡ true → (a && not b) ≡ false
-never-unread true b e = ap not e
-never-unread false b e = refl
+-- the same of a member of a schema whose name counts
+module _ (c : code.Site) (ms : Members) (k : List ℕ) (d : Data) (counted : counts_at c (has_reference ms) k ≡ true) where
+  here : (makes : List ℕ → Bool) (s : Site) → Stands c s → counts_here (context_at c ms makes s) k ≡ true
+  here makes s stands = counts-there c ms s stands k ∙ counted
 
--- a name that is read
-pub is-read : {E : Type 0} (r : Result Keyword E) (c : code.Site) (ms : Members) (k known : List ℕ) → k ≡ known → is_listed known read_now ≡ true
-    → IfOk r (λ (w : Keyword). (s : Site) → Stands c s → is_read_draft s.dialect.draft ≡ true → is_unread s ms k ≡ false)
-is-read (Ok w) c ms k known is listed = λ s stands draft. never-unread (counts s.dialect.draft s.dialect.vocabularies (has_reference ms) k) (is_listed k read_now) (ap (λ (n : List ℕ). is_listed n read_now) is ∙ listed)
-is-read (Err e) c ms k known is listed = tt
+  pub reads-where : (r : Keyword) → ((x : Context) → Surrounds c ms x → counts_here x k ≡ true → row_at x k d ≡ row_of x.documents x.site r)
+      → (makes : List ℕ → Bool) (s : Site) → Stands c s → s.scope ≡ scope_of c.resolver → row_at (context_at c ms makes s) k d ≡ row_of (documents_at c) s r
+  reads-where r h makes s stands scope = h (context_at c ms makes s) (surrounding c ms makes s stands scope) (here makes s stands)
+
+  pub refuses-where : (e : Refusal) → ((x : Context) → Surrounds c ms x → counts_here x k ≡ true → Refuses x k d (row_at x k d) e)
+      → (makes : List ℕ → Bool) (s : Site) → Stands c s → s.scope ≡ scope_of c.resolver → Refuses (context_at c ms makes s) k d (row_at (context_at c ms makes s) k d) e
+  refuses-where e h makes s stands scope = h (context_at c ms makes s) (surrounding c ms makes s stands scope) (here makes s stands)
+
+-- ---- what is read, and what is not yet
+
+never-unread : (a b c : Bool) → b ≡ true → c ≡ false → (a && (not b || c)) ≡ false
+never-unread true b c e f = ap (λ (x : Bool). not x || c) e ∙ f
+never-unread false b c e f = refl
+
+third-false : (a b c : Bool) → c ≡ false → (a && b && c) ≡ false
+third-false true true c e = e
+third-false true false c e = refl
+third-false false b c e = refl
+
+-- a name that is read, with a value that is none of `items` as a list
+pub is-read : (k known : List ℕ) (d : Data) → k ≡ known → is_listed known read_now ≡ true → ((s : Site) → is_item_list s known d ≡ false) → (s : Site) (ms : Members) → is_unread s ms k d ≡ false
+is-read k known d is listed other s ms =
+    never-unread (counts s.dialect.draft s.dialect.vocabularies (has_reference ms) k) (is_listed k read_now) (is_item_list s k d)
+    (ap (λ (n : List ℕ). is_listed n read_now) is ∙ listed) (ap (λ (n : List ℕ). is_item_list s n d) is ∙ other s)
+
+if-read : {E : Type 0} (r : Result Keyword E) (k known : List ℕ) (d : Data) → k ≡ known → is_listed known read_now ≡ true → ((s : Site) → is_item_list s known d ≡ false)
+    → IfOk r (λ (w : Keyword). (s : Site) (ms : Members) → is_unread s ms k d ≡ false)
+if-read (Ok w) k known d is listed other = is-read k known d is listed other
+if-read (Err e) k known d is listed other = tt
+
+pub if-other-read : {E : Type 0} (r : Result Keyword E) (k known : List ℕ) (d : Data) → k ≡ known → is_listed known read_now ≡ true → bytes_eq known (codes "items") ≡ false
+    → IfOk r (λ (w : Keyword). (s : Site) (ms : Members) → is_unread s ms k d ≡ false)
+if-other-read r k known d is listed other = if-read r k known d is listed (λ s. ap (λ (b : Bool). b && takes_list s.dialect.draft && is_some (as_array d)) other)
+
+no-list : (d : Data) → is_schema d ≡ true → is_some (as_array d) ≡ false
+no-list null e = refl
+no-list (boolean b) e = refl
+no-list (number n) e = refl
+no-list (string t) e = refl
+no-list (array ds) e = absurd (true≢false (sym e))
+no-list (object ms) e = refl
+
+pub items-read : (k : List ℕ) (d : Data) → k ≡ codes "items" → is_schema d ≡ true → (s : Site) (ms : Members) → is_unread s ms k d ≡ false
+items-read k d is schema = is-read k (codes "items") d is refl (λ s. third-false (bytes_eq (codes "items") (codes "items")) (takes_list s.dialect.draft) (is_some (as_array d)) (no-list d schema))
 
 -- a name that does not count
-pub nothing-there : (c : code.Site) (ms : Members) (k : List ℕ) (d : Data) → in_2020 k ≡ false → (makes : List ℕ → Bool) (s : Site) → Stands c s → is_read_draft s.dialect.draft ≡ true
+pub nothing-there : (c : code.Site) (ms : Members) (k : List ℕ) (d : Data) → counts_at c (has_reference ms) k ≡ false → (makes : List ℕ → Bool) (s : Site) → Stands c s
     → row_at (context_at c ms makes s) k d ≡ nothing_read
-nothing-there c ms k d none makes s stands draft =
-    let x = context_at c ms makes s in row-else (counts_here x k) _ nothing_read (counts-there c ms x (surrounding c ms makes s stands draft) k ∙ none)
+nothing-there c ms k d none makes s stands =
+    let x = context_at c ms makes s in row-else (counts_here x k) _ nothing_read (counts-there c ms s stands k ∙ none)
 
-pub uncounted : (c : code.Site) (ms : Members) (k : List ℕ) → in_2020 k ≡ false → (s : Site) → Stands c s → is_read_draft s.dialect.draft ≡ true → is_unread s ms k ≡ false
-uncounted c ms k none s stands draft =
-    ap (λ (b : Bool). b && not (is_listed k read_now)) (counts-read s.dialect (read-dialect s.dialect c.draft stands.dialect draft) (has_reference ms) k ∙ none)
+pub uncounted : (c : code.Site) (ms : Members) (k : List ℕ) (d : Data) → counts_at c (has_reference ms) k ≡ false → (s : Site) → Stands c s → is_unread s ms k d ≡ false
+uncounted c ms k d none s stands = ap (λ (b : Bool). b && (not (is_listed k read_now) || is_item_list s k d)) (counts-there c ms s stands k ∙ none)
 
 -- a keyword that is none of those that are read
-pub not-yet : (c : code.Site) (ms : Members) (k : List ℕ) → in_2020 k ≡ true → is_listed k read_now ≡ false → (s : Site) → Stands c s → is_read_draft s.dialect.draft ≡ true → is_unread s ms k ≡ true
-not-yet c ms k there unlisted s stands draft =
-    ap (λ (b : Bool). b && not (is_listed k read_now)) (counts-read s.dialect (read-dialect s.dialect c.draft stands.dialect draft) (has_reference ms) k ∙ there) ∙ ap not unlisted
+pub not-yet : (x : Context) (k : List ℕ) (d : Data) → counts_here x k ≡ true → is_listed k read_now ≡ false → is_unread x.site x.members k d ≡ true
+not-yet x k d counted unlisted =
+    ap (λ (b : Bool). b && (not (is_listed k read_now) || is_item_list x.site k d)) counted ∙ ap (λ (b : Bool). not b || is_item_list x.site k d) unlisted
 
--- a value that is none that the keyword may have
+-- a name that is none of the list
+abbrev pub IsNone : List ℕ → List (List ℕ) → Type 0
+IsNone k [] = Unit {0}
+IsNone k (n ∷ ns) = (bytes_eq k n ≡ false) × IsNone k ns
+
+pub unlisted : (k : List ℕ) (names : List (List ℕ)) → IsNone k names → is_listed k names ≡ false
+unlisted k [] none = refl
+unlisted k (n ∷ ns) none = ap (λ (b : Bool). b || is_listed k ns) none.0 ∙ unlisted k ns none.1
+
+-- ---- values that the keyword may not have
+
 pub value-refused : (x : Context) (k word : List ℕ) (row : Row) → row ≡ bad_value x k word → IsCause (keyword_value (place_at x (at k)) word) row
 value-refused x k word row e = subst (λ (r : Row). IsCause (keyword_value (place_at x (at k)) word) r) (sym e) (record { stands = first; alone = refl })
 
-pub no-schema-row : (c : code.Site) (ms : Members) (x : Context) (d : Data) → Surrounds c ms x → is_schema d ≡ false → one_items_row x d ≡ bad_value x (codes "items") (codes "schema")
-no-schema-row c ms x d s other =
-    let alone : takes_list x.site.dialect.draft ≡ false = ap (λ (y : Dialect). takes_list y.draft) (read-dialect x.site.dialect c.draft s.stands.dialect s.draft) in
-    row-else (is_schema d) _ (if takes_list x.site.dialect.draft then schema_list x (codes "items") (codes "schema or list") item_list d else bad_value x (codes "items") (codes "schema")) other
-    ∙ row-else (takes_list x.site.dialect.draft) (schema_list x (codes "items") (codes "schema or list") item_list d) (bad_value x (codes "items") (codes "schema")) alone
+module _ (x : Context) (d : Data) (draft : Draft) (dialect : x.site.dialect ≡ standard draft) (other : is_schema d ≡ false) where
+  takes : (b : Bool) → takes_list draft ≡ b → takes_list x.site.dialect.draft ≡ b
+  takes b e = ap (λ (y : Dialect). takes_list y.draft) dialect ∙ e
+
+  abbrev listed_row : Row
+  listed_row = schema_list x (codes "items") (codes "schema or list") item_list d
+
+  abbrev other_row : Row
+  other_row = if takes_list x.site.dialect.draft then listed_row else bad_value x (codes "items") (codes "schema")
+
+  pub no-schema-row : takes_list draft ≡ false → one_items_row x d ≡ bad_value x (codes "items") (codes "schema")
+  no-schema-row e = row-else (is_schema d) _ other_row other ∙ row-else (takes_list x.site.dialect.draft) listed_row (bad_value x (codes "items") (codes "schema")) (takes false e)
+
+  no-array : {A : Type 0} (f : Items → A) (a : A) (e : Data) → is_some (as_array e) ≡ false → in_list f a e ≡ a
+  no-array f a null h = refl
+  no-array f a (boolean b) h = refl
+  no-array f a (number n) h = refl
+  no-array f a (string t) h = refl
+  no-array f a (array ds) h = absurd (true≢false h)
+  no-array f a (object ms) h = refl
+
+  pub no-list-row : takes_list draft ≡ true → is_some (as_array d) ≡ false → one_items_row x d ≡ bad_value x (codes "items") (codes "schema or list")
+  no-list-row e none =
+      row-else (is_schema d) _ other_row other ∙ row-if (takes_list x.site.dialect.draft) listed_row (bad_value x (codes "items") (codes "schema")) (takes true e)
+      ∙ no-array (λ ds. row_by (λ ss. ss) (λ ss. item_list ss ∷ []) (each_subschema x (codes "items") 0 ds)) (bad_value x (codes "items") (codes "schema or list")) d none
+
+  pub listed-not-yet : counts_here x (codes "items") ≡ true → takes_list draft ≡ true → is_some (as_array d) ≡ true → is_unread x.site x.members (codes "items") d ≡ true
+  listed-not-yet counted e list =
+      ap (λ (b : Bool). b && (not (is_listed (codes "items") read_now) || is_item_list x.site (codes "items") d)) counted
+      ∙ ap (λ (b : Bool). not (is_listed (codes "items") read_now) || (bytes_eq (codes "items") (codes "items") && b && is_some (as_array d))) (takes true e)
+      ∙ list

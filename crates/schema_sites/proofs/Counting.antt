@@ -1,28 +1,15 @@
--- Which keywords count in 2020-12, all of whose vocabularies are in force.
-use Rattle.std.proofs.Common.{◌≡◌, ◌∙◌, refl, sym, ap, ℕ, List, [], ◌∷◌, Bool, true, false, true≢false, not, ◌&&◌, ◌||◌, bytes_eq}
+-- Which keywords count in each draft, all of whose vocabularies are in force.
+use Rattle.std.proofs.Common.{◌≡◌, ◌∙◌, refl, sym, ap, ℕ, List, [], ◌∷◌, Bool, true, false, true≢false, not, ◌&&◌, ◌||◌, bytes_eq, codes}
 use Rattle.std.proofs.lemmas.Slice.Eq.{bytes_eq-Decides}
 use Rattle.std.specs.List.{list_all, list_any}
-use Rattle.schema_drafts.specs.Counts.{of_draft_4, new_in_draft_6, new_in_draft_7, new_in_2019, new_in_2020, gone_in_2020, in_draft_4, in_draft_6, in_draft_7, in_2019, in_2020, in_vocabularies, counts}
-use Rattle.schema_drafts.specs.Drafts.{is_listed}
+use Rattle.schema_drafts.specs.Counts.{of_draft_4, new_in_draft_6, new_in_draft_7, new_in_2019, new_in_2020, gone_in_2020, in_draft_4, in_draft_6, in_draft_7, in_2019, in_2020, is_keyword, in_vocabularies, counts}
+use Rattle.schema_drafts.specs.Drafts.{is_listed, ignores_siblings}
 use Rattle.schema_drafts.specs.Vocabularies.{all_of_draft}
 use Rattle.schema_drafts.specs.declared.draft.Draft.{Draft}
 use Rattle.schema_drafts.specs.declared.draft.Draft.TheVariants.{Draft4, Draft6, Draft7, Draft201909, Draft202012, Unknown}
-use Rattle.schema_documents.specs.Places.{Dialect, standard}
-use Rattle.schema_reading.specs.NotYet.{is_read_draft}
 
-only-read : (draft : Draft) → is_read_draft draft ≡ true → draft ≡ Draft202012
-only-read Draft4 e = absurd (true≢false (sym e))
-only-read Draft6 e = absurd (true≢false (sym e))
-only-read Draft7 e = absurd (true≢false (sym e))
-only-read Draft201909 e = absurd (true≢false (sym e))
-only-read Draft202012 e = refl
-only-read Unknown e = absurd (true≢false (sym e))
-
-pub read-dialect : (x : Dialect) (draft : Draft) → x ≡ standard draft → is_read_draft x.draft ≡ true → x ≡ standard Draft202012
-read-dialect x draft e read = e ∙ ap standard (only-read draft (sym (ap (λ (y : Dialect). is_read_draft y.draft) e) ∙ read))
-
-abbrev in_force : List ℕ → Bool
-in_force k = in_vocabularies Draft202012 all_of_draft k
+abbrev in_force : Draft → List ℕ → Bool
+in_force draft k = in_vocabularies draft all_of_draft k
 
 or-cases : (a b c : Bool) → (a ≡ true → c ≡ true) → (b ≡ true → c ≡ true) → (a || b) ≡ true → c ≡ true
 or-cases true b c f g e = f refl
@@ -44,32 +31,44 @@ listed test k (n ∷ ns) all e =
     (λ same. ap test ((bytes_eq-Decides k n).0 same) ∙ and-first (test n) (list_all test ns) all)
     (λ later. listed test k ns (and-second (test n) (list_all test ns) all) later) e
 
-in-force : (k : List ℕ) → in_2020 k ≡ true → in_force k ≡ true
-in-force k e =
-    let by_4 = listed in_force k of_draft_4 refl in
-    let by_6 = or-cases (in_draft_4 k) (is_listed k new_in_draft_6) (in_force k) by_4 (listed in_force k new_in_draft_6 refl) in
-    let by_7 = or-cases (in_draft_6 k) (is_listed k new_in_draft_7) (in_force k) by_6 (listed in_force k new_in_draft_7 refl) in
-    let by_2019 = or-cases (in_draft_7 k) (is_listed k new_in_2019) (in_force k) by_7 (listed in_force k new_in_2019 refl) in
-    or-cases (in_2019 k && not (is_listed k gone_in_2020)) (is_listed k new_in_2020) (in_force k)
-    (λ h. by_2019 (and-first (in_2019 k) (not (is_listed k gone_in_2020)) h)) (listed in_force k new_in_2020 refl) e
+in-2019 : (k : List ℕ) → in_2019 k ≡ true → in_force Draft201909 k ≡ true
+in-2019 k e =
+    let all = in_force Draft201909 in
+    let by_4 = listed all k of_draft_4 refl in
+    let by_6 = or-cases (in_draft_4 k) (is_listed k new_in_draft_6) (all k) by_4 (listed all k new_in_draft_6 refl) in
+    let by_7 = or-cases (in_draft_6 k) (is_listed k new_in_draft_7) (all k) by_6 (listed all k new_in_draft_7 refl) in
+    or-cases (in_draft_7 k) (is_listed k new_in_2019) (all k) by_7 (listed all k new_in_2019 refl) e
 
-both-true : (a b : Bool) → (a ≡ true → b ≡ true) → (a && b && true) ≡ a
-both-true true b f = ap (λ c. c && true) (f refl)
-both-true false b f = refl
+in-2020 : (k : List ℕ) → in_2020 k ≡ true → in_force Draft202012 k ≡ true
+in-2020 k e =
+    let all = in_force Draft202012 in
+    let by_4 = listed all k of_draft_4 refl in
+    let by_6 = or-cases (in_draft_4 k) (is_listed k new_in_draft_6) (all k) by_4 (listed all k new_in_draft_6 refl) in
+    let by_7 = or-cases (in_draft_6 k) (is_listed k new_in_draft_7) (all k) by_6 (listed all k new_in_draft_7 refl) in
+    let by_2019 = or-cases (in_draft_7 k) (is_listed k new_in_2019) (all k) by_7 (listed all k new_in_2019 refl) in
+    or-cases (in_2019 k && not (is_listed k gone_in_2020)) (is_listed k new_in_2020) (all k)
+    (λ h. by_2019 (and-first (in_2019 k) (not (is_listed k gone_in_2020)) h)) (listed all k new_in_2020 refl) e
 
--- a name counts where it is a keyword of 2020-12
-pub counts-read : (x : Dialect) → x ≡ standard Draft202012 → (beside : Bool) (k : List ℕ) → counts x.draft x.vocabularies beside k ≡ in_2020 k
-counts-read x e beside k = ap (λ (y : Dialect). counts y.draft y.vocabularies beside k) e ∙ both-true (in_2020 k) (in_force k) (in-force k)
+in-force : (draft : Draft) (k : List ℕ) → is_keyword draft k ≡ true → in_force draft k ≡ true
+in-force Draft4 k e = refl
+in-force Draft6 k e = refl
+in-force Draft7 k e = refl
+in-force Draft201909 k e = in-2019 k e
+in-force Draft202012 k e = in-2020 k e
+in-force Unknown k e = in-2020 k e
+
+both-true : (a b c : Bool) → (a ≡ true → b ≡ true) → (a && b && c) ≡ (a && c)
+both-true true b c f = ap (λ d. d && c) (f refl)
+both-true false b c f = refl
+
+-- a keyword of the draft counts where `$ref` beside does not hide it
+pub counts-all : (draft : Draft) (beside : Bool) (k : List ℕ)
+    → counts draft all_of_draft beside k ≡ (is_keyword draft k && (not (ignores_siblings draft && beside) || bytes_eq k (codes "$ref")))
+counts-all draft beside k = both-true (is_keyword draft k) (in_force draft k) _ (in-force draft k)
 
 differ : (xs ys : List ℕ) (b : Bool) → bytes_eq xs ys ≡ b → (xs ≡ ys → ⊥) → b ≡ false
 differ xs ys true e other = absurd (other ((bytes_eq-Decides xs ys).0 e))
 differ xs ys false e other = refl
 
--- a name that is none of the list
-abbrev pub IsNone : List ℕ → List (List ℕ) → Type 0
-IsNone k [] = Unit {0}
-IsNone k (n ∷ ns) = (k ≡ n → ⊥) × IsNone k ns
-
-pub unlisted : (k : List ℕ) (names : List (List ℕ)) → IsNone k names → is_listed k names ≡ false
-unlisted k [] none = refl
-unlisted k (n ∷ ns) none = ap (λ (b : Bool). b || is_listed k ns) (differ k n (bytes_eq k n) refl none.0) ∙ unlisted k ns none.1
+pub differing : (xs ys : List ℕ) → (xs ≡ ys → ⊥) → bytes_eq xs ys ≡ false
+differing xs ys other = differ xs ys (bytes_eq xs ys) refl other

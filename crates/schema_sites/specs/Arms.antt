@@ -1,10 +1,9 @@
 -- The rows of the keywords that are read, each at its own name.
 use Rattle.std.specs.Prelude.{ℕ, List, codes, if◌then◌else◌, Option, Some, None}
 use Rattle.serde_json.specs.Data.{Data, Members, no_members, member}
-use Rattle.serde_json.specs.Find.{as_str}
 use Rattle.schema_documents.specs.Places.{is_schema}
 use Rattle.schema_meaning.specs.Keywords.{types, min_items, properties}
-use Rattle.schema_reading.specs.Rows.{Row, Context, asserted, assertion, counted, items_row, schema_map, ref_row}
+use Rattle.schema_reading.specs.Rows.{Row, Context, asserted, assertion, counted, items_row, schema_map}
 use Rattle.schema_reading.specs.Values.{type_names}
 
 abbrev pub type_row : Context → Data → Row
@@ -18,9 +17,6 @@ one_items_row x d = items_row x (codes "items") d
 
 abbrev pub properties_row : Context → Data → Row
 properties_row x d = schema_map x (codes "properties") properties d
-
-abbrev pub reference_row : Context → Data → Row
-reference_row x d = ref_row x (codes "$ref") (as_str d)
 
 -- the name of the first member that is no schema
 abbrev pub first_other : Members → Option (List ℕ)

@@ -1,4 +1,5 @@
 pub mod Seen
+pub mod References
 pub mod Read
 pub mod Refused
 pub mod Arms

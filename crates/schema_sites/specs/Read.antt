@@ -1,19 +1,19 @@
 -- What the code's keywords stand for at a site.
-use Rattle.std.specs.Prelude.{◌≡◌, ℕ, List, [], ◌∷◌, Bool, true, codes, Ok}
+use Rattle.std.specs.Prelude.{◌≡◌, ℕ, List, [], ◌∷◌, Bool, codes, Ok}
 use Rattle.serde_json.specs.Data.{Data, object, Members, no_members, member}
 use Rattle.serde_json.specs.View.{view, members_view}
 use Rattle.json_paths.specs.Parts.{name}
 use Rattle.schema_documents.specs.Bearers.{Documents}
-use Rattle.schema_meaning.specs.Keywords.{Shape, types, min_items, static, items, properties, reference}
-use Rattle.schema_documents.specs.Lookup.{lookup}
+use Rattle.schema_meaning.specs.Keywords.{Shape, types, min_items, items, properties, reference}
 use Rattle.schema_documents.specs.Scopes.{entered_scope}
 use Rattle.referencing.specs.Resolved.{base_of, scope_of, documents_in, target_in}
 use Rattle.referencing.specs.declared.resolver.Resolved.{Resolved}
 use Rattle.schema_reading.specs.Sites.{Site, below, target_site}
 use Rattle.schema_reading.specs.Rows.{Row, reads, at, assertion, sites_named, Context}
-use Rattle.schema_reading.specs.NotYet.{is_read_draft}
 use Rattle.schema_types.specs.Named.{names_in}
 use Rattle.schema_sites.specs.Seen.{documents_at, Stands}
+use Rattle.schema_sites.specs.References.{kind_of, looked_up, MayBe}
+use Rattle.schema_sites.specs.declared.reference_keyword.ReferenceKeyword.{ReferenceKeyword}
 use Rattle.schema_sites.specs.declared.site.Site as code
 use Rattle.schema_sites.specs.declared.keyword.Keyword.{Keyword}
 use Rattle.schema_sites.specs.declared.keyword.Keyword.TheVariants.{Nothing, Types, MinItems, Items, Properties, Reference}
@@ -29,7 +29,7 @@ shapes_of docs s (Types names) = assertion (types (names_in names))
 shapes_of docs s (MinItems limit) = assertion (min_items limit)
 shapes_of docs s (Items start schema) = items start (below docs s (at (codes "items")) (view schema.now)) ∷ []
 shapes_of docs s (Properties map) = properties (each_below docs s (codes "properties") (members_view map.now.entries)) ∷ []
-shapes_of docs s (Reference text target) = reference static (target_site s text.now (target_in target)) ∷ []
+shapes_of docs s (Reference keyword text target) = reference (kind_of keyword) (target_site s text.now (target_in target)) ∷ []
 
 -- the sites of these
 abbrev pub leads_of : Documents → Site → Keyword → List Site
@@ -38,7 +38,7 @@ leads_of docs s (Types names) = []
 leads_of docs s (MinItems limit) = []
 leads_of docs s (Items start schema) = below docs s (at (codes "items")) (view schema.now) ∷ []
 leads_of docs s (Properties map) = sites_named (each_below docs s (codes "properties") (members_view map.now.entries))
-leads_of docs s (Reference text target) = target_site s text.now (target_in target) ∷ []
+leads_of docs s (Reference keyword text target) = target_site s text.now (target_in target) ∷ []
 
 abbrev pub row_of : Documents → Site → Keyword → Row
 row_of docs s k = reads (leads_of docs s k) (shapes_of docs s k)
@@ -47,20 +47,21 @@ row_of docs s k = reads (leads_of docs s k) (shapes_of docs s k)
 abbrev pub context_at : code.Site → Members → (List ℕ → Bool) → Site → Context
 context_at c ms makes s = record { documents = documents_at c; makes = makes; site = s; members = ms }
 
--- a context of the code's site and of the members of its schema
+-- a context of the code's site, with its scope, and of the members of its schema
 pub record Surrounds (c : code.Site) (ms : Members) (x : Context) : Type 0 where
   pub documents : x.documents ≡ documents_at c
   pub members : x.members ≡ ms
   pub stands : Stands c x.site
-  pub draft : is_read_draft x.site.dialect.draft ≡ true
+  pub scope : x.site.scope ≡ scope_of c.resolver
 
 -- the row that a member has in each of these
 abbrev pub ReadAs : code.Site → Members → (Context → Row) → Keyword → Type 0
 ReadAs c ms row k = (x : Context) → Surrounds c ms x → row x ≡ row_of x.documents x.site k
 
 -- what a reference at a site leads to
-pub record FindsTarget (c : code.Site) (text : List ℕ) (target : Resolved) : Type 0 where
-  pub found : lookup (documents_at c) (base_of c.resolver) text ≡ Ok (target_in target)
+pub record FindsTarget (c : code.Site) (keyword : ReferenceKeyword) (text : List ℕ) (target : Resolved) : Type 0 where
+  pub found : looked_up keyword (documents_at c) (base_of c.resolver) (scope_of c.resolver) text ≡ Ok (target_in target)
+  pub may_be : MayBe keyword text
   pub documents : documents_in target.resolver ≡ documents_in c.resolver
   pub scope : scope_of target.resolver ≡ entered_scope (base_of target.resolver) (base_of c.resolver) (scope_of c.resolver)
 
@@ -71,4 +72,4 @@ Finds c d (Types names) = Unit {0}
 Finds c d (MinItems limit) = Unit {0}
 Finds c d (Items start schema) = d ≡ view schema.now
 Finds c d (Properties map) = d ≡ object (members_view map.now.entries)
-Finds c d (Reference text target) = FindsTarget c text.now target
+Finds c d (Reference keyword text target) = FindsTarget c keyword text.now target

@@ -1,12 +1,12 @@
 -- When a member of a schema is refused.
 use Rattle.std.specs.Prelude.{◌≡◌, ℕ, List, [], ◌∷◌, true, codes}
-use Rattle.serde_json.specs.Data.{Members}
+use Rattle.serde_json.specs.Data.{Data, Members}
 use Rattle.json_paths.specs.Parts.{name}
 use Rattle.schema_meaning.specs.Members.{In}
 use Rattle.schema_documents.specs.Lookup.{LookupCause}
 use Rattle.referencing.specs.Resolved.{target_in}
 use Rattle.referencing_errors.specs.Causes.{NamesLookup}
-use Rattle.schema_reading.specs.Rows.{Row, BuildCause, keyword_value, left_out, bad_reference, Context, place_at, at}
+use Rattle.schema_reading.specs.Rows.{Row, BuildCause, keyword_value, left_out, bad_reference, Context, counts_here, place_at, at}
 use Rattle.schema_reading.specs.NotYet.{is_unread}
 use Rattle.schema_sites.specs.Read.{Surrounds}
 use Rattle.schema_sites.specs.declared.site.Site as code
@@ -19,15 +19,15 @@ pub record IsCause (cause : BuildCause) (row : Row) : Type 0 where
   pub alone : row.shapes ≡ []
 
 -- what a refusal says of a member's row
-abbrev pub Refuses : Context → List ℕ → Row → Refusal → Type 0
-Refuses x k row (refusal.Value expected) = IsCause (keyword_value (place_at x (at k)) expected.now) row
-Refuses x k row (refusal.Subschema n) = IsCause (keyword_value (place_at x (name n.now ∷ name k ∷ [])) (codes "schema")) row
-Refuses x k row (refusal.Target target) = IsCause (keyword_value (record { document = (target_in target).document; path = (target_in target).path }) (codes "schema")) row
-Refuses x k row (refusal.Reference error) = (cause : LookupCause) × NamesLookup cause error × IsCause (bad_reference (place_at x (at k)) cause) row
-Refuses x k row refusal.LeftOut = IsCause (left_out (place_at x (at k))) row
-Refuses x k row refusal.NotYet = is_unread x.site x.members k ≡ true
-Refuses x k row refusal.Memory = Unit {0}
+abbrev pub Refuses : Context → List ℕ → Data → Row → Refusal → Type 0
+Refuses x k d row (refusal.Value expected) = IsCause (keyword_value (place_at x (at k)) expected.now) row
+Refuses x k d row (refusal.Subschema n) = IsCause (keyword_value (place_at x (name n.now ∷ name k ∷ [])) (codes "schema")) row
+Refuses x k d row (refusal.Target target) = IsCause (keyword_value (record { document = (target_in target).document; path = (target_in target).path }) (codes "schema")) row
+Refuses x k d row (refusal.Reference error) = (cause : LookupCause) × NamesLookup cause error × IsCause (bad_reference (place_at x (at k)) cause) row
+Refuses x k d row refusal.LeftOut = IsCause (left_out (place_at x (at k))) row
+Refuses x k d row refusal.NotYet = is_unread x.site x.members k d ≡ true
+Refuses x k d row refusal.Memory = Unit {0}
 
--- the same in each context of a site
-abbrev pub RefusedAs : code.Site → Members → List ℕ → (Context → Row) → Refusal → Type 0
-RefusedAs c ms k row e = (x : Context) → Surrounds c ms x → Refuses x k (row x) e
+-- the same in each context of a site where the keyword counts
+abbrev pub RefusedAs : code.Site → Members → List ℕ → Data → (Context → Row) → Refusal → Type 0
+RefusedAs c ms k d row e = (x : Context) → Surrounds c ms x → counts_here x k ≡ true → Refuses x k d (row x) e

@@ -1,9 +1,13 @@
 -- What the code's sites stand for.
-use Rattle.std.specs.Prelude.{◌≡◌, [], ◌∷◌}
+use Rattle.std.specs.Prelude.{◌≡◌, ℕ, List, [], ◌∷◌, Bool, if◌then◌else◌, Option, None}
+use Rattle.serde_json.specs.Data.{Data, Members}
+use Rattle.serde_json.specs.Find.{get_member}
 use Rattle.serde_json.specs.View.{view}
+use Rattle.schema_drafts.specs.Counts.{counts}
 use Rattle.schema_documents.specs.Places.{standard}
 use Rattle.schema_documents.specs.Bearers.{Documents}
 use Rattle.referencing.specs.Resolved.{base_of, documents_in}
+use Rattle.schema_reading.specs.Rows.{has_reference}
 use Rattle.schema_reading.specs.Sites.{Site}
 use Rattle.schema_sites.specs.declared.site.Site as code
 
@@ -16,3 +20,11 @@ pub record Stands (c : code.Site) (s : Site) : Type 0 where
   pub contents : s.contents ≡ view c.contents.now
   pub base : s.base ≡ base_of c.resolver
   pub dialect : s.dialect ≡ standard c.draft
+
+-- whether a keyword counts there, `$ref` beside or not
+abbrev pub counts_at : code.Site → Bool → List ℕ → Bool
+counts_at c beside_ref k = counts (standard c.draft).draft (standard c.draft).vocabularies beside_ref k
+
+-- a neighbour among the members of its schema, where it counts
+abbrev pub beside_at : code.Site → Members → List ℕ → Option Data
+beside_at c ms k = if counts_at c (has_reference ms) k then get_member k ms else None

@@ -1,5 +1,6 @@
 //! What the members of schemas are.
 
+use crate::reference_keyword::ReferenceKeyword;
 use referencing::{Error, Resolved};
 use schema_types::TypeNames;
 use serde_json::{Map, Value};
@@ -14,7 +15,12 @@ pub enum Keyword<'r> {
     /// One schema for the items from `start` on, which is the length of the list at `prefixItems` beside.
     Items { start: usize, schema: &'r Value },
     Properties(&'r Map<String, Value>),
-    Reference { text: &'r str, target: Resolved<'r> },
+    /// A reference with what it leads to, which for those by the dynamic scope depends on the site's.
+    Reference {
+        keyword: ReferenceKeyword,
+        text: &'r str,
+        target: Resolved<'r>,
+    },
 }
 
 /// Why a member is refused.
@@ -30,7 +36,7 @@ pub enum Refusal<'r> {
     Reference(Error),
     /// The keyword is left out.
     LeftOut,
-    /// The keyword is not read yet.
+    /// The keyword is not read yet, or not with such a value.
     NotYet,
     /// Memory was refused, or a count of owners is full.
     Memory,

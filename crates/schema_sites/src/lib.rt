@@ -3,5 +3,6 @@
 
 pub mod keyword;
 pub mod reading;
+pub mod reference_keyword;
 mod referred;
 pub mod site;

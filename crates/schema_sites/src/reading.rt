@@ -1,21 +1,24 @@
 //! What a member of a schema is, read from its value and its neighbours.
 
-ghost use Rattle.std.specs.Prelude.{◌≡◌, List, ℕ, Bool, IfOk, IfErr, OnOk, codes, false, true, Some, option_map};
-ghost use Rattle.serde_json.specs.Find.{get_member};
+ghost use Rattle.std.specs.Prelude.{◌≡◌, List, ℕ, Bool, IfOk, IfErr, OnOk, codes, false, true, Some, None, is_some, option_map};
+ghost use Rattle.serde_json.specs.Data.{Data, Members};
+ghost use Rattle.serde_json.specs.Find.{get_member, as_array};
 ghost use Rattle.serde_json.specs.View.{view, members_view};
-ghost use Rattle.schema_drafts.specs.Counts.{in_2020};
-ghost use Rattle.schema_meaning.specs.Members.{is_listed};
-ghost use Rattle.schema_reading.specs.NotYet.{is_read_draft, is_unread};
+ghost use Rattle.schema_documents.specs.Places as places;
+ghost use Rattle.referencing.specs.Resolved.{scope_of};
+ghost use Rattle.schema_reading.specs.NotYet.{is_unread};
 ghost use Rattle.schema_reading.specs.Rows as rows;
 ghost use Rattle.schema_reading.specs.Sites as sites;
 ghost use Rattle.schema_sites.specs.Arms as arms;
-ghost use Rattle.schema_sites.specs.Read.{row_of, context_at, ReadAs, Finds};
+ghost use Rattle.schema_sites.specs.Read.{row_of, context_at, ReadAs, Finds, Surrounds};
+ghost use Rattle.schema_sites.specs.References as references;
 ghost use Rattle.schema_sites.specs.Refused.{Refuses, RefusedAs};
-ghost use Rattle.schema_sites.specs.Seen.{documents_at, Stands};
+ghost use Rattle.schema_sites.specs.Seen.{documents_at, Stands, beside_at};
 ghost use Rattle.schema_sites.specs.declared.site.Site as code;
 
 use crate::keyword::{Keyword, Refusal};
-use crate::referred::led_to;
+use crate::reference_keyword::ReferenceKeyword;
+use crate::referred::{led_to, look_up};
 use crate::site::Site;
 use schema_drafts::draft::Draft;
 use schema_places::place::is_schema;
@@ -26,7 +29,7 @@ use std::alloc::Global;
 fn types<'r>(alloc: Global, value: &Value) -> Result<Keyword<'r>, Refusal<'r>>
     ensures read { IfOk result (λ k. (x : rows.Context) → arms.type_row x (view value.now) ≡ row_of x.documents x.site k) }
     ensures found { IfOk result (λ k. (c : code.Site) → Finds c (view value.now) k) }
-    ensures refused { IfErr result (λ e. (x : rows.Context) → Refuses x (codes "type") (arms.type_row x (view value.now)) e) }
+    ensures refused { IfErr result (λ e. (x : rows.Context) → Refuses x (codes "type") (view value.now) (arms.type_row x (view value.now)) e) }
 {
     match read_type_names(alloc, value)? {
         Some(names) => Ok(Keyword::Types(names)),
@@ -39,7 +42,7 @@ fn types<'r>(alloc: Global, value: &Value) -> Result<Keyword<'r>, Refusal<'r>>
 fn least_items<'r>(value: &Value) -> Result<Keyword<'r>, Refusal<'r>>
     ensures read { IfOk result (λ k. (x : rows.Context) → arms.min_items_row x (view value.now) ≡ row_of x.documents x.site k) }
     ensures found { IfOk result (λ k. (c : code.Site) → Finds c (view value.now) k) }
-    ensures refused { IfErr result (λ e. (x : rows.Context) → Refuses x (codes "minItems") (arms.min_items_row x (view value.now)) e) }
+    ensures refused { IfErr result (λ e. (x : rows.Context) → Refuses x (codes "minItems") (view value.now) (arms.min_items_row x (view value.now)) e) }
 {
     match value.as_u64() {
         Some(limit) => Ok(Keyword::MinItems(limit)),
@@ -62,13 +65,66 @@ fn list_length(value: &Value) -> usize
     }
 }
 
-// The length of the list at `prefixItems`.
-fn prefix_length(members: &Map<String, Value>) -> usize
-    ensures { result ≡ rows.length_of_list (get_member (codes "prefixItems") (members_view members.now.entries)) }
+fn has_reference(members: &Map<String, Value>) -> bool
+    ensures { result ≡ rows.has_reference (members_view members.now.entries) }
 {
-    match member_at(members, "prefixItems") {
+    member_at(members, "$ref").is_some()
+}
+
+// The member of a name, where it counts.
+fn beside<'m>(
+    site: &Site<'_>,
+    members: &'m Map<String, Value>,
+    name: &str,
+) -> Option<&'m Value>
+    ensures { option_map (λ v. view v.now) result ≡ beside_at site.now (members_view members.now.entries) name.now }
+{
+    if site.counts(has_reference(members), name) {
+        member_at(members, name)
+    } else {
+        None
+    }
+}
+
+// The length of the list at `prefixItems`, where it counts.
+fn prefix_length(site: &Site<'_>, members: &Map<String, Value>) -> usize
+    ensures { result ≡ rows.length_of_list (beside_at site.now (members_view members.now.entries) (codes "prefixItems")) }
+{
+    match beside(site, members, "prefixItems") {
         Some(value) => list_length(value),
         None => 0,
+    }
+}
+
+// Whether `items` may be a list (2019-09, Core 9.3.1.1).
+fn takes_list(draft: Draft) -> bool
+    ensures { result ≡ rows.takes_list draft }
+{
+    match draft {
+        Draft::Draft4 | Draft::Draft6 | Draft::Draft7 | Draft::Draft201909 => true,
+        Draft::Draft202012 | Draft::Unknown => false,
+    }
+}
+
+fn is_list(value: &Value) -> bool
+    ensures { result ≡ is_some (as_array (view value.now)) }
+{
+    value.as_array().is_some()
+}
+
+// Why `items` that is no schema is refused.
+fn other_items<'r>(draft: Draft, value: &Value) -> Refusal<'r>
+    requires other { places.is_schema (view value.now) ≡ false }
+    ensures { (x : rows.Context) → x.site.dialect ≡ places.standard draft → rows.counts_here x (codes "items") ≡ true → Refuses x (codes "items") (view value.now) (arms.one_items_row x (view value.now)) result }
+{
+    if !takes_list(draft) {
+        return Refusal::Value { expected: "schema" };
+    }
+    if is_list(value) {
+        return Refusal::NotYet;
+    }
+    Refusal::Value {
+        expected: "schema or list",
     }
 }
 
@@ -78,16 +134,17 @@ fn items<'r>(
     value: &'r Value,
 ) -> Result<Keyword<'r>, Refusal<'r>>
     ensures read { IfOk result (ReadAs site.now (members_view members.now.entries) (λ x. arms.one_items_row x (view value.now))) }
+    ensures schema { IfOk result (λ k. places.is_schema (view value.now) ≡ true) }
     ensures found { IfOk result (λ k. Finds site.now (view value.now) k) }
-    ensures refused { IfErr result (RefusedAs site.now (members_view members.now.entries) (codes "items") (λ x. arms.one_items_row x (view value.now))) }
+    ensures refused { IfErr result (RefusedAs site.now (members_view members.now.entries) (codes "items") (view value.now) (λ x. arms.one_items_row x (view value.now))) }
 {
     if is_schema(value) {
         Ok(Keyword::Items {
-            start: prefix_length(members),
+            start: prefix_length(site, members),
             schema: value,
         })
     } else {
-        Err(Refusal::Value { expected: "schema" })
+        Err(other_items(site.draft, value))
     }
 }
 
@@ -106,7 +163,7 @@ fn first_other<'m>(map: &'m Map<String, Value>) -> Option<&'m str>
 fn properties<'r>(value: &'r Value) -> Result<Keyword<'r>, Refusal<'r>>
     ensures read { IfOk result (λ k. (x : rows.Context) → arms.properties_row x (view value.now) ≡ row_of x.documents x.site k) }
     ensures found { IfOk result (λ k. (c : code.Site) → Finds c (view value.now) k) }
-    ensures refused { IfErr result (λ e. (x : rows.Context) → Refuses x (codes "properties") (arms.properties_row x (view value.now)) e) }
+    ensures refused { IfErr result (λ e. (x : rows.Context) → Refuses x (codes "properties") (view value.now) (arms.properties_row x (view value.now)) e) }
 {
     let Some(map) = value.as_object() else {
         return Err(Refusal::Value { expected: "object" });
@@ -117,41 +174,78 @@ fn properties<'r>(value: &'r Value) -> Result<Keyword<'r>, Refusal<'r>>
     }
 }
 
-fn reference<'r>(
-    alloc: Global,
-    site: &Site<'r>,
-    members: &Map<String, Value>,
-    value: &'r Value,
-) -> Result<Keyword<'r>, Refusal<'r>>
-    ensures read { IfOk result (ReadAs site.now (members_view members.now.entries) (λ x. arms.reference_row x (view value.now))) }
-    ensures found { IfOk result (λ k. Finds site.now (view value.now) k) }
-    ensures refused { IfErr result (RefusedAs site.now (members_view members.now.entries) (codes "$ref") (λ x. arms.reference_row x (view value.now))) }
+fn hash_text(value: &Value) -> Result<&str, &'static str>
+    ensures said { IfOk result (λ t. references.Says ReferenceKeyword.RecursiveRef (view value.now) t.now) }
+    ensures refused { IfErr result (λ word. (x : rows.Context) → references.reference_row ReferenceKeyword.RecursiveRef x (view value.now) ≡ rows.bad_value x (codes "$recursiveRef") word.now) }
 {
     let Some(text) = value.as_str() else {
-        return Err(Refusal::Value { expected: "text" });
+        return Err("text #");
     };
-    let target = site.resolver.lookup(text)?;
-    led_to(alloc, text, target)
+    if text == "#" { Ok(text) } else { Err("text #") }
 }
 
-// A name that is none of those that are read.
-fn other<'r>(name: &str) -> Result<Keyword<'r>, Refusal<'r>>
-    ensures read { IfOk result (λ k. in_2020 name.now ≡ false) }
-    ensures nothing { IfOk result (λ k. k ≡ Keyword.Nothing) }
-    ensures refused { IfErr result (λ e. in_2020 name.now ≡ true) }
-    ensures not_yet { IfErr result (λ e. e ≡ Refusal.NotYet) }
+// The text of a reference, or what was expected.
+fn reference_text(keyword: ReferenceKeyword, value: &Value) -> Result<&str, &'static str>
+    ensures said { IfOk result (λ t. references.Says keyword (view value.now) t.now) }
+    ensures refused { IfErr result (λ word. (x : rows.Context) → references.reference_row keyword x (view value.now) ≡ rows.bad_value x (references.name_of keyword) word.now) }
 {
-    if Draft::Draft202012.has_keyword(name) {
-        Err(Refusal::NotYet)
-    } else {
-        Ok(Keyword::Nothing)
+    match keyword {
+        ReferenceKeyword::Ref | ReferenceKeyword::DynamicRef => match value.as_str() {
+            Some(text) => Ok(text),
+            None => Err("text"),
+        },
+        ReferenceKeyword::RecursiveRef => hash_text(value),
     }
 }
 
-/// What a member of a site's schema is, by 2020-12: a keyword that is read, or nothing where its name is no keyword.
+fn reference<'r>(
+    alloc: Global,
+    site: &Site<'r>,
+    keyword: ReferenceKeyword,
+    value: &'r Value,
+) -> Result<Keyword<'r>, Refusal<'r>>
+    ensures read { IfOk result (λ k. (ms : Members) → ReadAs site.now ms (λ x. references.reference_row keyword x (view value.now)) k) }
+    ensures found { IfOk result (λ k. Finds site.now (view value.now) k) }
+    ensures refused { IfErr result (λ e. (ms : Members) → RefusedAs site.now ms (references.name_of keyword) (view value.now) (λ x. references.reference_row keyword x (view value.now)) e) }
+{
+    match reference_text(keyword, value) {
+        Ok(text) => {
+            let target = look_up(&site.resolver, keyword, text)?;
+            led_to(alloc, keyword, text, target)
+        }
+        Err(expected) => Err(Refusal::Value { expected }),
+    }
+}
+
+// What a member is whose name counts and is no reference's.
+fn counted<'r>(
+    alloc: Global,
+    site: &Site<'r>,
+    members: &'r Map<String, Value>,
+    name: &str,
+    value: &'r Value,
+) -> Result<Keyword<'r>, Refusal<'r>>
+    requires other { references.named name.now ≡ None }
+    ensures read { IfOk result (λ k. (x : rows.Context) → Surrounds site.now (members_view members.now.entries) x → rows.counts_here x name.now ≡ true → rows.row_at x name.now (view value.now) ≡ row_of x.documents x.site k) }
+    ensures counted { IfOk result (λ k. (s : sites.Site) (ms : Members) → is_unread s ms name.now (view value.now) ≡ false) }
+    ensures found { IfOk result (λ k. Finds site.now (view value.now) k) }
+    ensures refused { IfErr result (λ e. (x : rows.Context) → Surrounds site.now (members_view members.now.entries) x → rows.counts_here x name.now ≡ true → Refuses x name.now (view value.now) (rows.row_at x name.now (view value.now)) e) }
+{
+    match name {
+        "type" => types(alloc, value),
+        "minItems" => least_items(value),
+        "items" => items(site, members, value),
+        "properties" => properties(value),
+        "unevaluatedItems" => Err(Refusal::LeftOut),
+        "unevaluatedProperties" => Err(Refusal::LeftOut),
+        _ => Err(Refusal::NotYet),
+    }
+}
+
+/// What a member of a site's schema is, by its draft: a keyword that is read, or nothing where it does not count.
 ///
-/// It compares the name with those of the keywords. It copies no part of the schema but the names of types; a reference is looked up,
-/// and each member of `properties` is looked at once.
+/// It compares the name with those of the draft's keywords. It copies no part of the schema but the names of types; a reference is
+/// looked up, and each member of `properties` is looked at once. Of a keyword that does not count the value is not looked at.
 ///
 /// # Errors
 ///
@@ -164,19 +258,16 @@ pub fn keyword<'r>(
     name: &str,
     value: &'r Value,
 ) -> Result<Keyword<'r>, Refusal<'r>>
-    ensures read { IfOk result (λ k. (makes : List ℕ → Bool) (s : sites.Site) → Stands site.now s → is_read_draft s.dialect.draft ≡ true → rows.row_at (context_at site.now (members_view members.now.entries) makes s) name.now (view value.now) ≡ row_of (documents_at site.now) s k) }
-    ensures counted { IfOk result (λ k. (s : sites.Site) → Stands site.now s → is_read_draft s.dialect.draft ≡ true → is_unread s (members_view members.now.entries) name.now ≡ false) }
+    ensures read { IfOk result (λ k. (makes : List ℕ → Bool) (s : sites.Site) → Stands site.now s → s.scope ≡ scope_of site.now.resolver → rows.row_at (context_at site.now (members_view members.now.entries) makes s) name.now (view value.now) ≡ row_of (documents_at site.now) s k) }
+    ensures counted { IfOk result (λ k. (s : sites.Site) → Stands site.now s → is_unread s (members_view members.now.entries) name.now (view value.now) ≡ false) }
     ensures found { IfOk result (λ k. Finds site.now (view value.now) k) }
-    ensures refused { IfErr result (λ e. (makes : List ℕ → Bool) (s : sites.Site) → Stands site.now s → is_read_draft s.dialect.draft ≡ true → Refuses (context_at site.now (members_view members.now.entries) makes s) name.now (rows.row_at (context_at site.now (members_view members.now.entries) makes s) name.now (view value.now)) e) }
+    ensures refused { IfErr result (λ e. (makes : List ℕ → Bool) (s : sites.Site) → Stands site.now s → s.scope ≡ scope_of site.now.resolver → Refuses (context_at site.now (members_view members.now.entries) makes s) name.now (view value.now) (rows.row_at (context_at site.now (members_view members.now.entries) makes s) name.now (view value.now)) e) }
 {
-    match name {
-        "$ref" => reference(alloc, site, members, value),
-        "type" => types(alloc, value),
-        "minItems" => least_items(value),
-        "items" => items(site, members, value),
-        "properties" => properties(value),
-        "unevaluatedItems" => Err(Refusal::LeftOut),
-        "unevaluatedProperties" => Err(Refusal::LeftOut),
-        _ => other(name),
+    if !site.counts(has_reference(members), name) {
+        return Ok(Keyword::Nothing);
+    }
+    match ReferenceKeyword::named(name) {
+        Some(found) => reference(alloc, site, found, value),
+        None => counted(alloc, site, members, name, value),
     }
 }

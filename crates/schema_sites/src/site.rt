@@ -1,6 +1,6 @@
 //! Sites: schemas met on the way from a root.
 
-ghost use Rattle.std.specs.Prelude.{◌≡◌, ◌∷◌, [], ◌&&◌, ℕ, List, IfOk, false, not};
+ghost use Rattle.std.specs.Prelude.{◌≡◌, ◌∷◌, [], ℕ, List, IfOk, false, not};
 ghost use Rattle.serde_json.specs.View.{view};
 ghost use Rattle.json_paths.specs.Parts.{Part};
 ghost use Rattle.schema_documents.specs.Places.{standard};
@@ -8,7 +8,7 @@ ghost use Rattle.schema_documents.specs.Scopes.{entered_scope};
 ghost use Rattle.referencing.specs.Resolved.{base_of, scope_of, documents_in, target_in};
 ghost use Rattle.schema_reading.specs.Sites as sites;
 ghost use Rattle.schema_reading.specs.NotYet as spec;
-ghost use Rattle.schema_sites.specs.Seen.{documents_at, Stands};
+ghost use Rattle.schema_sites.specs.Seen.{documents_at, Stands, counts_at};
 
 use referencing::{Resolved, Resolver};
 use schema_drafts::draft::{Draft, draft_named};
@@ -93,10 +93,20 @@ impl<'r> Site<'r> {
         })
     }
 
-    /// Whether the schema is read: by 2020-12, and not by a meta-schema of its own.
-    pub fn is_read(&self) -> bool
-        ensures { result ≡ (spec.is_read_draft self.now.draft && not (spec.awaits_its_own (view self.now.contents.now))) }
+    /// Whether a keyword counts here, where `$ref` stands beside it or not (Core 8.1.2).
+    ///
+    /// It compares the name with those of the draft's keywords.
+    pub fn counts(&self, has_reference: bool, name: &str) -> bool
+        ensures { result ≡ counts_at self.now has_reference name.now }
     {
-        self.draft == Draft::Draft202012 && !awaits_its_own(self.contents)
+        let is_hidden = self.draft.ignores_siblings() && has_reference;
+        self.draft.has_keyword(name) && (!is_hidden || name == "$ref")
+    }
+
+    /// Whether the schema is read: not where it has a meta-schema of its own.
+    pub fn is_read(&self) -> bool
+        ensures { result ≡ not (spec.awaits_its_own (view self.now.contents.now)) }
+    {
+        !awaits_its_own(self.contents)
     }
 }
