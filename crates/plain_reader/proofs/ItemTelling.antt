@@ -1,5 +1,5 @@
 -- What the children of a site tell: by `items` and by `properties`.
-use Rattle.std.proofs.Common.{◌≡◌, ◌≤◌, ◌<◌, ◌+◌, ◌*◌, ◌++◌, ◌&&◌, ℕ, zero, suc, List, [], ◌∷◌, Bool, true, false, not, if◌then◌else◌, Option, Some, None, Ordering, Less, Equal, Greater, nat_cmp, is_eq, Result, Ok, Err, OnOk, codes, drop, refl, sym, ap, ap₂, subst, ◌∙◌, arith}
+use Rattle.std.proofs.Common.{◌≡◌, ◌≤◌, ◌<◌, ◌+◌, ◌*◌, ◌++◌, ℕ, zero, suc, List, [], ◌∷◌, false, Option, Some, None, Ordering, Less, Equal, Greater, nat_cmp, is_eq, codes, drop, refl, sym, ap, ap₂, subst, ◌∙◌, arith}
 use Rattle.std.specs.Ordering.{match_ordering}
 use Rattle.std.specs.Cmp.Lexicographic.{slice_cmp}
 use Rattle.std.proofs.lemmas.Slice.Eq.{bytes_eq-Decides}
@@ -14,12 +14,10 @@ use Rattle.schema_documents.specs.Places.{Dialect, Named, settled, awaited, plac
 use Rattle.schema_documents.specs.Scopes.{entered_scope}
 use Rattle.schema_meaning.specs.Members.{In, first, later}
 use Rattle.schema_meaning.specs.Places.{Spot, Step, to_item, to_member, after, Key}
-use Rattle.schema_meaning.specs.Faults.{Faults, none, joined}
+use Rattle.schema_meaning.specs.Faults.{Faults, joined}
 use Rattle.schema_meaning.specs.Questions.{Question, question, at, at_name, each_item, items_from, if_member}
 use Rattle.schema_reading.specs.Sites.{Site, below, path_of_reference}
-use Rattle.schema_reading.specs.Rows.{Place}
-use Rattle.schema_reading.specs.NotYet.{is_read_draft, awaits_its_own, place_of, unread, unread_in}
-use Rattle.schema_reading.specs.BuildCauses.{at_root}
+use Rattle.schema_reading.specs.NotYet.{awaits_its_own}
 use Rattle.schema_reading.specs.AllKeys.{spots_in, spots_of_items, spots_of_members}
 use Rattle.schema_reading.specs.Plain.{deepest}
 use Rattle.referencing.specs.Resolved.{base_of, scope_of}

@@ -8,14 +8,15 @@ use Rattle.schema_meaning.specs.Places.{Key}
 use Rattle.schema_meaning.specs.Faults.{FalseSchema, fault, Faults, none, also, joined}
 use Rattle.schema_meaning.specs.Rules.{own_faults}
 use Rattle.schema_meaning.specs.Questions.{Question, at, listed_members}
-use Rattle.schema_meaning.specs.Keywords.{Shape, Assertion, items, properties, reference, never, named, wrong, static}
+use Rattle.schema_meaning.specs.Keywords.{Shape, Reference, Assertion, items, properties, reference, never, named, wrong, reference_name}
 use Rattle.schema_meaning.specs.Readings.{bags}
 use Rattle.schema_meaning.specs.Cut.{cut_within}
 use Rattle.schema_documents.specs.Lookup.{Target}
 use Rattle.schema_reading.specs.Sites.{Site, target_site}
 use Rattle.schema_reading.specs.Rows.{Row, Context, row_at, assertion, rows_in}
-use Rattle.schema_reading.specs.NotYet.{is_unread, is_read_draft}
+use Rattle.schema_reading.specs.NotYet.{is_unread}
 use Rattle.schema_reading.specs.Plain.{keywords_at}
+use Rattle.referencing.specs.Resolved.{scope_of}
 use Rattle.schema_sites.specs.Seen.{documents_at, Stands}
 use Rattle.schema_sites.specs.Read.{row_of, context_at}
 use Rattle.schema_sites.specs.Refused.{Refuses}
@@ -80,24 +81,23 @@ module _ (c : code.Site) (whole d : Data) (roads : Roads) (progress : List Key) 
   tells_properties k ms old new led shaped told = tells_questions k (properties_leads ms) (properties_questions ms d) old new led
       (λ x is. ap (told_by x) (shaped x) ∙ told_by-properties x (declared_in ms x) ∙ ap (λ v. asked_by x (properties_questions ms v x)) is) told
 
-  pub tells_reference : (k : Keyword) (text : List ℕ) (target : Target) (old new : Observer) → ((x : Setting) → keyword_leads k x ≡ reference_leads text target x)
-      → ((x : Setting) → keyword_shapes k x ≡ reference static (target_site x.site text target) ∷ [])
-      → TellsQuestions c whole d roads progress (reference_leads text target) (reference_questions text target) old new
+  pub tells_reference : (k : Keyword) (kind : Reference) (text : List ℕ) (target : Target) (old new : Observer) → ((x : Setting) → keyword_leads k x ≡ reference_leads text target x)
+      → ((x : Setting) → keyword_shapes k x ≡ reference kind (target_site x.site text target) ∷ [])
+      → TellsQuestions c whole d roads progress (reference_leads text target) (reference_questions (reference_name kind) text target) old new
       → TellsShapes c whole d roads progress (keyword_leads k) (keyword_shapes k) old new
-  tells_reference k text target old new led shaped told = tells_questions k (reference_leads text target) (reference_questions text target) old new led
-      (λ x is. ap (told_by x) (shaped x) ∙ told_by-reference x static (target_site x.site text target) ∙ sym (asked_by-more x _ [] ∙ ap (joined _) (asked_by-none x) ∙ joined-none _)) told
+  tells_reference k kind text target old new led shaped told = tells_questions k (reference_leads text target) (reference_questions (reference_name kind) text target) old new led
+      (λ x is. ap (told_by x) (shaped x) ∙ told_by-reference x kind (target_site x.site text target) ∙ sym (asked_by-more x _ [] ∙ ap (joined _) (asked_by-none x) ∙ joined-none _)) told
 
   -- ---- a member, by its keyword
 
   pub tells_member : (ms : Members) (k : List ℕ) (e : Data) (word : Keyword) (old new : Observer) → view c.contents.now ≡ object ms → In (k, e) (listed_members ms)
-      → ((makes : List ℕ → Bool) (s : Site) → Stands c s → is_read_draft s.dialect.draft ≡ true → row_at (context_at c ms makes s) k e ≡ row_of (documents_at c) s word)
+      → ((makes : List ℕ → Bool) (s : Site) → Stands c s → s.scope ≡ scope_of c.resolver → row_at (context_at c ms makes s) k e ≡ row_of (documents_at c) s word)
       → TellsShapes c whole d roads progress (keyword_leads word) (keyword_shapes word) old new
       → TellsShapes c whole d roads progress no_leads (shapes_at ms k e) old new
   tells_member ms k e word old new is listed reads told = record {
     tells = λ x fits none deep kept fs h.
-        let here = is_read x.site (read_here x.documents x.makes x.site fits.read) in
         let row : row_at (context_in ms x) k e ≡ row_of x.documents x.site word =
-        subst (λ docs. row_at (record { documents = docs; makes = x.makes; site = x.site; members = ms }) k e ≡ row_of docs x.site word) (sym fits.documents) (reads x.makes x.site fits.stands here.draft) in
+        subst (λ docs. row_at (record { documents = docs; makes = x.makes; site = x.site; members = ms }) k e ≡ row_of docs x.site word) (sym fits.documents) (reads x.makes x.site fits.stands fits.scope) in
         let lies = row_here x.documents x.makes x.site ms k e (fits.stands.contents ∙ is) listed in
         let read : (t : Site) → In t (keyword_leads word x) → AreRead x.documents x.makes t =
         λ t i. read_on x.documents x.makes x.site (row_at (context_in ms x) k e) t fits.read lies (subst (λ r. In t r.leads) (sym row) i) in
@@ -106,24 +106,24 @@ module _ (c : code.Site) (whole d : Data) (roads : Roads) (progress : List Key) 
 
 -- ---- a member that is refused
 
-refused_shapes : (x : Context) (k : List ℕ) (row : Row) (r : Refusal) → Refuses x k row r → (r ≡ refusal.Memory → ⊥) → is_unread x.site x.members k ≡ false → row.shapes ≡ []
-refused_shapes x k row (refusal.Value expected) h other read = h.alone
-refused_shapes x k row (refusal.Subschema n) h other read = h.alone
-refused_shapes x k row (refusal.Target target) h other read = h.alone
-refused_shapes x k row (refusal.Reference error) h other read = h.2.alone
-refused_shapes x k row refusal.LeftOut h other read = h.alone
-refused_shapes x k row refusal.NotYet h other read = absurd (cc)
-refused_shapes x k row refusal.Memory h other read = absurd (other refl)
+refused_shapes : (x : Context) (k : List ℕ) (d : Data) (row : Row) (r : Refusal) → Refuses x k d row r → (r ≡ refusal.Memory → ⊥) → is_unread x.site x.members k d ≡ false → row.shapes ≡ []
+refused_shapes x k d row (refusal.Value expected) h other read = h.alone
+refused_shapes x k d row (refusal.Subschema n) h other read = h.alone
+refused_shapes x k d row (refusal.Target target) h other read = h.alone
+refused_shapes x k d row (refusal.Reference error) h other read = h.2.alone
+refused_shapes x k d row refusal.LeftOut h other read = h.alone
+refused_shapes x k d row refusal.NotYet h other read = absurd (cc)
+refused_shapes x k d row refusal.Memory h other read = absurd (other refl)
 
 module _ (c : code.Site) (whole d : Data) (roads : Roads) (progress : List Key) where
   pub tells_refused : (ms : Members) (k : List ℕ) (e : Data) (r : Refusal) (o : Observer) → view c.contents.now ≡ object ms → In (k, e) (listed_members ms) → (r ≡ refusal.Memory → ⊥)
-      → ((makes : List ℕ → Bool) (s : Site) → Stands c s → is_read_draft s.dialect.draft ≡ true → Refuses (context_at c ms makes s) k (row_at (context_at c ms makes s) k e) r)
+      → ((makes : List ℕ → Bool) (s : Site) → Stands c s → s.scope ≡ scope_of c.resolver → Refuses (context_at c ms makes s) k e (row_at (context_at c ms makes s) k e) r)
       → TellsShapes c whole d roads progress no_leads (shapes_at ms k e) o o
   tells_refused ms k e r o is listed other refuses = tells_nothing c whole d roads progress no_leads (shapes_at ms k e) o
       λ x fits.
       let here = is_read x.site (read_here x.documents x.makes x.site fits.read) in
       let counted = read_each x.site ms k e here (fits.stands.contents ∙ is) listed in
-      let none = refused_shapes (context_at c ms x.makes x.site) k (row_at (context_at c ms x.makes x.site) k e) r (refuses x.makes x.site fits.stands here.draft) other counted in
+      let none = refused_shapes (context_at c ms x.makes x.site) k e (row_at (context_at c ms x.makes x.site) k e) r (refuses x.makes x.site fits.stands fits.scope) other counted in
       subst (λ docs. (row_at (record { documents = docs; makes = x.makes; site = x.site; members = ms }) k e).shapes ≡ []) (sym fits.documents) none
 
 -- ---- a site

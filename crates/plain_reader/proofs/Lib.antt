@@ -2,6 +2,7 @@ pub mod ToldLemmas
 pub mod Left
 pub mod LeftLemmas
 pub mod MemberTelling
+pub mod LookedLemmas
 pub mod TargetTelling
 pub mod RootTelling
 pub mod ItemTelling

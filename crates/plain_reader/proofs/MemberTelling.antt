@@ -1,9 +1,9 @@
 -- What the members of a schema tell, one after another.
-use Rattle.std.proofs.Common.{◌≡◌, ℕ, List, refl, sym, ap, ◌∙◌, subst}
+use Rattle.std.proofs.Common.{ℕ, List}
 use Rattle.serde_json.specs.Data.{Data, Members, no_members, member}
 use Rattle.schema_meaning.specs.Members.{In, first, later}
 use Rattle.schema_meaning.specs.Places.{Key}
-use Rattle.schema_meaning.specs.Faults.{Faults, none, joined}
+use Rattle.schema_meaning.specs.Faults.{Faults, joined}
 use Rattle.schema_meaning.specs.Questions.{listed_members}
 use Rattle.schema_sites.specs.declared.site.Site as code
 use Rattle.schema_reports.specs.Observers.{Hears}

@@ -1,5 +1,5 @@
 -- The schemas that are read, and what that says of their members.
-use Rattle.std.proofs.Common.{◌≡◌, ◌<◌, ◌≤◌, ℕ, List, [], ◌∷◌, Bool, true, false, not, ◌&&◌, if◌then◌else◌, refl, sym, ap, arith, subst}
+use Rattle.std.proofs.Common.{◌≡◌, ◌<◌, ◌≤◌, ℕ, List, [], ◌∷◌, Bool, true, false, if◌then◌else◌, refl, sym, ap, arith, subst}
 use Rattle.std.specs.List.{flat_map}
 use Rattle.serde_json.specs.Data.{Data, object, Members, no_members, member, depth, members_depth}
 use Rattle.schema_meaning.specs.Members.{In, first, later}
@@ -7,7 +7,7 @@ use Rattle.schema_meaning.specs.Questions.{listed_members}
 use Rattle.schema_documents.specs.Bearers.{Documents}
 use Rattle.schema_reading.specs.Sites.{Site}
 use Rattle.schema_reading.specs.Rows.{Row, Place, Context, row_at, rows_of, rows_at, rows_in}
-use Rattle.schema_reading.specs.NotYet.{unread, unread_in, unread_members, is_unread, is_read_draft, awaits_its_own}
+use Rattle.schema_reading.specs.NotYet.{unread, unread_in, unread_members, is_unread, awaits_its_own}
 use Rattle.schema_reading.specs.BuildCauses.{Reached, at_root, by_keyword}
 use Rattle.schema_reading.specs.Plain.{keywords_at}
 use Rattle.plain_reader.specs.Tellings.{AreRead}
@@ -28,24 +28,8 @@ read_here docs makes s read = read.each s at_root
 -- ---- a site that is read
 
 pub record IsRead (s : Site) : Type 0 where
-  pub draft : is_read_draft s.dialect.draft ≡ true
   pub own : awaits_its_own s.contents ≡ false
   pub members : unread_in s s.contents ≡ []
-
-record Three (a b : Bool) (ps : List Place) : Type 0 where
-  left : a ≡ true
-  right : b ≡ false
-  none : ps ≡ []
-
-three : (a b : Bool) (ps qs : List Place) (p : Place) → (if a && not b then ps else p ∷ qs) ≡ [] → Three a b ps
-three true false ps qs p e = record { left = refl; right = refl; none = e }
-three true true ps qs p e = absurd (cc)
-three false b ps qs p e = absurd (cc)
-
-pub is_read : (s : Site) → unread s ≡ [] → IsRead s
-is_read s e =
-    let h = three (is_read_draft s.dialect.draft) (awaits_its_own s.contents) (unread_in s s.contents) [] _ e in
-    record { draft = h.left; own = h.right; members = h.none }
 
 record Two (b : Bool) (ps : List Place) : Type 0 where
   left : b ≡ false
@@ -55,13 +39,22 @@ two : (b : Bool) (p : Place) (ps : List Place) → (if b then p ∷ ps else ps) 
 two true p ps e = absurd (cc)
 two false p ps e = record { left = refl; none = e }
 
-read_member : (s : Site) (all ms : Members) (k : List ℕ) (d : Data) → unread_members s all ms ≡ [] → In (k, d) (listed_members ms) → is_unread s all k ≡ false
+one_or : (b : Bool) (p : Place) (ps : List Place) → (if b then p ∷ [] else ps) ≡ [] → Two b ps
+one_or true p ps e = absurd (cc)
+one_or false p ps e = record { left = refl; none = e }
+
+pub is_read : (s : Site) → unread s ≡ [] → IsRead s
+is_read s e =
+    let h = one_or (awaits_its_own s.contents) _ (unread_in s s.contents) e in
+    record { own = h.left; members = h.none }
+
+read_member : (s : Site) (all ms : Members) (k : List ℕ) (d : Data) → unread_members s all ms ≡ [] → In (k, d) (listed_members ms) → is_unread s all k d ≡ false
 read_member s all no_members k d e i = elim i [ ]
-read_member s all (member n c ms) k d e first = (two (is_unread s all n) _ _ e).left
-read_member s all (member n c ms) k d e (later i) = read_member s all ms k d (two (is_unread s all n) _ _ e).none i
+read_member s all (member n c ms) k d e first = (two (is_unread s all n c) _ _ e).left
+read_member s all (member n c ms) k d e (later i) = read_member s all ms k d (two (is_unread s all n c) _ _ e).none i
 
 -- its members are all read
-pub read_each : (s : Site) (ms : Members) (k : List ℕ) (d : Data) → IsRead s → s.contents ≡ object ms → In (k, d) (listed_members ms) → is_unread s ms k ≡ false
+pub read_each : (s : Site) (ms : Members) (k : List ℕ) (d : Data) → IsRead s → s.contents ≡ object ms → In (k, d) (listed_members ms) → is_unread s ms k d ≡ false
 read_each s ms k d read is i = read_member s ms ms k d (subst (λ e. unread_in s e ≡ []) is read.members) i
 
 -- ---- rows

@@ -1,5 +1,5 @@
 -- What a reference tells: what its target does, unless it is in progress.
-use Rattle.std.proofs.Common.{◌≡◌, ◌<◌, ◌≤◌, ◌+◌, ◌*◌, ℕ, suc, List, [], ◌∷◌, Bool, true, false, None, refl, sym, ap, ap₂, ◌∙◌, subst, arith, codes, map, Ok}
+use Rattle.std.proofs.Common.{◌≡◌, ◌<◌, ◌≤◌, ◌+◌, ◌*◌, ℕ, suc, List, [], ◌∷◌, Bool, true, false, None, refl, sym, ap, ap₂, ◌∙◌, subst, arith, map}
 use Rattle.std.proofs.Math.Nat.{mul-le-mul_right}
 use Rattle.serde_json.specs.Data.{Data, null, boolean, number, string, array, object, depth}
 use Rattle.serde_json.specs.View.{view}
@@ -11,12 +11,11 @@ use Rattle.schema_meaning.specs.Questions.{Question, at}
 use Rattle.schema_meaning.specs.Cut.{is_in_progress}
 use Rattle.meaning_laws.proofs.Keys.{left_falls}
 use Rattle.schema_documents.specs.Bearers.{Documents}
-use Rattle.schema_documents.specs.Lookup.{Target, lookup}
+use Rattle.schema_documents.specs.Lookup.{Target}
 use Rattle.schema_reading.specs.Sites.{Site, target_site, path_of_reference}
 use Rattle.schema_reading.specs.Plain.{deepest}
 use Rattle.schema_reading.specs.AllKeys.{spots_in, places_of, keys_of}
 use Rattle.target_laws.specs.Laws.{place_of, Lies}
-use Rattle.target_laws.proofs.Looked.{lookups_lie}
 use Rattle.target_laws.proofs.Listed.{in_map, in_flat_map}
 use Rattle.referencing.specs.Resolved.{base_of, scope_of}
 use Rattle.schema_sites.specs.Seen.{documents_at, Stands}
@@ -51,32 +50,28 @@ known_key docs whole d t path lies within =
     in_flat_map keys (place_of t) (places_of docs) (key t.document t.path path) lies.place
     (in_map (λ spot. record { target = place_of t; path = spot.0; called = spot.1 }) (path, None) (spots_in [] whole) (within.spots (path, None) (own_spot path d)))
 
-pub target_deeper : (docs : Documents) (base reference : List ℕ) (whole d schema : Data) (t : Target) (path : List Part) (progress : List Key)
-    → lookup docs base reference ≡ Ok t → Within d path whole → is_in_progress (key t.document t.path path) progress ≡ false
+pub target_deeper : (docs : Documents) (whole d schema : Data) (t : Target) (path : List Part) (progress : List Key)
+    → Lies docs t → Within d path whole → is_in_progress (key t.document t.path path) progress ≡ false
     → room docs whole (key t.document t.path path ∷ progress) t.contents < room docs whole progress schema
-target_deeper docs base reference whole d schema t path progress found within new =
-    let lies = lookups_lie docs base reference t found in
+target_deeper docs whole d schema t path progress lies within new =
     room_less _ _ (deepest docs) _ _ (left_falls (key t.document t.path path) progress (keys_of docs whole) (known_key docs whole d t path lies within) new) lies.shallow
-
-pub target_shallow : (docs : Documents) (base reference : List ℕ) (t : Target) → lookup docs base reference ≡ Ok t → depth t.contents ≤ deepest docs
-target_shallow docs base reference t found = (lookups_lie docs base reference t found).shallow
 
 -- ---- the question
 
-module _ (c : code.Site) (whole d : Data) (roads : Roads) (progress : List Key) (text : List ℕ) (t : Target) where
+module _ (c : code.Site) (whole d : Data) (roads : Roads) (progress : List Key) (k text : List ℕ) (t : Target) where
   asks : Setting → Question Site
-  asks x = record { site = target_site x.site text t; step = stay; added = at (codes "$ref"); follows = true }
+  asks x = record { site = target_site x.site text t; step = stay; added = at k; follows = true }
 
   same_key : (x : Setting) → Fits c d roads progress x → key_of x (asks x) ≡ key t.document t.path (instance_in roads)
   unfolding asks
   same_key x fits = ap (λ (w : Spot). record { target = place_of t; path = w.path; called = w.called }) fits.spot
 
-  one_asked : (x : Setting) (gs : Faults) → asked_in x (asks x) ≡ gs → asked_by x (reference_questions text t x) ≡ gs
+  one_asked : (x : Setting) (gs : Faults) → asked_in x (asks x) ≡ gs → asked_by x (reference_questions k text t x) ≡ gs
   unfolding asks
   one_asked x gs e = asked_by-more x (asks x) [] ∙ ap (joined (asked_in x (asks x))) (asked_by-none x) ∙ joined-none (asked_in x (asks x)) ∙ e
 
   pub target_back : (b : Bool) (now : Observer) → b ≡ is_in_progress (key t.document t.path (instance_in roads)) progress → b ≡ true
-      → TellsQuestions c whole d roads progress (reference_leads text t) (reference_questions text t) now now
+      → TellsQuestions c whole d roads progress (reference_leads text t) (reference_questions k text t) now now
   unfolding asks
   target_back b now is back = record {
     tells = λ x fits leads fit kept fs h.
@@ -84,23 +79,23 @@ module _ (c : code.Site) (whole d : Data) (roads : Roads) (progress : List Key) 
         subst (λ gs. Hears kept now (joined fs gs)) (sym (one_asked x none (asked_back x (asks x) refl again))) (subst (Hears kept now) (sym (joined-none fs)) h);
   }
 
-  pub target_on : (b : Bool) (inner : code.Site) (on : Roads) (old new : Observer) (base reference : List ℕ)
+  pub target_on : (b : Bool) (inner : code.Site) (on : Roads) (old new : Observer)
       → b ≡ is_in_progress (key t.document t.path (instance_in roads)) progress → b ≡ false
-      → lookup (documents_at c) base reference ≡ Ok t → Within d (instance_in roads) whole
+      → Lies (documents_at c) t → Within d (instance_in roads) whole
       → documents_at inner ≡ documents_at c → t.contents ≡ view inner.contents.now
       → ((s : Site) → Stands inner (target_site s text t))
       → ((s : Site) → s.base ≡ base_of c.resolver → s.scope ≡ scope_of c.resolver → (target_site s text t).scope ≡ scope_of inner.resolver)
-      → instance_in on ≡ instance_in roads → evaluation_in on ≡ name (codes "$ref") ∷ evaluation_in roads → schema_in on ≡ path_of_reference text
+      → instance_in on ≡ instance_in roads → evaluation_in on ≡ name k ∷ evaluation_in roads → schema_in on ≡ path_of_reference text
       → Tells inner whole d on (key t.document t.path (instance_in roads) ∷ progress) old new
-      → TellsQuestions c whole d roads progress (reference_leads text t) (reference_questions text t) old new
+      → TellsQuestions c whole d roads progress (reference_leads text t) (reference_questions k text t) old new
   unfolding asks
-  target_on b inner on old new base reference is go found within same_documents contents stands scopes at_instance at_evaluation at_schema told = record {
+  target_on b inner on old new is go lies within same_documents contents stands scopes at_instance at_evaluation at_schema told = record {
     tells = λ x fits leads fit kept fs h.
         let new_key : is_in_progress (key t.document t.path (instance_in roads)) progress ≡ false = sym is ∙ go in
         let not_back : is_in_progress (key_of x (asks x)) x.keys ≡ false = ap₂ is_in_progress (same_key x fits) fits.keys ∙ new_key in
         let child : Setting = led_to x (asks x) (key_of x (asks x) ∷ x.keys) in
         let child_spot : child.spot ≡ spot_at d on =
-        ap (λ (w : Spot). record { value = w.value; path = w.path; called = w.called; road = name (codes "$ref") ∷ w.road }) fits.spot
+        ap (λ (w : Spot). record { value = w.value; path = w.path; called = w.called; road = name k ∷ w.road }) fits.spot
         ∙ ap₂ (λ (i e : List Part). record { value = d; path = i; called = None; road = e }) (sym at_instance) (sym at_evaluation) in
         let child_fits : Fits inner d on (key t.document t.path (instance_in roads) ∷ progress) child = record {
           documents = fits.documents ∙ sym same_documents;
@@ -108,10 +103,10 @@ module _ (c : code.Site) (whole d : Data) (roads : Roads) (progress : List Key) 
           scope = scopes x.site fits.stands.base fits.scope;
           schema_path = sym at_schema;
           spot = child_spot;
-          keys = ap₂ (λ k (ks : List Key). k ∷ ks) (same_key x fits) fits.keys;
+          keys = ap₂ (λ (one : Key) (ks : List Key). one ∷ ks) (same_key x fits) fits.keys;
           read = leads (target_site x.site text t) first;
         } in
-        let deeper = target_deeper (documents_at c) base reference whole d (view c.contents.now) t (instance_in roads) progress found within new_key in
+        let deeper = target_deeper (documents_at c) whole d (view c.contents.now) t (instance_in roads) progress lies within new_key in
         let less : room (documents_at inner) whole (key t.document t.path (instance_in roads) ∷ progress) (view inner.contents.now) < x.depth =
         subst (λ (docs : Documents). room docs whole (key t.document t.path (instance_in roads) ∷ progress) (view inner.contents.now) < x.depth) (sym same_documents)
         (subst (λ (e : Data). room (documents_at c) whole (key t.document t.path (instance_in roads) ∷ progress) e < x.depth) contents (omega (arith, deeper, fit))) in
@@ -130,10 +125,10 @@ falls_by_target docs other whole t u p path progress f schema document place sam
     ap (λ (ks : List Key). room other whole ks f) known ∙ ap₂ (λ (ds : Documents) (x : Data). room ds whole keys x) same (sym contents) in
     omega (arith, is, less)
 
-pub shallow_by_target : (docs other : Documents) (base reference : List ℕ) (t : Target) (f : Data) → other ≡ docs → t.contents ≡ f → lookup docs base reference ≡ Ok t
+pub shallow_by_target : (docs other : Documents) (t : Target) (f : Data) → other ≡ docs → t.contents ≡ f → Lies docs t
     → depth f ≤ deepest other
-shallow_by_target docs other base reference t f same contents found =
-    subst (λ (ds : Documents). depth f ≤ deepest ds) (sym same) (subst (λ (x : Data). depth x ≤ deepest docs) contents (target_shallow docs base reference t found))
+shallow_by_target docs other t f same contents lies =
+    subst (λ (ds : Documents). depth f ≤ deepest ds) (sym same) (subst (λ (x : Data). depth x ≤ deepest docs) contents lies.shallow)
 
 pub at_target_told : (inner : code.Site) (whole d : Data) (on : Roads) (t : Target) (u : List ℕ) (p path : List Part) (progress : List Key) (old new : Observer) → u ≡ t.document → p ≡ t.path
     → Tells inner whole d on (key u p path ∷ progress) old new → Tells inner whole d on (key t.document t.path path ∷ progress) old new

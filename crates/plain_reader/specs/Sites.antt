@@ -1,5 +1,5 @@
 -- What a schema tells of a whole value, from a site on.
-use Rattle.std.specs.Prelude.{◌≡◌, ◌++◌, ℕ, List, [], Bool}
+use Rattle.std.specs.Prelude.{◌≡◌, ℕ, List, [], Bool}
 use Rattle.serde_json.specs.Data.{Data}
 use Rattle.json_paths.specs.Parts.{Part}
 use Rattle.schema_meaning.specs.Places.{whole}

@@ -1,5 +1,5 @@
 -- The question that a reference asks.
-use Rattle.std.specs.Prelude.{ℕ, List, [], ◌∷◌, true, codes}
+use Rattle.std.specs.Prelude.{ℕ, List, [], ◌∷◌, true}
 use Rattle.schema_meaning.specs.Places.{stay}
 use Rattle.schema_meaning.specs.Questions.{Question, at}
 use Rattle.schema_documents.specs.Lookup.{Target}
@@ -9,5 +9,6 @@ use Rattle.plain_reader.specs.Settings.{Setting}
 abbrev pub reference_leads : List ℕ → Target → Setting → List Site
 reference_leads text t x = target_site x.site text t ∷ []
 
-abbrev pub reference_questions : List ℕ → Target → Setting → List (Question Site)
-reference_questions text t x = record { site = target_site x.site text t; step = stay; added = at (codes "$ref"); follows = true } ∷ []
+-- under its keyword's name
+abbrev pub reference_questions : List ℕ → List ℕ → Target → Setting → List (Question Site)
+reference_questions k text t x = record { site = target_site x.site text t; step = stay; added = at k; follows = true } ∷ []

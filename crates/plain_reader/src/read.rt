@@ -8,6 +8,7 @@ ghost use Rattle.schema_meaning.specs.Questions.{listed_members};
 ghost use Rattle.schema_reading.specs.Plain.{deepest};
 ghost use Rattle.referencing.specs.Resolved.{target_in};
 ghost use Rattle.schema_sites.specs.Read.{Finds, FindsTarget};
+ghost use Rattle.schema_sites.specs.References.{name_of};
 ghost use Rattle.schema_sites.specs.Seen.{documents_at};
 ghost use Rattle.schema_reports.specs.RoadPaths.{instance_in};
 ghost use Rattle.plain_reader.specs.Keys.{keys_in};
@@ -21,6 +22,7 @@ use referencing::Resolved;
 use schema_reports::{LazyLocation, Observer, Reference, Roads, ValidationErrorKind};
 use schema_sites::keyword::{Keyword, Refusal};
 use schema_sites::reading::keyword;
+use schema_sites::reference_keyword::ReferenceKeyword;
 use schema_sites::site::{Site, at_target};
 use serde_json::{Map, Value};
 use std::alloc::{AllocError, Global};
@@ -156,9 +158,13 @@ fn read_keyword<'r, 'i>(
         Keyword::Properties(schemas) => {
             read_properties(reading, site, schemas, value, roads, progress, observer)
         }
-        Keyword::Reference { text, target } => {
+        Keyword::Reference {
+            keyword,
+            text,
+            target,
+        } => {
             read_target(
-                reading, site, &*text, target, value, roads, &*progress, observer,
+                reading, site, keyword, &*text, target, value, roads, &*progress, observer,
             )
         }
     }
@@ -279,6 +285,7 @@ fn read_property<'a, 'r, 'i>(
 fn read_target<'a, 'r, 'i>(
     reading: &Reading<'i>,
     site: &Site<'r>,
+    keyword: ReferenceKeyword,
     text: &'a str,
     target: Resolved<'r>,
     value: &'i Value,
@@ -288,8 +295,8 @@ fn read_target<'a, 'r, 'i>(
 ) -> Result<(), AllocError>
     requires shallow { depth (view site.now.contents.now) ≤ deepest (documents_at site.now) }
     requires within { Within (view value.now) (instance_in roads) (view reading.now.whole.now) }
-    requires found { FindsTarget site.now text.now target }
-    ensures { OnOk result (TellsQuestions site.now (view reading.now.whole.now) (view value.now) roads.entry (keys_in progress.now) (reference_leads text.now (target_in target.entry)) (reference_questions text.now (target_in target.entry)) observer.old observer.new) }
+    requires found { FindsTarget site.now keyword text.now target }
+    ensures { OnOk result (TellsQuestions site.now (view reading.now.whole.now) (view value.now) roads.entry (keys_in progress.now) (reference_leads text.now (target_in target.entry)) (reference_questions (name_of keyword) text.now (target_in target.entry)) observer.old observer.new) }
 {
     if is_in_progress(progress, target.document(), target.path(), roads.instance) {
         return Ok(());
@@ -302,7 +309,7 @@ fn read_target<'a, 'r, 'i>(
         before: &*progress,
     };
     let start = LazyLocation::new();
-    let evaluation = roads.evaluation.push_name("$ref");
+    let evaluation = roads.evaluation.push_name(keyword.as_str());
     let at = Roads {
         instance: &*roads.instance,
         schema: &start,

@@ -5,13 +5,14 @@ use Rattle.json_paths.specs.Parts.{Part, name}
 use Rattle.schema_meaning.specs.Cut.{is_in_progress}
 use Rattle.schema_documents.specs.Scopes.{entered_scope}
 use Rattle.schema_reading.specs.Sites.{path_of_reference}
-use Rattle.target_laws.proofs.Texts.{lookups_read}
-use Rattle.referencing.specs.Resolved.{base_of, target_in}
+use Rattle.referencing.specs.Resolved.{base_of, scope_of, target_in}
+use Rattle.schema_sites.specs.References.{kind_of, name_of}
 use Rattle.schema_sites.specs.Seen.{documents_at}
-use Rattle.schema_reports.specs.RoadPaths.{instance_in}
+use Rattle.schema_reports.specs.RoadPaths.{instance_in, evaluation_in}
 use Rattle.plain_reader.specs.Keys.{key, keys_in}
 use Rattle.plain_reader.proofs.Left.{MembersLeft, ItemsLeft, DeclaredLeft}
 use Rattle.plain_reader.proofs.MemberTelling.{members_first, members_settled, members_step, members_last, members_listed}
+use Rattle.plain_reader.proofs.LookedLemmas.{looked_up_lies, looked_up_reads}
 use Rattle.plain_reader.proofs.TargetTelling.{target_deeper, target_back, target_on, falls_by_target, shallow_by_target, at_target_told}
 use Rattle.schema_meaning.specs.Members.{In}
 use Rattle.schema_meaning.specs.Questions.{each_item, items_from, items_of}
@@ -134,7 +135,7 @@ read_keyword-returns-in-Reference t c =
     let d = view c.args.value.now in
     let keys = keys_in c.args.progress.now in
     on_ok_weaker c.read_target.result
-    (tells_reference c.args.site.now whole d c.args.roads keys c.args.keyword c.in-Reference.text.now (target_in c.in-Reference.target) c.args.observer.now c.read_target.new.observer (λ x. ap (λ k. keyword_leads k x) c.in-Reference.is) (λ x. ap (λ k. keyword_shapes k x) c.in-Reference.is))
+    (tells_reference c.args.site.now whole d c.args.roads keys c.args.keyword (kind_of c.in-Reference.keyword) c.in-Reference.text.now (target_in c.in-Reference.target) c.args.observer.now c.read_target.new.observer (λ x. ap (λ k. keyword_leads k x) c.in-Reference.is) (λ x. ap (λ k. keyword_shapes k x) c.in-Reference.is))
     c.read_target.ensures
 
 pub read_member-read_keyword-requires : goal.read_member-read_keyword-requires
@@ -323,11 +324,12 @@ read_target-returns-then-is_in_progress t c =
     let path : c.path.result.now ≡ t.path = c.path.ensures in
     let known : c.is_in_progress.result ≡ is_in_progress (key t.document t.path at) progress =
     c.is_in_progress.ensures ∙ ap₂ (λ (u : List ℕ) (p : List Part). is_in_progress (key u p at) progress) document path in
-    target_back c.args.site.now (view c.args.reading.now.whole.now) (view c.args.value.now) c.args.roads progress c.args.text.now t c.is_in_progress.result c.args.observer.now known c.if-is_in_progress.true
+    target_back c.args.site.now (view c.args.reading.now.whole.now) (view c.args.value.now) c.args.roads progress (name_of c.args.keyword) c.args.text.now t c.is_in_progress.result c.args.observer.now known c.if-is_in_progress.true
 
 pub read_target-followed-requires : goal.read_target-followed-requires
 read_target-followed-requires t c =
-    lookups_read (documents_at c.args.site.now) (base_of c.args.site.now.resolver) c.args.text.now (target_in c.args.target) c.requires.1.1.1.1.found
+    let site = c.args.site.now in
+    looked_up_reads c.args.keyword (documents_at site) (base_of site.resolver) (scope_of site.resolver) c.args.text.now (target_in c.args.target) c.requires.1.1.1.1.found c.requires.1.1.1.1.may_be
 
 pub read_target-read_site-requires : goal.read_target-read_site-requires
 read_target-read_site-requires t c =
@@ -338,13 +340,13 @@ read_target-read_site-requires t c =
     let path : c.path.result.now ≡ t.path = c.path.ensures in
     let known : c.is_in_progress.result ≡ is_in_progress (key t.document t.path at) progress =
     c.is_in_progress.ensures ∙ ap₂ (λ (u : List ℕ) (p : List Part). is_in_progress (key u p at) progress) document path in
-    let base = base_of c.args.site.now.resolver in
+    let lies = looked_up_lies c.args.keyword (documents_at c.args.site.now) (base_of c.args.site.now.resolver) (scope_of c.args.site.now.resolver) c.args.text.now t c.requires.1.1.1.1.found in
     let new : is_in_progress (key t.document t.path at) progress ≡ false = sym known ∙ c.if-is_in_progress.false in
     let contents : t.contents ≡ view c.in_ok-inner.inner.contents.now = sym c.in_ok-inner.ensures.contents in
     let docs : documents_at c.in_ok-inner.inner ≡ documents_at c.args.site.now = c.in_ok-inner.ensures.documents ∙ ap (λ ds. ds ∷ []) c.requires.1.1.1.1.documents in
-    let less = target_deeper (documents_at c.args.site.now) base c.args.text.now (view c.args.reading.now.whole.now) (view c.args.value.now) (view c.args.site.now.contents.now) t at progress c.requires.1.1.1.1.found c.requires.1.1.1.0 new in
+    let less = target_deeper (documents_at c.args.site.now) (view c.args.reading.now.whole.now) (view c.args.value.now) (view c.args.site.now.contents.now) t at progress lies c.requires.1.1.1.0 new in
     let falls = falls_by_target (documents_at c.args.site.now) (documents_at c.in_ok-inner.inner) (view c.args.reading.now.whole.now) t c.document-2.result.now c.path-2.result.now at progress (view c.in_ok-inner.inner.contents.now) (view c.args.site.now.contents.now) c.document-2.ensures c.path-2.ensures docs contents less in
-    (omega (arith, falls), (shallow_by_target (documents_at c.args.site.now) (documents_at c.in_ok-inner.inner) base c.args.text.now t (view c.in_ok-inner.inner.contents.now) docs contents c.requires.1.1.1.1.found, c.requires.1.1.1.0))
+    (omega (arith, falls), (shallow_by_target (documents_at c.args.site.now) (documents_at c.in_ok-inner.inner) t (view c.in_ok-inner.inner.contents.now) docs contents lies, c.requires.1.1.1.0))
 
 pub read_target-returns : goal.read_target-returns
 read_target-returns t c =
@@ -355,14 +357,14 @@ read_target-returns t c =
     let path : c.path.result.now ≡ t.path = c.path.ensures in
     let known : c.is_in_progress.result ≡ is_in_progress (key t.document t.path at) progress =
     c.is_in_progress.ensures ∙ ap₂ (λ (u : List ℕ) (p : List Part). is_in_progress (key u p at) progress) document path in
-    let base = base_of c.args.site.now.resolver in
+    let lies = looked_up_lies c.args.keyword (documents_at c.args.site.now) (base_of c.args.site.now.resolver) (scope_of c.args.site.now.resolver) c.args.text.now t c.requires.1.1.1.1.found in
     let contents : t.contents ≡ view c.in_ok-inner.inner.contents.now = sym c.in_ok-inner.ensures.contents in
     let docs : documents_at c.in_ok-inner.inner ≡ documents_at c.args.site.now = c.in_ok-inner.ensures.documents ∙ ap (λ ds. ds ∷ []) c.requires.1.1.1.1.documents in
-    on_ok_weaker c.read_site.result (λ told. target_on c.args.site.now (view c.args.reading.now.whole.now) (view c.args.value.now) c.args.roads progress c.args.text.now t c.is_in_progress.result c.in_ok-inner.inner _ c.args.observer.now c.read_site.new.observer base c.args.text.now
-    known c.if-is_in_progress.false c.requires.1.1.1.1.found c.requires.1.1.1.0 docs contents
+    on_ok_weaker c.read_site.result (λ told. target_on c.args.site.now (view c.args.reading.now.whole.now) (view c.args.value.now) c.args.roads progress (name_of c.args.keyword) c.args.text.now t c.is_in_progress.result c.in_ok-inner.inner _ c.args.observer.now c.read_site.new.observer
+    known c.if-is_in_progress.false lies c.requires.1.1.1.0 docs contents
     (λ s. c.in_ok-inner.ensures.stands s c.args.text.now)
     (λ s b scope. ap₂ (λ (u : List ℕ) (us : List (List ℕ)). entered_scope t.base u us) b scope ∙ sym c.requires.1.1.1.1.scope ∙ sym c.in_ok-inner.ensures.scope)
-    refl c.push_name-evaluation.ensures (ap₂ (λ (ps : List Part) (r : List ℕ). ps ++ path_of_reference r) c.new-start.ensures c.followed.ensures)
+    refl (c.push_name-evaluation.ensures ∙ ap (λ (k : List ℕ). name k ∷ evaluation_in c.args.roads) c.as_str.ensures) (ap₂ (λ (ps : List Part) (r : List ℕ). ps ++ path_of_reference r) c.new-start.ensures c.followed.ensures)
     (at_target_told c.in_ok-inner.inner (view c.args.reading.now.whole.now) (view c.args.value.now) _ t c.document-2.result.now c.path-2.result.now at progress c.args.observer.now c.read_site.new.observer c.document-2.ensures c.path-2.ensures told))
     c.read_site.ensures
 

@@ -1,4 +1,4 @@
-use Rattle.std.proofs.Common.{ap, List, refl, ◌++◌}
+use Rattle.std.proofs.Common.{refl}
 use Rattle.std.proofs.lemmas.Result.{on_ok_weaker}
 use Rattle.serde_json.specs.View.{view}
 use Rattle.plain_reader.proofs.RootTelling.{site_told}
