@@ -1,30 +1,27 @@
 -- By which member of a schema a certificate begins.
-use Rattle.std.proofs.Common.{◌≡◌, ◌∙◌, ◌++◌, ℕ, List, [], ◌∷◌, Bool, true, false, codes, All, refl, sym, ap, subst, map, append_assoc, append-nil}
+use Rattle.std.proofs.Common.{◌≡◌, ◌∙◌, ◌++◌, ℕ, List, [], ◌∷◌, Bool, true, false, codes, refl, sym, ap, subst, map, append_assoc, append-nil}
 use Rattle.std.specs.List.{AllByRecursion, flat_map}
-use Rattle.serde_json.specs.Data.{Data, null, boolean, number, string, array, object, Members, no_members, member}
+use Rattle.serde_json.specs.Data.{Data, boolean, object, Members, no_members, member}
 use Rattle.json_paths.specs.Parts.{Part, name}
-use Rattle.json_paths.specs.Pointers.{escape, pointer_text}
+use Rattle.json_paths.specs.Pointers.{escape}
 use Rattle.schema_meaning.specs.Members.{In, first, later}
-use Rattle.schema_meaning.specs.Places.{whole, stay}
+use Rattle.schema_meaning.specs.Places.{stay}
 use Rattle.schema_meaning.specs.Questions.{Question, at, listed_members, items_from, items_of}
-use Rattle.schema_meaning.specs.Rules.{Rule, refuses_at, obliged, accepts}
+use Rattle.schema_meaning.specs.Rules.{Rule, refuses_at, obliged}
 use Rattle.schema_meaning.specs.Keywords.{Shape, never, asserts, items, item_list, prefix_items, additional_items, no_additional_items, contains, properties, pattern_properties, additional_properties, no_additional_properties, no_properties, property_names, no_property_names, dependent_schemas, dependencies, all_of, any_of, one_of, negation, condition, reference, reference_name, rule}
 use Rattle.schema_meaning.specs.Readings.{Reading, rules}
-use Rattle.schema_meaning.specs.Certificates.{AreAnswers}
 use Rattle.schema_documents.specs.Bearers.{Documents}
 use Rattle.schema_reading.specs.Sites.{Site}
 use Rattle.schema_reading.specs.Plain.{keywords_at, plain}
-use Rattle.schema_reading.specs.NotYet.{is_read_draft, is_unread, read_now}
-use Rattle.schema_reading.specs.Rows.{Row, Context, row_at, rows_of, rows_in, rows_at, no_schema}
+use Rattle.schema_reading.specs.Rows.{Row, Context, row_at, rows_of, rows_in, rows_at}
 use Rattle.meaning_laws.proofs.Obliged.{in_map}
 use Rattle.schema_reading.specs.PathTexts.{path_text}
 use Rattle.check_laws.specs.Spelled.{AreSpelled, AreSpelledBy, refuses, goes}
 use Rattle.check_laws.proofs.Parts.{path_text-append}
 use Rattle.check_laws.proofs.Steps.{first_step, from_step}
-use Rattle.walk_laws.specs.Words.{IsRest, nothing, part, IsOf}
+use Rattle.walk_laws.specs.Words.{IsRest, nothing, IsOf}
 use Rattle.walk_laws.proofs.Cuts.{rest_of, rest_append}
 use Rattle.walk_laws.proofs.Listed.{in_some, in_all, in_mapped, item_question, declared_question}
-use Rattle.walk_laws.proofs.Named.{AreOf, shapes_are_of}
 
 -- ---- the rule of a keyword that is read
 

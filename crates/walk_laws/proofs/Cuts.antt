@@ -1,13 +1,13 @@
 -- The texts of paths, cut at their first part.
-use Rattle.std.proofs.Common.{◌≡◌, ◌∙◌, ◌++◌, ◌==◌, ℕ, ◌<◌, ◌^◌, List, [], ◌∷◌, Bool, true, false, ◌&&◌, All, length, ◌+◌, refl, sym, ap, subst, append-nil, ne_eqb, arith, decimal, true≢false, eqb-true, eq-eqb, Option, Some, None, if◌then◌else◌}
+use Rattle.std.proofs.Common.{◌≡◌, ◌∙◌, ◌++◌, ◌==◌, ℕ, ◌<◌, ◌^◌, List, [], ◌∷◌, Bool, true, false, ◌&&◌, All, length, ◌+◌, refl, sym, ap, subst, append-nil, arith, decimal, true≢false, eqb-true, eq-eqb, Some, None, if◌then◌else◌}
 use Rattle.std.specs.Char.{is_ascii_digit}
-use Rattle.std.specs.List.{list_all, slice_split, join_with_byte}
+use Rattle.std.specs.List.{list_all, join_with_byte}
 use Rattle.std.proofs.lemmas.Bool.Decides.{nat_tests}
 use Rattle.std.proofs.lemmas.Fmt.{digits_decimal, decimal-digits_value}
 use Rattle.std.proofs.lemmas.List.Elements.{All-nil, All-cons, All-append}
 use Rattle.std.proofs.lemmas.List.Splits.{slice_split_none, slice_split_at, length-slice_split, join_with_byte-slice_split}
-use Rattle.json_paths.specs.Parts.{Part, name, index}
-use Rattle.json_paths.specs.Pointers.{escape, escaped_byte, part_text, pointer_text, PartFits, is_index, index_of, number_from}
+use Rattle.json_paths.specs.Parts.{Part}
+use Rattle.json_paths.specs.Pointers.{escape, escaped_byte, pointer_text, is_index, index_of, number_from}
 use Rattle.json_pointers.proofs.PointerLemmas.{own, digits_from_index}
 use Rattle.walk_laws.specs.Words.{IsRest, nothing, part, cuts, cuts_behind}
 

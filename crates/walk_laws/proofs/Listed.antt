@@ -3,7 +3,6 @@ use Rattle.std.proofs.Common.{◌≡◌, ◌∙◌, ◌⊎◌, inl, inr, ◌++�
 use Rattle.std.specs.List.{flat_map}
 use Rattle.serde_json.specs.Data.{Data, Items, no_items, item}
 use Rattle.serde_json.specs.Find.{get, get_item}
-use Rattle.json_paths.specs.Parts.{Part, name}
 use Rattle.schema_meaning.specs.Members.{In, first, later}
 use Rattle.schema_meaning.specs.Places.{to_item, to_member}
 use Rattle.schema_meaning.specs.Questions.{Question, question, at, at_name, each_item, items_from, if_member, each_declared}
