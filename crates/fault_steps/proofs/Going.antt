@@ -112,7 +112,7 @@ lies_in c d (keyword.Types names) f h = tt
 lies_in c d (keyword.MinItems limit) f h = tt
 lies_in c d (keyword.Items start schema) f h = subst (λ e. depth e < depth (view c.contents.now)) f h
 lies_in c d (keyword.Properties map) f h = subst (λ e. depth e < depth (view c.contents.now)) f h
-lies_in c d (keyword.Reference text target) f h = f
+lies_in c d (keyword.Reference by text target) f h = f
 
 pub shorter_part : (after : Option (Bor (List ℕ))) (text token : List ℕ) (left : Option (Bor (List ℕ))) → text_left after ≡ 47 ∷ text → cuts text ≡ token ∷ cuts_behind (text_left left)
     → length (text_left left) ≤ length (text_left after)

@@ -1,11 +1,9 @@
 -- Steps by `items`.
-use Rattle.std.proofs.Common.{◌≡◌, ◌∙◌, ◌++◌, ◌+◌, ◌-◌, ◌≤◌, ℕ, List, [], ◌∷◌, false, Bor, Option, None, Some, codes, decimal, reverse, refl, sym, ap, subst, arith, append-nil}
-use Rattle.std.proofs.lemmas.Fmt.{decimal_injective}
-use Rattle.serde_json.specs.Data.{Data, null, boolean, number, string, array, object}
-use Rattle.serde_json.specs.Find.{at, get_item}
+use Rattle.std.proofs.Common.{◌≡◌, ◌∙◌, ◌++◌, ℕ, List, [], ◌∷◌, false, Bor, Option, codes, decimal, reverse, refl, sym, ap, subst, append-nil}
+use Rattle.serde_json.specs.Data.{Data}
 use Rattle.serde_json.specs.View.{view}
 use Rattle.json_paths.specs.Pointers.{escape}
-use Rattle.schema_meaning.specs.Members.{In, first}
+use Rattle.schema_meaning.specs.Members.{first}
 use Rattle.schema_meaning.specs.Places.{value_after, path_after, to_item}
 use Rattle.schema_meaning.specs.Questions.{Question, question, items_of, items_from, each_item}
 use Rattle.schema_meaning.specs.Questions as asking
@@ -18,7 +16,6 @@ use Rattle.check_laws.specs.Spelled.{AreSpelled}
 use Rattle.check_laws.proofs.Answers.{answers_there}
 use Rattle.walk_laws.specs.Words.{cuts, cuts_behind, IsRest}
 use Rattle.walk_laws.proofs.Cuts.{cut_is, cut_joined, index_no_slash, rest_of}
-use Rattle.walk_laws.proofs.Listed.{item_question, item_asked, item_further}
 use Rattle.walk_laws.proofs.Begun.{rules_stand}
 use Rattle.fault_steps.specs.declared.walk.Walk.{Walk}
 use Rattle.fault_steps.specs.declared.walk.Step.TheVariants.{Answered, On}

@@ -1,21 +1,17 @@
 -- Steps by `properties`.
-use Rattle.std.proofs.Common.{◌≡◌, ◌⊎◌, inl, inr, ◌∙◌, ◌++◌, ℕ, List, [], ◌∷◌, true, false, Bor, Option, None, Some, codes, map, reverse, refl, sym, ap, subst, append_assoc, append-nil}
-use Rattle.serde_json.specs.Data.{Data, Members, no_members, member}
+use Rattle.std.proofs.Common.{◌≡◌, ◌⊎◌, inl, inr, ◌∙◌, ◌++◌, ℕ, List, [], ◌∷◌, true, false, Bor, Option, Some, codes, map, reverse, refl, sym, ap, subst, append_assoc, append-nil}
+use Rattle.serde_json.specs.Data.{Data, Members}
 use Rattle.serde_json.specs.Find.{get, get_member, unescape}
 use Rattle.serde_json.specs.View.{view}
-use Rattle.json_paths.specs.Parts.{name}
 use Rattle.json_paths.specs.Pointers.{escape}
 use Rattle.json_pointers.proofs.EscapeLemmas.{unescape-escape}
-use Rattle.schema_meaning.specs.Members.{In, first, later}
-use Rattle.schema_meaning.specs.Places.{value_after, path_after, to_member}
+use Rattle.schema_meaning.specs.Members.{In, first}
+use Rattle.schema_meaning.specs.Places.{value_after, path_after}
 use Rattle.schema_meaning.specs.Questions.{Question, question, listed_members, each_declared}
 use Rattle.schema_meaning.specs.Questions as asking
 use Rattle.schema_meaning.specs.Rules.{every}
 use Rattle.schema_meaning.specs.Keywords.{properties, rule}
-use Rattle.schema_reading.specs.Sites.{Site, below}
-use Rattle.schema_reading.specs.Rows.{sites_named}
-use Rattle.schema_documents.specs.Bearers.{Documents}
-use Rattle.schema_sites.specs.Read.{each_below}
+use Rattle.schema_reading.specs.Sites.{Site}
 use Rattle.place_laws.specs.Rising.{are_rising}
 use Rattle.plain_reader.proofs.ItemTelling.{Child}
 use Rattle.schema_reading.specs.PathTexts.{path_text}
@@ -23,7 +19,6 @@ use Rattle.check_laws.specs.Spelled.{AreSpelled, AreSpelledBy}
 use Rattle.check_laws.proofs.Answers.{answers_there}
 use Rattle.walk_laws.specs.Words.{cuts, cuts_behind, IsRest}
 use Rattle.walk_laws.proofs.Cuts.{cut_is, cut_joined, escape_no_slash, rest_of}
-use Rattle.walk_laws.proofs.Listed.{declared_question, declared_asked}
 use Rattle.walk_laws.proofs.Begun.{rules_stand}
 use Rattle.fault_steps.specs.declared.walk.Walk.{Walk}
 use Rattle.fault_steps.specs.declared.walk.Step.TheVariants.{Answered, On}
@@ -38,7 +33,7 @@ use Rattle.keyword_refusals.proofs.Names.{found_listed}
 use Rattle.keyword_refusals.proofs.MemberQuestions.{listed_below, site_led, asks, question_of, asked_of}
 use Rattle.keyword_refusals.proofs.Right.{told_there, right_on, asked_back}
 use Rattle.keyword_refusals.proofs.Children.{meets_shallow, child_meets}
-use Rattle.fault_steps.proofs.Going.{name_text, Goes, going, gone, not_last}
+use Rattle.fault_steps.proofs.Going.{Goes, going, gone, not_last}
 
 -- ---- one member
 

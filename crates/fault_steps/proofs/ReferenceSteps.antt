@@ -1,5 +1,5 @@
 -- Steps by references, and by keywords that ask nothing.
-use Rattle.std.proofs.Common.{◌≡◌, ◌∙◌, ◌++◌, ℕ, List, [], ◌∷◌, false, Bor, Option, codes, map, refl, sym, ap, subst}
+use Rattle.std.proofs.Common.{◌≡◌, ◌∙◌, ◌++◌, ℕ, List, [], ◌∷◌, false, Bor, Option, map, refl, sym, ap, subst}
 use Rattle.std.specs.List.{AllByRecursion}
 use Rattle.serde_json.specs.Data.{Data}
 use Rattle.serde_json.specs.View.{view}
@@ -9,7 +9,7 @@ use Rattle.schema_meaning.specs.Places.{whole, value_after, path_after}
 use Rattle.schema_meaning.specs.Questions.{Question}
 use Rattle.schema_meaning.specs.Questions as asking
 use Rattle.schema_meaning.specs.Rules.{every}
-use Rattle.schema_meaning.specs.Keywords.{Assertion, named, asserts, static, reference, rule, wrong}
+use Rattle.schema_meaning.specs.Keywords.{Assertion, named, asserts, reference, rule, wrong}
 use Rattle.schema_meaning.specs.Readings.{Reading}
 use Rattle.schema_reading.specs.Sites.{Site, target_site, path_of_reference}
 use Rattle.schema_reading.specs.Rows.{Row}
@@ -28,6 +28,8 @@ use Rattle.fault_steps.specs.declared.walk.Step.TheVariants.{Answered, On}
 use Rattle.path_parts.specs.Texts.{text_left}
 use Rattle.fault_steps.specs.Steps.{path_at, IsMore, Outcome, PassesThrough, PassesBy}
 use Rattle.keyword_refusals.specs.Scenes.{Scene, reading_of, Meets, Stage}
+use Rattle.schema_sites.specs.References.{kind_of, name_of}
+use Rattle.schema_sites.specs.declared.reference_keyword.ReferenceKeyword.{ReferenceKeyword}
 use Rattle.keyword_refusals.specs.Rows.{reference_row, reference_questions}
 use Rattle.keyword_refusals.proofs.Right.{told_there, right_on, asked_back}
 use Rattle.keyword_refusals.proofs.Children.{AtTarget, meets_shallow, target_meets}
@@ -38,29 +40,29 @@ only_one : {A : Type 0} (x y : A) → In y (x ∷ []) → y ≡ x
 only_one x y first = refl
 only_one x y (later i) = elim i [ ]
 
-pub reference_on : (w v : Walk) (text : List ℕ) (target : Resolved) (after : Option (Bor (List ℕ))) → IsMore w.instance after → AtTarget w.site v.site text target
-    → path_at v ≡ path_of_reference text → v.value ≡ w.value → v.instance ≡ w.instance → v.evaluation ≡ after → PassesThrough w (reference_row text (target_in target)) after (On v)
-reference_on w v text target after more at path value instance left = record {
+pub reference_on : (w v : Walk) (by : ReferenceKeyword) (text : List ℕ) (target : Resolved) (after : Option (Bor (List ℕ))) → IsMore w.instance after → AtTarget w.site v.site by text target
+    → path_at v ≡ path_of_reference text → v.value ≡ w.value → v.instance ≡ w.instance → v.evaluation ≡ after → PassesThrough w (reference_row by text (target_in target)) after (On v)
+reference_on w v by text target after more at path value instance left = record {
   outcome = λ x s n stage.
       let t = target_in target in
       let d = view w.value.now in
       let plain = stage.plain _ first in
-      let row = reference_row text t x s in
+      let row = reference_row by text t x s in
       let site = target_site s text t in
-      let qs = reference_questions text t x s in
+      let qs = reference_questions by text t x s in
       let told = told_there x s d (meets_shallow w.site (path_at w) x s stage.meets w.shallow) stage.straight in
-      let bs = answers_there (reading_of x) s d _ told (every (asking.at (codes "$ref")) [] qs) (rules_stand x.documents x.makes x.matches s row d stage.stands _ first) in
+      let bs = answers_there (reading_of x) s d _ told (every (asking.at (name_of by)) [] qs) (rules_stand x.documents x.makes x.matches s row d stage.stands _ first) in
       let same : view v.value.now ≡ d = ap (λ (b : Bor _). view b.now) value in
       record {
         site = site;
-        meets = subst (λ q. Meets v.site q x site) (sym path) (target_meets w.site v.site text target (path_at w) x s at stage.meets (right_on x s row site stage.meets.right stage.stands first));
-        back = λ circular. asked_back x s row d (reference static site) _ stage.stands first first refl (subst (λ e. IsCircular (reading_of x) site (whole e)) same circular);
+        meets = subst (λ q. Meets v.site q x site) (sym path) (target_meets w.site v.site by text target (path_at w) x s at stage.meets (right_on x s row site stage.meets.right stage.stands first));
+        back = λ circular. asked_back x s row d (reference (kind_of by) site) _ stage.stands first first refl (subst (λ e. IsCircular (reading_of x) site (whole e)) same circular);
         to = λ h.
-            let g = going (reading_of x) d (asking.at (codes "$ref")) [] qs _ _ (not_last w.instance after (codes "$ref") n more stage.named.0 plain) h in
+            let g = going (reading_of x) d (asking.at (name_of by)) [] qs _ _ (not_last w.instance after (name_of by) n more stage.named.0 plain) h in
             let q = only_one _ g.question g.asked in
             let there : text_left w.instance ≡ g.instance = g.at_instance ∙ ap (λ (p : Question Site). path_text (path_after [] p.step) ++ g.instance) q in
             let road : 47 ∷ (n ++ text_left after) ≡ 47 ∷ (n ++ g.evaluation) =
-            g.on_evaluation ∙ ap (λ (p : Question Site). path_text p.added ++ g.evaluation) q ∙ ap (λ u. u ++ g.evaluation) (name_text (codes "$ref") n stage.named.0 plain) in
+            g.on_evaluation ∙ ap (λ (p : Question Site). path_text p.added ++ g.evaluation) q ∙ ap (λ u. u ++ g.evaluation) (name_text (name_of by) n stage.named.0 plain) in
             let rest : text_left after ≡ g.evaluation = behind_same n (text_left after) g.evaluation (tail_is 47 _ _ road) in
             let under : AreSpelled (reading_of x) site d g.instance g.evaluation =
             subst (λ (p : Question Site). AreSpelled (reading_of x) p.site (value_after d p.step) g.instance g.evaluation) q g.under in
@@ -72,7 +74,7 @@ reference_on w v text target after more at path value instance left = record {
             subst (λ e. AreSpelled (reading_of x) site e (text_left w.instance) (text_left after)) same
             (subst (λ i. AreSpelled (reading_of x) site (view v.value.now) (text_left i) (text_left after)) instance
             (subst (λ e. AreSpelled (reading_of x) site (view v.value.now) (text_left v.instance) (text_left e)) left under)) in
-            gone (reading_of x) d (asking.at (codes "$ref")) [] qs (text_left w.instance) (47 ∷ (n ++ text_left after)) bs.0 bs.1
+            gone (reading_of x) d (asking.at (name_of by)) [] qs (text_left w.instance) (47 ∷ (n ++ text_left after)) bs.0 bs.1
             (record {
               question = _;
               asked = first;
@@ -80,7 +82,7 @@ reference_on w v text target after more at path value instance left = record {
               evaluation = text_left after;
               under = moved;
               at_instance = refl;
-              on_evaluation = sym (ap (λ u. u ++ text_left after) (name_text (codes "$ref") n stage.named.0 plain));
+              on_evaluation = sym (ap (λ u. u ++ text_left after) (name_text (name_of by) n stage.named.0 plain));
             });
       };
 }

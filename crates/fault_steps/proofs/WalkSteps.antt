@@ -14,7 +14,7 @@ use Rattle.schema_meaning.specs.Keywords.{rule}
 use Rattle.schema_meaning.specs.Readings.{Reading}
 use Rattle.schema_reading.specs.Sites.{Site}
 use Rattle.schema_reading.specs.Rows.{Row, row_at, rows_at}
-use Rattle.schema_reading.specs.NotYet.{is_read_draft}
+use Rattle.referencing.specs.Resolved.{scope_of}
 use Rattle.schema_documents.specs.Bearers.{Documents}
 use Rattle.schema_sites.specs.Seen.{documents_at, Stands}
 use Rattle.schema_sites.specs.Read.{row_of, context_at}
@@ -23,7 +23,6 @@ use Rattle.schema_sites.specs.declared.keyword.Keyword.{Keyword}
 use Rattle.schema_sites.specs.declared.keyword.Refusal.{Refusal}
 use Rattle.schema_sites.specs.declared.keyword.Refusal.TheVariants as refusal
 use Rattle.place_laws.specs.Rising.{are_rising}
-use Rattle.plain_reader.proofs.Reading.{read_here, is_read}
 use Rattle.schema_reading.specs.PathTexts.{path_text}
 use Rattle.check_laws.specs.Spelled.{AreSpelled, AreSpelledBy, refuses, goes}
 use Rattle.check_laws.proofs.Answers.{obliged_refuses}
@@ -40,7 +39,7 @@ use Rattle.fault_steps.specs.Steps.{path_at, Outcome, IsLeft, Passes, PassesBy}
 use Rattle.keyword_refusals.specs.Scenes.{Scene, reading_of, IsRight, Stage}
 use Rattle.keyword_refusals.specs.Verdicts.{SomeRefuses, rules_by, IsRefusal}
 use Rattle.keyword_refusals.proofs.Names.{listed_found, found_listed}
-use Rattle.keyword_refusals.proofs.Right.{right_read, no_cause, member_read, member_named, member_plain}
+use Rattle.keyword_refusals.proofs.Right.{no_cause, member_read, member_named, member_plain}
 use Rattle.path_parts.proofs.ItemFacts.{some_one}
 use Rattle.path_parts.proofs.TextFacts.{rest_left, no_part}
 use Rattle.fault_steps.proofs.Going.{name_text}
@@ -150,18 +149,17 @@ module _ (w : Walk) (text : List ℕ) (is : text_left w.evaluation ≡ 47 ∷ te
     }
 
     pub by_member : (v : Data) (k : Keyword) (step : Step) → get_member token ms ≡ Some v
-        → ((makes : List ℕ → Bool) (s : Site) → Stands w.site s → is_read_draft s.dialect.draft ≡ true → row_at (context_at w.site ms makes s) token v ≡ row_of (documents_at w.site) s k)
+        → ((makes : List ℕ → Bool) (s : Site) → Stands w.site s → s.scope ≡ scope_of w.site.resolver → row_at (context_at w.site ms makes s) token v ≡ row_of (documents_at w.site) s k)
         → PassesBy w k after step → Passes w step
     by_member v k step found reads p = record {
       outcome = λ x s meets straight.
           let d = view w.value.now in
           let there : s.contents ≡ object ms = meets.stands.contents ∙ contents in
           let listed = found_listed token v ms found in
-          let read = is_read s (read_here x.documents x.makes s (right_read x s meets.right)) in
           let here : Row = row_at (context x.documents x.makes x.matches s ms) token v in
           let row : here ≡ row_of x.documents s k =
           subst (λ (docs : Documents). row_at (record { documents = docs; makes = x.makes; site = s; members = ms }) token v ≡ row_of docs s k) (sym meets.documents)
-          (reads x.makes s meets.stands read.draft) in
+          (reads x.makes s meets.stands meets.scope) in
           let stands = member_row x.documents x.makes x.matches s ms token v there listed in
           let stage : Stage w.site (path_at w) d token (row_of x.documents s k) x s = record {
             meets = meets;
@@ -189,7 +187,7 @@ module _ (w : Walk) (text : List ℕ) (is : text_left w.evaluation ≡ 47 ∷ te
 
     -- a member that is refused is none of a schema that is right
     refused_not : (x : Scene) (s : Site) (v : Data) (e : Refusal) → IsRight x s → s.contents ≡ object ms → get_member token ms ≡ Some v → (e ≡ refusal.Memory → ⊥)
-        → Refuses (context x.documents x.makes x.matches s ms) token (row_at (context x.documents x.makes x.matches s ms) token v) e → ⊥
+        → Refuses (context x.documents x.makes x.matches s ms) token v (row_at (context x.documents x.makes x.matches s ms) token v) e → ⊥
     refused_not x s v (refusal.Value expected) right there found other r = no_cause x s _ _ right (stands_there x s v there found) r.stands
     refused_not x s v (refusal.Subschema n) right there found other r = no_cause x s _ _ right (stands_there x s v there found) r.stands
     refused_not x s v (refusal.Target target) right there found other r = no_cause x s _ _ right (stands_there x s v there found) r.stands
@@ -199,14 +197,13 @@ module _ (w : Walk) (text : List ℕ) (is : text_left w.evaluation ≡ 47 ∷ te
     refused_not x s v refusal.Memory right there found other r = absurd (other refl)
 
     pub refused_member : (v : Data) (e : Refusal) → get_member token ms ≡ Some v → (e ≡ refusal.Memory → ⊥)
-        → ((makes : List ℕ → Bool) (s : Site) → Stands w.site s → is_read_draft s.dialect.draft ≡ true
-        → Refuses (context_at w.site ms makes s) token (row_at (context_at w.site ms makes s) token v) e) → Passes w (Answered false)
+        → ((makes : List ℕ → Bool) (s : Site) → Stands w.site s → s.scope ≡ scope_of w.site.resolver
+        → Refuses (context_at w.site ms makes s) token v (row_at (context_at w.site ms makes s) token v) e) → Passes w (Answered false)
     refused_member v e found other r = record {
       outcome = λ x s meets straight h.
-          let read = is_read s (read_here x.documents x.makes s (right_read x s meets.right)) in
           refused_not x s v e meets.right (meets.stands.contents ∙ contents) found other
-          (subst (λ (docs : Documents). Refuses (record { documents = docs; makes = x.makes; site = s; members = ms }) token (row_at (record { documents = docs; makes = x.makes; site = s; members = ms }) token v) e)
-          (sym meets.documents) (r x.makes s meets.stands read.draft));
+          (subst (λ (docs : Documents). Refuses (record { documents = docs; makes = x.makes; site = s; members = ms }) token v (row_at (record { documents = docs; makes = x.makes; site = s; members = ms }) token v) e)
+          (sym meets.documents) (r x.makes s meets.stands meets.scope));
     }
 
 -- ---- the last keyword

@@ -20,6 +20,7 @@ use referencing::Resolved;
 use schema_reports::{LazyLocation, Reference};
 use schema_sites::keyword::{Keyword, Refusal};
 use schema_sites::reading::keyword as read_keyword;
+use schema_sites::reference_keyword::ReferenceKeyword;
 use schema_sites::site::at_target;
 use serde_json::Value;
 use std::alloc::{AllocError, Global};
@@ -28,13 +29,14 @@ use std::alloc::{AllocError, Global};
 fn through_reference<'r, 'i, 'p>(
     alloc: Global,
     walk: Walk<'r, 'i, 'p>,
+    keyword: ReferenceKeyword,
     text: &'r str,
     target: Resolved<'r>,
     after: Option<&'p str>,
 ) -> Result<Step<'r, 'i, 'p>, AllocError>
-    requires found { FindsTarget walk.site text.now target }
+    requires found { FindsTarget walk.site keyword text.now target }
     requires more { IsMore walk.instance after }
-    ensures passes { IfOk result (PassesThrough walk.entry (reference_row text.now (target_in target.entry)) after.entry) }
+    ensures passes { IfOk result (PassesThrough walk.entry (reference_row keyword text.now (target_in target.entry)) after.entry) }
     ensures shorter { IfOk result (IsNotLonger after.entry) }
 {
     let site = at_target(&target)?;
@@ -63,7 +65,11 @@ fn through<'r, 'i, 'p>(
     match keyword {
         Keyword::Items { start, schema } => through_items(alloc, walk, start, schema, after),
         Keyword::Properties(schemas) => through_properties(alloc, walk, schemas, after),
-        Keyword::Reference { text, target } => through_reference(alloc, walk, text, target, after),
+        Keyword::Reference {
+            keyword: by,
+            text,
+            target,
+        } => { through_reference(alloc, walk, by, text, target, after) }
         Keyword::Nothing => Ok(Step::Answered(false)),
         Keyword::Types(_names) => Ok(Step::Answered(false)),
         Keyword::MinItems(_least) => Ok(Step::Answered(false)),

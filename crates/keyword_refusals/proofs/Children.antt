@@ -13,9 +13,10 @@ use Rattle.referencing.specs.Resolved.{base_of, scope_of, documents_in, target_i
 use Rattle.referencing.specs.declared.resolver.Resolved.{Resolved}
 use Rattle.schema_sites.specs.Seen.{documents_at, Stands}
 use Rattle.schema_sites.specs.Read.{FindsTarget}
+use Rattle.schema_sites.specs.declared.reference_keyword.ReferenceKeyword.{ReferenceKeyword}
 use Rattle.schema_sites.specs.declared.site.Site as code
-use Rattle.target_laws.proofs.Looked.{lookups_lie}
 use Rattle.plain_reader.proofs.ItemTelling.{Child}
+use Rattle.plain_reader.proofs.LookedLemmas.{looked_up_lies}
 use Rattle.plain_reader.proofs.Reading.{read_here, is_read}
 use Rattle.keyword_refusals.specs.Scenes.{Scene, IsRight, Meets}
 use Rattle.keyword_refusals.proofs.Right.{right_read}
@@ -49,17 +50,17 @@ child_meets c b d added path x s child m right =
     }
 
 -- what `at_target` gives
-pub record AtTarget (c inner : code.Site) (text : List ℕ) (target : Resolved) : Type 0 where
-  pub found : FindsTarget c text target
+pub record AtTarget (c inner : code.Site) (w : ReferenceKeyword) (text : List ℕ) (target : Resolved) : Type 0 where
+  pub found : FindsTarget c w text target
   pub contents : view inner.contents.now ≡ (target_in target).contents
   pub base : base_of inner.resolver ≡ base_of target.resolver
   pub scope : scope_of inner.resolver ≡ scope_of target.resolver
   pub documents : documents_at inner ≡ documents_in target.resolver ∷ []
   pub stands : (s : Site) (reference : List ℕ) → Stands inner (target_site s reference (target_in target))
 
-pub target_meets : (c inner : code.Site) (text : List ℕ) (target : Resolved) (path : List Part) (x : Scene) (s : Site) → AtTarget c inner text target → Meets c path x s
+pub target_meets : (c inner : code.Site) (w : ReferenceKeyword) (text : List ℕ) (target : Resolved) (path : List Part) (x : Scene) (s : Site) → AtTarget c inner w text target → Meets c path x s
     → IsRight x (target_site s text (target_in target)) → Meets inner (path_of_reference text) x (target_site s text (target_in target))
-target_meets c inner text target path x s at m right = record {
+target_meets c inner w text target path x s at m right = record {
   documents = m.documents ∙ sym (at.documents ∙ ap (λ own. own ∷ []) at.found.documents);
   stands = at.stands s text;
   scope =
@@ -68,8 +69,8 @@ target_meets c inner text target path x s at m right = record {
   right = right;
 }
 
-pub target_shallow : (c inner : code.Site) (text : List ℕ) (target : Resolved) → AtTarget c inner text target → depth (view inner.contents.now) ≤ deepest (documents_at inner)
-target_shallow c inner text target at =
-    let lies = lookups_lie (documents_at c) (base_of c.resolver) text (target_in target) at.found.found in
+pub target_shallow : (c inner : code.Site) (w : ReferenceKeyword) (text : List ℕ) (target : Resolved) → AtTarget c inner w text target → depth (view inner.contents.now) ≤ deepest (documents_at inner)
+target_shallow c inner w text target at =
+    let lies = looked_up_lies w (documents_at c) (base_of c.resolver) (scope_of c.resolver) text (target_in target) at.found.found in
     subst (λ (docs : Documents). depth (view inner.contents.now) ≤ deepest docs) (sym (at.documents ∙ ap (λ own. own ∷ []) at.found.documents))
     (subst (λ (e : Data). depth e ≤ deepest (documents_at c)) (sym at.contents) lies.shallow)

@@ -11,7 +11,7 @@ use Rattle.schema_meaning.specs.Faults.{Kind}
 use Rattle.schema_meaning.specs.Rules.{every}
 use Rattle.schema_meaning.specs.Questions.{Question, listed_members, items_of, items_from}
 use Rattle.schema_meaning.specs.Questions as asking
-use Rattle.schema_meaning.specs.Keywords.{items, properties, static, reference, rule, unless}
+use Rattle.schema_meaning.specs.Keywords.{items, properties, reference, rule, unless}
 use Rattle.schema_meaning.specs.Readings.{verdicts, IsTold}
 use Rattle.schema_reading.specs.Sites.{Site, target_site, path_of_reference}
 use Rattle.schema_reading.specs.Rows.{Row}
@@ -25,6 +25,8 @@ use Rattle.place_laws.specs.Rising.{are_rising}
 use Rattle.schema_sites.specs.declared.site.Site as code
 use Rattle.plain_reader.proofs.ItemTelling.{Child}
 use Rattle.keyword_refusals.specs.Scenes.{Scene, reading_of, Meets, Stage}
+use Rattle.schema_sites.specs.References.{kind_of, name_of}
+use Rattle.schema_sites.specs.declared.reference_keyword.ReferenceKeyword.{ReferenceKeyword}
 use Rattle.keyword_refusals.specs.Rows.{items_site, items_row, items_questions, property_site, declared_in, properties_row, properties_questions, reference_row, reference_questions}
 use Rattle.keyword_refusals.specs.Verdicts.{IsDecided, SomeRefuses, IsVerdict, AreRefused, IsMemberRefused, IsRefusal, rules_by}
 use Rattle.keyword_refusals.proofs.Right.{told_there, right_on, asked_back}
@@ -156,17 +158,17 @@ module _ (c : code.Site) (path : List Part) (d : Data) (all : Members) (rising :
 
 -- ---- the target of a reference
 
-pub reference_refused : (c inner : code.Site) (path : List Part) (d : Data) (text : List ℕ) (target : Resolved) (road : List Part) (b : Bool) → AtTarget c inner text target
-    → road ≡ path_of_reference text → IsVerdict inner road d (not b) → AreRefused c path d (reference_row text (target_in target)) (reference_questions text (target_in target)) b
-reference_refused c inner path d text target road b at same verdict = record {
+pub reference_refused : (c inner : code.Site) (path : List Part) (d : Data) (w : ReferenceKeyword) (text : List ℕ) (target : Resolved) (road : List Part) (b : Bool) → AtTarget c inner w text target
+    → road ≡ path_of_reference text → IsVerdict inner road d (not b) → AreRefused c path d (reference_row w text (target_in target)) (reference_questions w text (target_in target)) b
+reference_refused c inner path d w text target road b at same verdict = record {
   answers = λ x s k stage.
-      let row = reference_row text (target_in target) x s in
+      let row = reference_row w text (target_in target) x s in
       let site = target_site s text (target_in target) in
-      let meets = target_meets c inner text target path x s at stage.meets (right_on x s row site stage.meets.right stage.stands first) in
-      let q : Question Site = record { site = site; step = stay; added = asking.at (codes "$ref"); follows = true } in
+      let meets = target_meets c inner w text target path x s at stage.meets (right_on x s row site stage.meets.right stage.stands first) in
+      let q : Question Site = record { site = site; step = stay; added = asking.at (name_of w); follows = true } in
       answers_one b (reading_of x) d q
       (verdict.told x site (subst (λ p. Meets inner p x site) (sym same) meets)
-      (λ circular. stage.straight (asked_back x s row d (reference static site) q stage.stands first first refl circular)));
+      (λ circular. stage.straight (asked_back x s row d (reference (kind_of w) site) q stage.stands first first refl circular)));
 }
 
 -- ---- a keyword, by its questions

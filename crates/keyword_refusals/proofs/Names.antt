@@ -1,6 +1,5 @@
 -- The members of a map whose names rise.
-use Rattle.std.proofs.Common.{◌≡◌, ◌∙◌, ℕ, List, Bool, true, false, not, bytes_eq, None, Some, inl, inr, refl, sym, ap, subst}
-use Rattle.std.proofs.lemmas.Slice.Eq.{bytes_eq-Decides}
+use Rattle.std.proofs.Common.{◌≡◌, ◌∙◌, ℕ, List, true, None, Some, inl, inr, refl, sym, ap, subst}
 use Rattle.serde_json.specs.Data.{Data, Members, no_members, member}
 use Rattle.serde_json.specs.Find.{get_member}
 use Rattle.schema_values.specs.Equality.{rises_from}

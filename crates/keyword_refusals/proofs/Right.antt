@@ -51,14 +51,14 @@ module _ (x : Scene) where
   pub no_cause : (s : Site) (row : Row) (cause : BuildCause) → IsRight x s → In row (rows_at x.documents x.makes s) → In cause row.causes → ⊥
   no_cause s row cause r i j = r.none (wrong cause) (is_wrong (record { site = s; reached = at_root; row = row; stands = i; wrong = j }))
 
-  pub member_read : (s : Site) (ms : Members) (k : List ℕ) (v : Data) → IsRight x s → s.contents ≡ object ms → In (k, v) (listed_members ms) → is_unread s ms k ≡ false
+  pub member_read : (s : Site) (ms : Members) (k : List ℕ) (v : Data) → IsRight x s → s.contents ≡ object ms → In (k, v) (listed_members ms) → is_unread s ms k v ≡ false
   member_read s ms k v r is i = read_each s ms k v (is_read s (read_here x.documents x.makes s (right_read s r))) is i
 
   -- the shapes of a member bear its name, which is written as it is
   pub member_named : (s : Site) (ms : Members) (k : List ℕ) (v : Data) → IsRight x s → s.contents ≡ object ms → In (k, v) (listed_members ms)
       → AllByRecursion (IsOf k) (row_at (context x.documents x.makes x.matches s ms) k v).shapes
   member_named s ms k v r is i =
-      shapes_are_of (context x.documents x.makes x.matches s ms) k v (is_read s (read_here x.documents x.makes s (right_read s r))).draft (member_read s ms k v r is i)
+      shapes_are_of (context x.documents x.makes x.matches s ms) k v (member_read s ms k v r is i)
 
   pub member_plain : (s : Site) (ms : Members) (k : List ℕ) (v : Data) → IsRight x s → s.contents ≡ object ms → In (k, v) (listed_members ms)
       → (shape : Shape Site) → In shape (row_at (context x.documents x.makes x.matches s ms) k v).shapes → escape k ≡ k

@@ -4,11 +4,13 @@ use Rattle.serde_json.specs.Data.{Data, Members}
 use Rattle.json_paths.specs.Parts.{name}
 use Rattle.schema_meaning.specs.Places.{stay}
 use Rattle.schema_meaning.specs.Questions.{Question, at, each_item, items_from, items_of, each_declared}
-use Rattle.schema_meaning.specs.Keywords.{items, properties, static, reference}
+use Rattle.schema_meaning.specs.Keywords.{items, properties, reference}
 use Rattle.schema_documents.specs.Lookup.{Target}
 use Rattle.schema_reading.specs.Sites.{Site, below, target_site}
 use Rattle.schema_reading.specs.Rows.{Row, reads, sites_named}
 use Rattle.schema_sites.specs.Read.{each_below}
+use Rattle.schema_sites.specs.References.{kind_of, name_of}
+use Rattle.schema_sites.specs.declared.reference_keyword.ReferenceKeyword.{ReferenceKeyword}
 use Rattle.keyword_refusals.specs.Scenes.{Scene}
 
 abbrev pub items_site : Data → Scene → Site → Site
@@ -32,8 +34,8 @@ properties_row ms x s = reads (sites_named (declared_in ms x s)) (properties (de
 abbrev pub properties_questions : Members → Data → Scene → Site → List (Question Site)
 properties_questions ms d x s = each_declared (codes "properties") d (declared_in ms x s)
 
-abbrev pub reference_row : List ℕ → Target → Scene → Site → Row
-reference_row text t x s = reads (target_site s text t ∷ []) (reference static (target_site s text t) ∷ [])
+abbrev pub reference_row : ReferenceKeyword → List ℕ → Target → Scene → Site → Row
+reference_row w text t x s = reads (target_site s text t ∷ []) (reference (kind_of w) (target_site s text t) ∷ [])
 
-abbrev pub reference_questions : List ℕ → Target → Scene → Site → List (Question Site)
-reference_questions text t x s = record { site = target_site s text t; step = stay; added = at (codes "$ref"); follows = true } ∷ []
+abbrev pub reference_questions : ReferenceKeyword → List ℕ → Target → Scene → Site → List (Question Site)
+reference_questions w text t x s = record { site = target_site s text t; step = stay; added = at (name_of w); follows = true } ∷ []

@@ -63,7 +63,7 @@ LiesIn c (Types names) = Unit {0}
 LiesIn c (MinItems limit) = Unit {0}
 LiesIn c (Items start schema) = depth (view schema.now) < depth (view c.contents.now)
 LiesIn c (Properties map) = depth (object (members_view map.now.entries)) < depth (view c.contents.now)
-LiesIn c (Reference text target) = FindsTarget c text.now target
+LiesIn c (Reference keyword text target) = FindsTarget c keyword text.now target
 
 -- whether a member is refused by the schema of its name in `properties`
 pub record IsMemberRefused (c : code.Site) (path : List Part) (n : List ℕ) (schema e : Data) (b : Bool) : Type 0 where

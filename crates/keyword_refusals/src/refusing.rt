@@ -20,6 +20,7 @@ use plain_reader::telling::has_items;
 use referencing::Resolved;
 use schema_reports::{LazyLocation, Observer, Reference, Verdict};
 use schema_sites::keyword::Keyword;
+use schema_sites::reference_keyword::ReferenceKeyword;
 use schema_sites::site::{Site, at_target};
 use serde_json::Value;
 use std::alloc::{AllocError, Global};
@@ -51,13 +52,14 @@ fn is_target_refused<'r>(
     site: &Site<'r>,
     path: &LazyLocation<'_, '_>,
     last: Reference<'_>,
+    keyword: ReferenceKeyword,
     text: &str,
     target: Resolved<'r>,
     value: &Value,
 ) -> Result<bool, AllocError>
     requires shallow { depth (view site.now.contents.now) ≤ deepest (documents_at site.now) }
-    requires found { FindsTarget site.now text.now target }
-    ensures { IfOk result (AreRefused site.now (location_of path.now ++ path_of_reference (text_of last.entry)) (view value.now) (reference_row text.now (target_in target.entry)) (reference_questions text.now (target_in target.entry))) }
+    requires found { FindsTarget site.now keyword text.now target }
+    ensures { IfOk result (AreRefused site.now (location_of path.now ++ path_of_reference (text_of last.entry)) (view value.now) (reference_row keyword text.now (target_in target.entry)) (reference_questions keyword text.now (target_in target.entry))) }
 {
     let inner = at_target(&target)?;
     let start = LazyLocation::new();
@@ -88,9 +90,11 @@ fn keyword_refuses<'a, 'r>(
         Keyword::Properties(schemas) => {
             some_member_refused(alloc, site, &*schema, reference, schemas, value)
         }
-        Keyword::Reference { text, target } => {
-            is_target_refused(alloc, site, &*schema, reference, text, target, value)
-        }
+        Keyword::Reference {
+            keyword: by,
+            text,
+            target,
+        } => { is_target_refused(alloc, site, &*schema, reference, by, text, target, value) }
     }
 }
 

@@ -34,7 +34,7 @@ returns-in-Properties-clause-passes c =
 pub returns-in-Reference-clause-passes : goal.returns-in-Reference-clause-passes
 returns-in-Reference-clause-passes c =
     IfOk-weaker c.through_reference.result _ _
-    (λ st h. by_row c.args.walk c.args.keyword (reference_row c.in-Reference.text.now (target_in c.in-Reference.target)) c.args.after st (λ x s. ap (λ k. row_of x.documents s k) c.in-Reference.is) h)
+    (λ st h. by_row c.args.walk c.args.keyword (reference_row c.in-Reference.by c.in-Reference.text.now (target_in c.in-Reference.target)) c.args.after st (λ x s. ap (λ k. row_of x.documents s k) c.in-Reference.is) h)
     c.through_reference.ensures.passes
 
 pub returns-in-Nothing-clause-passes : goal.returns-in-Nothing-clause-passes

@@ -1,19 +1,19 @@
 use Rattle.std.proofs.Common.{◌++◌, ap₂, refl, List, ℕ, []}
 use Rattle.schema_reading.specs.Sites.{path_of_reference}
-use Rattle.referencing.specs.Resolved.{base_of, target_in}
+use Rattle.referencing.specs.Resolved.{base_of, scope_of, target_in}
 use Rattle.schema_sites.specs.Seen.{documents_at}
-use Rattle.target_laws.proofs.Texts.{lookups_read}
+use Rattle.plain_reader.proofs.LookedLemmas.{looked_up_reads}
 use Rattle.keyword_refusals.specs.Scenes.{behind}
 use Rattle.keyword_refusals.proofs.Children.{AtTarget, target_shallow}
 use Rattle.fault_steps.proofs.ReferenceSteps.{reference_on}
 use Rattle.fault_steps.proofs.stepping.through_reference.Goals as goal
 
 pub followed-requires : goal.followed-requires
-followed-requires c = lookups_read (documents_at c.args.walk.site) (base_of c.args.walk.site.resolver) c.args.text.now (target_in c.args.target) c.requires.found.found
+followed-requires c = looked_up_reads c.args.keyword (documents_at c.args.walk.site) (base_of c.args.walk.site.resolver) (scope_of c.args.walk.site.resolver) c.args.text.now (target_in c.args.target) c.requires.found.found c.requires.found.may_be
 
 pub invariant_of-result : goal.invariant_of-result
 invariant_of-result c =
-    let at : AtTarget c.args.walk.site c.in_ok-site.site c.args.text.now c.args.target = record {
+    let at : AtTarget c.args.walk.site c.in_ok-site.site c.args.keyword c.args.text.now c.args.target = record {
       found = c.requires.found;
       contents = c.in_ok-site.ensures.contents;
       base = c.in_ok-site.ensures.base;
@@ -21,11 +21,11 @@ invariant_of-result c =
       documents = c.in_ok-site.ensures.documents;
       stands = λ s r. c.in_ok-site.ensures.stands s r;
     } in
-    record { shallow = target_shallow c.args.walk.site c.in_ok-site.site c.args.text.now c.args.target at }
+    record { shallow = target_shallow c.args.walk.site c.in_ok-site.site c.args.keyword c.args.text.now c.args.target at }
 
 pub returns-clause-passes : goal.returns-clause-passes
 returns-clause-passes c =
-    let at : AtTarget c.args.walk.site c.in_ok-site.site c.args.text.now c.args.target = record {
+    let at : AtTarget c.args.walk.site c.in_ok-site.site c.args.keyword c.args.text.now c.args.target = record {
       found = c.requires.found;
       contents = c.in_ok-site.ensures.contents;
       base = c.in_ok-site.ensures.base;
@@ -33,4 +33,4 @@ returns-clause-passes c =
       documents = c.in_ok-site.ensures.documents;
       stands = λ s r. c.in_ok-site.ensures.stands s r;
     } in
-    reference_on c.args.walk _ c.args.text.now c.args.target c.args.after c.requires.more at (ap₂ (λ ps (r : List ℕ). behind ps [] ++ path_of_reference r) c.new.ensures.items c.followed.ensures) refl refl refl
+    reference_on c.args.walk _ c.args.keyword c.args.text.now c.args.target c.args.after c.requires.more at (ap₂ (λ ps (r : List ℕ). behind ps [] ++ path_of_reference r) c.new.ensures.items c.followed.ensures) refl refl refl

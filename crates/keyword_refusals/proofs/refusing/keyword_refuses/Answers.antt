@@ -10,6 +10,7 @@ use Rattle.schema_reading.specs.Sites.{path_of_reference}
 use Rattle.referencing.specs.Resolved.{target_in}
 use Rattle.schema_types.specs.Named.{names_in}
 use Rattle.schema_sites.specs.Read.{row_of}
+use Rattle.schema_sites.specs.References.{name_of}
 use Rattle.schema_reports.specs.Locations.{location_of}
 use Rattle.schema_reports.specs.References.{text_of}
 use Rattle.keyword_refusals.specs.Rows.{items_row, items_questions, properties_row, properties_questions, reference_row, reference_questions}
@@ -70,9 +71,10 @@ pub returns-in-Reference : goal.returns-in-Reference
 returns-in-Reference c =
     let d = view c.args.value.now in
     let path = location_of c.args.schema.now ++ path_of_reference (text_of c.args.reference) in
+    let w = c.in-Reference.by in
     let text = c.in-Reference.text.now in
     let t = target_in c.in-Reference.target in
     IfOk-weaker c.is_target_refused.result _ _
-    (λ b h. by_questions c.args.site.now path d c.args.keyword (reference_row text t) (asking.at (codes "$ref")) (reference_questions text t) b c.requires.shallow
+    (λ b h. by_questions c.args.site.now path d c.args.keyword (reference_row w text t) (asking.at (name_of w)) (reference_questions w text t) b c.requires.shallow
     (λ x s. ap (λ k. row_of x.documents s k) c.in-Reference.is) (λ x s. refl) h)
     c.is_target_refused.ensures
