@@ -1,5 +1,5 @@
 -- What a schema that was read leads to.
-use Rattle.std.proofs.Common.{◌≡◌, ◌∙◌, ℕ, List, [], ◌∷◌, Bool, true, false, not, ◌&&◌, Option, Some, None, option_map, is_some, refl, sym, ap, subst}
+use Rattle.std.proofs.Common.{◌≡◌, ◌∙◌, ℕ, List, [], ◌∷◌, Bool, true, false, not, Option, Some, None, option_map, is_some, refl, sym, ap, subst}
 use Rattle.std.specs.Prelude.{if◌then◌else◌, codes}
 use Rattle.serde_json.specs.Data.{Data, null, boolean, number, string, array, object, Members}
 use Rattle.serde_json.specs.Find.{as_object, as_bool}
@@ -8,42 +8,31 @@ use Rattle.schema_meaning.specs.Members.{In, first}
 use Rattle.schema_documents.specs.Bearers.{Document}
 use Rattle.schema_reading.specs.BuildCauses.{at_root}
 use Rattle.schema_reading.specs.Sites.{Site}
-use Rattle.schema_reading.specs.Rows.{Row, keyword_value, rows_at, rows_in, no_schema}
-use Rattle.schema_reading.specs.NotYet.{wrong, not_yet, place_of, is_read_draft, awaits_its_own, unread_in, IsBuildCause, is_wrong, is_not_yet}
+use Rattle.schema_reading.specs.Rows.{Place, Row, keyword_value, rows_at, rows_in, no_schema}
+use Rattle.schema_reading.specs.NotYet.{wrong, not_yet, place_of, awaits_its_own, unread_in, IsBuildCause, is_wrong, is_not_yet}
 use Rattle.schema_sites.specs.Seen.{documents_at}
 use Rattle.reached_sites.specs.Led.{Leads, leads_in, causes_in}
-use Rattle.reached_sites.specs.Members.{Reads, Rest}
+use Rattle.reached_sites.specs.Members.{Rest}
 use Rattle.reached_sites.specs.Places.{place_in}
-use Rattle.reached_sites.specs.Visits.{Met, Matches, none}
+use Rattle.reached_sites.specs.Visits.{site_of, Met, Matches, none}
 use Rattle.reached_sites.specs.declared.visit.Visit.{Visit}
+use Rattle.reached_sites.proofs.Mirrored.{leads-alike}
 use Rattle.reached_sites.proofs.Walking.{own_of, contexts, rows-of-object, unread-here}
 
-both-true : (b c : Bool) → (b && not c) ≡ true → (b ≡ true) × (c ≡ false)
-both-true true false e = (refl, refl)
-both-true true true e = absurd (cc (e))
-both-true false c e = absurd (cc (e))
+module _ (v : Visit) (makes : List ℕ → Bool) (awaited : awaits_its_own (view v.site.contents.now) ≡ false) (leads : List Visit) where
+  object-here : (ms : Members) → view v.site.contents.now ≡ object ms → Rest (own_of v) makes (site_of v) ms ms [] leads → Leads (own_of v) makes (site_of v) leads
+  object-here ms e rest =
+      let s = site_of v in
+      let rows = rows-of-object (own_of v ∷ []) makes s ms e in
+      record {
+        read = unread-here s awaited ∙ ap (unread_in s) e ∙ rest.read;
+        right = ap causes_in rows ∙ rest.right;
+        met = subst (λ (vs : List Visit). Matches (own_of v) vs (leads_in (rows_at (own_of v ∷ []) makes s))) (sym rest.met.grown)
+            (subst (λ (rs : List Row). Matches (own_of v) rest.met.added (leads_in rs)) (sym rows) rest.met.met);
+      }
 
-pub reads-met : (v : Visit) (s : Site) → Met v s → (is_read_draft v.site.draft && not (awaits_its_own (view v.site.contents.now))) ≡ true → Reads v s
-reads-met v s m e =
-    let h = both-true (is_read_draft v.site.draft) (awaits_its_own (view v.site.contents.now)) e in
-    let stands = m.stands h.1 in
-    record {
-      met = m;
-      stands = stands;
-      draft = ap (λ x. is_read_draft x.draft) stands.dialect ∙ h.0;
-      own = ap awaits_its_own m.contents ∙ h.1;
-    }
-
-pub leads-object : (v : Visit) (makes : List ℕ → Bool) (s : Site) (ms : Members) (leads : List Visit) → Reads v s → s.contents ≡ object ms
-    → Rest (own_of v) makes s ms ms [] leads → Leads (own_of v) makes s leads
-leads-object v makes s ms leads r e rest =
-    let rows = rows-of-object (own_of v ∷ []) makes s ms e in
-    record {
-      read = unread-here v s r ∙ ap (unread_in s) e ∙ rest.read;
-      right = ap causes_in rows ∙ rest.right;
-      met = subst (λ (vs : List Visit). Matches (own_of v) vs (leads_in (rows_at (own_of v ∷ []) makes s))) (sym rest.met.grown)
-          (subst (λ (rs : List Row). Matches (own_of v) rest.met.added (leads_in rs)) (sym rows) rest.met.met);
-    }
+  pub leads-object : (s : Site) (ms : Members) → Met v s → view v.site.contents.now ≡ object ms → Rest (own_of v) makes (site_of v) ms ms [] leads → Leads (own_of v) makes s leads
+  leads-object s ms m e rest = leads-alike (own_of v) makes s (site_of v) leads (m.alike awaited) (object-here ms e rest)
 
 rows-of-boolean : (own : List Document) (makes : List ℕ → Bool) (s : Site) (b : Bool) → s.contents ≡ boolean b
     → (causes_in (rows_at (own ∷ []) makes s) ≡ []) × (leads_in (rows_at (own ∷ []) makes s) ≡ [])
@@ -51,11 +40,13 @@ unfolding rows_at
 rows-of-boolean own makes s true e = (ap (λ d. causes_in (rows_in s (contexts (own ∷ []) makes s) d)) e, ap (λ d. leads_in (rows_in s (contexts (own ∷ []) makes s) d)) e)
 rows-of-boolean own makes s false e = (ap (λ d. causes_in (rows_in s (contexts (own ∷ []) makes s) d)) e, ap (λ d. leads_in (rows_in s (contexts (own ∷ []) makes s) d)) e)
 
-pub leads-boolean : (v : Visit) (makes : List ℕ → Bool) (s : Site) (b : Bool) (leads : List Visit) → Reads v s → s.contents ≡ boolean b → leads ≡ [] → Leads (own_of v) makes s leads
-leads-boolean v makes s b leads r e n =
-    let rows = rows-of-boolean (own_of v) makes s b e in
+pub leads-boolean : (v : Visit) (makes : List ℕ → Bool) (s : Site) (b : Bool) (leads : List Visit) → awaits_its_own (view v.site.contents.now) ≡ false → Met v s
+    → view v.site.contents.now ≡ boolean b → leads ≡ [] → Leads (own_of v) makes s leads
+leads-boolean v makes s b leads awaited m e n =
+    let is = m.contents ∙ e in
+    let rows = rows-of-boolean (own_of v) makes s b is in
     record {
-      read = unread-here v s r ∙ ap (unread_in s) e;
+      read = unread-here s (ap awaits_its_own m.contents ∙ awaited) ∙ ap (unread_in s) is;
       right = rows.0;
       met = subst (λ (vs : List Visit). Matches (own_of v) vs (leads_in (rows_at (own_of v ∷ []) makes s))) (sym n)
           (subst (λ (ss : List Site). Matches (own_of v) [] ss) (sym rows.1) none);
@@ -63,31 +54,16 @@ leads-boolean v makes s b leads r e n =
 
 -- ---- refused
 
-unread-whole : (b c : Bool) (s : Site) → (b && not c) ≡ false → (if b && not c then unread_in s s.contents else place_of s [] ∷ []) ≡ place_of s [] ∷ []
-unread-whole true false s e = absurd (cc (e))
-unread-whole true true s e = refl
-unread-whole false c s e = refl
+unread-whole : (s : Site) → awaits_its_own s.contents ≡ true → (if awaits_its_own s.contents then place_of s [] ∷ [] else unread_in s s.contents) ≡ place_of s [] ∷ []
+unread-whole s e = ap (λ (b : Bool). if b then place_of s [] ∷ [] else unread_in s s.contents) e
 
--- by the draft and the contents of the code's site
-unread-at : (v : Visit) (s : Site) (b : Bool) → Met v s → awaits_its_own (view v.site.contents.now) ≡ b → (is_read_draft v.site.draft && not (awaits_its_own (view v.site.contents.now))) ≡ false
-    → (is_read_draft s.dialect.draft && not (awaits_its_own s.contents)) ≡ false
-unread-at v s true m is e = ap (λ d. is_read_draft s.dialect.draft && not (awaits_its_own d)) m.contents ∙ ap (λ c. is_read_draft s.dialect.draft && not c) is ∙ never (is_read_draft s.dialect.draft)
-  where
-    never : (b : Bool) → (b && false) ≡ false
-    never true = refl
-    never false = refl
-unread-at v s false m is e =
-    ap (λ d. is_read_draft s.dialect.draft && not (awaits_its_own d)) m.contents
-    ∙ ap (λ x. is_read_draft x.draft && not (awaits_its_own (view v.site.contents.now))) (m.stands is).dialect ∙ e
-
-pub not-read : (v : Visit) (s : Site) (makes : List ℕ → Bool) → Met v s → (is_read_draft v.site.draft && not (awaits_its_own (view v.site.contents.now))) ≡ false
+pub not-read : (v : Visit) (s : Site) (makes : List ℕ → Bool) → Met v s → awaits_its_own (view v.site.contents.now) ≡ true
     → IsBuildCause (documents_at v.site) makes s (not_yet (place_of s []))
 not-read v s makes m e =
     is_not_yet (record {
       site = s;
       reached = at_root;
-      stands = subst (λ ps. In (place_of s []) ps)
-          (sym (unread-whole (is_read_draft s.dialect.draft) (awaits_its_own s.contents) s (unread-at v s (awaits_its_own (view v.site.contents.now)) m refl e))) first;
+      stands = subst (λ (ps : List Place). In (place_of s []) ps) (sym (unread-whole s (ap awaits_its_own m.contents ∙ e))) first;
     })
 
 pub same-place : (v : Visit) (s : Site) → Met v s → place_of s [] ≡ place_in v.place
@@ -123,6 +99,14 @@ no-schema v s makes d e o =
     })
 
 -- ---- by what the code asks of a value
+
+pub is_true : (b : Bool) → not b ≡ false → b ≡ true
+is_true true e = refl
+is_true false e = absurd (cc (e))
+
+pub is_false : (b : Bool) → not b ≡ true → b ≡ false
+is_false true e = absurd (cc (e))
+is_false false e = refl
 
 pub gone : {X Y : Type 0} (f : X → Y) (o : Option X) → ((x : X) → o ≡ Some x → ⊥) → option_map f o ≡ None
 gone f None h = refl

@@ -1,9 +1,10 @@
 pub mod Listing
 pub mod Matching
 pub mod Growth
+pub mod Meeting
+pub mod Mirrored
 pub mod Walking
 pub mod Leading
 pub mod Naming
 pub mod Progressing
-pub mod Drafts
 pub mod Placing

@@ -1,22 +1,26 @@
 -- Visits made one after another.
-use Rattle.std.proofs.Common.{◌≡◌, ◌∙◌, ◌⊎◌, ◌<◌, ◌≤◌, ◌+◌, ℕ, List, [], ◌∷◌, ◌++◌, Bool, true, false, sym, ap, subst, inl, inr, arith, length, take, get_or}
+use Rattle.std.proofs.Common.{◌≡◌, ◌∙◌, ◌⊎◌, ◌<◌, ◌≤◌, ◌+◌, ℕ, List, [], ◌∷◌, ◌++◌, Bool, true, false, Option, Some, None, is_some, refl, sym, ap, subst, inl, inr, arith, length, take, get_or}
 use Rattle.std.specs.List.{list_all}
 use Rattle.std.proofs.lemmas.List.{take_more, take_all, take-append-le}
 use Rattle.serde_json.specs.View.{view}
 use Rattle.schema_meaning.specs.Members.{In, first}
 use Rattle.schema_documents.specs.Bearers.{Document}
-use Rattle.schema_documents.specs.Places.{standard}
 use Rattle.schema_reading.specs.BuildCauses.{Reached, at_root, by_keyword}
 use Rattle.schema_reading.specs.Sites.{Site, root_site}
 use Rattle.schema_reading.specs.Rows.{Place, Row, rows_at}
 use Rattle.schema_reading.specs.NotYet.{Cause, awaits_its_own, unread, IsBuildCause, is_wrong, is_not_yet}
-use Rattle.referencing.specs.Resolved.{documents_in, target_in}
+use Rattle.referencing.specs.Resolved.{base_of, scope_of, documents_in, target_in}
+use Rattle.referencing.specs.declared.scope_key.ScopeKey.{ScopeKey}
+use Rattle.schema_reading.specs.CompileKeys.{scope_key}
+use Rattle.site_laws.specs.Laws.{AreAlike}
+use Rattle.site_laws.proofs.Alike.{joined}
 use Rattle.referencing.specs.declared.resolver.Resolved.{Resolved}
 use Rattle.target_laws.specs.Laws.{are_apart, contents_rise}
 use Rattle.target_laws.proofs.One.{contents_are_one}
 use Rattle.reached_sites.specs.Growing.{Grows}
 use Rattle.reached_sites.specs.Led.{Leads, leads_in, causes_in}
-use Rattle.reached_sites.specs.Visits.{Met, Belongs, Looked, Repeats, Known, Begins}
+use Rattle.reached_sites.specs.Visits.{site_of, key_at, Met, Belongs, Looked, IsOneKey, Repeats, Known, Begins}
+use Rattle.reached_sites.proofs.Meeting.{present-of}
 use Rattle.reached_sites.specs.declared.visit.Visit.{Visit}
 use Rattle.reached_sites.specs.Causes.{RefusesRoot, RefusesAt}
 use Rattle.reached_sites.specs.declared.cause.BuildCause.{BuildCause}
@@ -52,19 +56,47 @@ module _ (own : List Document) where
   same_contents : Apart own → (v w : Visit) → Looked own v → Looked own w → Repeats v w → view v.site.contents.now ≡ view w.site.contents.now
   same_contents a v w x y r =
       let p = same_place v w r in
-      sym x.contents ∙ contents_are_one own a.0 a.1 x.base x.reference y.base y.reference x.target y.target x.found y.found
-      (x.document ∙ p.0 ∙ sym y.document) (x.path ∙ p.1 ∙ sym y.path) ∙ y.contents
+      sym x.contents ∙ contents_are_one own a.0 a.1 x.target y.target x.found y.found (x.document ∙ p.0 ∙ sym y.document) (x.path ∙ p.1 ∙ sym y.path) ∙ y.contents
+
+  have-keys : (k l : Option ScopeKey) → IsOneKey k l → (is_some k ≡ true) × (is_some l ≡ true)
+  have-keys None l h = absurd h
+  have-keys (Some k) None h = absurd h
+  have-keys (Some k) (Some l) h = (refl, refl)
+
+  one-key : (v w : Visit) (k l : Option ScopeKey) → v.key ≡ k → w.key ≡ l → IsOneKey k l → Belongs own v → Belongs own w → key_at v ≡ key_at w
+  one-key v w None l e f h b c = absurd h
+  one-key v w (Some k) None e f h b c = absurd h
+  one-key v w (Some k) (Some l) e f h b c = sym (b.keyed k e) ∙ h ∙ c.keyed l f
+
+  pub sites-alike : (v w : Visit) → Belongs own v → Belongs own w → Repeats v w → view v.site.contents.now ≡ view w.site.contents.now → AreAlike (own ∷ []) (site_of w) (site_of v)
+  sites-alike v w b c r e =
+      let p = same_place v w r in
+      let key : key_at w ≡ key_at v = sym (one-key v w v.key w.key refl refl r.key b c) in
+      record {
+        document = sym p.0;
+        path = sym p.1;
+        contents = sym e;
+        base = sym r.base;
+        dialect = sym r.dialect;
+        scope = subst (λ (ds : List Document). scope_key (ds ∷ []) (base_of w.site.resolver) (scope_of w.site.resolver) ≡ scope_key (own ∷ []) (base_of v.site.resolver) (scope_of v.site.resolver)) c.documents
+            (subst (λ (ds : List Document). key_at w ≡ scope_key (ds ∷ []) (base_of v.site.resolver) (scope_of v.site.resolver)) b.documents key);
+        here = present-of w;
+        there = present-of v;
+      }
 
   pub met-again : Apart own → (v w : Visit) → Belongs own v → Belongs own w → Repeats v w → (s : Site) → Met w s → Met v s
   met-again a v w b c r s m =
       let p = same_place v w r in
-      let e = same_contents a v w (b.looked r.first) (c.looked r.second) r in
+      let keys = have-keys v.key w.key r.key in
+      let e = same_contents a v w (b.looked keys.0) (c.looked keys.1) r in
+      let among = λ (u : Visit) (h : Belongs own u) (x : Site) (y : Site) (k : AreAlike (own ∷ []) x y). subst (λ (ds : List Document). AreAlike (ds ∷ []) x y) (sym h.documents) k in
       record {
         document = m.document ∙ sym p.0;
         path = m.path ∙ sym p.1;
         contents = m.contents ∙ sym e;
-        stands = λ h. (let stands = m.stands (ap awaits_its_own (sym e) ∙ h) in
-            record { contents = m.contents ∙ sym e; base = stands.base ∙ sym r.base; dialect = stands.dialect ∙ ap standard (sym r.draft) });
+        alike = λ h. (let there = m.alike (ap awaits_its_own (sym e) ∙ h) in
+            among v b s (site_of v)
+            (joined (own ∷ []) s (site_of w) (site_of v) (subst (λ (ds : List Document). AreAlike (ds ∷ []) s (site_of w)) c.documents there) (sites-alike v w b c r e)));
       }
 
   -- ---- one visit more

@@ -17,7 +17,8 @@ use std::alloc::Global;
 
 /// Walks the places reached from a root, and answers the first cause that it meets: those next to the root come first.
 ///
-/// Each target of a reference is walked once, and compared with those before; a schema inside several of them is read with each.
+/// Each target of a reference is walked once for each base, dialect and scope key with which it is reached, and compared with those before;
+/// a schema inside several of them is read with each. A scope key is made for each reference.
 ///
 /// # Errors
 ///

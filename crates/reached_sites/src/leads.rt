@@ -1,18 +1,19 @@
 //! Where the keywords of a schema lead.
 
-ghost use Rattle.std.specs.Prelude.{◌≡◌, [], List, ℕ, Bool, IfOk, IfErr, OnOk, codes, true};
+ghost use Rattle.std.specs.Prelude.{◌≡◌, [], List, ℕ, Bool, IfOk, IfErr, OnOk, false};
 ghost use Rattle.std.specs.Borrow.{Bor};
 ghost use Rattle.serde_json.specs.Data.{Data, object};
 ghost use Rattle.serde_json.specs.View.{view, members_view};
 ghost use Rattle.referencing.specs.Resolved.{documents_in};
-ghost use Rattle.schema_reading.specs.Rows.{sites_named};
+ghost use Rattle.schema_reading.specs.NotYet.{awaits_its_own};
 ghost use Rattle.schema_reading.specs.Sites as sites;
 ghost use Rattle.schema_sites.specs.Read as read;
 ghost use Rattle.schema_sites.specs.Seen.{documents_at};
+ghost use Rattle.schema_sites.specs.declared.reference_keyword.ReferenceKeyword.{ReferenceKeyword};
 ghost use Rattle.reached_sites.specs.Causes.{RefusesAt};
 ghost use Rattle.reached_sites.specs.Led.{Leads};
-ghost use Rattle.reached_sites.specs.Members.{Reads, Rest};
-ghost use Rattle.reached_sites.specs.Visits.{Met, Adds};
+ghost use Rattle.reached_sites.specs.Members.{Rest};
+ghost use Rattle.reached_sites.specs.Visits.{site_of, Met, Adds};
 
 use crate::cause::BuildCause;
 use crate::refusing::refused;
@@ -29,7 +30,7 @@ fn push_items<'r>(
     schema: &'r Value,
     leads: &mut Vec<Visit<'r>>,
 ) -> Result<(), AllocError>
-    ensures { OnOk result ((s : sites.Site) → Reads visit.now s → (start : ℕ) → Adds (documents_in visit.now.site.resolver) leads.old.items leads.new.items (read.leads_of (documents_at visit.now.site) s (Keyword.Items start schema.entry))) }
+    ensures { OnOk result ((start : ℕ) → Adds (documents_in visit.now.site.resolver) leads.old.items leads.new.items (read.leads_of (documents_at visit.now.site) (site_of visit.now) (Keyword.Items start schema.entry))) }
 {
     let place = visit.place.member(alloc, "items")?;
     leads.push(visit.below(alloc, place, schema)?)?;
@@ -42,7 +43,7 @@ fn push_properties<'r>(
     map: &'r Map<String, Value>,
     leads: &mut Vec<Visit<'r>>,
 ) -> Result<(), AllocError>
-    ensures { OnOk result ((s : sites.Site) → Reads visit.now s → Adds (documents_in visit.now.site.resolver) leads.old.items leads.new.items (read.leads_of (documents_at visit.now.site) s (Keyword.Properties map.entry))) }
+    ensures { OnOk result (Adds (documents_in visit.now.site.resolver) leads.old.items leads.new.items (read.leads_of (documents_at visit.now.site) (site_of visit.now) (Keyword.Properties map.entry))) }
 {
     let place = visit.place.member(alloc, "properties")?;
     for (name, schema) in map.iter() {
@@ -58,7 +59,7 @@ fn push_target<'r>(
     target: Resolved<'r>,
     leads: &mut Vec<Visit<'r>>,
 ) -> Result<(), AllocError>
-    ensures { OnOk result ((s : sites.Site) (d : Data) (text : Bor (List ℕ)) → read.Finds visit.now.site d (Keyword.Reference text target.entry) → Adds (documents_in visit.now.site.resolver) leads.old.items leads.new.items (read.leads_of (documents_at visit.now.site) s (Keyword.Reference text target.entry))) }
+    ensures { OnOk result ((d : Data) (keyword : ReferenceKeyword) (text : Bor (List ℕ)) → read.Finds visit.now.site d (Keyword.Reference keyword text target.entry) → Adds (documents_in visit.now.site.resolver) leads.old.items leads.new.items (read.leads_of (documents_at visit.now.site) (site_of visit.now) (Keyword.Reference keyword text target.entry))) }
 {
     leads.push(Visit::of_target(alloc, target)?)?;
     Ok(())
@@ -70,7 +71,7 @@ fn push_leads<'r>(
     keyword: Keyword<'r>,
     leads: &mut Vec<Visit<'r>>,
 ) -> Result<(), AllocError>
-    ensures { OnOk result ((s : sites.Site) (d : Data) → Reads visit.now s → read.Finds visit.now.site d keyword.entry → Adds (documents_in visit.now.site.resolver) leads.old.items leads.new.items (read.leads_of (documents_at visit.now.site) s keyword.entry)) }
+    ensures { OnOk result ((d : Data) → read.Finds visit.now.site d keyword.entry → Adds (documents_in visit.now.site.resolver) leads.old.items leads.new.items (read.leads_of (documents_at visit.now.site) (site_of visit.now) keyword.entry)) }
 {
     match keyword {
         Keyword::Nothing => Ok(()),
@@ -87,8 +88,8 @@ fn leads_of_members<'r>(
     visit: &Visit<'r>,
     members: &'r Map<String, Value>,
 ) -> Result<Vec<Visit<'r>>, BuildCause>
-    ensures accepted { IfOk result (λ leads. (makes : List ℕ → Bool) (s : sites.Site) → Reads visit.now s → Rest (documents_in visit.now.site.resolver) makes s (members_view members.now.entries) (members_view members.now.entries) [] leads.items) }
-    ensures refused { IfErr result (λ e. (makes : List ℕ → Bool) (s : sites.Site) → Reads visit.now s → s.contents ≡ object (members_view members.now.entries) → RefusesAt (documents_at visit.now.site) makes s e) }
+    ensures accepted { IfOk result (λ leads. (makes : List ℕ → Bool) → Rest (documents_in visit.now.site.resolver) makes (site_of visit.now) (members_view members.now.entries) (members_view members.now.entries) [] leads.items) }
+    ensures refused { IfErr result (λ e. (makes : List ℕ → Bool) → awaits_its_own (view visit.now.site.contents.now) ≡ false → view visit.now.site.contents.now ≡ object (members_view members.now.entries) → RefusesAt (documents_at visit.now.site) makes (site_of visit.now) e) }
 {
     let mut leads = Vec::new(alloc);
     for (name, value) in members.iter() {

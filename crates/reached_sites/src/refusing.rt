@@ -1,6 +1,7 @@
 //! What a refused member names.
 
 ghost use Rattle.std.specs.Prelude.{◌≡◌, [], IfOk};
+ghost use Rattle.serde_json.specs.Data.{Data};
 ghost use Rattle.schema_reading.specs.NotYet.{Cause, place_of};
 ghost use Rattle.schema_reading.specs.Rows as rows;
 ghost use Rattle.schema_sites.specs.Refused.{Refuses};
@@ -24,7 +25,7 @@ pub(crate) fn refused(
     name: &str,
     refusal: Refusal<'_>,
 ) -> Result<BuildCause, AllocError>
-    ensures { IfOk result (λ e. (x : rows.Context) (row : rows.Row) → place_of x.site [] ≡ place_in place.now → Refuses x name.now row refusal.entry → (cause : Cause) × NamesCause cause e × IsCauseHere x name.now row cause) }
+    ensures { IfOk result (λ e. (x : rows.Context) (d : Data) (row : rows.Row) → place_of x.site [] ≡ place_in place.now → Refuses x name.now d row refusal.entry → (cause : Cause) × NamesCause cause e × IsCauseHere x name.now d row cause) }
 {
     let here = place.member(alloc, name)?;
     match refusal {

@@ -1,12 +1,12 @@
 -- Sites that are alike read alike.
-use Rattle.std.proofs.Common.{◌≡◌, ◌∙◌, ℕ, List, [], ◌∷◌, Bool, not, ◌&&◌, refl, sym, ap, subst}
+use Rattle.std.proofs.Common.{◌≡◌, ◌∙◌, ℕ, List, [], ◌∷◌, Bool, refl, sym, ap, subst}
 use Rattle.std.specs.List.{AllZip}
 use Rattle.std.specs.Prelude.{if◌then◌else◌}
 use Rattle.serde_json.specs.Data.{Data, null, boolean, number, string, array, object, Members, no_members, member}
 use Rattle.json_paths.specs.Parts.{Part, name}
 use Rattle.schema_documents.specs.Bearers.{Documents}
 use Rattle.schema_reading.specs.CompileKeys.{scope_key}
-use Rattle.schema_reading.specs.NotYet.{is_read_draft, awaits_its_own, is_unread, place_of, unread_members, unread_in, unread}
+use Rattle.schema_reading.specs.NotYet.{awaits_its_own, is_unread, place_of, unread_members, unread_in, unread}
 use Rattle.schema_reading.specs.Rows.{Place, rows_at}
 use Rattle.schema_reading.specs.Sites.{Site}
 use Rattle.scope_laws.proofs.Keys.{keys_decide}
@@ -22,7 +22,7 @@ module _ (s : Site) (scope : List (List ℕ)) (road : List Part) where
   members_unread : (all ms : Members) → unread_members s all ms ≡ unread_members (moved s scope road) all ms
   members_unread all no_members = refl
   members_unread all (member k d ms) =
-      ap (λ (ps : List Place). if is_unread s all k then place_of s (name k ∷ []) ∷ ps else ps) (members_unread all ms)
+      ap (λ (ps : List Place). if is_unread s all k d then place_of s (name k ∷ []) ∷ ps else ps) (members_unread all ms)
 
   in_unread : (d : Data) → unread_in s d ≡ unread_in (moved s scope road) d
   in_unread null = refl
@@ -34,7 +34,7 @@ module _ (s : Site) (scope : List (List ℕ)) (road : List Part) where
 
   site_unread : unread s ≡ unread (moved s scope road)
   site_unread =
-      ap (λ (ps : List Place). if is_read_draft s.dialect.draft && not (awaits_its_own s.contents) then ps else place_of s [] ∷ []) (in_unread s.contents)
+      ap (λ (ps : List Place). if awaits_its_own s.contents then place_of s [] ∷ [] else ps) (in_unread s.contents)
 
 module _ (docs : Documents) (makes : List ℕ → Bool) (s t : Site) (a : AreAlike docs s t) where
   same_site : t ≡ moved s t.scope t.schema_path

@@ -1,37 +1,35 @@
 use Rattle.std.proofs.Common.{◌≡◌, sym, subst, List}
 use Rattle.std.proofs.lemmas.Result.{on_ok_weaker}
 use Rattle.referencing.specs.Resolved.{documents_in}
-use Rattle.schema_reading.specs.Sites.{Site}
 use Rattle.schema_sites.specs.Read.{leads_of, Finds}
 use Rattle.schema_sites.specs.Seen.{documents_at}
 use Rattle.schema_sites.specs.declared.keyword.Keyword.{Keyword}
-use Rattle.reached_sites.specs.Visits.{Adds}
+use Rattle.reached_sites.specs.Visits.{site_of, Adds}
 use Rattle.reached_sites.specs.declared.visit.Visit.{Visit}
 use Rattle.reached_sites.proofs.Matching.{adds-none}
 use Rattle.reached_sites.proofs.leads.push_leads.Goals as goal
 
-abbrev AddsFor : Visit → List Visit → List Visit → Site → Keyword → Type 0
-AddsFor v old new s k = Adds (documents_in v.site.resolver) old new (leads_of (documents_at v.site) s k)
+abbrev AddsFor : Visit → List Visit → List Visit → Keyword → Type 0
+AddsFor v old new k = Adds (documents_in v.site.resolver) old new (leads_of (documents_at v.site) (site_of v) k)
 
-as_keyword : (v : Visit) (old new : List Visit) (s : Site) (k l : Keyword) → k ≡ l → AddsFor v old new s l → AddsFor v old new s k
-as_keyword v old new s k l e h = subst (λ (m : Keyword). AddsFor v old new s m) (sym e) h
+as_keyword : (v : Visit) (old new : List Visit) (k l : Keyword) → k ≡ l → AddsFor v old new l → AddsFor v old new k
+as_keyword v old new k l e h = subst (λ (m : Keyword). AddsFor v old new m) (sym e) h
 
 pub returns-in-Nothing : goal.returns-in-Nothing
-returns-in-Nothing c = λ s d r f. as_keyword c.args.visit.now _ _ s _ _ c.in-Nothing.is (adds-none _ c.args.leads.now.items)
+returns-in-Nothing c = λ d f. as_keyword c.args.visit.now _ _ _ _ c.in-Nothing.is (adds-none _ c.args.leads.now.items)
 
 pub returns-in-Types : goal.returns-in-Types
-returns-in-Types c = λ s d r f. as_keyword c.args.visit.now _ _ s _ _ c.in-Types.is (adds-none _ c.args.leads.now.items)
+returns-in-Types c = λ d f. as_keyword c.args.visit.now _ _ _ _ c.in-Types.is (adds-none _ c.args.leads.now.items)
 
 pub returns-in-MinItems : goal.returns-in-MinItems
-returns-in-MinItems c = λ s d r f. as_keyword c.args.visit.now _ _ s _ _ c.in-MinItems.is (adds-none _ c.args.leads.now.items)
+returns-in-MinItems c = λ d f. as_keyword c.args.visit.now _ _ _ _ c.in-MinItems.is (adds-none _ c.args.leads.now.items)
 
 pub returns-in-Items : goal.returns-in-Items
-returns-in-Items c =
-    on_ok_weaker c.push_items.result (λ h s d r f. as_keyword c.args.visit.now _ _ s _ _ c.in-Items.is (h s r c.in-Items.start)) c.push_items.ensures
+returns-in-Items c = on_ok_weaker c.push_items.result (λ h d f. as_keyword c.args.visit.now _ _ _ _ c.in-Items.is (h c.in-Items.start)) c.push_items.ensures
 
 pub returns : goal.returns
 returns c =
     let site = c.args.visit.now.site in
     on_ok_weaker c.push_target.result
-    (λ h s d r f. as_keyword c.args.visit.now _ _ s _ _ c.in-Reference.is
-    (h s d c.in-Reference.text (subst (λ (k : Keyword). Finds site d k) c.in-Reference.is f))) c.push_target.ensures
+    (λ h d f. as_keyword c.args.visit.now _ _ _ _ c.in-Reference.is
+    (h d c.in-Reference.keyword c.in-Reference.text (subst (λ (k : Keyword). Finds site d k) c.in-Reference.is f))) c.push_target.ensures

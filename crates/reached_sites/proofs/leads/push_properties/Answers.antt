@@ -6,29 +6,30 @@ use Rattle.schema_reading.specs.Sites.{below}
 use Rattle.schema_reading.specs.Rows.{sites_named}
 use Rattle.schema_sites.specs.Read.{each_below}
 use Rattle.schema_sites.specs.Seen.{documents_at}
-use Rattle.reached_sites.specs.Visits.{Adds}
+use Rattle.reached_sites.specs.Visits.{site_of, Adds}
 use Rattle.reached_sites.proofs.Matching.{adds-none, adds-one, adds-both}
 use Rattle.reached_sites.proofs.leads.push_properties.Goals as goal
 
 pub loop-name-preserved : goal.loop-name-preserved
-loop-name-preserved c = λ s r fin rest.
-    let site = c.args.visit.now.site in
-    let own = documents_in site.resolver in
+loop-name-preserved c = λ fin rest.
+    let outer = c.args.visit.now in
+    let docs = documents_at outer.site in
+    let own = documents_in outer.site.resolver in
+    let s = site_of outer in
     let k = string_bytes c.in-Some.name.now in
     let put = name k ∷ name (codes "properties") ∷ [] in
-    let document : s.document ≡ c.in_ok-inner.inner.document.value = r.met.document ∙ sym c.in_ok-place.ensures.document ∙ sym c.in_ok-inner.ensures.document in
-    let path : name k ∷ name (codes "properties") ∷ s.path ≡ c.in_ok-inner.inner.path =
-    ap (λ p. name k ∷ name (codes "properties") ∷ p) r.met.path ∙ ap (λ p. name k ∷ p) (sym c.in_ok-place.ensures.path)
-    ∙ ap (λ n. name n ∷ c.in_ok-place.place.path) (sym c.as_str.ensures.value) ∙ sym c.in_ok-inner.ensures.path in
-    let one = adds-one own c.loop-name.leads.items c.push.new.self.items c.in_ok-below.field-0 (below (documents_at site) s put (view c.in-Some.schema.now))
-    c.in_ok-push.ensures.items c.in_ok-below.ensures.belongs (c.in_ok-below.ensures.met s put r.stands document path) in
-    c.loop-name.invariant s r fin
-    (subst (λ es. Adds own c.loop-name.leads.items fin (sites_named (each_below (documents_at site) s (codes "properties") (members_view es)))) (sym c.in-Some.ensures.steps) (adds-both own one rest))
+    let document : outer.place.document.value ≡ c.in_ok-inner.inner.document.value = sym c.in_ok-place.ensures.document ∙ sym c.in_ok-inner.ensures.document in
+    let path : name k ∷ name (codes "properties") ∷ outer.place.path ≡ c.in_ok-inner.inner.path =
+    ap (λ p. name k ∷ p) (sym c.in_ok-place.ensures.path) ∙ ap (λ n. name n ∷ c.in_ok-place.place.path) (sym c.as_str.ensures.value) ∙ sym c.in_ok-inner.ensures.path in
+    let one = adds-one own c.loop-name.leads.items c.push.new.self.items c.in_ok-below.field-0 (below docs s put (view c.in-Some.schema.now))
+    c.in_ok-push.ensures.items c.in_ok-below.ensures.belongs (c.in_ok-below.ensures.met put document path) in
+    c.loop-name.invariant fin
+    (subst (λ es. Adds own c.loop-name.leads.items fin (sites_named (each_below docs s (codes "properties") (members_view es)))) (sym c.in-Some.ensures.steps) (adds-both own one rest))
 
 pub returns : goal.returns
-returns c = λ s r.
+returns c =
     let site = c.args.visit.now.site in
     let own = documents_in site.resolver in
     let vs = c.loop-name.leads.items in
-    c.loop-name.invariant s r vs
-    (subst (λ es. Adds own vs vs (sites_named (each_below (documents_at site) s (codes "properties") (members_view es)))) (sym c.in-None.ensures.steps.0) (adds-none own vs))
+    c.loop-name.invariant vs
+    (subst (λ es. Adds own vs vs (sites_named (each_below (documents_at site) (site_of c.args.visit.now) (codes "properties") (members_view es)))) (sym c.in-None.ensures.steps.0) (adds-none own vs))

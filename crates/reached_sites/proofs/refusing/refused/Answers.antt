@@ -5,52 +5,52 @@ use Rattle.schema_reading.specs.NotYet.{wrong, not_yet}
 use Rattle.schema_reading.specs.Rows.{Place, keyword_value, bad_reference, left_out}
 use Rattle.schema_sites.specs.Refused.{Refuses}
 use Rattle.schema_sites.specs.declared.keyword.Refusal.{Refusal}
-use Rattle.reached_sites.specs.Members.{of_row, of_name}
+use Rattle.reached_sites.specs.Members.{of_row, of_member}
 use Rattle.reached_sites.proofs.Placing.{placed, placed-in, member-in}
 use Rattle.reached_sites.proofs.refusing.refused.Goals as goal
 
 pub returns-in-Value : goal.returns-in-Value
-returns-in-Value c = λ x row at h.
+returns-in-Value c = λ x d row at h.
     let k = c.args.name.now in
     let here = member-in x.site.document x.site.path k c.args.place.now c.in_ok-here.here at c.in_ok-here.ensures.document c.in_ok-here.ensures.path in
-    let r = subst (λ (q : Refusal). Refuses x k row q) c.in-Value.is h in
+    let r = subst (λ (q : Refusal). Refuses x k d row q) c.in-Value.is h in
     (wrong (keyword_value (placed x.site.document (name k ∷ x.site.path)) c.in-Value.expected.now), ap (λ (p : Place). wrong (keyword_value p c.in-Value.expected.now)) here, of_row r.stands)
 
 pub returns-in_ok-member-in-Subschema : goal.returns-in_ok-member-in-Subschema
-returns-in_ok-member-in-Subschema c = λ x row at h.
+returns-in_ok-member-in-Subschema c = λ x d row at h.
     let k = c.args.name.now in
     let n = c.in-Subschema.name.now in
     let here = member-in x.site.document x.site.path k c.args.place.now c.in_ok-here.here at c.in_ok-here.ensures.document c.in_ok-here.ensures.path in
     let there = member-in x.site.document (name k ∷ x.site.path) n c.in_ok-here.here c.in_ok-member-in-Subschema.field-0 here
     c.in_ok-member-in-Subschema.ensures.document c.in_ok-member-in-Subschema.ensures.path in
-    let r = subst (λ (q : Refusal). Refuses x k row q) c.in-Subschema.is h in
+    let r = subst (λ (q : Refusal). Refuses x k d row q) c.in-Subschema.is h in
     (wrong (keyword_value (placed x.site.document (name n ∷ name k ∷ x.site.path)) (codes "schema")), ap (λ (p : Place). wrong (keyword_value p (codes "schema"))) there, of_row r.stands)
 
 pub returns-in_ok-of_target-in-Target : goal.returns-in_ok-of_target-in-Target
-returns-in_ok-of_target-in-Target c = λ x row at h.
+returns-in_ok-of_target-in-Target c = λ x d row at h.
     let k = c.args.name.now in
     let t = target_in c.in-Target.target in
     let there = placed-in t.document t.path c.in_ok-of_target-in-Target.field-0 c.in_ok-of_target-in-Target.ensures.document c.in_ok-of_target-in-Target.ensures.path in
-    let r = subst (λ (q : Refusal). Refuses x k row q) c.in-Target.is h in
+    let r = subst (λ (q : Refusal). Refuses x k d row q) c.in-Target.is h in
     (wrong (keyword_value (placed t.document t.path) (codes "schema")), ap (λ (p : Place). wrong (keyword_value p (codes "schema"))) there, of_row r.stands)
 
 pub returns-in-Reference : goal.returns-in-Reference
-returns-in-Reference c = λ x row at h.
+returns-in-Reference c = λ x d row at h.
     let k = c.args.name.now in
     let here = member-in x.site.document x.site.path k c.args.place.now c.in_ok-here.here at c.in_ok-here.ensures.document c.in_ok-here.ensures.path in
-    let r = subst (λ (q : Refusal). Refuses x k row q) c.in-Reference.is h in
+    let r = subst (λ (q : Refusal). Refuses x k d row q) c.in-Reference.is h in
     (wrong (bad_reference (placed x.site.document (name k ∷ x.site.path)) r.0), (r.0, r.1, ap (λ (p : Place). wrong (bad_reference p r.0)) here), of_row r.2.stands)
 
 pub returns-in-LeftOut : goal.returns-in-LeftOut
-returns-in-LeftOut c = λ x row at h.
+returns-in-LeftOut c = λ x d row at h.
     let k = c.args.name.now in
     let here = member-in x.site.document x.site.path k c.args.place.now c.in_ok-here.here at c.in_ok-here.ensures.document c.in_ok-here.ensures.path in
-    let r = subst (λ (q : Refusal). Refuses x k row q) c.in-LeftOut.is h in
+    let r = subst (λ (q : Refusal). Refuses x k d row q) c.in-LeftOut.is h in
     (wrong (left_out (placed x.site.document (name k ∷ x.site.path))), ap (λ (p : Place). wrong (left_out p)) here, of_row r.stands)
 
 pub returns-in-NotYet : goal.returns-in-NotYet
-returns-in-NotYet c = λ x row at h.
+returns-in-NotYet c = λ x d row at h.
     let k = c.args.name.now in
     let here = member-in x.site.document x.site.path k c.args.place.now c.in_ok-here.here at c.in_ok-here.ensures.document c.in_ok-here.ensures.path in
-    let r = subst (λ (q : Refusal). Refuses x k row q) c.in-NotYet.is h in
-    (not_yet (placed x.site.document (name k ∷ x.site.path)), ap not_yet here, of_name r)
+    let r = subst (λ (q : Refusal). Refuses x k d row q) c.in-NotYet.is h in
+    (not_yet (placed x.site.document (name k ∷ x.site.path)), ap not_yet here, of_member r)
