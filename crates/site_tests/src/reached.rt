@@ -78,7 +78,24 @@ fn causes(rt: HostRuntime) -> Result<(), Fail> {
         ),
         (
             "{\"$schema\":\"http://json-schema.org/draft-07/schema#\"}",
-            "Keyword at 'http://a.test/r#' is not there yet",
+            "accepted",
+        ),
+        (
+            "{\"$schema\":\"http://json-schema.org/draft-07/schema#\",\"items\":[true]}",
+            "Keyword at 'http://a.test/r#/items' is not there yet",
+        ),
+        (
+            "{\"$schema\":\"http://json-schema.org/draft-07/schema#\",\"$ref\":\"#/x\",\"type\":5,\"x\":true}",
+            "accepted",
+        ),
+        (
+            "{\"$dynamicRef\":5}",
+            "Keyword value at 'http://a.test/r#/$dynamicRef': expected text",
+        ),
+        ("{\"$dynamicRef\":\"#/x\"}", "Pointer '/x' does not exist"),
+        (
+            "{\"$schema\":\"https://json-schema.org/draft/2019-09/schema\",\"items\":{\"$recursiveRef\":\"#/x\"}}",
+            "Keyword value at 'http://a.test/r#/items/$recursiveRef': expected text #",
         ),
     ] {
         assert_eq!(rt; checked_text(alloc, text)?.as_str(), want);
@@ -100,5 +117,87 @@ fn in_another_document(rt: HostRuntime) -> Result<(), Fail> {
         checked(&registry)?.as_str(),
         "Keyword value at 'http://a.test/s#/properties/b/minItems': expected count"
     );
+    Ok(())
+}
+
+// What comes of the document `http://a.test/r`, among others.
+fn checked_among(alloc: Global, documents: &[(&str, &str)]) -> Result<String, Fail> {
+    let mut values = Vec::new(alloc);
+    for (_, text) in documents {
+        values.push(Value::from_str(alloc, text)?)?;
+    }
+    let mut builder = Registry::new(alloc);
+    for ((uri, _), value) in documents.iter().zip(values.iter()) {
+        builder = added(builder, uri, value)?;
+    }
+    checked(&builder.prepare()?)
+}
+
+const LIST: (&str, &str) = (
+    "http://a.test/list",
+    "{\"$id\":\"http://a.test/list\",\"type\":\"array\",\"items\":{\"$dynamicRef\":\"#item\"},\"$defs\":{\"d\":{\"$dynamicAnchor\":\"item\"}}}",
+);
+
+const STRINGS: (&str, &str) = (
+    "http://a.test/strings",
+    "{\"$id\":\"http://a.test/strings\",\"$ref\":\"list\",\"$defs\":{\"s\":{\"$dynamicAnchor\":\"item\",\"type\":5}}}",
+);
+
+// The items of `list` are those of the outermost resource: `strings` is one of the scope only where `list` is reached through it.
+#[test]
+fn by_dynamic_scope(rt: HostRuntime) -> Result<(), Fail> {
+    let alloc = rt.alloc();
+    for (root, want) in [
+        ("{\"properties\":{\"l\":{\"$ref\":\"list\"}}}", "accepted"),
+        (
+            "{\"properties\":{\"l\":{\"$ref\":\"list\"},\"s\":{\"$ref\":\"strings\"}}}",
+            "Keyword value at 'http://a.test/strings#/$defs/s/type': expected type name",
+        ),
+        (
+            "{\"properties\":{\"l\":{\"$ref\":\"strings\"},\"s\":{\"$ref\":\"list\"}}}",
+            "Keyword value at 'http://a.test/strings#/$defs/s/type': expected type name",
+        ),
+    ] {
+        let found = checked_among(alloc, &[("http://a.test/r", root), LIST, STRINGS])?;
+        assert_eq!(rt; found.as_str(), want);
+    }
+    Ok(())
+}
+
+const TREE: (&str, &str) = (
+    "http://a.test/tree",
+    "{\"$schema\":\"https://json-schema.org/draft/2019-09/schema\",\"$id\":\"http://a.test/tree\",\"$recursiveAnchor\":true,\"properties\":{\"c\":{\"items\":{\"$recursiveRef\":\"#\"}}}}",
+);
+
+const STRICT: (&str, &str) = (
+    "http://a.test/strict",
+    "{\"$schema\":\"https://json-schema.org/draft/2019-09/schema\",\"$id\":\"http://a.test/strict\",\"$recursiveAnchor\":true,\"minItems\":-1,\"$defs\":{\"x\":{\"$ref\":\"tree\"}}}",
+);
+
+// The root of `strict` is reached by a recursive reference alone, from inside `tree`.
+#[test]
+fn by_recursive_anchors(rt: HostRuntime) -> Result<(), Fail> {
+    let alloc = rt.alloc();
+    for (root, want) in [
+        ("{\"properties\":{\"t\":{\"$ref\":\"tree\"}}}", "accepted"),
+        (
+            "{\"properties\":{\"t\":{\"$ref\":\"tree\"},\"u\":{\"$ref\":\"strict#/$defs/x\"}}}",
+            "Keyword value at 'http://a.test/strict#/minItems': expected count",
+        ),
+    ] {
+        let found = checked_among(alloc, &[("http://a.test/r", root), TREE, STRICT])?;
+        assert_eq!(rt; found.as_str(), want);
+    }
+    Ok(())
+}
+
+// Dynamic references that come back end.
+#[test]
+fn dynamic_circles(rt: HostRuntime) -> Result<(), Fail> {
+    let alloc = rt.alloc();
+    let tree = "{\"$id\":\"http://a.test/tree\",\"$dynamicAnchor\":\"node\",\"properties\":{\"a\":{\"$dynamicRef\":\"#node\"},\"b\":{\"$ref\":\"r\"}}}";
+    let root = "{\"$id\":\"http://a.test/r\",\"$dynamicAnchor\":\"node\",\"$ref\":\"tree\",\"items\":{\"$dynamicRef\":\"tree#node\"}}";
+    let found = checked_among(alloc, &[("http://a.test/r", root), ("http://a.test/tree", tree)])?;
+    assert_eq!(rt; found.as_str(), "accepted");
     Ok(())
 }
