@@ -50,8 +50,12 @@ fn by_what_is_reached(rt: HostRuntime) -> Result<(), Fail> {
             "Keyword at 'http://a.test/r#/items/minimum' is not there yet",
         ),
         (
-            "{\"$schema\":\"http://json-schema.org/draft-07/schema#\"}",
-            "Keyword at 'http://a.test/r#' is not there yet",
+            "{\"$dynamicRef\":5}",
+            "Keyword value at 'http://a.test/r#/$dynamicRef': expected text",
+        ),
+        (
+            "{\"$dynamicRef\":\"#none\"}",
+            "Anchor 'none' does not exist",
         ),
         ("5", "Keyword value at 'http://a.test/r#': expected schema"),
     ] {
@@ -103,18 +107,46 @@ fn on_one_registry(rt: HostRuntime) -> Result<(), Fail> {
 }
 
 #[test]
-fn by_an_older_draft(rt: HostRuntime) -> Result<(), Fail> {
+fn by_older_drafts(rt: HostRuntime) -> Result<(), Fail> {
+    let alloc = rt.alloc();
+    for (root, want) in [
+        (
+            "{\"$schema\":\"https://json-schema.org/draft/2019-09/schema\",\"$recursiveRef\":\"#/x\"}",
+            "Keyword value at 'http://a.test/r#/$recursiveRef': expected text #",
+        ),
+        (
+            "{\"$schema\":\"http://json-schema.org/draft-07/schema#\",\"$recursiveRef\":\"#/x\"}",
+            "built",
+        ),
+        (
+            "{\"$schema\":\"http://json-schema.org/draft-07/schema#\",\"items\":[true]}",
+            "Keyword at 'http://a.test/r#/items' is not there yet",
+        ),
+        (
+            "{\"$schema\":\"http://json-schema.org/draft-04/schema#\",\"items\":5}",
+            "Keyword value at 'http://a.test/r#/items': expected schema or list",
+        ),
+        (
+            "{\"items\":[true]}",
+            "Keyword value at 'http://a.test/r#/items': expected schema",
+        ),
+        (
+            "{\"$schema\":\"http://json-schema.org/draft-06/schema#\",\"$ref\":\"s\",\"type\":5}",
+            "built",
+        ),
+    ] {
+        assert_eq!(rt; outcome(alloc, root, "true")?.as_str(), want);
+    }
+    Ok(())
+}
+
+#[test]
+fn by_the_draft_of_the_options(rt: HostRuntime) -> Result<(), Fail> {
     let alloc = rt.alloc();
     let mut documents = Documents::new(alloc);
-    documents.add_text("", b"{}")?;
-    let options = Validator::options(alloc)?.with_draft(Draft::Draft7);
-    let Err(error) = options.build(&documents, "") else {
-        return Err(Fail::new("an error was wanted"));
-    };
-    let text = format!(in alloc; "{error}")?;
-    assert_eq!(rt;
-        text.as_str(),
-        "Keyword at 'json-schema:///#' is not there yet"
-    );
+    documents.add_text("", b"{\"$dynamicRef\":5}")?;
+    let old = Validator::options(alloc)?.with_draft(Draft::Draft7);
+    assert!(rt; old.build(&documents, "").is_ok());
+    assert!(rt; Validator::options(alloc)?.build(&documents, "").is_err());
     Ok(())
 }

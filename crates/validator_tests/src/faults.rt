@@ -1,93 +1,26 @@
 // What validators tell: the faults by instance path and evaluation path, a line each, and that the observers agree.
-use json_schema_validator::{
-    CheckAnswer, Documents, ErrorIterator, SchemaRegistry, Validator, check_error,
-};
+use crate::subject::{built, built_of, told, told_by};
 use serde_json::Value;
 use std::alloc::Global;
 use std::test::Fail;
-use uri_references::uri::from_str;
-
-// A validator with the registry that it was built on.
-#[derive(Drop)]
-struct Subject {
-    registry: SchemaRegistry,
-    validator: Validator,
-}
-
-fn built(alloc: Global, text: &str) -> Result<Subject, Fail> {
-    let mut documents = Documents::new(alloc);
-    documents.add_text("", text.as_bytes())?;
-    let options = Validator::options(alloc)?;
-    let registry = options.prepare(&documents)?;
-    let validator = options.build_on(&registry, "")?;
-    Ok(Subject {
-        registry,
-        validator,
-    })
-}
-
-fn lines(alloc: Global, errors: ErrorIterator<'_>) -> Result<String, Fail> {
-    let mut text = String::new(alloc);
-    for error in errors {
-        let instance = error.instance_path().to_pointer(alloc)?;
-        let evaluation = error.evaluation_path().to_pointer(alloc)?;
-        write!(text, "{instance} {evaluation}\n")?;
-    }
-    Ok(text)
-}
-
-// Whether the check accepts each fault of a value.
-fn are_accepted(alloc: Global, subject: &Subject, value: &Value) -> Result<bool, Fail> {
-    for error in subject.validator.iter_errors(value)? {
-        match check_error(alloc, &subject.registry, "", value, &error)? {
-            CheckAnswer::Accepted => {}
-            CheckAnswer::Refused => return Ok(false),
-            CheckAnswer::Circular => return Ok(false),
-        }
-    }
-    Ok(true)
-}
-
-// The lines of a value, where the three observers agree on it and the check accepts each fault.
-fn told(alloc: Global, subject: &Subject, instance: &str) -> Result<String, Fail> {
-    let value = Value::from_str(alloc, instance)?;
-    let text = lines(alloc, subject.validator.iter_errors(&value)?)?;
-    let is_valid = subject.validator.is_valid(&value)?;
-    let validates = subject.validator.validate(&value)?.is_ok();
-    if !are_accepted(alloc, subject, &value)? {
-        return Ok(String::from_str(alloc, "a fault is not accepted")?);
-    }
-    if is_valid == text.is_empty() && validates == is_valid {
-        Ok(text)
-    } else {
-        Ok(String::from_str(alloc, "the observers differ")?)
-    }
-}
-
-fn told_by(alloc: Global, schema: &str, instance: &str) -> Result<String, Fail> {
-    told(alloc, &built(alloc, schema)?, instance)
-}
 
 #[test]
 fn between_two_documents(rt: HostRuntime) -> Result<(), Fail> {
     let alloc = rt.alloc();
-    let mut documents = Documents::new(alloc);
-    documents.add_text(
+    let subject = built_of(
+        alloc,
+        &[
+            (
+                "http://a.test/root.json",
+                "{\"$id\":\"http://a.test/root.json\",\"type\":\"array\",\"minItems\":2,\"items\":{\"$ref\":\"leaf.json\"}}",
+            ),
+            (
+                "http://a.test/leaf.json",
+                "{\"$id\":\"http://a.test/leaf.json\",\"type\":\"string\"}",
+            ),
+        ],
         "http://a.test/root.json",
-        b"{\"$id\":\"http://a.test/root.json\",\"type\":\"array\",\"minItems\":2,\"items\":{\"$ref\":\"leaf.json\"}}",
     )?;
-    documents.add_text(
-        "http://a.test/leaf.json",
-        b"{\"$id\":\"http://a.test/leaf.json\",\"type\":\"string\"}",
-    )?;
-    let base = from_str(alloc, "http://a.test/root.json")?;
-    let options = Validator::options(alloc)?.with_base(base);
-    let registry = options.prepare(&documents)?;
-    let validator = options.build_on(&registry, "")?;
-    let subject = Subject {
-        registry,
-        validator,
-    };
     assert_eq!(rt;
         told(alloc, &subject, "[1]")?.as_str(),
         "/0 /items/$ref/type\n /minItems\n"

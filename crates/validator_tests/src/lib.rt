@@ -6,4 +6,10 @@ mod building;
 #[cfg(test)]
 mod checks;
 #[cfg(test)]
+mod drafts;
+#[cfg(test)]
 mod faults;
+#[cfg(test)]
+mod references;
+#[cfg(test)]
+mod subject;

@@ -1,0 +1,82 @@
+// References by the dynamic scope (2020-12, Core 8.2.3.2; 2019-09, Core 8.2.4.2).
+use crate::subject::{built_of, told};
+use std::alloc::Global;
+use std::test::Fail;
+
+const LIST: &str =
+    "{\"$id\":\"http://a.test/list\",\"type\":\"array\",\"items\":{\"$dynamicRef\":\"#item\"},\"$defs\":{\"d\":{\"$dynamicAnchor\":\"item\"}}}";
+
+const STRINGS: &str =
+    "{\"$id\":\"http://a.test/strings\",\"$ref\":\"list\",\"$defs\":{\"s\":{\"$dynamicAnchor\":\"item\",\"type\":\"string\"}}}";
+
+const BOTH: &str = "{\"properties\":{\"l\":{\"$ref\":\"list\"},\"s\":{\"$ref\":\"strings\"}}}";
+
+// What is told of an instance from one of three documents on.
+fn told_from(alloc: Global, root: &str, instance: &str) -> Result<String, Fail> {
+    let documents = [
+        ("http://a.test/list", LIST),
+        ("http://a.test/strings", STRINGS),
+        ("http://a.test/both", BOTH),
+    ];
+    told(alloc, &built_of(alloc, &documents, root)?, instance)
+}
+
+#[test]
+fn dynamic_ones(rt: HostRuntime) -> Result<(), Fail> {
+    let alloc = rt.alloc();
+    for (root, instance, want) in [
+        (
+            "http://a.test/strings",
+            "[\"a\",1]",
+            "/1 /$ref/items/$dynamicRef/type\n",
+        ),
+        ("http://a.test/list", "[\"a\",1]", ""),
+        ("http://a.test/list", "1", " /type\n"),
+        (
+            "http://a.test/both",
+            "{\"l\":[1],\"s\":[1]}",
+            "/s/0 /properties/s/$ref/$ref/items/$dynamicRef/type\n",
+        ),
+    ] {
+        assert_eq!(rt; told_from(alloc, root, instance)?.as_str(), want);
+    }
+    Ok(())
+}
+
+const TREE: &str =
+    "{\"$schema\":\"https://json-schema.org/draft/2019-09/schema\",\"$id\":\"http://a.test/tree\",\"$recursiveAnchor\":true,\"properties\":{\"c\":{\"items\":{\"$recursiveRef\":\"#\"}}}}";
+
+// One that is recursive too, and one that is not.
+const STRICT: &str =
+    "{\"$schema\":\"https://json-schema.org/draft/2019-09/schema\",\"$id\":\"http://a.test/strict\",\"$recursiveAnchor\":true,\"$ref\":\"tree\",\"type\":\"object\"}";
+
+const OPEN: &str =
+    "{\"$schema\":\"https://json-schema.org/draft/2019-09/schema\",\"$id\":\"http://a.test/open\",\"$ref\":\"tree\",\"type\":\"object\"}";
+
+#[test]
+fn recursive_ones(rt: HostRuntime) -> Result<(), Fail> {
+    let alloc = rt.alloc();
+    let documents = [
+        ("http://a.test/tree", TREE),
+        ("http://a.test/strict", STRICT),
+        ("http://a.test/open", OPEN),
+    ];
+    for (root, instance, want) in [
+        (
+            "http://a.test/strict",
+            "{\"c\":[1]}",
+            "/c/0 /$ref/properties/c/items/$recursiveRef/type\n",
+        ),
+        ("http://a.test/tree", "{\"c\":[1]}", ""),
+        ("http://a.test/open", "{\"c\":[1]}", ""),
+        (
+            "http://a.test/strict",
+            "{\"c\":[{\"c\":[1]}]}",
+            "/c/0/c/0 /$ref/properties/c/items/$recursiveRef/$ref/properties/c/items/$recursiveRef/type\n",
+        ),
+    ] {
+        let subject = built_of(alloc, &documents, root)?;
+        assert_eq!(rt; told(alloc, &subject, instance)?.as_str(), want);
+    }
+    Ok(())
+}
