@@ -4,7 +4,7 @@ use Rattle.std.specs.List.{list_any, flat_map}
 use Rattle.std.proofs.lemmas.Slice.Eq.{bytes_eq-Decides}
 use Rattle.std.proofs.lemmas.List.Folds.{list_any-append}
 use Rattle.schema_documents.specs.Words.{has_text}
-use Rattle.schema_documents.specs.Bearers.{Document, Documents, standings, bearer_under}
+use Rattle.schema_documents.specs.Bearers.{Document, Documents, standings, meta, bearer_under}
 use Rattle.retrieval_rounds.specs.Rounds.{Want, wanted_at, further, is_added, is_at_hand, wants_under, wanted_by, Asking, AreRounds, retrieved, none_twice}
 
 abbrev uris : List Want → List (List ℕ)
@@ -137,11 +137,11 @@ asked-now : (a : Asking) (own answers : List Document) → uris_of answers ≡ u
 unfolding wants_under
 asked-now a own answers asked =
     let docs = own ∷ a.parents in
-    let at_hand = is_at_hand (a.told docs) docs in
-    let all = flat_map wanted_at (standings (a.told docs) own) in
+    let at_hand = is_at_hand (meta docs) docs in
+    let all = flat_map wanted_at (standings (meta docs) own) in
     record {
       once = ap none_twice asked ∙ further-once at_hand all;
-      new = λ u h. right-false (is_some (bearer_under (a.told docs) docs u)) (is_added docs u) (further-new at_hand all u (sym (ap (has_text u) asked) ∙ h));
+      new = λ u h. right-false (is_some (bearer_under (meta docs) docs u)) (is_added docs u) (further-new at_hand all u (sym (ap (has_text u) asked) ∙ h));
     }
 
 pub asked-once : (a : Asking) (own : List Document) (rounds : List (List Document)) → AreRounds a own rounds → Once (own ∷ a.parents) (retrieved rounds)

@@ -5,7 +5,6 @@ use Rattle.serde_json.specs.Data.{Data}
 use Rattle.schema_drafts.specs.declared.draft.Draft.{Draft}
 use Rattle.schema_meaning.specs.Members.{In}
 use Rattle.schema_documents.specs.Bearers.{Document}
-use Rattle.schema_identifiers.specs.Unknown.{no_meta}
 use Rattle.document_index.specs.Seen.{document_of}
 use Rattle.referencing_errors.specs.Causes.{NamesDocument}
 use Rattle.referencing_errors.specs.declared.error.Error.{Error}
@@ -13,10 +12,10 @@ use Rattle.referencing_errors.specs.declared.error.Error.TheVariants.{RetrievalL
 use Rattle.retrieval_rounds.specs.Rounds.{Want, Asking, wanted_by, AreRounds, gathered, retrieved}
 use Rattle.document_retrieval.specs.declared.rounds.Retrieved.{Retrieved}
 
--- a retriever is asked, and no meta-schema of one's own is read yet
+-- a retriever is asked, and there are no parents
 abbrev pub asking : {R : Type 0} → (R → List ℕ → Data → Type 0) → (R → List ℕ → Type 0) → R → Draft → Asking
 asking may_answer may_refuse retriever draft =
-    record { answers = may_answer retriever; refuses = may_refuse retriever; default = draft; told = λ docs. no_meta; parents = [] }
+    record { answers = may_answer retriever; refuses = may_refuse retriever; default = draft; parents = [] }
 
 abbrev pub documents_in : Retrieved → List Document
 documents_in r = map document_of r.documents.items

@@ -1,10 +1,9 @@
 //! Documents asked for by rounds.
 
 ghost use Rattle.std.specs.Prelude.{◌≡◌, ◌⊎◌, [], ◌∷◌, map, true, IfOk, IfErr};
-ghost use Rattle.schema_identifiers.specs.Unknown.{no_meta};
 ghost use Rattle.document_index.specs.Seen.{document_of};
 ghost use Rattle.referencing_errors.specs.Causes.{IsMemory};
-ghost use Rattle.retrieval_rounds.specs.Rounds.{wants_under, none_twice};
+ghost use Rattle.retrieval_rounds.specs.Rounds.{wants, none_twice};
 ghost use Rattle.document_retrieval.specs.Stages.{asking, uris_in, IsGathered, Stops};
 
 use crate::round::push_round;
@@ -29,8 +28,8 @@ pub struct Retrieved<'a> {
 /// The documents with all that they want and is not at hand, and with what that wants in turn.
 ///
 /// All documents are walked, then what they want is asked for in the order met, each URI once; then their answers are walked with
-/// them, until nothing is wanted any more. An answer is read by the default draft where it names none. It costs a walk of the documents
-/// for each round.
+/// them, until nothing is wanted any more. An answer is read by the default draft where it names none. It costs two walks of the documents
+/// for each round, and more where they name meta-schemas of their own.
 ///
 /// # Errors
 ///
@@ -44,7 +43,7 @@ pub fn retrieve_wanted<'a, R: Retrieve>(
 ) -> Result<Retrieved<'a>, Error>
     ensures ok { IfOk result (IsGathered (asking R.may_answer R.may_refuse retriever.now default) limit (map document_of documents.entry.items)) }
     ensures once { IfOk result (λ r. none_twice (uris_in r) ≡ true) }
-    ensures complete { IfOk result (λ r. wants_under no_meta (map document_of r.documents.items ∷ []) ≡ []) }
+    ensures complete { IfOk result (λ r. wants (map document_of r.documents.items ∷ []) ≡ []) }
     ensures refused { IfErr result (λ e. IsMemory e ⊎ Stops (asking R.may_answer R.may_refuse retriever.now default) limit (map document_of documents.entry.items) e) }
 {
     let mut gathered = Retrieved {

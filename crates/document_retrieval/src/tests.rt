@@ -105,5 +105,34 @@ fn meta_schemas(rt: HostRuntime) -> Result<(), Fail> {
         256,
     )?;
     assert_eq!(rt; unknown.as_str(), "Unknown meta-schema 'http://a.test/m'");
+    let known = retriever_of(
+        alloc,
+        &[
+            (
+                "http://a.test/m",
+                "{\"$schema\": \"http://json-schema.org/draft-07/schema#\"}",
+            ),
+            ("http://a.test/x", "true"),
+        ],
+    )?;
+    let answered = shown(
+        alloc,
+        "{\"$schema\": \"http://a.test/m\", \"definitions\": {\"a\": {\"$ref\": \"http://a.test/x\"}},
+        \"$defs\": {\"b\": {\"$ref\": \"http://a.test/y\"}}}",
+        &known,
+        256,
+    )?;
+    assert_eq!(rt; answered.as_str(), "http://a.test/m http://a.test/x ");
+    let above = retriever_of(
+        alloc,
+        &[("http://a.test/m", "{\"$schema\": \"http://a.test/n\"}")],
+    )?;
+    let refused = shown(
+        alloc,
+        "{\"$schema\": \"http://a.test/m\", \"$ref\": \"x\"}",
+        &above,
+        256,
+    )?;
+    assert_eq!(rt; refused.as_str(), "Unknown meta-schema 'http://a.test/n'");
     Ok(())
 }

@@ -3,7 +3,7 @@
 ghost use Rattle.std.specs.Prelude.{◌≡◌, ◌++◌, [], ◌∷◌, ℕ, List, map, option_map, IfOk, OnOk, bytes_eq};
 ghost use Rattle.std.specs.List.{list_any};
 ghost use Rattle.schema_documents.specs.Words.{listed};
-ghost use Rattle.schema_identifiers.specs.Unknown.{no_meta};
+ghost use Rattle.schema_vocabularies.specs.Dialects.{dialects_in};
 ghost use Rattle.document_index.specs.Seen.{document_of, standing_of};
 ghost use Rattle.document_index.specs.Located.{located_standings};
 ghost use Rattle.document_index.specs.Indexes.{Indexes};
@@ -14,8 +14,10 @@ use crate::names::Names;
 use document_index::document::Document;
 use document_index::index::Index;
 use document_index::standing::{Standing, standings};
+use meta_schemas::told::meta_schemas;
 use schema_identifiers::bases::resolved;
 use schema_identifiers::identifiers::text_at;
+use schema_vocabularies::MetaSchemas;
 use std::alloc::{AllocError, Global};
 use std::rc::Rc;
 use uri_grammar::components::split_fragment;
@@ -102,17 +104,15 @@ fn names_of(alloc: Global, documents: &[Document<'_>]) -> Result<Names, AllocErr
     Ok(names)
 }
 
-/// What documents want and is not at hand, each URI once, in the order met.
-///
-/// It finds the schema places of each document once, and takes a few look-ups in maps for each.
-///
-/// # Errors
-///
-/// Where memory was refused, or a count of owners is full.
-pub fn wants_of(alloc: Global, documents: &[Document<'_>]) -> Result<Vec<Want>, AllocError>
-    ensures { IfOk result (λ v. map want_of v.items ≡ rounds.wants_under no_meta (map document_of documents.now ∷ [])) }
+// What documents want and is not at hand under what is known of meta-schemas.
+fn wants_under(
+    alloc: Global,
+    known: &MetaSchemas,
+    documents: &[Document<'_>],
+) -> Result<Vec<Want>, AllocError>
+    ensures { IfOk result (λ v. map want_of v.items ≡ rounds.wants_under (dialects_in known.now) (map document_of documents.now ∷ [])) }
 {
-    let places = standings(alloc, documents)?;
+    let places = standings(alloc, known, documents)?;
     let index = Index::of(alloc, &places)?;
     let mut names = names_of(alloc, documents)?;
     let mut wants = Vec::new(alloc);
@@ -120,4 +120,18 @@ pub fn wants_of(alloc: Global, documents: &[Document<'_>]) -> Result<Vec<Want>, 
         push_wanted(alloc, &index, &mut names, &mut wants, standing)?;
     }
     Ok(wants)
+}
+
+/// What documents want and is not at hand, each URI once, in the order met. They are read under all that they tell of meta-schemas.
+///
+/// It finds the schema places of each document once more than [`meta_schemas`] does, and takes a few look-ups in maps for each.
+///
+/// # Errors
+///
+/// As [`meta_schemas`].
+pub fn wants_of(alloc: Global, documents: &[Document<'_>]) -> Result<Vec<Want>, AllocError>
+    ensures { IfOk result (λ v. map want_of v.items ≡ rounds.wants (map document_of documents.now ∷ [])) }
+{
+    let told = meta_schemas(alloc, documents)?;
+    wants_under(alloc, &told.meta_schemas, documents)
 }

@@ -55,17 +55,15 @@ wants docs = wants_under (meta docs) docs
 
 -- ---- rounds
 
--- Whom documents are asked of: what may be answered for a URI and what may be refused, and the draft of answers that name none.
--- `told` says what documents tell of meta-schemas.
+-- whom documents are asked of: what may be answered for a URI and what may be refused, and the draft of answers that name none
 pub record Asking : Type 1 where
   pub answers : List ℕ → Data → Type 0
   pub refuses : List ℕ → Type 0
   pub default : Draft
-  pub told : Documents → List ℕ → Option Dialect
   pub parents : Documents
 
 abbrev pub wanted_by : Asking → List Document → List Want
-wanted_by a own = wants_under (a.told (own ∷ a.parents)) (own ∷ a.parents)
+wanted_by a own = wants (own ∷ a.parents)
 
 -- the answers of a round: a document for each that is wanted, in that order
 pub record IsRound (a : Asking) (own answers : List Document) : Type 0 where

@@ -1,8 +1,7 @@
 use Rattle.std.proofs.Common.{◌≡◌, ◌∙◌, ◌++◌, ◌∷◌, [], map, sym, ap}
 use Rattle.schema_documents.specs.Bearers.{Document}
-use Rattle.schema_identifiers.specs.Unknown.{no_meta}
 use Rattle.document_index.specs.Seen.{document_of}
-use Rattle.retrieval_rounds.specs.Rounds.{Want, wants_under, wanted_by, gathered, none_twice}
+use Rattle.retrieval_rounds.specs.Rounds.{Want, wants, wanted_by, gathered, none_twice}
 use Rattle.document_retrieval.specs.Known.{want_of}
 use Rattle.document_retrieval.specs.Stages.{asking, uris_in}
 use Rattle.document_retrieval.proofs.StageLemmas.{rounds-push, gathered-push, retrieved-push}
@@ -17,7 +16,7 @@ loop-gathered-preserved g c =
     let adds = c.in_ok-push_round.ensures.ok in
     let answers = adds.all.answers in
     let wanted : map want_of c.deref-in-loop-gathered.result.now ≡ wanted_by a (gathered own before.rounds) =
-    ap (map want_of) c.deref-in-loop-gathered.ensures.value ∙ c.in_ok-wants.ensures ∙ ap (λ ds. wants_under no_meta (ds ∷ [])) (ap (map document_of) c.deref.ensures.value ∙ before.documents) in
+    ap (map want_of) c.deref-in-loop-gathered.ensures.value ∙ c.in_ok-wants.ensures ∙ ap (λ ds. wants (ds ∷ [])) (ap (map document_of) c.deref.ensures.value ∙ before.documents) in
     record {
       rounds = before.rounds ++ answers ∷ [];
       are = rounds-push a own before.rounds answers before.are (record { asked = adds.all.asked ∙ ap (map (λ (w : Want). w.uri)) wanted; answered = adds.all.answered });
