@@ -1,8 +1,9 @@
 -- Vocabularies and dialects that are the same.
-use Rattle.std.proofs.Common.{◌≡◌, ◌∙◌, List, [], ◌∷◌, Bool, true, false, ◌&&◌, Some, refl, sym, ap, ap₂}
+use Rattle.std.proofs.Common.{◌≡◌, ◌∙◌, List, [], ◌∷◌, Bool, true, false, ◌&&◌, Option, None, Some, refl, sym, ap, ap₂}
 use mathlib.Core.Bool.{beq}
 use Rattle.std.proofs.lemmas.Bool.{false≢true}
 use Rattle.std.specs.Prelude.{Decides}
+use Rattle.std.specs.Option.{option_eq}
 use Rattle.schema_drafts.specs.Vocabularies.{only, the_known}
 use Rattle.schema_drafts.specs.declared.draft.Draft.TheVariants.{Unknown}
 use Rattle.schema_vocabularies.specs.Sets.{flags, marked, required}
@@ -63,13 +64,27 @@ same_known k j e =
 rest_of : KnownVocabularies → List Bool
 rest_of k = k.applicator ∷ k.unevaluated ∷ k.validation ∷ k.metadata ∷ k.format ∷ k.format_annotation ∷ k.format_assertion ∷ k.content ∷ []
 
--- `==` of two decides whether they are one
-pub equal_known : (k j : KnownVocabularies) (b : Bool)
-    → b ≡ (beq k.core j.core && (beq k.applicator j.applicator && (beq k.unevaluated j.unevaluated && (beq k.validation j.validation && (beq k.metadata j.metadata
-    && (beq k.format j.format && (beq k.format_annotation j.format_annotation && (beq k.format_assertion j.format_assertion && beq k.content j.content))))))))
-    → Decides b (k ≡ j)
+abbrev are_equal : KnownVocabularies → KnownVocabularies → Bool
+are_equal k j =
+    beq k.core j.core && (beq k.applicator j.applicator && (beq k.unevaluated j.unevaluated && (beq k.validation j.validation && (beq k.metadata j.metadata
+    && (beq k.format j.format && (beq k.format_annotation j.format_annotation && (beq k.format_assertion j.format_assertion && beq k.content j.content)))))))
+
+known_decided : (k j : KnownVocabularies) → Decides (are_equal k j) (k ≡ j)
 unfolding all_same rest_of
-equal_known k j b is = (
-  λ e. same_known k j (same_marks k.core (rest_of k) j.core (rest_of j) (sym is ∙ e)),
-  λ e. is ∙ ap (λ (x : KnownVocabularies). all_same k.core (rest_of k) x.core (rest_of x)) (sym e) ∙ marks_themselves k.core (rest_of k),
+known_decided k j = (
+  λ e. same_known k j (same_marks k.core (rest_of k) j.core (rest_of j) e),
+  λ e. ap (λ (x : KnownVocabularies). all_same k.core (rest_of k) x.core (rest_of x)) (sym e) ∙ marks_themselves k.core (rest_of k),
+)
+
+option_decided : {X : Type 0} (E : X → X → Bool) → ((x y : X) → Decides (E x y) (x ≡ y)) → (o p : Option X) → Decides (option_eq E o p) (o ≡ p)
+option_decided E d None None = (λ e. refl, λ e. refl)
+option_decided E d None (Some y) = (λ e. absurd (false≢true e), λ e. (let no : None ≡ Some y = e in cc))
+option_decided E d (Some x) None = (λ e. absurd (false≢true e), λ e. (let no : Some x ≡ None = e in cc))
+option_decided E d (Some x) (Some y) = (λ e. ap Some ((d x y).0 e), λ e. (let same : Some x ≡ Some y = e in let one : x ≡ y = cc in (d x y).1 one))
+
+-- `==` of two decides whether they are one
+pub equal_decides : (o p : Option KnownVocabularies) (b : Bool) → b ≡ option_eq are_equal o p → Decides b (o ≡ p)
+equal_decides o p b is = (
+  λ e. (option_decided are_equal known_decided o p).0 (sym is ∙ e),
+  λ e. is ∙ (option_decided are_equal known_decided o p).1 e,
 )

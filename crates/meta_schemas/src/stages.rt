@@ -85,26 +85,16 @@ pub(crate) fn borne_by(alloc: Global, standings: &[Standing<'_>]) -> Result<Meta
     Ok(borne)
 }
 
-fn are_same_vocabularies(left: KnownVocabularies, right: KnownVocabularies) -> bool
+fn are_same(left: Option<KnownVocabularies>, right: Option<KnownVocabularies>) -> bool
     ensures { Decides result (left ≡ right) }
 {
     left == right
 }
 
-fn are_same_required(left: Option<KnownVocabularies>, right: Option<KnownVocabularies>) -> bool
-    ensures { Decides result (left ≡ right) }
-{
-    match (left, right) {
-        (Some(left), Some(right)) => are_same_vocabularies(left, right),
-        (None, None) => true,
-        _ => false,
-    }
-}
-
 fn is_same(left: Dialect, right: Dialect) -> bool
     ensures { Decides result (left ≡ right) }
 {
-    left.draft == right.draft && are_same_required(left.required, right.required)
+    left.draft == right.draft && are_same(left.required, right.required)
 }
 
 fn is_told_alike(left: Option<Dialect>, right: Option<Dialect>) -> bool
