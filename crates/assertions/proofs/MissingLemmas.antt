@@ -8,7 +8,7 @@ use Rattle.serde_json.specs.Find.{as_str, get_member}
 use Rattle.schema_documents.specs.Words.{listed}
 use Rattle.schema_meaning.specs.Keywords.{none_there, missing}
 use Rattle.assertions.specs.Texts.{texts_of}
-use Rattle.assertions.specs.Wrong.{head, missing_of, missing_in, note_of_name, notes_of}
+use Rattle.assertions.specs.Wrong.{head, missing_in, note_of_name, notes_of}
 use Rattle.assertions.specs.declared.assertion.Wrong.{Wrong}
 
 kept : (k : List ℕ) (ks rest : List (List ℕ)) (ms : Members) (b : Bool) → none_there (get_member k ms) ≡ b → filter (λ k. none_there (get_member k ms)) ks ≡ rest

@@ -1,25 +1,22 @@
 -- Lists of names, and the rows of the keywords that have them.
-use Rattle.std.proofs.Common.{◌≡◌, ℕ, List, [], ◌∷◌, ◌++◌, length, Bool, true, false, not, ◌&&◌, ◌||◌, ◌==◌, codes, Option, Some, None, option_map, refl, sym, ap, ◌∙◌, subst, Bor, bytes_eq}
+use Rattle.std.proofs.Common.{◌≡◌, ℕ, List, [], ◌∷◌, ◌++◌, length, Bool, true, false, not, ◌&&◌, ◌||◌, ◌==◌, codes, Option, Some, None, refl, sym, ap, ◌∙◌, subst, bytes_eq}
 use Rattle.std.specs.List.{list_any}
-use Rattle.std.specs.Prelude.{is_some, option_and_then, if◌then◌else◌, Result, Ok, Err, IfSome, IfNone}
+use Rattle.std.specs.Prelude.{is_some, option_and_then}
 use Rattle.serde_json.specs.declared.value.Value.{Value}
-use Rattle.serde_json.specs.Data.{Data, null, boolean, number, string, array, object, Items, no_items, item, Members, no_members, member}
+use Rattle.serde_json.specs.Data.{Data, null, boolean, number, string, array, object, Items, no_items, item, Members}
 use Rattle.serde_json.specs.Find.{as_str, as_array, as_object}
 use Rattle.serde_json.specs.View.{view, items_view}
-use Rattle.json_paths.specs.Parts.{Part, name}
-use Rattle.schema_documents.specs.Words.{listed, or}
+use Rattle.schema_documents.specs.Words.{listed}
 use Rattle.schema_meaning.specs.Keywords as told
-use Rattle.schema_meaning.specs.Members.{In, first, later}
 use Rattle.schema_values.specs.Equality.{is_among, all_distinct}
-use Rattle.schema_reading.specs.Rows.{Row, BuildCause, Context, keyword_value, place_at, at, asserted, assertion, reads, bad_value, unless_empty, in_list, in_object, required_entry, required_entries, and_more, dependent_required_row}
+use Rattle.schema_reading.specs.Rows.{Row, Context, asserted, assertion, reads, unless_empty, in_list, in_object}
 use Rattle.schema_reading.specs.Values.{first_and, names_in, none_twice, if_none_twice, unique_names}
 use Rattle.assertions.proofs.ReadLemmas.{refused-value}
-use Rattle.assertions.specs.Texts.{texts_of, are_texts, texts_in, entries_of}
-use Rattle.assertions.specs.Reads.{ReadsAs, Makes, IsCause, IsNameList, EntryMakes, required_names_row, cause_of, IsRefusedFor}
+use Rattle.assertions.specs.Texts.{texts_of, are_texts}
+use Rattle.assertions.specs.Reads.{ReadsAs, Makes, IsNameList, required_names_row}
 use Rattle.assertions.specs.declared.names.NameList.{NameList}
 use Rattle.assertions.specs.declared.names.NameList.TheVariants as list
 use Rattle.assertions.specs.declared.reading.Reading.{Reading}
-use Rattle.assertions.specs.declared.reading.Reading.TheVariants as reading
 
 -- ---- texts
 

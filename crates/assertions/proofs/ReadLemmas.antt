@@ -1,5 +1,5 @@
 -- Rows of keywords, by what was read of their values.
-use Rattle.std.proofs.Common.{◌≡◌, ℕ, ℤ, List, [], ◌∷◌, Bool, true, false, codes, Option, Some, None, option_map, refl, sym, ap, ◌∙◌, subst, Bor}
+use Rattle.std.proofs.Common.{◌≡◌, ℕ, List, [], Bool, true, false, codes, Option, Some, None, option_map, refl, sym, ap, ◌∙◌, subst}
 use Rattle.std.specs.Prelude.{if◌then◌else◌, Result, Ok, Err, IfOk}
 use Rattle.std.specs.declared.alloc.AllocError.{AllocError}
 use Rattle.serde_json.specs.Data.{Data}
@@ -14,8 +14,6 @@ use Rattle.assertions.specs.Names.{name_of, limit_name, strict_name}
 use Rattle.assertions.specs.Reads.{ReadsAs, Makes, Surrounds, IsCause}
 use Rattle.assertions.specs.Shapes.{assertion_of, bound_assertion, old_assertion, plain_bound, strict_bound}
 use Rattle.assertions.specs.declared.assertion.Assertion.{Assertion}
-use Rattle.assertions.specs.declared.assertion.Bound.{Bound}
-use Rattle.assertions.specs.declared.assertion.Bound.TheVariants as bound
 use Rattle.assertions.specs.declared.keyword.Count.TheVariants as count
 use Rattle.assertions.specs.declared.keyword.Limit.{Limit}
 use Rattle.assertions.specs.declared.keyword.Limit.TheVariants as side

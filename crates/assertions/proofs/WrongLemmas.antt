@@ -1,7 +1,6 @@
 -- Keywords of which one thing at most is wrong.
 use Rattle.std.proofs.Common.{◌≡◌, ℕ, ℤ, List, [], ◌∷◌, Bool, true, false, Option, Some, None, option_map, refl, sym, ap, ◌∙◌}
-use Rattle.serde_json.specs.Data.{Data, Items}
-use Rattle.serde_json.specs.View.{view, items_view, members_view}
+use Rattle.serde_json.specs.Data.{Data}
 use Rattle.schema_documents.specs.Words.{listed}
 use Rattle.schema_meaning.specs.Faults.{Kind}
 use Rattle.schema_meaning.specs.Keywords.{wrong, unless}

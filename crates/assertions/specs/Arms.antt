@@ -1,5 +1,5 @@
 -- The row of each keyword that only asserts, at its own name.
-use Rattle.std.specs.Prelude.{ℕ, ℤ, List, [], ◌∷◌, Bool, codes, Option}
+use Rattle.std.specs.Prelude.{[], codes}
 use Rattle.serde_json.specs.Data.{Data}
 use Rattle.serde_json.specs.Find.{as_array, as_bool}
 use Rattle.schema_meaning.specs.Keywords as told
@@ -7,7 +7,6 @@ use Rattle.schema_reading.specs.Rows.{Context, Row, asserted, assertion, reads, 
 use Rattle.schema_reading.specs.Values.{type_names, positive_of, unique_names}
 use Rattle.assertions.specs.Names.{count_name}
 use Rattle.assertions.specs.Shapes.{count_assertion}
-use Rattle.assertions.specs.declared.keyword.Count.{Count}
 use Rattle.assertions.specs.declared.keyword.Limit.{Limit}
 use Rattle.assertions.specs.declared.keyword.Limit.TheVariants as side
 use Rattle.assertions.specs.declared.keyword.AssertionKeyword.{AssertionKeyword}

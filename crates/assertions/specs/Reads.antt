@@ -1,8 +1,6 @@
 -- What a reading says of a member of a schema.
-use Rattle.std.specs.Prelude.{◌≡◌, ℕ, List, [], ◌∷◌, Bool, Option, option_map, bytes_eq, if◌then◌else◌, codes, Some, None, true, false, option_and_then, Result, Ok, Err}
+use Rattle.std.specs.Prelude.{◌≡◌, ℕ, List, [], ◌∷◌, Option, codes, Some, None, true, false, option_and_then, Result, Ok, Err}
 use Rattle.serde_json.specs.Data.{Data, Items}
-use Rattle.serde_json.specs.View.{view}
-use Rattle.std.specs.Borrow.{Bor}
 use Rattle.json_paths.specs.Parts.{name}
 use Rattle.schema_drafts.specs.declared.draft.Draft.{Draft}
 use Rattle.schema_meaning.specs.Members.{In}
@@ -11,10 +9,8 @@ use Rattle.schema_reading.specs.Values.{names_in, none_twice, if_none_twice}
 use Rattle.assertions.specs.Texts.{texts_of}
 use Rattle.assertions.specs.declared.names.NameList.{NameList}
 use Rattle.assertions.specs.declared.names.NameList.TheVariants as list
-use Rattle.assertions.specs.Names.{name_of, strict_name}
 use Rattle.assertions.specs.Shapes.{assertion_of}
 use Rattle.assertions.specs.declared.assertion.Assertion.{Assertion}
-use Rattle.assertions.specs.declared.keyword.Limit.TheVariants.{Maximum, Minimum}
 use Rattle.assertions.specs.declared.reading.Reading.{Reading}
 use Rattle.assertions.specs.declared.reading.Reading.TheVariants as reading
 

@@ -1,8 +1,7 @@
 -- The assertions that those of the code stand for.
-use Rattle.std.specs.Prelude.{ℕ, ℤ, Bool, true, false}
+use Rattle.std.specs.Prelude.{ℕ, ℤ, Bool}
 use Rattle.serde_json.specs.View.{view, items_view, members_view}
 use Rattle.schema_meaning.specs.Keywords as told
-use Rattle.schema_values.specs.Numbers.{at_most, at_least, below, above}
 use Rattle.schema_types.specs.Named.{names_in}
 use Rattle.assertions.specs.Texts.{texts_of, entries_of}
 use Rattle.assertions.specs.declared.keyword.Count.{Count}

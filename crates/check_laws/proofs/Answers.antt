@@ -1,12 +1,11 @@
 -- The answers to a keyword's questions, where its site is decided.
-use Rattle.std.proofs.Common.{◌≡◌, ◌∙◌, ℕ, List, [], ◌∷◌, Bool, true, false, ◌&&◌, map, Option, Some, refl, sym, ap, subst}
+use Rattle.std.proofs.Common.{◌≡◌, ◌∙◌, ℕ, List, [], ◌∷◌, Bool, true, false, map, Option, Some, refl, ap, subst}
 use Rattle.serde_json.specs.Data.{Data}
-use Rattle.json_paths.specs.Parts.{Part}
 use Rattle.schema_meaning.specs.Members.{In, first, later, all_true, all_known}
-use Rattle.schema_meaning.specs.Places.{Spot, whole, value_after}
+use Rattle.schema_meaning.specs.Places.{whole, value_after}
 use Rattle.schema_meaning.specs.Questions.{Question, asked_at}
 use Rattle.schema_meaning.specs.Rules.{Rule, asks, accepts, obliged}
-use Rattle.schema_meaning.specs.Readings.{Reading, rules, verdicts, tell_one, told, IsTold, Asks}
+use Rattle.schema_meaning.specs.Readings.{Reading, rules, verdicts, tell_one, told, IsTold}
 use Rattle.schema_meaning.specs.Certificates.{AreAnswers}
 use Rattle.meaning_laws.proofs.Known.{option_map-some, known_head, all_known-in}
 use Rattle.meaning_laws.proofs.Stays.{told-asks}

@@ -1,9 +1,9 @@
 -- A certificate depends on the value alone: its paths end in those of the spot where it begins.
-use Rattle.std.proofs.Common.{◌≡◌, ◌∙◌, ◌++◌, ℕ, List, [], ◌∷◌, refl, sym, ap, subst, append_assoc}
+use Rattle.std.proofs.Common.{◌≡◌, ◌∙◌, ◌++◌, List, [], refl, sym, ap, subst, append_assoc}
 use Rattle.json_paths.specs.Parts.{Part}
 use Rattle.schema_meaning.specs.Members.{In}
-use Rattle.schema_meaning.specs.Places.{Spot, Step, stay, to_item, to_member, to_name, value_after, path_after}
-use Rattle.schema_meaning.specs.Questions.{Question, asked_at}
+use Rattle.schema_meaning.specs.Places.{Spot, Step, stay, to_item, to_member, to_name, path_after}
+use Rattle.schema_meaning.specs.Questions.{asked_at}
 use Rattle.schema_meaning.specs.Rules.{Rule, refuses_at}
 use Rattle.schema_meaning.specs.Readings.{Reading, rules}
 use Rattle.schema_meaning.specs.Certificates.{Certificate, ends, leads}

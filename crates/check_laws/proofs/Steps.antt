@@ -1,19 +1,19 @@
 -- The first step of a certificate, by the texts of its paths.
-use Rattle.std.proofs.Common.{◌≡◌, ◌∙◌, ◌++◌, ℕ, List, [], ◌∷◌, Bool, false, refl, sym, ap, ap₂, subst, append-nil}
+use Rattle.std.proofs.Common.{◌≡◌, ◌∙◌, ◌++◌, ℕ, List, [], Bool, false, refl, sym, ap, subst, append-nil}
 use Rattle.serde_json.specs.Data.{Data}
 use Rattle.json_paths.specs.Parts.{Part}
 use Rattle.schema_meaning.specs.Members.{In}
 use Rattle.schema_meaning.specs.Places.{Spot, whole, value_after, path_after}
-use Rattle.schema_meaning.specs.Questions.{Question, asked_at}
-use Rattle.schema_meaning.specs.Rules.{Rule, accepts, refuses_at, obliged}
+use Rattle.schema_meaning.specs.Questions.{asked_at}
+use Rattle.schema_meaning.specs.Rules.{Rule, refuses_at}
 use Rattle.schema_meaning.specs.Readings.{Reading, rules, IsTold, verdicts}
-use Rattle.schema_meaning.specs.Certificates.{AreAnswers, Certificate, ends, leads}
+use Rattle.schema_meaning.specs.Certificates.{Certificate, ends, leads}
 use Rattle.meaning_laws.proofs.Refuses.{certificate_refuses}
 use Rattle.schema_reading.specs.PathTexts.{path_text}
 use Rattle.check_laws.specs.Spelled.{AreSpelled, AreSpelledBy, refuses, goes}
 use Rattle.check_laws.proofs.Parts.{path_text-append}
 use Rattle.check_laws.proofs.Values.{answers_same}
-use Rattle.check_laws.proofs.Shifted.{Moved, moved, path_after-append}
+use Rattle.check_laws.proofs.Shifted.{Moved, moved}
 
 module _ {S : Type 0} (r : Reading S) where
   bare : (s : S) (w : Spot) (i j e f : List Part) → i ≡ j → e ≡ f → Certificate r s w i e → Certificate r s w j f

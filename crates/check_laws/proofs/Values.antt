@@ -1,9 +1,9 @@
 -- A verdict depends on the value alone, and on no path and no road.
-use Rattle.std.proofs.Common.{◌≡◌, ◌∙◌, ℕ, zero, suc, List, [], ◌∷◌, Bool, true, false, map, Option, None, Some, option_map, refl, sym, ap, subst}
+use Rattle.std.proofs.Common.{◌≡◌, ◌∙◌, ℕ, zero, suc, List, Bool, true, false, Option, None, option_map, refl, sym, ap}
 use Rattle.serde_json.specs.Data.{Data}
 use Rattle.json_paths.specs.Parts.{Part}
-use Rattle.schema_meaning.specs.Members.{In, all_true, all_known}
-use Rattle.schema_meaning.specs.Places.{Spot, whole, Step, stay, to_item, to_member, to_name, value_after}
+use Rattle.schema_meaning.specs.Members.{all_true, all_known}
+use Rattle.schema_meaning.specs.Places.{Spot, Step, value_after}
 use Rattle.schema_meaning.specs.Questions.{Question, asked_at}
 use Rattle.schema_meaning.specs.Rules.{Rule, asks, accepts}
 use Rattle.schema_meaning.specs.Readings.{Reading, rules, verdicts, tell_one, tell, by_kind, asked, through, told, IsTold}

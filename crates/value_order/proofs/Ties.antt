@@ -1,13 +1,13 @@
 -- Values whose names rise tie just where they are equal, as far as their numbers are whole.
 use Rattle.std.proofs.Common.{◌≡◌, ℕ, List, Bool, true, false, ◌&&◌, not, Option, Some, None, ℤ, Ordering, Less, Equal, Greater, nat_cmp, refl, sym, ap, ◌∙◌}
 use Rattle.std.proofs.lemmas.Bool.Decides.{Decides-int_eq}
-use Rattle.std.proofs.lemmas.Cmp.{int_cmp_total, int_eq_equiv, int_ranked, tied_itself}
+use Rattle.std.proofs.lemmas.Cmp.{int_ranked}
 use Rattle.std.proofs.lemmas.Map.Text.{is_eq-slice_cmp}
 use Rattle.std.specs.Cmp.{first_so, second_so, ranked_equal}
 use Rattle.std.specs.Bool.{one_answer}
 use Rattle.std.specs.Cmp.Lexicographic.{slice_cmp}
-use Rattle.std.specs.Ordering.{int_cmp, bool_cmp, int_eq, is_eq, is_lt, ordering_then, MatchOrdering}
-use Rattle.std.specs.Prelude.{is_some, bytes_eq}
+use Rattle.std.specs.Ordering.{int_cmp, bool_cmp, int_eq, is_eq, ordering_then}
+use Rattle.std.specs.Prelude.{is_some}
 use Rattle.serde_json.specs.Data.{Data, null, boolean, number, string, array, object, Items, no_items, item, Members, no_members, member}
 use Rattle.serde_json.specs.Find.{as_integer}
 use Rattle.schema_values.specs.Equality.{equal, equal_items, same_bool, same_whole, has_name, is_tree, are_trees, are_member_trees, rises_from}

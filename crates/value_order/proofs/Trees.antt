@@ -1,12 +1,11 @@
 -- What equals a tree is one, where names rise; so equality goes both ways there.
-use Rattle.std.proofs.Common.{◌≡◌, ℕ, List, Bool, true, false, ◌&&◌, not, refl, sym, ap, ◌∙◌, bytes_eq}
+use Rattle.std.proofs.Common.{◌≡◌, true, ◌&&◌, not, refl, sym, ap, ◌∙◌, bytes_eq}
 use Rattle.std.specs.Cmp.{first_so, second_so, both_ways}
 use Rattle.std.specs.Prelude.{is_some}
-use Rattle.std.proofs.lemmas.Slice.Eq.{bytes_eq-Decides}
 use Rattle.serde_json.specs.Data.{Data, null, boolean, number, string, array, object, Items, no_items, item, Members, no_members, member}
 use Rattle.serde_json.specs.Find.{as_integer}
 use Rattle.std.proofs.Common.{Option, Some, None, ℤ}
-use Rattle.schema_values.specs.Equality.{equal, equal_items, equal_members, names_in, same_whole, has_name, is_tree, are_trees, are_member_trees, rises_from}
+use Rattle.schema_values.specs.Equality.{equal, equal_items, same_whole, has_name, is_tree, are_trees, are_member_trees}
 use Rattle.schema_values.proofs.Equivalence.{symmetric}
 use Rattle.schema_values.proofs.Inversion.{null_equal, boolean_equal, number_equal, string_equal, array_equal, object_equal, item_equal, no_items_equal}
 use Rattle.schema_values.proofs.Kept.{behind_none}

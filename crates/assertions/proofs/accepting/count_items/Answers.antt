@@ -1,4 +1,4 @@
-use Rattle.std.proofs.Common.{sym, ◌∙◌}
+use Rattle.std.proofs.Common.{sym}
 use Rattle.serde_json.proofs.Views.{items_len-items_view}
 use Rattle.assertions.proofs.accepting.count_items.Goals as goal
 

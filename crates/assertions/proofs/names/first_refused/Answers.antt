@@ -1,9 +1,9 @@
-use Rattle.std.proofs.Common.{◌≡◌, List, ℕ, sym, ap, ◌∙◌, subst}
+use Rattle.std.proofs.Common.{List, ℕ, subst}
 use Rattle.serde_json.proofs.Views.{Entry}
 use Rattle.serde_json.specs.View.{view, members_view}
 use Rattle.schema_reading.specs.Rows.{Context, required_entry}
 use Rattle.assertions.specs.Reads.{cause_of, IsRefusedFor}
-use Rattle.assertions.proofs.EntryLemmas.{Left, left_all, left_step, left_stop}
+use Rattle.assertions.proofs.EntryLemmas.{Left, left_stop}
 use Rattle.assertions.proofs.names.first_refused.Goals as goal
 
 pub returns-in-Some-2-clause-refused : goal.returns-in-Some-2-clause-refused

@@ -1,4 +1,4 @@
-use Rattle.std.proofs.Common.{◌≡◌, Bool, true, false, not, sym, ◌∙◌}
+use Rattle.std.proofs.Common.{◌≡◌, true, sym, ◌∙◌}
 use Rattle.serde_json.specs.View.{items_view}
 use Rattle.assertions.specs.Texts.{are_texts}
 use Rattle.assertions.proofs.NameLemmas.{texts_stand, texts_fail, texts_distinct}

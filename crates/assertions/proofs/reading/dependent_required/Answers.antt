@@ -1,6 +1,5 @@
-use Rattle.std.proofs.Common.{◌≡◌, ap, sym, ◌∙◌}
-use Rattle.serde_json.specs.View.{view, members_view}
-use Rattle.assertions.proofs.EntryLemmas.{entries-right, entries-refused, no-entries}
+use Rattle.serde_json.specs.View.{view}
+use Rattle.assertions.proofs.EntryLemmas.{no-entries}
 use Rattle.assertions.proofs.reading.dependent_required.Goals as goal
 
 pub returns-in_default : goal.returns-in_default

@@ -1,4 +1,4 @@
-use Rattle.std.proofs.Common.{sym, ◌∙◌, ap, subst}
+use Rattle.std.proofs.Common.{sym, ◌∙◌, subst}
 use Rattle.serde_json.specs.View.{items_view}
 use Rattle.assertions.specs.declared.names.NameList.{NameList}
 use Rattle.assertions.specs.Reads.{IsNameList}

@@ -1,4 +1,4 @@
-use Rattle.std.proofs.Common.{◌≡◌, ap, sym, ◌∙◌}
+use Rattle.std.proofs.Common.{ap}
 use Rattle.serde_json.specs.View.{view, items_view}
 use Rattle.assertions.proofs.NameLemmas.{required-list, required-other}
 use Rattle.assertions.proofs.reading.required.Goals as goal

@@ -1,4 +1,3 @@
-use Rattle.std.proofs.Common.{sym, ap, ◌∙◌}
 use Rattle.serde_json.specs.View.{view}
 use Rattle.assertions.proofs.ReadLemmas.{unique-row}
 use Rattle.assertions.proofs.reading.unique_items.Goals as goal

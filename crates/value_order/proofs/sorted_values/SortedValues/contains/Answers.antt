@@ -1,4 +1,4 @@
-use Rattle.std.proofs.Common.{◌≡◌, ◌<◌, ◌≤◌, List, Bor, length, Less, Equal, Greater, refl, sym, ap, ◌∙◌, subst, rules, get_or}
+use Rattle.std.proofs.Common.{◌≡◌, ◌<◌, ◌≤◌, List, Bor, length, Less, Equal, Greater, sym, ap, ◌∙◌, subst, rules, get_or}
 use Rattle.std.proofs.lemmas.Fn.{always_returns_same}
 use Rattle.std.specs.List.Sorted.{IsPartitionPoint, IsSortedBy}
 use Rattle.serde_json.specs.declared.value.Value.{Value}
