@@ -1,5 +1,5 @@
 -- What a walk from a root says of two paths.
-use Rattle.std.proofs.Common.{◌≡◌, ◌∙◌, ℕ, List, [], ◌∷◌, Bool, true, false, Result, Ok, Err, is_ok, true≢false, sym, ap, subst, reverse}
+use Rattle.std.proofs.Common.{◌≡◌, ◌∙◌, ℕ, List, [], ◌∷◌, Bool, true, false, Err, is_ok, true≢false, sym, ap, subst, reverse}
 use Rattle.serde_json.specs.Data.{Data}
 use Rattle.serde_json.specs.View.{view}
 use Rattle.json_paths.specs.Parts.{Part}

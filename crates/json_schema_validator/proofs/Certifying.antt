@@ -1,17 +1,16 @@
 -- Certificates of what is answered.
-use Rattle.std.proofs.Common.{◌≡◌, ℕ, List, Bool, Result, Ok, Err, IfErr, refl}
+use Rattle.std.proofs.Common.{Bool, Result, Ok, Err, IfErr, refl}
 use Rattle.serde_json.specs.Data.{Data}
 use Rattle.schema_meaning.specs.Places.{whole}
-use Rattle.schema_meaning.specs.Faults.{Fault, Faults, instance_path, evaluation_path, Told}
-use Rattle.schema_meaning.specs.Readings.{verdicts, bags, IsTold}
-use Rattle.schema_documents.specs.Lookup.{Target}
+use Rattle.schema_meaning.specs.Faults.{Fault, Faults, instance_path, evaluation_path}
+use Rattle.schema_meaning.specs.Readings.{verdicts, bags}
 use Rattle.schema_reading.specs.Sites.{Site, root_site}
 use Rattle.schema_reading.specs.Plain.{plain}
 use Rattle.meaning_laws.proofs.Refuses.{certificate_refuses}
 use Rattle.meaning_laws.proofs.Certified.{faults_are_certified}
 use Rattle.schema_reports.specs.Told.{fault_of}
 use Rattle.schema_reports.specs.declared.error.ValidationError.{ValidationError}
-use Rattle.schema_roots.specs.Roots.{Root, Finds}
+use Rattle.schema_roots.specs.Roots.{Root}
 use Rattle.schema_roots.specs.Answers.{IsAnswer, IsFault}
 use Rattle.schema_roots.specs.Certified.{IsCertified, HasCertificate, HaveCertificates}
 

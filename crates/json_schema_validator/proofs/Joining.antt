@@ -1,14 +1,13 @@
 -- What the check of faults says of what validators answer.
-use Rattle.std.proofs.Common.{◌≡◌, ◌∙◌, ◌++◌, ℕ, List, [], ◌∷◌, Bool, false, refl, sym, ap, append_assoc}
+use Rattle.std.proofs.Common.{◌≡◌, ◌∙◌, ◌++◌, ℕ, List, [], ◌∷◌, Bool, false, refl, ap, append_assoc}
 use Rattle.serde_json.specs.Data.{Data}
-use Rattle.schema_meaning.specs.Faults.{Fault, Faults, also, instance_path, evaluation_path, told_first, told_later}
-use Rattle.schema_reading.specs.PathTexts.{path_text}
+use Rattle.schema_meaning.specs.Faults.{Fault, Faults, also, told_first, told_later}
 use Rattle.schema_roots.specs.Roots.{Root}
 use Rattle.schema_roots.specs.Certified.{IsCertified, HasCertificate, HaveCertificates}
 use Rattle.fault_checks.specs.Checked.{IsChecked}
 use Rattle.fault_checks.specs.declared.checking.CheckAnswer.{CheckAnswer}
 use Rattle.fault_checks.specs.declared.checking.CheckAnswer.TheVariants.{Accepted, Refused, Circular}
-use Rattle.json_schema_validator.specs.Joined.{IsFaultChecked, WhereStraight, each_accepted}
+use Rattle.json_schema_validator.specs.Joined.{IsFaultChecked, WhereStraight}
 
 -- a fault that has a certificate is accepted
 pub fault_accepted : (r : Root) (d : Data) (f : Fault) (a : CheckAnswer) → IsFaultChecked r d f a → HasCertificate r d f → WhereStraight r d (a ≡ Accepted)

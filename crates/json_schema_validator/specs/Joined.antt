@@ -1,5 +1,5 @@
 -- What the check of faults says of what validators answer.
-use Rattle.std.specs.Prelude.{◌≡◌, ℕ, List, [], ◌∷◌, Bool, false}
+use Rattle.std.specs.Prelude.{◌≡◌, ℕ, List, [], ◌∷◌, Bool}
 use Rattle.serde_json.specs.Data.{Data}
 use Rattle.schema_meaning.specs.Faults.{Fault, Faults, none, also, instance_path, evaluation_path}
 use Rattle.schema_meaning.specs.Readings.{bags}

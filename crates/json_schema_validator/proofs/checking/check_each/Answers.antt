@@ -4,7 +4,7 @@ use Rattle.schema_reports.specs.Left.{errors_left}
 use Rattle.schema_reports.specs.Told.{fault_of, faults_of}
 use Rattle.schema_roots.specs.Roots.{root_on}
 use Rattle.schema_roots.specs.Certified.{HaveCertificates}
-use Rattle.json_schema_validator.specs.Joined.{WhereStraight, each_accepted}
+use Rattle.json_schema_validator.specs.Joined.{each_accepted}
 use Rattle.json_schema_validator.proofs.Joining.{first_certified, rest_certified, one_accepted}
 use Rattle.json_schema_validator.proofs.checking.check_each.Goals as goal
 
