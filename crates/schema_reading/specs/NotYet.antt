@@ -1,5 +1,5 @@
 -- What is not read yet: a scaffold, for as long as keywords are missing. A build that meets any of it refuses it.
-use Rattle.std.specs.Prelude.{ℕ, List, [], ◌∷◌, ◌++◌, Bool, true, false, not, ◌&&◌, ◌||◌, bytes_eq, codes, if◌then◌else◌, Option, Some, None, is_some}
+use Rattle.std.specs.Prelude.{ℕ, List, [], ◌∷◌, ◌++◌, Bool, false, not, ◌&&◌, ◌||◌, bytes_eq, codes, if◌then◌else◌, Option, Some, None, is_some}
 use Rattle.serde_json.specs.Find.{as_array}
 use Rattle.serde_json.specs.Data.{Data, null, boolean, number, string, array, object, Members, no_members, member}
 use Rattle.schema_drafts.specs.Drafts.{draft_named}
