@@ -1,7 +1,9 @@
 // Vocabularies by their URIs, sets of them, and keywords with and without their vocabulary.
 
 use schema_drafts::draft::Draft;
-use schema_vocabularies::{Vocabulary, VocabularySet, counts, find_vocabularies};
+use schema_vocabularies::{
+    Dialect, MetaSchemas, Vocabulary, VocabularySet, counts, find_vocabularies,
+};
 use serde_json::{Value, json};
 use std::alloc::Global;
 use std::test::Fail;
@@ -163,5 +165,45 @@ fn counting(rt: HostRuntime) -> Result<(), Fail> {
     assert!(rt; !counts(Draft::Draft7, &set, true, "type"));
     assert!(rt; counts(Draft::Draft7, &set, true, "$ref"));
     assert!(rt; !counts(Draft::Draft202012, &set, false, "title"));
+    Ok(())
+}
+
+#[test]
+fn dialects(rt: HostRuntime) -> Result<(), Fail> {
+    let alloc = rt.alloc();
+    let dialect = Dialect::by_meta_schema(Draft::Draft202012, &example(alloc)?);
+    assert!(rt; dialect.counts(false, "items"));
+    assert!(rt; dialect.counts(false, "$ref"));
+    assert!(rt; !dialect.counts(false, "minimum"));
+    assert!(rt; !dialect.counts(false, "unevaluatedItems"));
+    assert!(rt; dialect != Dialect::standard(Draft::Draft202012));
+    // in another order, by the URIs of 2019-09, and with no custom ones
+    let alike = json!(in alloc; {
+        "$vocabulary": {
+            "https://json-schema.org/draft/2019-09/vocab/applicator": true,
+            "https://json-schema.org/draft/2019-09/vocab/core": true
+        }
+    })?;
+    assert!(rt; dialect == Dialect::by_meta_schema(Draft::Draft202012, &alike));
+    assert!(rt; dialect != Dialect::by_meta_schema(Draft::Draft201909, &alike));
+    let absent = json!(in alloc; {"$vocabulary": true})?;
+    let whole = Dialect::by_meta_schema(Draft::Draft7, &absent);
+    assert!(rt; whole == Dialect::standard(Draft::Draft7));
+    assert!(rt; !whole.counts(true, "type"));
+    assert!(rt; whole.counts(true, "$ref"));
+    Ok(())
+}
+
+#[test]
+fn meta_schemas_by_their_uris(rt: HostRuntime) -> Result<(), Fail> {
+    let alloc = rt.alloc();
+    let mut known = MetaSchemas::none(alloc);
+    assert!(rt; known.get("urn:a").is_none());
+    known.insert(alloc, "urn:a", Dialect::standard(Draft::Draft4))?;
+    known.insert(alloc, "urn:b", Dialect::standard(Draft::Draft6))?;
+    known.insert(alloc, "urn:a", Dialect::standard(Draft::Draft7))?;
+    assert!(rt; known.get("urn:a") == Some(Dialect::standard(Draft::Draft7)));
+    assert!(rt; known.get("urn:b") == Some(Dialect::standard(Draft::Draft6)));
+    assert!(rt; known.get("urn:c").is_none());
     Ok(())
 }
