@@ -5,8 +5,7 @@ ghost use Rattle.schema_documents.specs.DocumentCauses.{document_causes};
 ghost use Rattle.document_index.specs.Seen.{document_of};
 ghost use Rattle.given_documents.specs.Given.{document_by, documents_by};
 ghost use Rattle.given_documents.specs.Seen.{given_of};
-ghost use Rattle.referencing.specs.Causes.{causes_of};
-ghost use Rattle.referencing.specs.Named.{NamesOne};
+ghost use Rattle.document_causes.specs.Named.{NamesOne};
 ghost use Rattle.referencing.specs.Seen.{documents_of};
 ghost use Rattle.target_laws.specs.Laws.{are_apart};
 
@@ -46,9 +45,8 @@ impl SchemaRegistry {
     ) -> Result<SchemaRegistry, Error>
         ensures documents { IfOk result (λ r. documents_in_registry r ≡ documents_by draft (documents_given documents.now)) }
         ensures base { IfOk result (λ r. r.base ≡ base) }
-        ensures accepted { OnOk result (causes_of (documents_by draft (documents_given documents.now)) ≡ []) }
-        ensures no_cause { OnOk result (document_causes (documents_by draft (documents_given documents.now) ∷ []) ≡ []) }
-        ensures refused { IfErr result (NamesOne (causes_of (documents_by draft (documents_given documents.now)))) }
+        ensures accepted { OnOk result (document_causes (documents_by draft (documents_given documents.now) ∷ []) ≡ []) }
+        ensures refused { IfErr result (NamesOne (document_causes (documents_by draft (documents_given documents.now) ∷ []))) }
     {
         documents.uris_are_apart();
         let shared = all_shared(alloc, documents.list().documents(), draft)?;

@@ -1,10 +1,10 @@
-use Rattle.std.proofs.Common.{◌≡◌, ◌∙◌, ap, map, subst}
+use Rattle.std.proofs.Common.{◌≡◌, ◌∙◌, ◌∷◌, [], ap, map, subst}
 use Rattle.document_index.specs.Seen.{document_of}
 use Rattle.given_documents.specs.Given.{documents_by}
-use Rattle.referencing.specs.Causes.{causes_of}
-use Rattle.referencing.specs.Named.{NamesOne}
+use Rattle.schema_documents.specs.DocumentCauses.{document_causes}
+use Rattle.document_causes.specs.Named.{NamesOne}
 use Rattle.referencing.specs.Seen.{documents_of}
-use Rattle.referencing.proofs.NamedLemmas.{kept}
+use Rattle.document_causes.proofs.NamedLemmas.{kept}
 use Rattle.target_laws.specs.Laws.{are_apart}
 use Rattle.schema_registries.specs.Seen.{documents_given}
 use Rattle.schema_registries.proofs.Apart.{apart_by}
@@ -16,7 +16,7 @@ returns-in_err-registry-clause-refused c =
     let draft = c.args.draft in
     let same : map document_of c.in_ok-shared.shared.items ≡ documents_by draft (documents_given c.args.documents.now) =
     c.in_ok-shared.ensures ∙ ap (documents_by draft) (c.documents.ensures ∙ c.list.ensures) in
-    kept c.from_residual-in_err-registry.result e _ c.from_residual-in_err-registry.ensures.1 (subst (λ ds. NamesOne (causes_of ds) e) same c.in_err-registry.ensures.refused)
+    kept c.from_residual-in_err-registry.result e _ c.from_residual-in_err-registry.ensures.1 (subst (λ ds. NamesOne (document_causes (ds ∷ [])) e) same c.in_err-registry.ensures.refused)
 
 pub invariant_of-result : goal.invariant_of-result
 invariant_of-result c =
