@@ -1,10 +1,12 @@
 -- A list of visits that grows by others, one by one.
 use Rattle.std.proofs.Common.{◌≡◌, ◌∙◌, ◌⊎◌, List, [], ◌∷◌, ◌++◌, sym, ap, subst, append-nil, append_assoc, inl, inr}
 use Rattle.schema_meaning.specs.Members.{In, first, later}
-use Rattle.reached_sites.specs.Growing.{Apart, one_more, Grows}
-use Rattle.reached_sites.specs.Visits.{Known, Repeats}
+use Rattle.reached_sites.specs.Growing.{AddsOne, Apart, Grows}
+use Rattle.reached_sites.specs.Filed.{Filed}
+use Rattle.reached_sites.specs.Visits.{Known}
+use Rattle.reached_sites.specs.declared.targets.Targets.{Targets}
 use Rattle.reached_sites.specs.declared.visit.Visit.{Visit}
-use Rattle.reached_sites.proofs.Listing.{in-before, in-behind, in-either, in-one, none-in}
+use Rattle.reached_sites.proofs.Listing.{in-before, in-behind, none-in}
 
 pub grows-none : (vs : List Visit) → Grows vs vs []
 grows-none vs = record { added = []; grown = sym (append-nil vs); led_to = λ v i. none-in i; there = λ v i. none-in i }
@@ -38,34 +40,22 @@ grows-known old fin lead rest k g = record {
   there = λ v i. there-first lead v fin rest (inr (known-more old fin g.added lead g.grown k)) g.there i;
 }
 
--- one more that is not known
-in-neither : (front : List Visit) (v w : Visit) (k : Visit) → Repeats k w → In k front ⊎ In k (v ∷ []) → (Known front w → ⊥) → (Repeats v w → ⊥) → ⊥
-in-neither front v w k r (inl i) none here = none (record { visit = k; listed = i; same = r })
-in-neither front v w k r (inr i) none here = here (subst (λ u. Repeats u w) (in-one i) r)
-
-pub not-known : (front all : List Visit) (v w : Visit) → all ≡ front ++ v ∷ [] → (Known front w → ⊥) → (Repeats v w → ⊥) → Known all w → ⊥
-not-known front all v w e none here k = in-neither front v w k.visit k.same (in-either front (v ∷ []) (subst (λ vs. In k.visit vs) e k.listed)) none here
-
-pub known-there : (vs ws : List Visit) (v : Visit) → vs ≡ ws → Known vs v → Known ws v
-known-there vs ws v e k = subst (λ us. Known us v) e k
-
 -- ---- a loop over the others
 
-pub record Adding (old now all rest : List Visit) : Type 0 where
+pub record Adding (before after : Targets) (old now all rest : List Visit) : Type 0 where
   pub grows : (fin : List Visit) → Grows now fin rest → Grows old fin all
-  pub apart : Apart old → Apart now
+  pub apart : Filed before old → Apart old → Filed after now × Apart now
 
-pub adding-pushed : (old now next all rest left : List Visit) (lead : Visit) → Adding old now all rest → rest ≡ lead ∷ left → next ≡ now ++ lead ∷ [] → (Known now lead → ⊥) → Adding old next all left
-adding-pushed old now next all rest left lead h e made new = record {
-  grows = λ fin g. h.grows fin (subst (λ ls. Grows now fin ls) (sym e) (grows-pushed now next fin lead left made g));
-  apart = λ a. subst Apart (sym made) (one_more lead (h.apart a) new);
+one-more-grows : (old next fin : List Visit) (lead : Visit) (left : List Visit) → AddsOne old next lead → Grows next fin left → Grows old fin (lead ∷ left)
+one-more-grows old next fin lead left (inl made) g = grows-pushed old next fin lead left made g
+one-more-grows old next fin lead left (inr known) g = grows-known old fin lead left known.1 (subst (λ vs. Grows vs fin left) known.0 g)
+
+pub adding-goes : (before after last : Targets) (old now next all rest left : List Visit) (lead : Visit) → Adding before after old now all rest → rest ≡ lead ∷ left
+    → AddsOne now next lead → (Filed after now → Apart now → Filed last next × Apart next) → Adding before last old next all left
+adding-goes before after last old now next all rest left lead h e one apart = record {
+  grows = λ fin g. h.grows fin (subst (λ ls. Grows now fin ls) (sym e) (one-more-grows now next fin lead left one g));
+  apart = λ f a. (let both = h.apart f a in apart both.0 both.1);
 }
 
-pub adding-known : (old now all rest left : List Visit) (lead : Visit) → Adding old now all rest → rest ≡ lead ∷ left → Known now lead → Adding old now all left
-adding-known old now all rest left lead h e k = record {
-  grows = λ fin g. h.grows fin (subst (λ ls. Grows now fin ls) (sym e) (grows-known now fin lead left k g));
-  apart = h.apart;
-}
-
-pub adding-ends : (old now all rest : List Visit) → Adding old now all rest → rest ≡ [] → Grows old now all
-adding-ends old now all rest h e = h.grows now (subst (λ ls. Grows now now ls) (sym e) (grows-none now))
+pub adding-ends : (before after : Targets) (old now all rest : List Visit) → Adding before after old now all rest → rest ≡ [] → Grows old now all
+adding-ends before after old now all rest h e = h.grows now (subst (λ ls. Grows now now ls) (sym e) (grows-none now))

@@ -1,5 +1,6 @@
 pub mod Listing
 pub mod Matching
+pub mod Filing
 pub mod Growth
 pub mod Meeting
 pub mod Mirrored

@@ -1,5 +1,5 @@
 -- Visits made one after another.
-use Rattle.std.proofs.Common.{◌≡◌, ◌∙◌, ◌⊎◌, ◌<◌, ◌≤◌, ◌+◌, ℕ, List, [], ◌∷◌, ◌++◌, Bool, true, false, Option, Some, None, is_some, refl, sym, ap, subst, inl, inr, arith, length, take, get_or}
+use Rattle.std.proofs.Common.{◌≡◌, ◌∙◌, ◌⊎◌, ◌<◌, ◌≤◌, ◌+◌, ℕ, List, [], ◌∷◌, ◌++◌, Bool, true, false, Option, Some, None, refl, sym, ap, subst, inl, inr, arith, length, take, get_or}
 use Rattle.std.specs.List.{list_all}
 use Rattle.std.proofs.lemmas.List.{take_more, take_all, take-append-le}
 use Rattle.serde_json.specs.View.{view}
@@ -20,6 +20,7 @@ use Rattle.target_laws.proofs.One.{contents_are_one}
 use Rattle.reached_sites.specs.Growing.{Grows}
 use Rattle.reached_sites.specs.Led.{Leads, leads_in, causes_in}
 use Rattle.reached_sites.specs.Visits.{site_of, key_at, Met, Belongs, Looked, IsOneKey, Repeats, Known, Begins}
+use Rattle.reached_sites.proofs.Filing.{have-keys}
 use Rattle.reached_sites.proofs.Meeting.{present-of}
 use Rattle.reached_sites.specs.declared.visit.Visit.{Visit}
 use Rattle.reached_sites.specs.Causes.{RefusesRoot, RefusesAt}
@@ -57,11 +58,6 @@ module _ (own : List Document) where
   same_contents a v w x y r =
       let p = same_place v w r in
       sym x.contents ∙ contents_are_one own a.0 a.1 x.target y.target x.found y.found (x.document ∙ p.0 ∙ sym y.document) (x.path ∙ p.1 ∙ sym y.path) ∙ y.contents
-
-  have-keys : (k l : Option ScopeKey) → IsOneKey k l → (is_some k ≡ true) × (is_some l ≡ true)
-  have-keys None l h = absurd h
-  have-keys (Some k) None h = absurd h
-  have-keys (Some k) (Some l) h = (refl, refl)
 
   one-key : (v w : Visit) (k l : Option ScopeKey) → v.key ≡ k → w.key ≡ l → IsOneKey k l → Belongs own v → Belongs own w → key_at v ≡ key_at w
   one-key v w None l e f h b c = absurd h

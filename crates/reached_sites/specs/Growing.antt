@@ -10,6 +10,10 @@ pub record Grows (old new leads : List Visit) : Type 0 where
   pub led_to : (v : Visit) → In v added → In v leads
   pub there : (v : Visit) → In v leads → In v new ⊎ Known new v
 
+-- one visit is put behind others, or a reference led to the same before
+abbrev pub AddsOne : List Visit → List Visit → Visit → Type 0
+AddsOne old new lead = (new ≡ old ++ lead ∷ []) ⊎ ((new ≡ old) × Known old lead)
+
 -- no visit is to a place to which a reference led before
 pub data Apart : List Visit → Type 0 where
   none : Apart []

@@ -11,14 +11,15 @@ ghost use Rattle.reached_sites.specs.Causes.{RefusesRoot};
 use crate::cause::BuildCause;
 use crate::leads::leads_of;
 use crate::reaching::add_new;
+use crate::targets::Targets;
 use crate::visit::first_visits;
 use referencing::Resolved;
 use std::alloc::Global;
 
 /// Walks the places reached from a root, and answers the first cause that it meets: those next to the root come first.
 ///
-/// Each target of a reference is walked once for each base, dialect and scope key with which it is reached, and compared with those before;
-/// a schema inside several of them is read with each. A scope key is made for each reference.
+/// Each target of a reference is walked once for each base, dialect and scope key with which it is reached; a schema inside several of them is
+/// read with each. For each reference a scope key is made, and the text of its target's place, by which those that led there before are found.
 ///
 /// # Errors
 ///
@@ -28,10 +29,11 @@ pub fn check_reached(alloc: Global, root: &Resolved<'_>) -> Result<(), BuildCaus
     ensures refused { IfErr result (RefusesRoot (documents_in root.now.resolver ∷ []) (root_site (target_in root.now))) }
 {
     let mut visits = first_visits(alloc, root)?;
+    let mut targets = Targets::new(alloc);
     let mut next: usize = 0;
     while next < visits.len() {
         let leads = leads_of(alloc, &visits[next])?;
-        add_new(&mut visits, leads)?;
+        add_new(alloc, &mut visits, &mut targets, leads)?;
         next += 1;
     }
     Ok(())

@@ -7,4 +7,5 @@ mod leads;
 pub mod place;
 mod reaching;
 mod refusing;
+mod targets;
 mod visit;

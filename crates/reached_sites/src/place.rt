@@ -1,9 +1,10 @@
 //! Places of documents.
 
-ghost use Rattle.std.specs.Prelude.{◌≡◌, ◌∷◌, IfOk};
+ghost use Rattle.std.specs.Prelude.{◌≡◌, ◌∷◌, IfOk, string_bytes};
 ghost use Rattle.std.specs.Bool.{Decides};
 ghost use Rattle.json_paths.specs.Parts.{name as name_part};
 ghost use Rattle.referencing.specs.Resolved.{target_in};
+ghost use Rattle.reached_sites.specs.Filed.{place_text};
 ghost use Rattle.reached_sites.specs.Places.{place_in};
 
 use referencing::Resolved;
@@ -56,6 +57,19 @@ impl SchemaPlace {
         ensures { Decides result (place_in self.now ≡ place_in other.now) }
     {
         self.path == other.path && self.document.as_str() == other.document.as_str()
+    }
+
+    /// The text of the document's URI and of the path, which places that are the same share.
+    ///
+    /// # Errors
+    ///
+    /// Where memory was refused.
+    pub(crate) fn text(&self, alloc: Global) -> Result<String, AllocError>
+        ensures { IfOk result (λ t. string_bytes t ≡ place_text (place_in self.now)) }
+    {
+        let mut text = String::from_str(alloc, self.document.as_str())?;
+        self.path.write_to(&mut text)?;
+        Ok(text)
     }
 
     /// The place of a member.

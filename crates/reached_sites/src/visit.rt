@@ -10,7 +10,7 @@ ghost use Rattle.referencing.specs.Resolved.{base_of, scope_of, documents_in, ta
 ghost use Rattle.schema_reading.specs.Sites as sites;
 ghost use Rattle.schema_sites.specs.Seen.{documents_at};
 ghost use Rattle.target_laws.specs.Laws.{IsTarget};
-ghost use Rattle.reached_sites.specs.Visits.{site_of, Met, Belongs, Begins, IsOneKey, Repeats, Known};
+ghost use Rattle.reached_sites.specs.Visits.{site_of, Met, Belongs, Begins, IsOneKey, Repeats};
 
 use crate::place::SchemaPlace;
 use referencing::{Resolved, ScopeKey};
@@ -116,7 +116,7 @@ impl<'r> Visit<'r> {
     }
 
     /// Whether both are targets of references, at one place with one base, one dialect and one scope key.
-    fn repeats(&self, other: &Visit<'_>) -> Result<bool, AllocError>
+    pub(crate) fn repeats(&self, other: &Visit<'_>) -> Result<bool, AllocError>
         ensures { IfOk result (λ b. Decides b (Repeats self.now other.now)) }
     {
         if !is_one_dialect(&self.site, &other.site) {
@@ -130,19 +130,4 @@ impl<'r> Visit<'r> {
         }
         Ok(is_one_key(&self.key, &other.key))
     }
-}
-
-/// Whether a reference led to the same place before, with the same base, dialect and scope key. A visit to which none leads is compared with nothing.
-pub(crate) fn is_known(visits: &[Visit<'_>], visit: &Visit<'_>) -> Result<bool, AllocError>
-    ensures { IfOk result (λ b. Decides b (Known visits.now visit.now)) }
-{
-    if visit.key.is_none() {
-        return Ok(false);
-    }
-    for earlier in visits {
-        if earlier.repeats(visit)? {
-            return Ok(true);
-        }
-    }
-    Ok(false)
 }

@@ -3,4 +3,5 @@ use Rattle.reached_sites.proofs.Growth.{Adding}
 use Rattle.reached_sites.proofs.reaching.add_new.Given as goal
 
 abbrev pub invariant-loop-lead : goal.invariant-loop-lead
-invariant-loop-lead l = Adding l.initial.visits.items l.visits.items (into_iter_items l.initial.lead-iterator) (into_iter_items l.lead-iterator)
+invariant-loop-lead l =
+    Adding l.initial.targets l.targets l.initial.visits.items l.visits.items (into_iter_items l.initial.lead-iterator) (into_iter_items l.lead-iterator)
