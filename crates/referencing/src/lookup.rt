@@ -2,8 +2,10 @@
 
 ghost use Rattle.std.specs.Prelude.{◌≡◌, ◌∷◌, [], ℕ, List, IfOk, IfErr, Ok, map};
 ghost use Rattle.serde_json.specs.View.{view};
+ghost use Rattle.schema_documents.specs.Bearers.{meta};
 ghost use Rattle.schema_documents.specs.Lookup as spec;
 ghost use Rattle.schema_documents.specs.Scopes.{entered_scope};
+ghost use Rattle.schema_vocabularies.specs.Dialects.{dialects_in};
 ghost use Rattle.referencing_errors.specs.Causes.{RefusesLookup};
 ghost use Rattle.referencing.specs.Found.{found_target};
 ghost use Rattle.referencing.specs.Seen.{documents_of};
@@ -18,7 +20,7 @@ use schema_drafts::draft::Draft;
 use schema_drafts::resource::ResourceRef;
 use schema_identifiers::bases::resolved;
 use schema_steps::Path;
-use schema_vocabularies::Dialect;
+use schema_vocabularies::{Dialect, MetaSchemas};
 use serde_json::Value;
 use shared_lists::List;
 use std::alloc::{AllocError, Global};
@@ -72,6 +74,13 @@ impl<'r> Resolver<'r> {
         ensures { IfOk result (λ u. u.value ≡ base_of self.now) }
     {
         self.base.clone()
+    }
+
+    /// What is known of meta-schemas of one's own: all that the documents tell of them (Core 8.1.1, 8.1.2).
+    pub fn meta_schemas(&self) -> &'r MetaSchemas
+        ensures { (uri : List ℕ) → dialects_in result.now uri ≡ meta (documents_in self.now ∷ []) uri }
+    {
+        &self.registry.known
     }
 
     /// The resources entered, the present one first, shared.
