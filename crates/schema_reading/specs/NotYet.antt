@@ -1,12 +1,10 @@
 -- What is not read yet: a scaffold, for as long as keywords are missing. A build that meets any of it refuses it.
-use Rattle.std.specs.Prelude.{ℕ, List, [], ◌∷◌, ◌++◌, Bool, false, not, ◌&&◌, ◌||◌, bytes_eq, codes, if◌then◌else◌, Option, Some, None, is_some}
+use Rattle.std.specs.Prelude.{ℕ, List, [], ◌∷◌, ◌++◌, Bool, not, ◌&&◌, ◌||◌, bytes_eq, codes, if◌then◌else◌, is_some}
 use Rattle.serde_json.specs.Find.{as_array}
 use Rattle.serde_json.specs.Data.{Data, null, boolean, number, string, array, object, Members, no_members, member}
-use Rattle.schema_drafts.specs.Drafts.{draft_named}
 use Rattle.schema_drafts.specs.Counts.{counts}
 use Rattle.json_paths.specs.Parts.{Part, name}
 use Rattle.schema_meaning.specs.Members.{In, is_listed}
-use Rattle.schema_documents.specs.Places.{schema_in_force}
 use Rattle.schema_documents.specs.Bearers.{Documents}
 use Rattle.schema_reading.specs.Sites.{Site}
 use Rattle.schema_reading.specs.Rows.{Place, BuildCause, has_reference, takes_list}
@@ -17,14 +15,6 @@ abbrev pub read_now : List (List ℕ)
 read_now =
     codes "$ref" ∷ codes "$dynamicRef" ∷ codes "$recursiveRef" ∷ codes "type" ∷ codes "minItems" ∷ codes "items" ∷ codes "properties" ∷ codes "unevaluatedItems"
     ∷ codes "unevaluatedProperties" ∷ []
-
--- a schema that names, beside an identifier, a meta-schema that is none of the drafts' own
-abbrev pub names_unknown : Option (List ℕ) → Bool
-names_unknown None = false
-names_unknown (Some t) = not (is_some (draft_named t))
-
-abbrev pub awaits_its_own : Data → Bool
-awaits_its_own d = names_unknown (schema_in_force false d)
 
 abbrev pub place_of : Site → List Part → Place
 place_of s added = record { document = s.document; path = added ++ s.path }
@@ -49,9 +39,8 @@ unread_in s (string t) = []
 unread_in s (array ds) = []
 unread_in s (object ms) = unread_members s ms ms
 
--- a schema with a meta-schema of its own; else the keywords that are not read
 abbrev pub unread : Site → List Place
-unread s = if awaits_its_own s.contents then place_of s [] ∷ [] else unread_in s s.contents
+unread s = unread_in s s.contents
 
 pub record IsUnread (docs : Documents) (makes : List ℕ → Bool) (root : Site) (place : Place) : Type 0 where
   pub site : Site

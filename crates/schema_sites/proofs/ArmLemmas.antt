@@ -3,8 +3,9 @@ use Rattle.std.proofs.Common.{◌≡◌, ◌∙◌, refl, sym, ap, subst, ℕ, L
 use Rattle.serde_json.specs.Data.{Data, null, boolean, number, string, array, object, Items, Members}
 use Rattle.serde_json.specs.Find.{get_member, as_array}
 use Rattle.schema_drafts.specs.Counts.{counts}
-use Rattle.schema_documents.specs.Places.{Dialect, standard, is_schema}
-use Rattle.schema_drafts.specs.declared.draft.Draft.{Draft}
+use Rattle.schema_documents.specs.Places.{Dialect, is_schema}
+use Rattle.schema_vocabularies.specs.Dialects.{dialect_of}
+use Rattle.schema_vocabularies.specs.declared.dialect.Dialect as vocabularies
 use Rattle.schema_meaning.specs.Keywords.{item_list}
 use Rattle.schema_meaning.specs.Members.{is_listed, first}
 use Rattle.referencing.specs.Resolved.{scope_of}
@@ -159,8 +160,8 @@ unlisted k (n ∷ ns) none = ap (λ (b : Bool). b || is_listed k ns) none.0 ∙ 
 pub value-refused : (x : Context) (k word : List ℕ) (row : Row) → row ≡ bad_value x k word → IsCause (keyword_value (place_at x (at k)) word) row
 value-refused x k word row e = subst (λ (r : Row). IsCause (keyword_value (place_at x (at k)) word) r) (sym e) (record { stands = first; alone = refl })
 
-module _ (x : Context) (d : Data) (draft : Draft) (dialect : x.site.dialect ≡ standard draft) (other : is_schema d ≡ false) where
-  takes : (b : Bool) → takes_list draft ≡ b → takes_list x.site.dialect.draft ≡ b
+module _ (x : Context) (d : Data) (of : vocabularies.Dialect) (dialect : x.site.dialect ≡ dialect_of of) (other : is_schema d ≡ false) where
+  takes : (b : Bool) → takes_list of.draft ≡ b → takes_list x.site.dialect.draft ≡ b
   takes b e = ap (λ (y : Dialect). takes_list y.draft) dialect ∙ e
 
   abbrev listed_row : Row
@@ -169,7 +170,7 @@ module _ (x : Context) (d : Data) (draft : Draft) (dialect : x.site.dialect ≡ 
   abbrev other_row : Row
   other_row = if takes_list x.site.dialect.draft then listed_row else bad_value x (codes "items") (codes "schema")
 
-  pub no-schema-row : takes_list draft ≡ false → one_items_row x d ≡ bad_value x (codes "items") (codes "schema")
+  pub no-schema-row : takes_list of.draft ≡ false → one_items_row x d ≡ bad_value x (codes "items") (codes "schema")
   no-schema-row e = row-else (is_schema d) _ other_row other ∙ row-else (takes_list x.site.dialect.draft) listed_row (bad_value x (codes "items") (codes "schema")) (takes false e)
 
   no-array : {A : Type 0} (f : Items → A) (a : A) (e : Data) → is_some (as_array e) ≡ false → in_list f a e ≡ a
@@ -180,12 +181,12 @@ module _ (x : Context) (d : Data) (draft : Draft) (dialect : x.site.dialect ≡ 
   no-array f a (array ds) h = absurd (true≢false h)
   no-array f a (object ms) h = refl
 
-  pub no-list-row : takes_list draft ≡ true → is_some (as_array d) ≡ false → one_items_row x d ≡ bad_value x (codes "items") (codes "schema or list")
+  pub no-list-row : takes_list of.draft ≡ true → is_some (as_array d) ≡ false → one_items_row x d ≡ bad_value x (codes "items") (codes "schema or list")
   no-list-row e none =
       row-else (is_schema d) _ other_row other ∙ row-if (takes_list x.site.dialect.draft) listed_row (bad_value x (codes "items") (codes "schema")) (takes true e)
       ∙ no-array (λ ds. row_by (λ ss. ss) (λ ss. item_list ss ∷ []) (each_subschema x (codes "items") 0 ds)) (bad_value x (codes "items") (codes "schema or list")) d none
 
-  pub listed-not-yet : counts_here x (codes "items") ≡ true → takes_list draft ≡ true → is_some (as_array d) ≡ true → is_unread x.site x.members (codes "items") d ≡ true
+  pub listed-not-yet : counts_here x (codes "items") ≡ true → takes_list of.draft ≡ true → is_some (as_array d) ≡ true → is_unread x.site x.members (codes "items") d ≡ true
   listed-not-yet counted e list =
       ap (λ (b : Bool). b && (not (is_listed (codes "items") read_now) || is_item_list x.site (codes "items") d)) counted
       ∙ ap (λ (b : Bool). not (is_listed (codes "items") read_now) || (bytes_eq (codes "items") (codes "items") && b && is_some (as_array d))) (takes true e)

@@ -1,5 +1,4 @@
 pub mod Standing
-pub mod Counting
 pub mod ArmLemmas
 pub mod NamedLemmas
 pub mod MemberLemmas

@@ -4,8 +4,8 @@ use Rattle.serde_json.specs.Data.{Data, Members}
 use Rattle.serde_json.specs.Find.{get_member}
 use Rattle.serde_json.specs.View.{view}
 use Rattle.schema_drafts.specs.Counts.{counts}
-use Rattle.schema_documents.specs.Places.{standard}
 use Rattle.schema_documents.specs.Bearers.{Documents}
+use Rattle.schema_vocabularies.specs.Dialects.{dialect_of}
 use Rattle.referencing.specs.Resolved.{base_of, documents_in}
 use Rattle.schema_reading.specs.Rows.{has_reference}
 use Rattle.schema_reading.specs.Sites.{Site}
@@ -19,11 +19,11 @@ documents_at c = documents_in c.resolver ∷ []
 pub record Stands (c : code.Site) (s : Site) : Type 0 where
   pub contents : s.contents ≡ view c.contents.now
   pub base : s.base ≡ base_of c.resolver
-  pub dialect : s.dialect ≡ standard c.draft
+  pub dialect : s.dialect ≡ dialect_of c.dialect
 
 -- whether a keyword counts there, `$ref` beside or not
 abbrev pub counts_at : code.Site → Bool → List ℕ → Bool
-counts_at c beside_ref k = counts (standard c.draft).draft (standard c.draft).vocabularies beside_ref k
+counts_at c beside_ref k = counts (dialect_of c.dialect).draft (dialect_of c.dialect).vocabularies beside_ref k
 
 -- a neighbour among the members of its schema, where it counts
 abbrev pub beside_at : code.Site → Members → List ℕ → Option Data

@@ -5,6 +5,7 @@ ghost use Rattle.serde_json.specs.Data.{Data, Members};
 ghost use Rattle.serde_json.specs.Find.{get_member, as_array};
 ghost use Rattle.serde_json.specs.View.{view, members_view};
 ghost use Rattle.schema_documents.specs.Places as places;
+ghost use Rattle.schema_vocabularies.specs.Dialects.{dialect_of};
 ghost use Rattle.referencing.specs.Resolved.{scope_of};
 ghost use Rattle.schema_reading.specs.NotYet.{is_unread};
 ghost use Rattle.schema_reading.specs.Rows as rows;
@@ -23,6 +24,7 @@ use crate::site::Site;
 use schema_drafts::draft::Draft;
 use schema_places::place::is_schema;
 use schema_types::read as read_type_names;
+use schema_vocabularies::Dialect;
 use serde_json::{Map, Value};
 use std::alloc::Global;
 
@@ -113,11 +115,11 @@ fn is_list(value: &Value) -> bool
 }
 
 // Why `items` that is no schema is refused.
-fn other_items<'r>(draft: Draft, value: &Value) -> Refusal<'r>
+fn other_items<'r>(dialect: Dialect, value: &Value) -> Refusal<'r>
     requires other { places.is_schema (view value.now) ≡ false }
-    ensures { (x : rows.Context) → x.site.dialect ≡ places.standard draft → rows.counts_here x (codes "items") ≡ true → Refuses x (codes "items") (view value.now) (arms.one_items_row x (view value.now)) result }
+    ensures { (x : rows.Context) → x.site.dialect ≡ dialect_of dialect → rows.counts_here x (codes "items") ≡ true → Refuses x (codes "items") (view value.now) (arms.one_items_row x (view value.now)) result }
 {
-    if !takes_list(draft) {
+    if !takes_list(dialect.draft) {
         return Refusal::Value { expected: "schema" };
     }
     if is_list(value) {
@@ -144,7 +146,7 @@ fn items<'r>(
             schema: value,
         })
     } else {
-        Err(other_items(site.draft, value))
+        Err(other_items(site.dialect, value))
     }
 }
 
@@ -242,7 +244,7 @@ fn counted<'r>(
     }
 }
 
-/// What a member of a site's schema is, by its draft: a keyword that is read, or nothing where it does not count.
+/// What a member of a site's schema is, by its dialect: a keyword that is read, or nothing where it does not count.
 ///
 /// It compares the name with those of the draft's keywords. It copies no part of the schema but the names of types; a reference is
 /// looked up, and each member of `properties` is looked at once. Of a keyword that does not count the value is not looked at.

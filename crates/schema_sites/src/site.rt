@@ -1,19 +1,16 @@
 //! Sites: schemas met on the way from a root.
 
-ghost use Rattle.std.specs.Prelude.{◌≡◌, ◌∷◌, [], ℕ, List, IfOk, false, not};
+ghost use Rattle.std.specs.Prelude.{◌≡◌, ◌∷◌, [], ℕ, List, IfOk};
 ghost use Rattle.serde_json.specs.View.{view};
 ghost use Rattle.json_paths.specs.Parts.{Part};
-ghost use Rattle.schema_documents.specs.Places.{standard};
 ghost use Rattle.schema_documents.specs.Scopes.{entered_scope};
 ghost use Rattle.referencing.specs.Resolved.{base_of, scope_of, documents_in, target_in};
 ghost use Rattle.schema_reading.specs.Sites as sites;
-ghost use Rattle.schema_reading.specs.NotYet as spec;
 ghost use Rattle.schema_sites.specs.Seen.{documents_at, Stands, counts_at};
 
 use referencing::{Resolved, Resolver};
-use schema_drafts::draft::{Draft, draft_named};
 use schema_identifiers::bases::settle;
-use schema_identifiers::identifiers::schema_in_force;
+use schema_vocabularies::Dialect;
 use serde_json::Value;
 use std::alloc::{AllocError, Global};
 
@@ -21,7 +18,7 @@ use std::alloc::{AllocError, Global};
 #[derive(Drop)]
 pub struct Site<'r> {
     pub contents: &'r Value,
-    pub draft: Draft,
+    pub dialect: Dialect,
     pub resolver: Resolver<'r>,
 }
 
@@ -39,7 +36,7 @@ pub fn at_target<'r>(resolved: &Resolved<'r>) -> Result<Site<'r>, AllocError>
 {
     Ok(Site {
         contents: resolved.contents(),
-        draft: resolved.draft(),
+        dialect: resolved.dialect(),
         resolver: resolved.resolver().share()?,
     })
 }
@@ -57,23 +54,15 @@ pub fn at_root<'r>(resolved: &Resolved<'r>) -> Result<Site<'r>, AllocError>
 {
     Ok(Site {
         contents: resolved.contents(),
-        draft: resolved.draft(),
+        dialect: resolved.dialect(),
         resolver: resolved.resolver().alone()?,
     })
 }
 
-/// Whether a schema inside another names, beside an identifier, a meta-schema that is none of the drafts' own.
-pub fn awaits_its_own(contents: &Value) -> bool
-    ensures { result ≡ spec.awaits_its_own (view contents.now) }
-{
-    match schema_in_force(false, contents) {
-        Some(text) => draft_named(text).is_none(),
-        None => false,
-    }
-}
-
 impl<'r> Site<'r> {
-    /// The site of a subschema. It shares the base where the subschema has no identifier of its own.
+    /// The site of a subschema: one that names a meta-schema of which no document tells has the base and the dialect around it.
+    ///
+    /// It shares the base where the subschema has no identifier of its own.
     ///
     /// # Errors
     ///
@@ -82,31 +71,24 @@ impl<'r> Site<'r> {
         ensures contents { IfOk result (λ c. c.contents ≡ contents.entry) }
         ensures documents { IfOk result (λ c. documents_at c ≡ documents_at self.now) }
         ensures scope { IfOk result (λ c. scope_of c.resolver ≡ entered_scope (base_of c.resolver) (base_of self.now.resolver) (scope_of self.now.resolver)) }
-        ensures stands { IfOk result (λ c. (s : sites.Site) (added : List Part) → Stands self.now s → spec.awaits_its_own (view contents.now) ≡ false → Stands c (sites.below (documents_at self.now) s added (view contents.now))) }
+        ensures stands { IfOk result (λ c. (s : sites.Site) (added : List Part) → Stands self.now s → Stands c (sites.below (documents_at self.now) s added (view contents.now))) }
     {
         let base = self.resolver.base_uri()?;
-        let settled = settle(alloc, &base, self.draft, false, contents)?;
+        let known = self.resolver.meta_schemas();
+        let settled = settle(alloc, known, &base, self.dialect, false, contents)?;
         Ok(Site {
             contents,
-            draft: settled.draft,
+            dialect: settled.dialect,
             resolver: self.resolver.at(settled.base)?,
         })
     }
 
     /// Whether a keyword counts here, where `$ref` stands beside it or not (Core 8.1.2).
     ///
-    /// It compares the name with those of the draft's keywords.
+    /// It compares the name with those of the draft's keywords and of its vocabularies.
     pub fn counts(&self, has_reference: bool, name: &str) -> bool
         ensures { result ≡ counts_at self.now has_reference name.now }
     {
-        let is_hidden = self.draft.ignores_siblings() && has_reference;
-        self.draft.has_keyword(name) && (!is_hidden || name == "$ref")
-    }
-
-    /// Whether the schema is read: not where it has a meta-schema of its own.
-    pub fn is_read(&self) -> bool
-        ensures { result ≡ not (spec.awaits_its_own (view self.now.contents.now)) }
-    {
-        !awaits_its_own(self.contents)
+        self.dialect.counts(has_reference, name)
     }
 }

@@ -6,7 +6,7 @@ use Rattle.serde_json.specs.Data.{Data, null, boolean, number, string, array, ob
 use Rattle.json_paths.specs.Parts.{Part, name}
 use Rattle.schema_documents.specs.Bearers.{Documents}
 use Rattle.schema_reading.specs.CompileKeys.{scope_key}
-use Rattle.schema_reading.specs.NotYet.{awaits_its_own, is_unread, place_of, unread_members, unread_in, unread}
+use Rattle.schema_reading.specs.NotYet.{is_unread, place_of, unread_members, unread_in, unread}
 use Rattle.schema_reading.specs.Rows.{Place, rows_at}
 use Rattle.schema_reading.specs.Sites.{Site}
 use Rattle.scope_laws.proofs.Keys.{keys_decide}
@@ -33,8 +33,7 @@ module _ (s : Site) (scope : List (List ℕ)) (road : List Part) where
   in_unread (object ms) = members_unread ms ms
 
   site_unread : unread s ≡ unread (moved s scope road)
-  site_unread =
-      ap (λ (ps : List Place). if awaits_its_own s.contents then place_of s [] ∷ [] else ps) (in_unread s.contents)
+  site_unread = in_unread s.contents
 
 module _ (docs : Documents) (makes : List ℕ → Bool) (s t : Site) (a : AreAlike docs s t) where
   same_site : t ≡ moved s t.scope t.schema_path

@@ -11,8 +11,8 @@ pub returns-else-is_uri_reference-clause-refused : goal.returns-else-is_uri_refe
 returns-else-is_uri_reference-clause-refused c =
     let target = c.args.target.now in
     let place : target.is_place ≡ false = sym c.if-is_place.ensures in
-    let text : identifier_text target.draft (view target.contents.now) ≡ Some c.in-Some.text.now =
-    sym (c.in-Some.ensures ∙ ap (λ (draft : Draft). identifier_text draft (view c.contents.result.now)) c.draft.ensures ∙ ap (λ (v : Bor Value). identifier_text target.draft (view v.now)) c.contents.ensures) in
+    let text : identifier_text target.dialect.draft (view target.contents.now) ≡ Some c.in-Some.text.now =
+    sym (c.in-Some.ensures ∙ ap (λ (draft : Draft). identifier_text draft (view c.contents.result.now)) c.draft.ensures ∙ ap (λ (v : Bor Value). identifier_text target.dialect.draft (view v.now)) c.contents.ensures) in
     elim c.invalid_uri.ensures.lookup [
       | inl m ↦ inl m
       | inr n ↦ inr (c.in-Some.text.now, n, λ x k. wrong-identifier x k (target_in target) c.in-Some.text.now place text (sym c.if-is_uri_reference.ensures))
