@@ -1,6 +1,6 @@
 -- What a schema that was read leads to.
-use Rattle.std.proofs.Common.{◌≡◌, ◌∙◌, ℕ, List, [], ◌∷◌, Bool, true, false, not, Option, Some, None, option_map, is_some, refl, sym, ap, subst}
-use Rattle.std.specs.Prelude.{if◌then◌else◌, codes}
+use Rattle.std.proofs.Common.{◌≡◌, ◌∙◌, ℕ, List, [], ◌∷◌, Bool, true, false, Option, Some, None, option_map, is_some, refl, sym, ap, subst}
+use Rattle.std.specs.Prelude.{codes}
 use Rattle.serde_json.specs.Data.{Data, null, boolean, number, string, array, object, Members}
 use Rattle.serde_json.specs.Find.{as_object, as_bool}
 use Rattle.serde_json.specs.View.{view}
@@ -8,8 +8,8 @@ use Rattle.schema_meaning.specs.Members.{In, first}
 use Rattle.schema_documents.specs.Bearers.{Document}
 use Rattle.schema_reading.specs.BuildCauses.{at_root}
 use Rattle.schema_reading.specs.Sites.{Site}
-use Rattle.schema_reading.specs.Rows.{Place, Row, keyword_value, rows_at, rows_in, no_schema}
-use Rattle.schema_reading.specs.NotYet.{wrong, not_yet, place_of, awaits_its_own, unread_in, IsBuildCause, is_wrong, is_not_yet}
+use Rattle.schema_reading.specs.Rows.{Row, keyword_value, rows_at, rows_in, no_schema}
+use Rattle.schema_reading.specs.NotYet.{wrong, place_of, unread_in, IsBuildCause, is_wrong}
 use Rattle.schema_sites.specs.Seen.{documents_at}
 use Rattle.reached_sites.specs.Led.{Leads, leads_in, causes_in}
 use Rattle.reached_sites.specs.Members.{Rest}
@@ -17,22 +17,22 @@ use Rattle.reached_sites.specs.Places.{place_in}
 use Rattle.reached_sites.specs.Visits.{site_of, Met, Matches, none}
 use Rattle.reached_sites.specs.declared.visit.Visit.{Visit}
 use Rattle.reached_sites.proofs.Mirrored.{leads-alike}
-use Rattle.reached_sites.proofs.Walking.{own_of, contexts, rows-of-object, unread-here}
+use Rattle.reached_sites.proofs.Walking.{own_of, contexts, rows-of-object}
 
-module _ (v : Visit) (makes : List ℕ → Bool) (awaited : awaits_its_own (view v.site.contents.now) ≡ false) (leads : List Visit) where
+module _ (v : Visit) (makes : List ℕ → Bool) (leads : List Visit) where
   object-here : (ms : Members) → view v.site.contents.now ≡ object ms → Rest (own_of v) makes (site_of v) ms ms [] leads → Leads (own_of v) makes (site_of v) leads
   object-here ms e rest =
       let s = site_of v in
       let rows = rows-of-object (own_of v ∷ []) makes s ms e in
       record {
-        read = unread-here s awaited ∙ ap (unread_in s) e ∙ rest.read;
+        read = ap (unread_in s) e ∙ rest.read;
         right = ap causes_in rows ∙ rest.right;
         met = subst (λ (vs : List Visit). Matches (own_of v) vs (leads_in (rows_at (own_of v ∷ []) makes s))) (sym rest.met.grown)
             (subst (λ (rs : List Row). Matches (own_of v) rest.met.added (leads_in rs)) (sym rows) rest.met.met);
       }
 
   pub leads-object : (s : Site) (ms : Members) → Met v s → view v.site.contents.now ≡ object ms → Rest (own_of v) makes (site_of v) ms ms [] leads → Leads (own_of v) makes s leads
-  leads-object s ms m e rest = leads-alike (own_of v) makes s (site_of v) leads (m.alike awaited) (object-here ms e rest)
+  leads-object s ms m e rest = leads-alike (own_of v) makes s (site_of v) leads m.alike (object-here ms e rest)
 
 rows-of-boolean : (own : List Document) (makes : List ℕ → Bool) (s : Site) (b : Bool) → s.contents ≡ boolean b
     → (causes_in (rows_at (own ∷ []) makes s) ≡ []) × (leads_in (rows_at (own ∷ []) makes s) ≡ [])
@@ -40,13 +40,13 @@ unfolding rows_at
 rows-of-boolean own makes s true e = (ap (λ d. causes_in (rows_in s (contexts (own ∷ []) makes s) d)) e, ap (λ d. leads_in (rows_in s (contexts (own ∷ []) makes s) d)) e)
 rows-of-boolean own makes s false e = (ap (λ d. causes_in (rows_in s (contexts (own ∷ []) makes s) d)) e, ap (λ d. leads_in (rows_in s (contexts (own ∷ []) makes s) d)) e)
 
-pub leads-boolean : (v : Visit) (makes : List ℕ → Bool) (s : Site) (b : Bool) (leads : List Visit) → awaits_its_own (view v.site.contents.now) ≡ false → Met v s
+pub leads-boolean : (v : Visit) (makes : List ℕ → Bool) (s : Site) (b : Bool) (leads : List Visit) → Met v s
     → view v.site.contents.now ≡ boolean b → leads ≡ [] → Leads (own_of v) makes s leads
-leads-boolean v makes s b leads awaited m e n =
-    let is = m.contents ∙ e in
+leads-boolean v makes s b leads m e n =
+    let is = m.alike.contents ∙ e in
     let rows = rows-of-boolean (own_of v) makes s b is in
     record {
-      read = unread-here s (ap awaits_its_own m.contents ∙ awaited) ∙ ap (unread_in s) is;
+      read = ap (unread_in s) is;
       right = rows.0;
       met = subst (λ (vs : List Visit). Matches (own_of v) vs (leads_in (rows_at (own_of v ∷ []) makes s))) (sym n)
           (subst (λ (ss : List Site). Matches (own_of v) [] ss) (sym rows.1) none);
@@ -54,20 +54,8 @@ leads-boolean v makes s b leads awaited m e n =
 
 -- ---- refused
 
-unread-whole : (s : Site) → awaits_its_own s.contents ≡ true → (if awaits_its_own s.contents then place_of s [] ∷ [] else unread_in s s.contents) ≡ place_of s [] ∷ []
-unread-whole s e = ap (λ (b : Bool). if b then place_of s [] ∷ [] else unread_in s s.contents) e
-
-pub not-read : (v : Visit) (s : Site) (makes : List ℕ → Bool) → Met v s → awaits_its_own (view v.site.contents.now) ≡ true
-    → IsBuildCause (documents_at v.site) makes s (not_yet (place_of s []))
-not-read v s makes m e =
-    is_not_yet (record {
-      site = s;
-      reached = at_root;
-      stands = subst (λ (ps : List Place). In (place_of s []) ps) (sym (unread-whole s (ap awaits_its_own m.contents ∙ e))) first;
-    })
-
 pub same-place : (v : Visit) (s : Site) → Met v s → place_of s [] ≡ place_in v.place
-same-place v s m = rw (m.document, m.path) refl
+same-place v s m = rw (m.alike.document, m.alike.path) refl
 
 -- neither a boolean nor an object
 abbrev pub IsOther : Data → Type 0
@@ -99,14 +87,6 @@ no-schema v s makes d e o =
     })
 
 -- ---- by what the code asks of a value
-
-pub is_true : (b : Bool) → not b ≡ false → b ≡ true
-is_true true e = refl
-is_true false e = absurd (cc (e))
-
-pub is_false : (b : Bool) → not b ≡ true → b ≡ false
-is_false true e = absurd (cc (e))
-is_false false e = refl
 
 pub gone : {X Y : Type 0} (f : X → Y) (o : Option X) → ((x : X) → o ≡ Some x → ⊥) → option_map f o ≡ None
 gone f None h = refl

@@ -4,11 +4,10 @@ use Rattle.serde_json.specs.View.{view}
 use Rattle.serde_json.specs.Data.{Data}
 use Rattle.json_paths.specs.Parts.{Part}
 use Rattle.schema_documents.specs.Bearers.{Documents, meta}
-use Rattle.schema_documents.specs.Places.{Dialect, standard, Named, settled, awaited, by_schema, schema_in_force, placed}
-use Rattle.place_laws.proofs.Depths.{placed_contents}
+use Rattle.schema_documents.specs.Places.{Dialect, Named, settled, awaited, by_schema, schema_in_force, placed}
+use Rattle.schema_vocabularies.specs.Dialects.{dialect_of}
 use Rattle.referencing.specs.Resolved.{base_of, scope_of}
 use Rattle.schema_reading.specs.CompileKeys.{scope_key}
-use Rattle.schema_reading.specs.NotYet.{awaits_its_own}
 use Rattle.schema_reading.specs.Sites.{Site, below}
 use Rattle.schema_sites.specs.Seen.{documents_at, Stands}
 use Rattle.scope_laws.specs.Laws.{IsPresent}
@@ -27,34 +26,25 @@ present-of v = v.site.resolver.present
 pub record Settled (v : Visit) (s : Site) : Type 0 where
   pub base : s.base ≡ base_of v.site.resolver
   pub scope : s.scope ≡ scope_of v.site.resolver
-  pub dialect : s.dialect ≡ standard v.site.draft
+  pub dialect : s.dialect ≡ dialect_of v.site.dialect
 
 pub met-exactly : (v : Visit) (s : Site) → s.document ≡ v.place.document.value → s.path ≡ v.place.path → s.contents ≡ view v.site.contents.now
-    → (awaits_its_own (view v.site.contents.now) ≡ false → Settled v s) → Met v s
-met-exactly v s document path contents by = record {
-  document = document;
-  path = path;
-  contents = contents;
-  alike = λ own. (let h = by own in
-      record {
-        document = document;
-        path = path;
-        contents = contents;
-        base = h.base;
-        dialect = h.dialect;
-        scope = ap₂ (λ base scope. scope_key (documents_at v.site) base scope) h.base h.scope;
-        here = ap (λ scope. slice_get scope 0) h.scope ∙ present-of v ∙ ap Some (sym h.base);
-        there = present-of v;
-      });
+    → Settled v s → Met v s
+met-exactly v s document path contents h = record {
+  alike = record {
+    document = document;
+    path = path;
+    contents = contents;
+    base = h.base;
+    dialect = h.dialect;
+    scope = ap₂ (λ base scope. scope_key (documents_at v.site) base scope) h.base h.scope;
+    here = ap (λ scope. slice_get scope 0) h.scope ∙ present-of v ∙ ap Some (sym h.base);
+    there = present-of v;
+  };
 }
 
 pub met-alike : (v : Visit) (s t : Site) → AreAlike (documents_at v.site) s t → Met v t → Met v s
-met-alike v s t a m = record {
-  document = a.document ∙ m.document;
-  path = a.path ∙ m.path;
-  contents = a.contents ∙ m.contents;
-  alike = λ own. joined (documents_at v.site) s t (site_of v) a (m.alike own);
-}
+met-alike v s t a m = record { alike = joined (documents_at v.site) s t (site_of v) a m.alike }
 
 -- ---- the place of a subschema
 
@@ -67,6 +57,3 @@ named-below docs s d = by_schema (meta docs) s.dialect (schema_in_force false d)
 
 pub below-path : (docs : Documents) (s : Site) (added : List Part) (d : Data) → (below docs s added d).path ≡ added ++ s.path
 below-path docs s added d = placed-path s.base s.dialect (added ++ s.path) d (named-below docs s d)
-
-pub below-contents : (docs : Documents) (s : Site) (added : List Part) (d : Data) → (below docs s added d).contents ≡ d
-below-contents docs s added d = placed_contents s.base s.dialect (added ++ s.path) d (named-below docs s d)

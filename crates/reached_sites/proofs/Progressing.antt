@@ -8,7 +8,8 @@ use Rattle.schema_documents.specs.Bearers.{Document}
 use Rattle.schema_reading.specs.BuildCauses.{Reached, at_root, by_keyword}
 use Rattle.schema_reading.specs.Sites.{Site, root_site}
 use Rattle.schema_reading.specs.Rows.{Place, Row, rows_at}
-use Rattle.schema_reading.specs.NotYet.{Cause, awaits_its_own, unread, IsBuildCause, is_wrong, is_not_yet}
+use Rattle.schema_reading.specs.NotYet.{Cause, unread, IsBuildCause, is_wrong, is_not_yet}
+use Rattle.schema_vocabularies.specs.Dialects.{dialect_of}
 use Rattle.referencing.specs.Resolved.{base_of, scope_of, documents_in, target_in}
 use Rattle.referencing.specs.declared.scope_key.ScopeKey.{ScopeKey}
 use Rattle.schema_reading.specs.CompileKeys.{scope_key}
@@ -73,7 +74,7 @@ module _ (own : List Document) where
         path = sym p.1;
         contents = sym e;
         base = sym r.base;
-        dialect = sym r.dialect;
+        dialect = ap dialect_of (sym r.dialect);
         scope = subst (λ (ds : List Document). scope_key (ds ∷ []) (base_of w.site.resolver) (scope_of w.site.resolver) ≡ scope_key (own ∷ []) (base_of v.site.resolver) (scope_of v.site.resolver)) c.documents
             (subst (λ (ds : List Document). key_at w ≡ scope_key (ds ∷ []) (base_of v.site.resolver) (scope_of v.site.resolver)) b.documents key);
         here = present-of w;
@@ -82,17 +83,12 @@ module _ (own : List Document) where
 
   pub met-again : Apart own → (v w : Visit) → Belongs own v → Belongs own w → Repeats v w → (s : Site) → Met w s → Met v s
   met-again a v w b c r s m =
-      let p = same_place v w r in
       let keys = have-keys v.key w.key r.key in
       let e = same_contents a v w (b.looked keys.0) (c.looked keys.1) r in
       let among = λ (u : Visit) (h : Belongs own u) (x : Site) (y : Site) (k : AreAlike (own ∷ []) x y). subst (λ (ds : List Document). AreAlike (ds ∷ []) x y) (sym h.documents) k in
       record {
-        document = m.document ∙ sym p.0;
-        path = m.path ∙ sym p.1;
-        contents = m.contents ∙ sym e;
-        alike = λ h. (let there = m.alike (ap awaits_its_own (sym e) ∙ h) in
-            among v b s (site_of v)
-            (joined (own ∷ []) s (site_of w) (site_of v) (subst (λ (ds : List Document). AreAlike (ds ∷ []) s (site_of w)) c.documents there) (sites-alike v w b c r e)));
+        alike = among v b s (site_of v)
+            (joined (own ∷ []) s (site_of w) (site_of v) (subst (λ (ds : List Document). AreAlike (ds ∷ []) s (site_of w)) c.documents m.alike) (sites-alike v w b c r e));
       }
 
   -- ---- one visit more

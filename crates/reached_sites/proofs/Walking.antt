@@ -9,7 +9,7 @@ use Rattle.referencing.specs.Resolved.{documents_in}
 use Rattle.schema_reading.specs.BuildCauses.{at_root}
 use Rattle.schema_reading.specs.Sites.{Site}
 use Rattle.schema_reading.specs.Rows.{Place, Row, Context, row_at, rows_of, rows_in, rows_at}
-use Rattle.schema_reading.specs.NotYet.{Cause, place_of, awaits_its_own, is_unread, unread_members, unread_in, unread, IsBuildCause, is_wrong, is_not_yet}
+use Rattle.schema_reading.specs.NotYet.{Cause, place_of, is_unread, unread_members, unread_in, IsBuildCause, is_wrong, is_not_yet}
 use Rattle.schema_sites.specs.Seen.{documents_at}
 use Rattle.schema_sites.specs.Read.{row_of, leads_of}
 use Rattle.schema_sites.specs.declared.keyword.Keyword.{Keyword}
@@ -86,9 +86,6 @@ pub rows-of-object : (docs : Documents) (makes : List ℕ → Bool) (s : Site) (
 unfolding rows_at
 rows-of-object docs makes s ms e = ap (rows_in s (λ all. record { documents = docs; makes = makes; site = s; members = all })) e
 
-pub unread-here : (s : Site) → awaits_its_own s.contents ≡ false → unread s ≡ unread_in s s.contents
-unread-here s e = ap (λ (b : Bool). if b then place_of s [] ∷ [] else unread_in s s.contents) e
-
 unread-first : (b : Bool) (s : Site) (all ms : Members) (k : List ℕ) → b ≡ true
     → In (place_of s (name k ∷ [])) (if b then place_of s (name k ∷ []) ∷ unread_members s all ms else unread_members s all ms)
 unread-first true s all ms k e = first
@@ -97,7 +94,7 @@ unread-first false s all ms k e = absurd (cc (e))
 -- ---- a member that is refused is a cause of its site
 
 module _ (v : Visit) (all : Members) (k : List ℕ) (d : Data) (ms : Members) (leads : List Visit) (w : Walk v all (member k d ms) leads) (makes : List ℕ → Bool)
-    (own : awaits_its_own (site_of v).contents ≡ false) (is : (site_of v).contents ≡ object all) where
+    (is : (site_of v).contents ≡ object all) where
   cause-at : (cause : Cause) → IsCauseHere (context_of v makes all) k d (row_here v makes all k d) cause → IsBuildCause (documents_at v.site) makes (site_of v) cause
   cause-at _ (of_row i) =
       is_wrong (record {
@@ -113,7 +110,7 @@ module _ (v : Visit) (all : Members) (k : List ℕ) (d : Data) (ms : Members) (l
       is_not_yet (record {
         site = s;
         reached = at_root;
-        stands = subst (λ (ps : List Place). In (place_of s (name k ∷ [])) ps) (sym (unread-here s own ∙ ap (unread_in s) is))
+        stands = subst (λ (ps : List Place). In (place_of s (name k ∷ [])) ps) (sym (ap (unread_in s) is))
             (w.place (place_of s (name k ∷ [])) (unread-first (is_unread s all k d) s all ms k u));
       })
 

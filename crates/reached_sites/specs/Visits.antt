@@ -1,17 +1,16 @@
 -- What the code's visits stand for.
-use Rattle.std.specs.Prelude.{◌≡◌, List, [], ◌∷◌, ◌++◌, true, false, Option, Some, None, is_some}
+use Rattle.std.specs.Prelude.{◌≡◌, List, [], ◌∷◌, ◌++◌, true, Option, Some, None, is_some}
 use Rattle.serde_json.specs.View.{view}
 use Rattle.schema_meaning.specs.Members.{In}
 use Rattle.schema_documents.specs.Bearers.{Document}
 use Rattle.schema_documents.specs.Lookup.{Target}
-use Rattle.schema_documents.specs.Places.{standard}
+use Rattle.schema_vocabularies.specs.Dialects.{dialect_of}
 use Rattle.referencing.specs.Keys.{key_of}
 use Rattle.referencing.specs.Resolved.{base_of, scope_of, documents_in, target_in}
 use Rattle.referencing.specs.declared.resolver.Resolved.{Resolved}
 use Rattle.referencing.specs.declared.scope_key.ScopeKey as code
 use Rattle.schema_reading.specs.CompileKeys.{ScopeKey, scope_key}
 use Rattle.schema_reading.specs.Sites.{Site, root_site}
-use Rattle.schema_reading.specs.NotYet.{awaits_its_own}
 use Rattle.schema_sites.specs.Seen.{documents_at}
 use Rattle.site_laws.specs.Laws.{AreAlike}
 use Rattle.target_laws.specs.Laws.{IsTarget}
@@ -26,19 +25,16 @@ site_of v = record {
   contents = view v.site.contents.now;
   base = base_of v.site.resolver;
   scope = scope_of v.site.resolver;
-  dialect = standard v.site.draft;
+  dialect = dialect_of v.site.dialect;
   schema_path = [];
 }
 
 abbrev pub key_at : Visit → ScopeKey
 key_at v = scope_key (documents_at v.site) (base_of v.site.resolver) (scope_of v.site.resolver)
 
--- a site at the place of a visit; where its schema names no meta-schema of its own, it is alike to the visit's
+-- a site that is alike to a visit's
 pub record Met (v : Visit) (s : Site) : Type 0 where
-  pub document : s.document ≡ v.place.document.value
-  pub path : s.path ≡ v.place.path
-  pub contents : s.contents ≡ view v.site.contents.now
-  pub alike : awaits_its_own (view v.site.contents.now) ≡ false → AreAlike (documents_at v.site) s (site_of v)
+  pub alike : AreAlike (documents_at v.site) s (site_of v)
 
 -- a reference leads to the place of a visit
 pub record Looked (own : List Document) (v : Visit) : Type 0 where
@@ -75,7 +71,7 @@ IsOneKey (Some k) (Some l) = key_of k ≡ key_of l
 pub record Repeats (v w : Visit) : Type 0 where
   pub place : place_in v.place ≡ place_in w.place
   pub base : base_of v.site.resolver ≡ base_of w.site.resolver
-  pub dialect : standard v.site.draft ≡ standard w.site.draft
+  pub dialect : v.site.dialect ≡ w.site.dialect
   pub key : IsOneKey v.key w.key
 
 pub record Known (vs : List Visit) (w : Visit) : Type 0 where

@@ -1,11 +1,10 @@
 //! Where the keywords of a schema lead.
 
-ghost use Rattle.std.specs.Prelude.{◌≡◌, [], List, ℕ, Bool, IfOk, IfErr, OnOk, false};
+ghost use Rattle.std.specs.Prelude.{◌≡◌, [], List, ℕ, Bool, IfOk, IfErr, OnOk};
 ghost use Rattle.std.specs.Borrow.{Bor};
 ghost use Rattle.serde_json.specs.Data.{Data, object};
 ghost use Rattle.serde_json.specs.View.{view, members_view};
 ghost use Rattle.referencing.specs.Resolved.{documents_in};
-ghost use Rattle.schema_reading.specs.NotYet.{awaits_its_own};
 ghost use Rattle.schema_reading.specs.Sites as sites;
 ghost use Rattle.schema_sites.specs.Read as read;
 ghost use Rattle.schema_sites.specs.Seen.{documents_at};
@@ -89,7 +88,7 @@ fn leads_of_members<'r>(
     members: &'r Map<String, Value>,
 ) -> Result<Vec<Visit<'r>>, BuildCause>
     ensures accepted { IfOk result (λ leads. (makes : List ℕ → Bool) → Rest (documents_in visit.now.site.resolver) makes (site_of visit.now) (members_view members.now.entries) (members_view members.now.entries) [] leads.items) }
-    ensures refused { IfErr result (λ e. (makes : List ℕ → Bool) → awaits_its_own (view visit.now.site.contents.now) ≡ false → view visit.now.site.contents.now ≡ object (members_view members.now.entries) → RefusesAt (documents_at visit.now.site) makes (site_of visit.now) e) }
+    ensures refused { IfErr result (λ e. (makes : List ℕ → Bool) → view visit.now.site.contents.now ≡ object (members_view members.now.entries) → RefusesAt (documents_at visit.now.site) makes (site_of visit.now) e) }
 {
     let mut leads = Vec::new(alloc);
     for (name, value) in members.iter() {
@@ -113,11 +112,6 @@ pub(crate) fn leads_of<'r>(alloc: Global, visit: &Visit<'r>) -> Result<Vec<Visit
     ensures accepted { IfOk result (λ leads. (makes : List ℕ → Bool) (s : sites.Site) → Met visit.now s → Leads (documents_in visit.now.site.resolver) makes s leads.items) }
     ensures refused { IfErr result (λ e. (makes : List ℕ → Bool) (s : sites.Site) → Met visit.now s → RefusesAt (documents_at visit.now.site) makes s e) }
 {
-    if !visit.site.is_read() {
-        return Err(BuildCause::NotYet {
-            place: visit.place.shared()?,
-        });
-    }
     let contents = visit.site.contents;
     if let Some(members) = contents.as_object() {
         return leads_of_members(alloc, visit, members);

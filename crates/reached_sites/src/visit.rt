@@ -4,7 +4,6 @@ ghost use Rattle.std.specs.Prelude.{◌≡◌, ◌∷◌, ◌++◌, [], List, �
 ghost use Rattle.std.specs.Bool.{Decides};
 ghost use Rattle.serde_json.specs.View.{view};
 ghost use Rattle.json_paths.specs.Parts.{Part};
-ghost use Rattle.schema_documents.specs.Places.{standard};
 ghost use Rattle.schema_documents.specs.Scopes.{entered_scope};
 ghost use Rattle.referencing.specs.Resolved.{base_of, scope_of, documents_in, target_in};
 ghost use Rattle.schema_reading.specs.Sites as sites;
@@ -15,6 +14,7 @@ ghost use Rattle.reached_sites.specs.Visits.{site_of, Met, Belongs, Begins, IsOn
 use crate::place::SchemaPlace;
 use referencing::{Resolved, ScopeKey};
 use schema_sites::site::{Site, at_root, at_target};
+use schema_vocabularies::{Dialect, KnownVocabularies};
 use serde_json::Value;
 use std::alloc::{AllocError, Global};
 
@@ -42,11 +42,24 @@ pub(crate) fn first_visits<'r>(
     Ok(visits)
 }
 
+// Whether the same vocabularies are required.
+fn are_same(one: Option<KnownVocabularies>, other: Option<KnownVocabularies>) -> bool
+    ensures { Decides result (one ≡ other) }
+{
+    one == other
+}
+
+fn is_same(one: Dialect, other: Dialect) -> bool
+    ensures { Decides result (one ≡ other) }
+{
+    one.draft == other.draft && are_same(one.required, other.required)
+}
+
 // Whether two schemas are read by one dialect.
 fn is_one_dialect(one: &Site<'_>, other: &Site<'_>) -> bool
-    ensures { Decides result (standard one.now.draft ≡ standard other.now.draft) }
+    ensures { Decides result (one.now.dialect ≡ other.now.dialect) }
 {
-    one.draft == other.draft
+    is_same(one.dialect, other.dialect)
 }
 
 // Whether references in two schemas are resolved against one base.

@@ -28,7 +28,7 @@ loop-name-preserved c =
     (subst (λ es. Walk v all (members_view es) c.loop-name.leads.items) c.in-Some.ensures.steps c.loop-name.invariant)
 
 pub returns-in-Err-clause-refused : goal.returns-in-Err-clause-refused
-returns-in-Err-clause-refused c = λ makes own is.
+returns-in-Err-clause-refused c = λ makes is.
     let v = c.args.visit.now in
     let all = members_view c.args.members.now.entries in
     let k = string_bytes c.in-Some.name.now in
@@ -38,7 +38,7 @@ returns-in-Err-clause-refused c = λ makes own is.
     let e = c.in_ok-refused-in-Err.field-0 in
     let refused = c.in_ok-refused-in-Err.ensures x d (row_here v makes all c.as_str-name.result.now d) refl (c.in-Err.ensures.refused makes (site_of v) (stands-itself v) refl) in
     walk-refused v all k d (members_view c.next.new.self) c.loop-name.leads.items
-    (subst (λ es. Walk v all (members_view es) c.loop-name.leads.items) c.in-Some.ensures.steps c.loop-name.invariant) makes own is e
+    (subst (λ es. Walk v all (members_view es) c.loop-name.leads.items) c.in-Some.ensures.steps c.loop-name.invariant) makes is e
     (subst (λ (n : List ℕ). (cause : Cause) × NamesCause cause e × IsCauseHere x n d (row_here v makes all n d) cause) same refused)
 
 pub returns-clause-accepted : goal.returns-clause-accepted

@@ -2,11 +2,10 @@ use Rattle.std.proofs.Common.{◌∙◌, ap, sym}
 use Rattle.serde_json.specs.View.{view}
 use Rattle.schema_documents.specs.Scopes.{entered_scope}
 use Rattle.referencing.specs.Resolved.{base_of, scope_of}
-use Rattle.schema_reading.specs.NotYet.{awaits_its_own}
 use Rattle.schema_reading.specs.Sites.{below}
 use Rattle.schema_sites.specs.Seen.{documents_at}
 use Rattle.reached_sites.specs.Visits.{site_of}
-use Rattle.reached_sites.proofs.Meeting.{stands-itself, met-exactly, below-path, below-contents}
+use Rattle.reached_sites.proofs.Meeting.{stands-itself, met-exactly, below-path}
 use Rattle.reached_sites.proofs.visit.Visit.below.Goals as goal
 
 pub returns-clause-met : goal.returns-clause-met
@@ -15,11 +14,10 @@ returns-clause-met c = λ added document path.
     let site = c.in_ok-below.ensures in
     let d = view c.args.contents.now in
     let s = below (documents_at outer.site) (site_of outer) added d in
-    let contents = ap (λ v. view v.now) (sym site.contents) in
-    met-exactly _ s document (below-path (documents_at outer.site) (site_of outer) added d ∙ path) (below-contents (documents_at outer.site) (site_of outer) added d ∙ contents)
-    (λ own. (let stands = site.stands (site_of outer) added (stands-itself outer) (ap awaits_its_own contents ∙ own) in
-        record {
-          base = stands.base;
-          scope = ap (λ base. entered_scope base (base_of outer.site.resolver) (scope_of outer.site.resolver)) stands.base ∙ sym site.scope;
-          dialect = stands.dialect;
-        }))
+    let stands = site.stands (site_of outer) added (stands-itself outer) in
+    met-exactly _ s document (below-path (documents_at outer.site) (site_of outer) added d ∙ path) stands.contents
+    (record {
+      base = stands.base;
+      scope = ap (λ base. entered_scope base (base_of outer.site.resolver) (scope_of outer.site.resolver)) stands.base ∙ sym site.scope;
+      dialect = stands.dialect;
+    })

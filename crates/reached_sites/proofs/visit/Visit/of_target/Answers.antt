@@ -10,4 +10,4 @@ returns-clause-met c = λ s reference entered.
     let site = c.in_ok-site.ensures in
     let stands = site.stands s reference in
     met-exactly _ (target_site s reference (target_in c.args.target)) (sym place.document) (sym place.path) (sym site.contents)
-    (λ own. record { base = stands.base; scope = sym entered ∙ sym site.scope; dialect = stands.dialect })
+    (record { base = stands.base; scope = sym entered ∙ sym site.scope; dialect = stands.dialect })
