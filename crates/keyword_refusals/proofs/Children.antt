@@ -1,13 +1,11 @@
 -- The sites of subschemas and of targets.
-use Rattle.std.proofs.Common.{◌≡◌, ◌∙◌, ◌++◌, ◌≤◌, ℕ, List, [], ◌∷◌, false, refl, sym, ap, ap₂, subst}
+use Rattle.std.proofs.Common.{◌≡◌, ◌∙◌, ◌++◌, ◌≤◌, ℕ, List, [], ◌∷◌, refl, sym, ap, ap₂, subst}
 use Rattle.serde_json.specs.Data.{Data, depth}
 use Rattle.serde_json.specs.View.{view}
 use Rattle.json_paths.specs.Parts.{Part}
-use Rattle.schema_documents.specs.Bearers.{Documents, meta}
-use Rattle.schema_documents.specs.Places.{Dialect, Named, settled, awaited, placed, by_schema, schema_in_force}
+use Rattle.schema_documents.specs.Bearers.{Documents}
 use Rattle.schema_documents.specs.Scopes.{entered_scope}
 use Rattle.schema_reading.specs.Sites.{Site, below, target_site, path_of_reference}
-use Rattle.schema_reading.specs.NotYet.{awaits_its_own}
 use Rattle.schema_reading.specs.Plain.{deepest}
 use Rattle.referencing.specs.Resolved.{base_of, scope_of, documents_in, target_in}
 use Rattle.referencing.specs.declared.resolver.Resolved.{Resolved}
@@ -17,16 +15,7 @@ use Rattle.schema_sites.specs.declared.reference_keyword.ReferenceKeyword.{Refer
 use Rattle.schema_sites.specs.declared.site.Site as code
 use Rattle.plain_reader.proofs.ItemTelling.{Child}
 use Rattle.plain_reader.proofs.LookedLemmas.{looked_up_lies}
-use Rattle.plain_reader.proofs.Reading.{read_here, is_read}
 use Rattle.keyword_refusals.specs.Scenes.{Scene, IsRight, Meets}
-use Rattle.keyword_refusals.proofs.Right.{right_read}
-
-placed_contents : (outer : List ℕ) (around : Dialect) (path : List Part) (d : Data) (n : Named) → (placed outer around path d n).contents ≡ d
-placed_contents outer around path d (settled dialect) = refl
-placed_contents outer around path d (awaited uri) = refl
-
-pub below_contents : (docs : Documents) (s : Site) (added : List Part) (d : Data) → (below docs s added d).contents ≡ d
-below_contents docs s added d = placed_contents s.base s.dialect (added ++ s.path) d (by_schema (meta docs) s.dialect (schema_in_force false d))
 
 -- the schema of a site is the code's
 pub meets_shallow : (c : code.Site) (path : List Part) (x : Scene) (s : Site) → Meets c path x s → depth (view c.contents.now) ≤ deepest (documents_at c) → depth s.contents ≤ deepest x.documents
@@ -38,9 +27,7 @@ pub child_meets : (c b : code.Site) (d : Data) (added path : List Part) (x : Sce
     → Meets b (added ++ path) x (below x.documents s added d)
 child_meets c b d added path x s child m right =
     let inner = below x.documents s added d in
-    let own : awaits_its_own d ≡ false =
-    subst (λ e. awaits_its_own e ≡ false) (below_contents x.documents s added d) (is_read inner (read_here x.documents x.makes inner (right_read x inner right))).own in
-    let stands : Stands b inner = subst (λ docs. Stands b (below docs s added d)) (sym m.documents) (child.stands s added m.stands own) in
+    let stands : Stands b inner = subst (λ docs. Stands b (below docs s added d)) (sym m.documents) (child.stands s added m.stands) in
     record {
       documents = m.documents ∙ sym child.documents;
       stands = stands;

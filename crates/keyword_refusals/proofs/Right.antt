@@ -22,7 +22,7 @@ use Rattle.meaning_laws.proofs.Obliged.{in_map}
 use Rattle.plain_laws.proofs.Nested.{nested}
 use Rattle.plain_laws.proofs.Keys.{all_keys}
 use Rattle.plain_reader.specs.Tellings.{AreRead}
-use Rattle.plain_reader.proofs.Reading.{reached_on, read_here, is_read, read_each}
+use Rattle.plain_reader.proofs.Reading.{reached_on, read_here, read_each}
 use Rattle.check_laws.proofs.Straight.{circular_above}
 use Rattle.walk_laws.specs.Words.{IsOf}
 use Rattle.walk_laws.proofs.Named.{shapes_are_of, shaped_plain}
@@ -52,7 +52,7 @@ module _ (x : Scene) where
   no_cause s row cause r i j = r.none (wrong cause) (is_wrong (record { site = s; reached = at_root; row = row; stands = i; wrong = j }))
 
   pub member_read : (s : Site) (ms : Members) (k : List ℕ) (v : Data) → IsRight x s → s.contents ≡ object ms → In (k, v) (listed_members ms) → is_unread s ms k v ≡ false
-  member_read s ms k v r is i = read_each s ms k v (is_read s (read_here x.documents x.makes s (right_read s r))) is i
+  member_read s ms k v r is i = read_each s ms k v (read_here x.documents x.makes s (right_read s r)) is i
 
   -- the shapes of a member bear its name, which is written as it is
   pub member_named : (s : Site) (ms : Members) (k : List ℕ) (v : Data) → IsRight x s → s.contents ≡ object ms → In (k, v) (listed_members ms)

@@ -1,5 +1,5 @@
 -- What the children of a site tell: by `items` and by `properties`.
-use Rattle.std.proofs.Common.{◌≡◌, ◌≤◌, ◌<◌, ◌+◌, ◌*◌, ◌++◌, ℕ, zero, suc, List, [], ◌∷◌, false, Option, Some, None, Ordering, Less, Equal, Greater, nat_cmp, is_eq, codes, drop, refl, sym, ap, ap₂, subst, ◌∙◌, arith}
+use Rattle.std.proofs.Common.{◌≡◌, ◌≤◌, ◌<◌, ◌+◌, ◌*◌, ◌++◌, ℕ, zero, suc, List, [], ◌∷◌, Option, Some, None, Ordering, Less, Equal, Greater, nat_cmp, is_eq, codes, drop, refl, sym, ap, ap₂, subst, ◌∙◌, arith}
 use Rattle.std.specs.Ordering.{match_ordering}
 use Rattle.std.specs.Cmp.Lexicographic.{slice_cmp}
 use Rattle.std.proofs.lemmas.Slice.Eq.{bytes_eq-Decides}
@@ -9,15 +9,12 @@ use Rattle.serde_json.specs.Find.{get, get_member}
 use Rattle.serde_json.specs.View.{view, items_view}
 use Rattle.serde_json.specs.declared.value.Value.{Value}
 use Rattle.json_paths.specs.Parts.{Part, name, index}
-use Rattle.schema_documents.specs.Bearers.{Documents, meta}
-use Rattle.schema_documents.specs.Places.{Dialect, Named, settled, awaited, placed, by_schema, schema_in_force}
 use Rattle.schema_documents.specs.Scopes.{entered_scope}
 use Rattle.schema_meaning.specs.Members.{In, first, later}
 use Rattle.schema_meaning.specs.Places.{Spot, Step, to_item, to_member, after, Key}
 use Rattle.schema_meaning.specs.Faults.{Faults, joined}
 use Rattle.schema_meaning.specs.Questions.{Question, question, at, at_name, each_item, items_from, if_member}
 use Rattle.schema_reading.specs.Sites.{Site, below, path_of_reference}
-use Rattle.schema_reading.specs.NotYet.{awaits_its_own}
 use Rattle.schema_reading.specs.AllKeys.{spots_in, spots_of_items, spots_of_members}
 use Rattle.schema_reading.specs.Plain.{deepest}
 use Rattle.referencing.specs.Resolved.{base_of, scope_of}
@@ -38,19 +35,9 @@ use Rattle.schema_reports.proofs.FaultLemmas.{joined-none}
 use Rattle.plain_reader.proofs.ToldLemmas.{asked_by-more, asked_by-none, asked_inside, led_to}
 use Rattle.plain_reader.proofs.Left.{LeftOf, ItemsLeft, DeclaredLeft}
 use Rattle.plain_reader.proofs.LeftLemmas.{all_left, none_left, settled_left, told_one}
-use Rattle.plain_reader.proofs.Reading.{read_here, is_read}
 
 asked_by-one : (x : Setting) (q : Question Site) → asked_by x (q ∷ []) ≡ asked_in x q
 asked_by-one x q = asked_by-more x q [] ∙ ap (joined (asked_in x q)) (asked_by-none x) ∙ joined-none (asked_in x q)
-
--- ---- a schema that is read
-
-placed-contents : (outer : List ℕ) (around : Dialect) (path : List Part) (d : Data) (n : Named) → (placed outer around path d n).contents ≡ d
-placed-contents outer around path d (settled dialect) = refl
-placed-contents outer around path d (awaited uri) = refl
-
-below-contents : (docs : Documents) (s : Site) (added : List Part) (d : Data) → (below docs s added d).contents ≡ d
-below-contents docs s added d = placed-contents s.base s.dialect (added ++ s.path) d (by_schema (meta docs) s.dialect (schema_in_force false d))
 
 -- ---- a child of a site
 
@@ -58,7 +45,7 @@ pub record Child (c b : code.Site) (d : Data) : Type 0 where
   pub contents : view b.contents.now ≡ d
   pub documents : documents_at b ≡ documents_at c
   pub scope : scope_of b.resolver ≡ entered_scope (base_of b.resolver) (base_of c.resolver) (scope_of c.resolver)
-  pub stands : (s : Site) (added : List Part) → Stands c s → awaits_its_own d ≡ false → Stands b (below (documents_at c) s added d)
+  pub stands : (s : Site) (added : List Part) → Stands c s → Stands b (below (documents_at c) s added d)
 
 pub child_shallow : (c b : code.Site) (d : Data) → Child c b d → depth d < depth (view c.contents.now) → depth (view c.contents.now) ≤ deepest (documents_at c)
     → depth (view b.contents.now) ≤ deepest (documents_at b)
@@ -115,8 +102,7 @@ module _ (c b : code.Site) (d whole value v : Data) (roads at_roads : Roads) (ke
   child_fits : (x : Setting) → Child c b d → Asked added step value v roads at_roads → Fits c value roads keys x → AreRead x.documents x.makes (below x.documents x.site added d) → Fits b v at_roads keys (led_to x (asks d added step x) x.keys)
   child_fits x child asked fits read =
       let inner = below x.documents x.site added d in
-      let own : awaits_its_own d ≡ false = subst (λ e. awaits_its_own e ≡ false) (below-contents x.documents x.site added d) (is_read inner (read_here x.documents x.makes inner read)).own in
-      let stands : Stands b (below x.documents x.site added d) = subst (λ docs. Stands b (below docs x.site added d)) (sym fits.documents) (child.stands x.site added fits.stands own) in
+      let stands : Stands b (below x.documents x.site added d) = subst (λ docs. Stands b (below docs x.site added d)) (sym fits.documents) (child.stands x.site added fits.stands) in
       record {
         documents = fits.documents ∙ sym child.documents;
         stands = stands;

@@ -35,7 +35,7 @@ use Rattle.plain_reader.specs.Shapes.{no_leads, context_in, shapes_at, shapes_am
 use Rattle.plain_reader.specs.Targets.{reference_leads, reference_questions}
 use Rattle.schema_reports.proofs.FaultLemmas.{joined-none}
 use Rattle.plain_reader.proofs.ToldLemmas.{told_by-none, told_by-asserts, told_by-never, told_by-items, told_by-properties, told_by-reference, asked_by-none, asked_by-more, told_deeper}
-use Rattle.plain_reader.proofs.Reading.{is_read, read_here, read_on, read_each, row_here, keywords-of}
+use Rattle.plain_reader.proofs.Reading.{read_here, read_on, read_each, row_here, keywords-of}
 
 -- ---- nothing more is told
 
@@ -121,7 +121,7 @@ module _ (c : code.Site) (whole d : Data) (roads : Roads) (progress : List Key) 
       → TellsShapes c whole d roads progress no_leads (shapes_at ms k e) o o
   tells_refused ms k e r o is listed other refuses = tells_nothing c whole d roads progress no_leads (shapes_at ms k e) o
       λ x fits.
-      let here = is_read x.site (read_here x.documents x.makes x.site fits.read) in
+      let here = read_here x.documents x.makes x.site fits.read in
       let counted = read_each x.site ms k e here (fits.stands.contents ∙ is) listed in
       let none = refused_shapes (context_at c ms x.makes x.site) k e (row_at (context_at c ms x.makes x.site) k e) r (refuses x.makes x.site fits.stands fits.scope) other counted in
       subst (λ docs. (row_at (record { documents = docs; makes = x.makes; site = x.site; members = ms }) k e).shapes ≡ []) (sym fits.documents) none

@@ -7,7 +7,7 @@ use Rattle.schema_meaning.specs.Questions.{listed_members}
 use Rattle.schema_documents.specs.Bearers.{Documents}
 use Rattle.schema_reading.specs.Sites.{Site}
 use Rattle.schema_reading.specs.Rows.{Row, Place, Context, row_at, rows_of, rows_at, rows_in}
-use Rattle.schema_reading.specs.NotYet.{unread, unread_in, unread_members, is_unread, awaits_its_own}
+use Rattle.schema_reading.specs.NotYet.{unread, unread_in, unread_members, is_unread}
 use Rattle.schema_reading.specs.BuildCauses.{Reached, at_root, by_keyword}
 use Rattle.schema_reading.specs.Plain.{keywords_at}
 use Rattle.plain_reader.specs.Tellings.{AreRead}
@@ -27,10 +27,6 @@ read_here docs makes s read = read.each s at_root
 
 -- ---- a site that is read
 
-pub record IsRead (s : Site) : Type 0 where
-  pub own : awaits_its_own s.contents ≡ false
-  pub members : unread_in s s.contents ≡ []
-
 record Two (b : Bool) (ps : List Place) : Type 0 where
   left : b ≡ false
   none : ps ≡ []
@@ -39,23 +35,14 @@ two : (b : Bool) (p : Place) (ps : List Place) → (if b then p ∷ ps else ps) 
 two true p ps e = absurd (cc)
 two false p ps e = record { left = refl; none = e }
 
-one_or : (b : Bool) (p : Place) (ps : List Place) → (if b then p ∷ [] else ps) ≡ [] → Two b ps
-one_or true p ps e = absurd (cc)
-one_or false p ps e = record { left = refl; none = e }
-
-pub is_read : (s : Site) → unread s ≡ [] → IsRead s
-is_read s e =
-    let h = one_or (awaits_its_own s.contents) _ (unread_in s s.contents) e in
-    record { own = h.left; members = h.none }
-
 read_member : (s : Site) (all ms : Members) (k : List ℕ) (d : Data) → unread_members s all ms ≡ [] → In (k, d) (listed_members ms) → is_unread s all k d ≡ false
 read_member s all no_members k d e i = elim i [ ]
 read_member s all (member n c ms) k d e first = (two (is_unread s all n c) _ _ e).left
 read_member s all (member n c ms) k d e (later i) = read_member s all ms k d (two (is_unread s all n c) _ _ e).none i
 
 -- its members are all read
-pub read_each : (s : Site) (ms : Members) (k : List ℕ) (d : Data) → IsRead s → s.contents ≡ object ms → In (k, d) (listed_members ms) → is_unread s ms k d ≡ false
-read_each s ms k d read is i = read_member s ms ms k d (subst (λ e. unread_in s e ≡ []) is read.members) i
+pub read_each : (s : Site) (ms : Members) (k : List ℕ) (d : Data) → unread s ≡ [] → s.contents ≡ object ms → In (k, d) (listed_members ms) → is_unread s ms k d ≡ false
+read_each s ms k d read is i = read_member s ms ms k d (subst (λ e. unread_in s e ≡ []) is read) i
 
 -- ---- rows
 
