@@ -7,7 +7,7 @@ use Rattle.schema_documents.specs.Bearers.{Document}
 use Rattle.referencing_errors.specs.Causes.{IsMemory}
 use Rattle.referencing_errors.specs.declared.error.Error.{Error}
 use Rattle.retrieval_rounds.specs.Rounds.{Want, Asking, IsRound, AreRounds, gathered, retrieved}
-use Rattle.document_retrieval.specs.Stages.{documents_in, uris_in, MayAnswer, HasAnswer, HasAnswers}
+use Rattle.document_retrieval.specs.Stages.{documents_in, uris_in, MayAnswer, HasAnswer, HasAnswers, AnswersNothing}
 use Rattle.document_retrieval.specs.declared.rounds.Retrieved.{Retrieved}
 
 all-push : {X : Type 0} (P : X → Type 0) (xs : List X) (x : X) → AllByRecursion P xs → P x → AllByRecursion P (xs ++ x ∷ [])
@@ -70,6 +70,22 @@ pub retrieved-push : (rounds : List (List Document)) (answers : List Document) �
 retrieved-push [] answers = append-nil (map (λ (d : Document). d.uri) answers)
 retrieved-push (r ∷ rounds) answers =
     ap (λ l. map (λ (d : Document). d.uri) r ++ l) (retrieved-push rounds answers) ∙ sym (append_assoc (map (λ (d : Document). d.uri) r) (retrieved rounds) (map (λ (d : Document). d.uri) answers))
+
+-- ---- where nothing may be answered
+
+none-answered : (a : Asking) (answers : List Document) → AnswersNothing a → AllByRecursion (MayAnswer a) answers → answers ≡ []
+none-answered a [] nothing answered = refl
+none-answered a (d ∷ answers) nothing answered = absurd (nothing d.uri d.contents answered.0.0)
+
+pub gathered-alone : (a : Asking) (own : List Document) (rounds : List (List Document)) → AnswersNothing a → AreRounds a own rounds → gathered own rounds ≡ own
+gathered-alone a own [] nothing are = refl
+gathered-alone a own (answers ∷ rounds) nothing are =
+    gathered-alone a (own ++ answers) rounds nothing are.1 ∙ ap (λ l. own ++ l) (none-answered a answers nothing are.0.answered) ∙ append-nil own
+
+pub retrieved-alone : (a : Asking) (own : List Document) (rounds : List (List Document)) → AnswersNothing a → AreRounds a own rounds → retrieved rounds ≡ []
+retrieved-alone a own [] nothing are = refl
+retrieved-alone a own (answers ∷ rounds) nothing are =
+    ap (λ l. map (λ (d : Document). d.uri) l ++ retrieved rounds) (none-answered a answers nothing are.0.answered) ∙ retrieved-alone a (own ++ answers) rounds nothing are.1
 
 -- ---- errors
 

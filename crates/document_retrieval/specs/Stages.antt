@@ -71,13 +71,17 @@ RefusesRound a limit ws old e = SomeRefused a ws e ⊎ AreTooMany limit (length 
 
 -- ---- rounds
 
--- the documents after some rounds
-pub record IsGathered (a : Asking) (limit : ℕ) (own : List Document) (r : Retrieved) : Type 0 where
+-- the documents after some rounds, and the URIs that were answered
+pub record IsGathered (a : Asking) (limit : ℕ) (own documents : List Document) (uris : List (List ℕ)) : Type 0 where
   pub rounds : List (List Document)
   pub are : AreRounds a own rounds
-  pub documents : documents_in r ≡ gathered own rounds
-  pub uris : uris_in r ≡ retrieved rounds
-  pub within : length (uris_in r) ≤ limit
+  pub gathers : documents ≡ gathered own rounds
+  pub answers : uris ≡ retrieved rounds
+  pub within : length uris ≤ limit
+
+-- nothing may be answered
+abbrev pub AnswersNothing : Asking → Type 0
+AnswersNothing a = (uri : List ℕ) (contents : Data) → a.answers uri contents → ⊥
 
 -- after some rounds the retriever may refuse what is wanted, or more is wanted than may be retrieved
 pub record Stops (a : Asking) (limit : ℕ) (own : List Document) (e : Error) : Type 0 where

@@ -1,7 +1,8 @@
 //! One round of retrieval.
 
 ghost use Rattle.std.specs.Prelude.{◌≡◌, ◌⊎◌, ◌++◌, ◌∷◌, [], map, IfOk, IfErr, OnOk};
-ghost use Rattle.document_index.specs.Seen.{document_of};
+ghost use Rattle.serde_json.specs.View.{view};
+ghost use Rattle.document_index.specs.Seen.{document_of, contents_view};
 ghost use Rattle.referencing_errors.specs.Causes.{IsMemory, NamesDocument};
 ghost use Rattle.document_retrieval.specs.Known.{want_of};
 ghost use Rattle.document_retrieval.specs.Stages.{asking, documents_in, uris_in, IsAnswer, HasAnswer, Adds, RefusesWant, RefusesRound};
@@ -13,6 +14,7 @@ use document_retrievers::Retrieve;
 use referencing_errors::error::{Error, RetrieveError};
 use referencing_errors::named::{not_borne, unknown_specification};
 use schema_drafts::draft::Draft;
+use serde_json::Value;
 use std::alloc::{AllocError, Global};
 use std::rc::Rc;
 use uri_references::uri::Uri;
@@ -27,6 +29,13 @@ fn refusal(alloc: Global, want: &Want) -> Error
     }
 }
 
+// An answer, shared from the first.
+fn shared<'a>(alloc: Global, value: Value) -> Result<Contents<'a>, AllocError>
+    ensures { IfOk result (λ c. contents_view c ≡ view value) }
+{
+    Ok(Contents::Shared(Rc::new(alloc, value)?))
+}
+
 fn answer_to<'a, R: Retrieve>(
     alloc: Global,
     want: &Want,
@@ -39,7 +48,7 @@ fn answer_to<'a, R: Retrieve>(
     match retriever.retrieve(alloc, &want.uri) {
         Ok(value) => Ok(Document {
             uri: want.uri.clone()?,
-            contents: Contents::Owned(value),
+            contents: shared(alloc, value)?,
             default,
         }),
         Err(error) => match error {

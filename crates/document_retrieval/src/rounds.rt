@@ -4,7 +4,7 @@ ghost use Rattle.std.specs.Prelude.{◌≡◌, ◌⊎◌, [], ◌∷◌, map, tr
 ghost use Rattle.document_index.specs.Seen.{document_of};
 ghost use Rattle.referencing_errors.specs.Causes.{IsMemory};
 ghost use Rattle.retrieval_rounds.specs.Rounds.{wants, none_twice};
-ghost use Rattle.document_retrieval.specs.Stages.{asking, uris_in, IsGathered, Stops};
+ghost use Rattle.document_retrieval.specs.Stages.{asking, documents_in, uris_in, IsGathered, AnswersNothing, Stops};
 
 use crate::round::push_round;
 use crate::wants::wants_of;
@@ -41,7 +41,8 @@ pub fn retrieve_wanted<'a, R: Retrieve>(
     retriever: &R,
     limit: u64,
 ) -> Result<Retrieved<'a>, Error>
-    ensures ok { IfOk result (IsGathered (asking R.may_answer R.may_refuse retriever.now default) limit (map document_of documents.entry.items)) }
+    ensures ok { IfOk result (λ r. IsGathered (asking R.may_answer R.may_refuse retriever.now default) limit (map document_of documents.entry.items) (documents_in r) (uris_in r)) }
+    ensures alone { IfOk result (λ r. AnswersNothing (asking R.may_answer R.may_refuse retriever.now default) → (documents_in r ≡ map document_of documents.entry.items) × (uris_in r ≡ [])) }
     ensures once { IfOk result (λ r. none_twice (uris_in r) ≡ true) }
     ensures complete { IfOk result (λ r. wants (map document_of r.documents.items ∷ []) ≡ []) }
     ensures refused { IfErr result (λ e. IsMemory e ⊎ Stops (asking R.may_answer R.may_refuse retriever.now default) limit (map document_of documents.entry.items) e) }
