@@ -7,3 +7,4 @@ pub mod Built
 pub mod Keys
 pub mod Followed
 pub mod Chains
+pub mod Prepared

@@ -9,6 +9,10 @@ use Rattle.referencing.specs.declared.registry.Registry.{Registry}
 abbrev pub documents_of : Registry → List Document
 documents_of r = map document_of r.documents.items
 
+-- the URIs of those that were retrieved
+abbrev pub retrieved_by : Registry → List (List ℕ)
+retrieved_by r = map (λ u. u.value) r.retrieved.items
+
 -- what they tell of meta-schemas
 abbrev pub told_by : Registry → List ℕ → Option Dialect
 told_by r = meta (documents_of r ∷ [])

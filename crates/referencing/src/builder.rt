@@ -7,8 +7,10 @@ ghost use Rattle.referencing_errors.specs.Causes.{IsMemory};
 ghost use Rattle.given_documents.specs.Given.{with_given};
 ghost use Rattle.given_documents.specs.Seen.{given_of};
 ghost use Rattle.given_documents.specs.Uris.{is_document_uri, RefusesUri};
-ghost use Rattle.referencing.specs.Built.{given_in, given_by, Adds};
+ghost use Rattle.referencing.specs.Built.{given_in, given_by, Adds, AsksAlike};
 
+use crate::registry::Registry;
+use document_retrievers::{DefaultRetriever, Retrieve};
 use given_documents::document::Document;
 use given_documents::list::DocumentList;
 use given_documents::resource::IntoRegistryResource;
@@ -18,46 +20,95 @@ use schema_drafts::draft::Draft;
 use std::alloc::Global;
 use std::convert::AsStr;
 
-/// Documents to be prepared, and the draft of those that name none: 2020-12 at first.
+/// Documents to be prepared, the draft of those that name none, and who is asked for how many of those that they want: 2020-12, nobody
+/// and 256 at first.
 #[derive(Drop)]
-pub struct RegistryBuilder<'a> {
-    alloc: Global,
-    draft: Draft,
-    list: DocumentList<'a>,
+pub struct RegistryBuilder<'a, R = DefaultRetriever> {
+    pub(crate) alloc: Global,
+    pub(crate) draft: Draft,
+    pub(crate) list: DocumentList<'a>,
+    pub(crate) retriever: R,
+    pub(crate) limit: u64,
 }
 
 /// A call that was refused: the builder as it was left, and why.
 #[derive(Drop)]
-pub struct Refused<'a> {
-    pub builder: RegistryBuilder<'a>,
+pub struct Refused<'a, R = DefaultRetriever> {
+    pub builder: RegistryBuilder<'a, R>,
     pub error: Error,
 }
 
-impl<'a> From<Refused<'a>> for Error {
+impl<'a, R: Drop> From<Refused<'a, R>> for Error {
     ghost from_gives = { λ r e. e ≡ r.error };
 
-    fn from(refused: Refused<'a>) -> Error {
+    fn from(refused: Refused<'a, R>) -> Error {
         refused.error
     }
 }
+
+/// How many documents are retrieved at most until another limit is set.
+const DEFAULT_LIMIT: u64 = 256;
 
 impl<'a> RegistryBuilder<'a> {
     /// No documents. It allocates nothing.
     pub fn new(alloc: Global) -> RegistryBuilder<'a>
         ensures documents { given_in result ≡ [] }
         ensures draft { result.draft ≡ drafts.newest }
+        ensures limit { result.limit ≡ 256 }
     {
         RegistryBuilder {
             alloc,
             draft: Draft::default(),
             list: DocumentList::new(alloc),
+            retriever: DefaultRetriever,
+            limit: DEFAULT_LIMIT,
+        }
+    }
+}
+
+impl<'a> Registry<'a> {
+    /// A builder with no documents.
+    pub fn new(alloc: Global) -> RegistryBuilder<'a>
+        ensures documents { given_in result ≡ [] }
+        ensures draft { result.draft ≡ drafts.newest }
+        ensures limit { result.limit ≡ 256 }
+    {
+        RegistryBuilder::new(alloc)
+    }
+}
+
+impl<'a, S: Drop> RegistryBuilder<'a, S> {
+    /// Sets whom the documents that are wanted are asked of.
+    pub fn retriever<T: Retrieve>(self, retriever: T) -> RegistryBuilder<'a, T>
+        ensures documents { given_in result ≡ given_in self.entry }
+        ensures draft { result.draft ≡ self.entry.draft }
+        ensures retriever { result.retriever ≡ retriever }
+        ensures limit { result.limit ≡ self.entry.limit }
+    {
+        RegistryBuilder {
+            alloc: self.alloc,
+            draft: self.draft,
+            list: self.list,
+            retriever,
+            limit: self.limit,
         }
     }
 
+    /// Sets how many documents are retrieved at most.
+    pub fn retrieval_limit(self, limit: u64) -> RegistryBuilder<'a, S>
+        ensures documents { given_in result ≡ given_in self.entry }
+        ensures draft { result.draft ≡ self.entry.draft }
+        ensures retriever { result.retriever ≡ self.entry.retriever }
+        ensures limit { result.limit ≡ limit }
+    {
+        RegistryBuilder { limit, ..self }
+    }
+
     /// Sets the draft of the documents that name none, those added before among them.
-    pub fn draft(self, draft: Draft) -> RegistryBuilder<'a>
+    pub fn draft(self, draft: Draft) -> RegistryBuilder<'a, S>
         ensures documents { given_in result ≡ given_in self.entry }
         ensures draft { result.draft ≡ draft }
+        ensures retrieval { AsksAlike self.entry result }
     {
         RegistryBuilder { draft, ..self }
     }
@@ -75,13 +126,15 @@ impl<'a> RegistryBuilder<'a> {
         self,
         uri: &str,
         resource: R,
-    ) -> Result<RegistryBuilder<'a>, Refused<'a>>
+    ) -> Result<RegistryBuilder<'a, S>, Refused<'a, S>>
         ensures ok { IfOk result (λ b. given_in b ≡ with_given (given_in self.entry) (given_by R.contents R.draft uri.now resource)) }
         ensures draft { IfOk result (λ b. b.draft ≡ self.entry.draft) }
+        ensures retrieval { IfOk result (AsksAlike self.entry) }
         ensures accepted { OnOk result (IsTrue (is_document_uri uri.now)) }
         ensures refused { IfErr result (λ r. RefusesUri uri.now r.error) }
         ensures unchanged { IfErr result (λ r. given_in r.builder ≡ given_in self.entry) }
         ensures same_draft { IfErr result (λ r. r.builder.draft ≡ self.entry.draft) }
+        ensures same_retrieval { IfErr result (λ r. AsksAlike self.entry r.builder) }
     {
         match document_uri(self.alloc, uri) {
             Ok(uri) => {
@@ -100,18 +153,41 @@ impl<'a> RegistryBuilder<'a> {
     }
 
     // Adds a document, or gives the builder back.
-    fn with_document(self, document: Document<'a>) -> Result<RegistryBuilder<'a>, Refused<'a>>
+    fn with_document(
+        self,
+        document: Document<'a>,
+    ) -> Result<RegistryBuilder<'a, S>, Refused<'a, S>>
         ensures ok { IfOk result (λ b. given_in b ≡ with_given (given_in self.entry) (given_of document.entry)) }
         ensures draft { IfOk result (λ b. b.draft ≡ self.entry.draft) }
+        ensures retrieval { IfOk result (AsksAlike self.entry) }
         ensures refused { IfErr result (λ r. IsMemory r.error) }
         ensures unchanged { IfErr result (λ r. given_in r.builder ≡ given_in self.entry) }
         ensures same_draft { IfErr result (λ r. r.builder.draft ≡ self.entry.draft) }
+        ensures same_retrieval { IfErr result (λ r. AsksAlike self.entry r.builder) }
     {
-        let RegistryBuilder { alloc, draft, list } = self;
+        let RegistryBuilder {
+            alloc,
+            draft,
+            list,
+            retriever,
+            limit,
+        } = self;
         match list.put(alloc, document) {
-            Ok(list) => Ok(RegistryBuilder { alloc, draft, list }),
+            Ok(list) => Ok(RegistryBuilder {
+                alloc,
+                draft,
+                list,
+                retriever,
+                limit,
+            }),
             Err(list) => Err(Refused {
-                builder: RegistryBuilder { alloc, draft, list },
+                builder: RegistryBuilder {
+                    alloc,
+                    draft,
+                    list,
+                    retriever,
+                    limit,
+                },
                 error: Error::Memory,
             }),
         }
@@ -126,14 +202,16 @@ impl<'a> RegistryBuilder<'a> {
         U: AsStr + Drop,
         R: IntoRegistryResource<'a> + Drop,
         I: IntoIterator<Item = (U, R)>,
-    >(self, pairs: I) -> Result<RegistryBuilder<'a>, Refused<'a>>
+    >(self, pairs: I) -> Result<RegistryBuilder<'a, S>, Refused<'a, S>>
     where
         I::IntoIter: Drop,
         requires { IsFiniteIterable I.into_iter_gives I.IntoIter.can_next I.IntoIter.remaining pairs }
-        ensures ok { IfOk result (λ b. (it : I.IntoIter) × (xs : List (U × R)) × I.into_iter_gives pairs it × Drains I.IntoIter.next_gives it xs × Adds U.text R.contents R.draft self.entry xs b) }
+        ensures ok { IfOk result (λ b. (it : I.IntoIter) × (xs : List (U × R)) × I.into_iter_gives pairs it × Drains I.IntoIter.next_gives it xs × Adds U.text R.contents R.draft (given_in self.entry) xs (given_in b)) }
         ensures draft { IfOk result (λ b. b.draft ≡ self.entry.draft) }
-        ensures refused { IfErr result (λ r. (it : I.IntoIter) × (before : List (U × R)) × (x : U × R) × (rest : I.IntoIter) × I.into_iter_gives pairs it × YieldsThen I.IntoIter.next_gives it before (Some x) rest × Adds U.text R.contents R.draft self.entry before r.builder × RefusesUri (U.text x.0) r.error) }
+        ensures retrieval { IfOk result (AsksAlike self.entry) }
+        ensures refused { IfErr result (λ r. (it : I.IntoIter) × (before : List (U × R)) × (x : U × R) × (rest : I.IntoIter) × I.into_iter_gives pairs it × YieldsThen I.IntoIter.next_gives it before (Some x) rest × Adds U.text R.contents R.draft (given_in self.entry) before (given_in r.builder) × RefusesUri (U.text x.0) r.error) }
         ensures same_draft { IfErr result (λ r. r.builder.draft ≡ self.entry.draft) }
+        ensures same_retrieval { IfErr result (λ r. AsksAlike self.entry r.builder) }
     {
         let mut builder = self;
         for (uri, resource) in pairs {

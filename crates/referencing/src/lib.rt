@@ -9,13 +9,16 @@ mod dynamic;
 mod finding;
 pub mod following;
 mod lookup;
+mod parents;
 mod prepare;
 pub mod registry;
 pub mod resolver;
 mod resolving;
+mod retrieval;
 pub mod scope_key;
 
 pub use builder::{Refused, RegistryBuilder};
+pub use document_retrievers::{DefaultRetriever, MapRetriever, Retrieve};
 pub use following::{Step, follow};
 pub use given_documents::resource::IntoRegistryResource;
 pub use json_pointers::{

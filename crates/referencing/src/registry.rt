@@ -8,12 +8,15 @@ use document_index::document::Document;
 use document_index::index::Index;
 use schema_vocabularies::MetaSchemas;
 use std::alloc::Global;
+use std::rc::Rc;
+use uri_references::uri::Uri;
 
 /// Documents that were prepared: each reference in them to a document leads to a schema place. Contracts see the list of the documents.
 #[derive(Drop)]
 pub struct Registry<'a> {
     pub(crate) alloc: Global,
     pub(crate) documents: Vec<Document<'a>>,
+    pub(crate) retrieved: Vec<Rc<Uri>>,
     pub(crate) known: MetaSchemas,
     pub(crate) index: Index,
     ghost stands: { Stands known index (map document_of documents.items) },

@@ -11,3 +11,5 @@ mod lookups;
 mod meta_schemas;
 #[cfg(test)]
 mod refusals;
+#[cfg(test)]
+mod retrieving;

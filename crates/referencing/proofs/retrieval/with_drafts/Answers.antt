@@ -4,7 +4,7 @@ use Rattle.document_index.proofs.LocatedLemmas.{map-through, no_items}
 use Rattle.given_documents.specs.Given.{document_by}
 use Rattle.given_documents.specs.Seen.{given_of}
 use Rattle.given_documents.specs.declared.document.Document.{Document}
-use Rattle.referencing.proofs.prepare.with_drafts.Goals as goal
+use Rattle.referencing.proofs.retrieval.with_drafts.Goals as goal
 
 pub returns : goal.returns
 returns c =

@@ -3,7 +3,7 @@ use Rattle.std.specs.Vec.Iter.{into_iter_items}
 use Rattle.document_index.specs.Seen.{document_of}
 use Rattle.given_documents.specs.Given.{document_by}
 use Rattle.given_documents.specs.Seen.{given_of}
-use Rattle.referencing.proofs.prepare.with_drafts.Given as goal
+use Rattle.referencing.proofs.retrieval.with_drafts.Given as goal
 
 abbrev pub invariant-loop-document : goal.invariant-loop-document
 invariant-loop-document l =

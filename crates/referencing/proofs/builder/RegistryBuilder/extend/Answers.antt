@@ -2,7 +2,7 @@ use Rattle.std.proofs.Common.{◌≡◌, ◌∙◌, ap, rules, subst, sym, true,
 use Rattle.std.specs.Result.{IsErrAnd}
 use Rattle.given_documents.specs.Given.{with_given}
 use Rattle.given_documents.specs.Uris.{is_document_uri, RefusesUri}
-use Rattle.referencing.specs.Built.{given_in, given_by}
+use Rattle.referencing.specs.Built.{given_in, given_by, AsksAlike}
 use Rattle.referencing.proofs.Extending.{givens_by-more, are_document_uris-more}
 use Rattle.referencing.proofs.builder.RegistryBuilder.extend.Goals as goal
 
@@ -41,10 +41,12 @@ loop-uri-preserved g c =
     let accepted : is_document_uri t ≡ true = search rules in
     let added : given_in new ≡ with_given built (given_by contents draft t r) = search rules in
     let same : new.draft ≡ c.loop-uri.builder.draft = search rules in
+    let alike : AsksAlike c.loop-uri.builder new = search rules in
     record {
       adds = (
         are_document_uris-more text before u r c.loop-uri.invariant.adds.0 (ap is_document_uri (sym c.as_str.ensures) ∙ accepted),
         givens_by-more text contents draft (given_in c.args.self) built (given_in new) before u r t c.loop-uri.invariant.adds.1 c.as_str.ensures added,
       );
       draft = same ∙ c.loop-uri.invariant.draft;
+      retrieval = (alike.0 ∙ c.loop-uri.invariant.retrieval.0, alike.1 ∙ c.loop-uri.invariant.retrieval.1);
     }

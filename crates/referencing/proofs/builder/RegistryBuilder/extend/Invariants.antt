@@ -1,9 +1,10 @@
 use Rattle.std.proofs.Common.{◌≡◌}
-use Rattle.referencing.specs.Built.{Adds}
+use Rattle.referencing.specs.Built.{given_in, Adds, AsksAlike}
 use Rattle.referencing.proofs.builder.RegistryBuilder.extend.Given as goal
 
 abbrev pub invariant-loop-uri : goal.invariant-loop-uri
 invariant-loop-uri g l = record {
-  adds : Adds g.U.AsStr.text g.R.IntoRegistryResource.contents g.R.IntoRegistryResource.draft l.fn.self l.yielded l.builder;
+  adds : Adds g.U.AsStr.text g.R.IntoRegistryResource.contents g.R.IntoRegistryResource.draft (given_in l.fn.self) l.yielded (given_in l.builder);
   draft : l.builder.draft ≡ l.fn.self.draft;
+  retrieval : AsksAlike l.fn.self l.builder;
 }

@@ -3,7 +3,7 @@ use Rattle.schema_documents.specs.DocumentCauses.{document_causes}
 use Rattle.document_index.specs.Seen.{document_of}
 use Rattle.document_causes.specs.Named.{NamesOne}
 use Rattle.document_causes.proofs.NamedLemmas.{kept}
-use Rattle.referencing.proofs.registry.Registry.of.Goals as goal
+use Rattle.referencing.proofs.registry.Registry.with_retrieved.Goals as goal
 
 pub returns-in_err-known-clause-refused : goal.returns-in_err-known-clause-refused
 returns-in_err-known-clause-refused c =

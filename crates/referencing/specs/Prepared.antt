@@ -1,0 +1,28 @@
+-- What is asked for the documents of a builder, and why they are no registry.
+use Rattle.std.specs.Prelude.{◌⊎◌, ℕ, List, [], ◌∷◌}
+use Rattle.serde_json.specs.Data.{Data}
+use Rattle.schema_meaning.specs.Members.{In}
+use Rattle.schema_documents.specs.Bearers.{Document}
+use Rattle.schema_documents.specs.DocumentCauses.{DocumentCause, document_causes}
+use Rattle.referencing_errors.specs.Causes.{IsMemory, NamesDocument}
+use Rattle.referencing_errors.specs.declared.error.Error.{Error}
+use Rattle.retrieval_rounds.specs.Rounds.{Asking}
+use Rattle.document_retrieval.specs.Stages.{asking, IsGathered, Stops}
+use Rattle.referencing.specs.declared.builder.RegistryBuilder.{RegistryBuilder}
+
+-- a builder's retriever is asked, and what is answered is read by the builder's draft where it names none
+abbrev pub asking_of : {R : Type 0} → (R → List ℕ → Data → Type 0) → (R → List ℕ → Type 0) → RegistryBuilder R → Asking
+asking_of may_answer may_refuse b = asking may_answer may_refuse b.retriever b.draft
+
+-- the documents after some rounds have a cause to be refused, which is named
+pub record HasCause (a : Asking) (limit : ℕ) (own : List Document) (e : Error) : Type 0 where
+  pub documents : List Document
+  pub uris : List (List ℕ)
+  pub gathered : IsGathered a limit own documents uris
+  pub cause : DocumentCause
+  pub among : In cause (document_causes (documents ∷ []))
+  pub named : NamesDocument cause e
+
+-- want of memory; or the documents could not be gathered; or they were, and have a cause
+abbrev pub RefusesRegistry : Asking → ℕ → List Document → Error → Type 0
+RefusesRegistry a limit own e = IsMemory e ⊎ (Stops a limit own e ⊎ HasCause a limit own e)
