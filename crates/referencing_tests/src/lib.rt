@@ -8,7 +8,7 @@ mod chains;
 #[cfg(test)]
 mod lookups;
 #[cfg(test)]
-mod meta_schemas;
+mod own_meta_schemas;
 #[cfg(test)]
 mod refusals;
 #[cfg(test)]
