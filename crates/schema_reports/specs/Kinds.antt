@@ -1,17 +1,54 @@
 -- What the kinds of the code stand for.
-use Rattle.std.specs.Prelude.{ℕ, List, codes}
+use Rattle.std.specs.Prelude.{ℕ, ℤ, pos, unsigned_abs, List, codes, string_bytes}
+use Rattle.serde_json.specs.Data.{Data}
+use Rattle.serde_json.specs.View.{view}
+use Rattle.schema_values.specs.Numbers.{whole}
 use Rattle.schema_meaning.specs.Faults as told
+use Rattle.schema_meaning.specs.Questions.{items_of}
+use Rattle.schema_documents.specs.Words.{or}
 use Rattle.schema_types.specs.Named.{names_in}
 use Rattle.schema_reports.specs.declared.kind.ValidationErrorKind.{ValidationErrorKind}
-use Rattle.schema_reports.specs.declared.kind.ValidationErrorKind.TheVariants.{FalseSchema, MinItems, Types}
+use Rattle.schema_reports.specs.declared.kind.ValidationErrorKind.TheVariants as kind
+
+-- the whole number that a kind carries; a value that is none stands for zero
+abbrev pub number_of : Data → ℤ
+number_of d = or (pos 0) (whole d)
 
 abbrev pub kind_of : ValidationErrorKind → told.Kind
-kind_of FalseSchema = told.FalseSchema
-kind_of (MinItems limit) = told.MinItems limit
-kind_of (Types names) = told.Types (names_in names)
+kind_of (kind.Constant expected_value) = told.Constant (view expected_value)
+kind_of (kind.Enumeration options) = told.Enumeration (items_of (view options))
+kind_of (kind.ExclusiveMaximum limit) = told.ExclusiveMaximum (number_of (view limit))
+kind_of (kind.ExclusiveMinimum limit) = told.ExclusiveMinimum (number_of (view limit))
+kind_of kind.FalseSchema = told.FalseSchema
+kind_of (kind.MaxItems limit) = told.MaxItems limit
+kind_of (kind.Maximum limit) = told.Maximum (number_of (view limit))
+kind_of (kind.MaxLength limit) = told.MaxLength limit
+kind_of (kind.MaxProperties limit) = told.MaxProperties limit
+kind_of (kind.MinItems limit) = told.MinItems limit
+kind_of (kind.Minimum limit) = told.Minimum (number_of (view limit))
+kind_of (kind.MinLength limit) = told.MinLength limit
+kind_of (kind.MinProperties limit) = told.MinProperties limit
+kind_of (kind.MultipleOf multiple_of) = told.MultipleOf (unsigned_abs (number_of (view multiple_of)))
+kind_of (kind.Required property) = told.Required (string_bytes property)
+kind_of (kind.Types names) = told.Types (names_in names)
+kind_of kind.UniqueItems = told.UniqueItems
 
 -- the name that is printed
 abbrev pub kind_name : ValidationErrorKind → List ℕ
-kind_name FalseSchema = codes "FalseSchema"
-kind_name (MinItems limit) = codes "MinItems"
-kind_name (Types names) = codes "Types"
+kind_name (kind.Constant expected_value) = codes "Constant"
+kind_name (kind.Enumeration options) = codes "Enumeration"
+kind_name (kind.ExclusiveMaximum limit) = codes "ExclusiveMaximum"
+kind_name (kind.ExclusiveMinimum limit) = codes "ExclusiveMinimum"
+kind_name kind.FalseSchema = codes "FalseSchema"
+kind_name (kind.MaxItems limit) = codes "MaxItems"
+kind_name (kind.Maximum limit) = codes "Maximum"
+kind_name (kind.MaxLength limit) = codes "MaxLength"
+kind_name (kind.MaxProperties limit) = codes "MaxProperties"
+kind_name (kind.MinItems limit) = codes "MinItems"
+kind_name (kind.Minimum limit) = codes "Minimum"
+kind_name (kind.MinLength limit) = codes "MinLength"
+kind_name (kind.MinProperties limit) = codes "MinProperties"
+kind_name (kind.MultipleOf multiple_of) = codes "MultipleOf"
+kind_name (kind.Required property) = codes "Required"
+kind_name (kind.Types names) = codes "Types"
+kind_name kind.UniqueItems = codes "UniqueItems"

@@ -1,4 +1,5 @@
 -- What observers say of the faults told so far.
+use Rattle.std.specs.Prelude.{Bool, true, false, not, is_some}
 use Rattle.schema_meaning.specs.Faults.{Faults}
 use Rattle.schema_reports.specs.Stands.{verdict_stands, first_stands, all_stand}
 use Rattle.schema_reports.specs.declared.observer.Observation.{Observation}
@@ -17,3 +18,15 @@ Hears kept.First (observers.All a) fs = ⊥
 Hears kept.All (observers.Verdict v) fs = ⊥
 Hears kept.All (observers.First f) fs = ⊥
 Hears kept.All (observers.All a) fs = all_stand a fs
+
+-- whether it keeps each fault
+abbrev pub is_for_all : Observer → Bool
+is_for_all (observers.Verdict v) = false
+is_for_all (observers.First f) = false
+is_for_all (observers.All a) = true
+
+-- whether it is to be told of a fault: not for the verdict alone, and for the first fault where none was told
+abbrev pub wants : Observer → Bool
+wants (observers.Verdict v) = false
+wants (observers.First f) = not (is_some f.error)
+wants (observers.All a) = true

@@ -1,5 +1,5 @@
 //! The first thing that is wrong.
-ghost use Rattle.std.specs.Prelude.{◌≡◌, true, OnOk};
+ghost use Rattle.std.specs.Prelude.{◌≡◌, true, false, not, is_some, OnOk};
 ghost use Rattle.serde_json.specs.View.{view};
 ghost use Rattle.schema_meaning.specs.Faults.{Faults, none, also, fault, joined};
 
@@ -38,6 +38,14 @@ impl<'i> FirstFault<'i> {
         ensures { result ≡ true → (fs gs : Faults) → first_stands self.now fs → first_stands self.now (joined fs gs) }
     {
         self.error.is_some()
+    }
+
+    /// Whether no fault was told.
+    pub(crate) fn wants(&self) -> bool
+        ensures first { result ≡ not (is_some self.now.error) }
+        ensures enough { result ≡ false → (fs gs : Faults) → first_stands self.now fs → first_stands self.now (joined fs gs) }
+    {
+        self.error.is_none()
     }
 
     pub(crate) fn tell(

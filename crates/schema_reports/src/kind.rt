@@ -2,17 +2,46 @@
 ghost use Rattle.std.specs.Prelude.{◌≡◌, Some};
 
 use schema_types::TypeNames;
+use serde_json::Value;
 use std::fmt;
 
 /// Why a value is refused, with what the keyword has.
 #[derive(Debug, Drop)]
 pub enum ValidationErrorKind {
+    /// The value differs from the one that is expected.
+    Constant { expected_value: Value },
+    /// The value equals none of the list.
+    Enumeration { options: Value },
+    /// The number is not below the limit.
+    ExclusiveMaximum { limit: Value },
+    /// The number is not above the limit.
+    ExclusiveMinimum { limit: Value },
     /// The schema is `false`.
     FalseSchema,
+    /// The list has more items than the limit.
+    MaxItems { limit: u64 },
+    /// The number is above the limit.
+    Maximum { limit: Value },
+    /// The text has more code points than the limit.
+    MaxLength { limit: u64 },
+    /// The object has more members than the limit.
+    MaxProperties { limit: u64 },
     /// The list has fewer items than the limit.
     MinItems { limit: u64 },
+    /// The number is below the limit.
+    Minimum { limit: Value },
+    /// The text has fewer code points than the limit.
+    MinLength { limit: u64 },
+    /// The object has fewer members than the limit.
+    MinProperties { limit: u64 },
+    /// The number is no multiple of that one.
+    MultipleOf { multiple_of: Value },
+    /// The object has no member of the name.
+    Required { property: String },
     /// The value is of none of the types.
     Types { names: TypeNames },
+    /// Two items of the list are equal.
+    UniqueItems,
 }
 
 impl ValidationErrorKind {
@@ -23,9 +52,23 @@ impl ValidationErrorKind {
         ensures { result.now ≡ kind_name self.now }
     {
         match self {
+            ValidationErrorKind::Constant { .. } => "Constant",
+            ValidationErrorKind::Enumeration { .. } => "Enumeration",
+            ValidationErrorKind::ExclusiveMaximum { .. } => "ExclusiveMaximum",
+            ValidationErrorKind::ExclusiveMinimum { .. } => "ExclusiveMinimum",
             ValidationErrorKind::FalseSchema => "FalseSchema",
+            ValidationErrorKind::MaxItems { .. } => "MaxItems",
+            ValidationErrorKind::Maximum { .. } => "Maximum",
+            ValidationErrorKind::MaxLength { .. } => "MaxLength",
+            ValidationErrorKind::MaxProperties { .. } => "MaxProperties",
             ValidationErrorKind::MinItems { .. } => "MinItems",
+            ValidationErrorKind::Minimum { .. } => "Minimum",
+            ValidationErrorKind::MinLength { .. } => "MinLength",
+            ValidationErrorKind::MinProperties { .. } => "MinProperties",
+            ValidationErrorKind::MultipleOf { .. } => "MultipleOf",
+            ValidationErrorKind::Required { .. } => "Required",
             ValidationErrorKind::Types { .. } => "Types",
+            ValidationErrorKind::UniqueItems => "UniqueItems",
         }
     }
 }

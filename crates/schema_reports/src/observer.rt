@@ -1,9 +1,9 @@
 //! Who hears of what is wrong.
-ghost use Rattle.std.specs.Prelude.{◌≡◌, true, OnOk};
+ghost use Rattle.std.specs.Prelude.{◌≡◌, true, false, OnOk};
 ghost use Rattle.serde_json.specs.View.{view};
-ghost use Rattle.schema_meaning.specs.Faults.{Faults, none, also, fault, joined};
+ghost use Rattle.schema_meaning.specs.Faults.{Fault, Faults, none, also, fault, joined};
 ghost use Rattle.schema_reports.specs.Kinds.{kind_of};
-ghost use Rattle.schema_reports.specs.Observers.{Hears};
+ghost use Rattle.schema_reports.specs.Observers.{Hears, is_for_all, wants};
 ghost use Rattle.schema_reports.specs.RoadPaths.{instance_in, schema_in, evaluation_in};
 
 use crate::all_faults::AllFaults;
@@ -42,6 +42,30 @@ impl<'i> Observer<'i> {
             Observer::Verdict(verdict) => verdict.is_settled(),
             Observer::First(first) => first.is_settled(),
             Observer::All(_) => false,
+        }
+    }
+
+    /// Whether it keeps each fault that it is told.
+    pub fn keeps_all(&self) -> bool
+        ensures { result ≡ is_for_all self.now }
+    {
+        matches!(self, Observer::All(_))
+    }
+
+    /// Hears that there is a fault, and says whether it wants to be told of it, which is then to be done. Where it does not, the
+    /// fault need not be made: one that keeps the verdict alone has heard enough, and so has one that keeps the first and has it.
+    pub fn hear(&mut self) -> bool
+        ensures asked { result ≡ wants self.old }
+        ensures unheard { result ≡ true → (kept : Observation) (fs : Faults) → Hears kept self.old fs → Hears kept self.new fs }
+        ensures heard { result ≡ false → (kept : Observation) (fs : Faults) (f : Fault) → Hears kept self.old fs → Hears kept self.new (joined fs (also f none)) }
+    {
+        match self {
+            Observer::Verdict(judge) => {
+                judge.refuse();
+                false
+            }
+            Observer::First(first) => first.wants(),
+            Observer::All(_) => true,
         }
     }
 
