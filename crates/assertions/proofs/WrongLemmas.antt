@@ -9,7 +9,7 @@ use Rattle.schema_meaning.specs.Rules.{Note}
 use Rattle.std.specs.Prelude.{is_some, not, Result, Ok, Err, IfOk}
 use Rattle.std.proofs.Common.{Vec, Global}
 use Rattle.std.specs.declared.alloc.AllocError.{AllocError}
-use Rattle.assertions.specs.Shapes.{assertion_of, count_assertion, bound_assertion, old_assertion}
+use Rattle.assertions.specs.Shapes.{assertion_of, count_assertion, bound_assertion, old_assertion, integer_of}
 use Rattle.assertions.specs.Wrong.{head, note_of, notes_of}
 use Rattle.assertions.specs.declared.keyword.Count.{Count}
 use Rattle.assertions.specs.declared.keyword.Count.TheVariants as count
@@ -60,8 +60,8 @@ one_wrong (code.Types names) m d r q = one _ _ d
 one_wrong (code.Enumeration options) m d r q = one _ _ d
 one_wrong (code.Constant expected) m d r q = one _ _ d
 one_wrong (code.MultipleOf divisor) m d r q = one _ _ d
-one_wrong (code.Limit b limit) m d r q = one_bound b limit m d
-one_wrong (code.LimitOfDraft4 s limit strict) m d r q = one_old s limit strict m d
+one_wrong (code.Limit b limit) m d r q = one_bound b (integer_of limit) m d
+one_wrong (code.LimitOfDraft4 s limit strict) m d r q = one_old s (integer_of limit) strict m d
 one_wrong (code.Count c limit) m d r q = one_count c limit m d
 one_wrong code.UniqueItems m d r q = one _ _ d
 one_wrong (code.Required ns) m d r q = absurd (r ns refl)

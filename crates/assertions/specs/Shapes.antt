@@ -10,6 +10,7 @@ use Rattle.assertions.specs.declared.keyword.Limit.{Limit}
 use Rattle.assertions.specs.declared.keyword.Limit.TheVariants as side
 use Rattle.assertions.specs.declared.assertion.Bound.{Bound}
 use Rattle.assertions.specs.declared.assertion.Bound.TheVariants as bound
+use Rattle.assertions.specs.declared.whole_number.WholeNumber.{WholeNumber}
 use Rattle.assertions.specs.declared.assertion.Assertion.{Assertion}
 use Rattle.assertions.specs.declared.assertion.Assertion.TheVariants as code
 
@@ -39,13 +40,16 @@ abbrev pub old_assertion : Limit → ℤ → Bool → told.Assertion
 old_assertion side.Maximum z strict = told.maximum_of_draft_4 z strict
 old_assertion side.Minimum z strict = told.minimum_of_draft_4 z strict
 
+abbrev pub integer_of : WholeNumber → ℤ
+integer_of number = number.integer
+
 abbrev pub assertion_of : Assertion → told.Assertion
 assertion_of (code.Types names) = told.types (names_in names)
 assertion_of (code.Enumeration options) = told.enumeration (items_view options.values.now)
 assertion_of (code.Constant expected) = told.constant (view expected.now)
 assertion_of (code.MultipleOf divisor) = told.multiple_of divisor.value
-assertion_of (code.Limit b limit) = bound_assertion b limit
-assertion_of (code.LimitOfDraft4 side limit strict) = old_assertion side limit strict
+assertion_of (code.Limit b limit) = bound_assertion b (integer_of limit)
+assertion_of (code.LimitOfDraft4 side limit strict) = old_assertion side (integer_of limit) strict
 assertion_of (code.Count c limit) = count_assertion c limit
 assertion_of code.UniqueItems = told.unique_items
 assertion_of (code.Required names) = told.required (texts_of (items_view names.now))

@@ -9,6 +9,7 @@ use Rattle.schema_meaning.specs.Rules.{Note}
 use Rattle.schema_meaning.specs.Keywords.{none_there}
 use Rattle.schema_values.specs.Numbers.{at_most, at_least, below, above}
 use Rattle.schema_types.specs.Named.{names_in}
+use Rattle.assertions.specs.Shapes.{integer_of}
 use Rattle.assertions.specs.declared.keyword.Count.{Count}
 use Rattle.assertions.specs.declared.keyword.Count.TheVariants as count
 use Rattle.assertions.specs.declared.keyword.Limit.{Limit}
@@ -51,7 +52,7 @@ kind_of (wrong.Types names) = told.Types (names_in names.now)
 kind_of (wrong.Enumeration options) = told.Enumeration (items_view options.now)
 kind_of (wrong.Constant expected) = told.Constant (view expected.now)
 kind_of (wrong.MultipleOf divisor) = told.MultipleOf divisor.value
-kind_of (wrong.Limit b limit) = bound_kind b limit
+kind_of (wrong.Limit b limit) = bound_kind b (integer_of limit)
 kind_of (wrong.Count c limit) = count_kind c limit
 kind_of wrong.UniqueItems = told.UniqueItems
 kind_of (wrong.Required name) = told.Required name.now

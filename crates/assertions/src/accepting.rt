@@ -8,12 +8,13 @@ ghost use Rattle.schema_meaning.specs.Keywords.{list_is, wrong, unless as note_u
 ghost use Rattle.schema_documents.specs.Words.{listed as in_list};
 ghost use Rattle.schema_meaning.specs.Members.{is_empty};
 ghost use Rattle.schema_values.specs.Texts.{count_items as items_counted, count_members as members_counted};
-ghost use Rattle.assertions.specs.Shapes.{assertion_of, count_assertion};
+ghost use Rattle.assertions.specs.Shapes.{assertion_of, count_assertion, integer_of};
 ghost use Rattle.assertions.specs.Wrong.{bound_test, old_bound, bound_kind, count_kind, kind_of, head, note_of, notes_of};
 
 use crate::assertion::{Assertion, Bound, Wrong};
 use crate::keyword::{Count, Limit};
 use crate::missing::{all_missing, all_missing_beside, first_missing, first_missing_beside};
+use crate::whole_number::WholeNumber;
 use serde_json::{Map, Value};
 use std::alloc::{AllocError, Global};
 use std::num::NonZeroU64;
@@ -79,11 +80,11 @@ fn has_count(count: Count, limit: u64, value: &Value) -> bool
 }
 
 // What is wrong with a number that stands otherwise to a limit.
-fn out_of_bound<'a>(bound: Bound, limit: i128, value: &Value) -> Option<Wrong<'a>>
-    ensures { option_map (note_of (view value.now)) result ≡ head (note_unless (number_is (bound_test bound limit) (view value.now)) (bound_kind bound limit) (view value.now)) }
+fn out_of_bound<'a>(bound: Bound, limit: WholeNumber, value: &Value) -> Option<Wrong<'a>>
+    ensures { option_map (note_of (view value.now)) result ≡ head (note_unless (number_is (bound_test bound (integer_of limit)) (view value.now)) (bound_kind bound (integer_of limit)) (view value.now)) }
 {
     unless(
-        is_within(bound, limit, value),
+        is_within(bound, limit.get(), value),
         Wrong::Limit { bound, limit },
     )
 }

@@ -1,6 +1,7 @@
 //! Keywords that only assert, read from their values.
 
 use crate::keyword::{Count, Limit};
+use crate::whole_number::WholeNumber;
 use schema_types::TypeNames;
 use serde_json::{Map, Value};
 use std::num::NonZeroU64;
@@ -24,12 +25,12 @@ pub enum Assertion<'s> {
     MultipleOf(NonZeroU64),
     Limit {
         bound: Bound,
-        limit: i128,
+        limit: WholeNumber,
     },
     /// Draft 4's limit, with the boolean beside that makes it strict.
     LimitOfDraft4 {
         side: Limit,
-        limit: i128,
+        limit: WholeNumber,
         strict: bool,
     },
     Count {
@@ -55,7 +56,7 @@ pub enum Wrong<'a> {
     /// It is no multiple of the number.
     MultipleOf(NonZeroU64),
     /// It stands otherwise to the limit.
-    Limit { bound: Bound, limit: i128 },
+    Limit { bound: Bound, limit: WholeNumber },
     /// It has more or fewer than the limit.
     Count { count: Count, limit: u64 },
     /// Two items are equal.

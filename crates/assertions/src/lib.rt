@@ -5,8 +5,10 @@ pub mod accepting;
 pub mod assertion;
 pub mod keyword;
 pub mod missing;
+pub mod named;
 mod names;
 pub mod reading;
 #[cfg(test)]
 mod tests;
 mod values;
+pub mod whole_number;

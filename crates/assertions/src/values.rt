@@ -10,12 +10,12 @@ ghost use Rattle.assertions.specs.Shapes.{assertion_of, bound_assertion, count_a
 
 use crate::assertion::{Assertion, Bound};
 use crate::keyword::{Count, Limit};
+use crate::whole_number::WholeNumber;
 use schema_drafts::draft::Draft;
 use schema_types::read as read_type_names;
 use serde_json::Value;
 use std::alloc::{AllocError, Global};
 use std::num::NonZeroU64;
-use value_checks::numbers::whole;
 use value_order::sorted_values::SortedValues;
 
 pub(crate) fn types<'s>(alloc: Global, value: &Value) -> Result<Option<Assertion<'s>>, AllocError>
@@ -64,7 +64,7 @@ pub(crate) fn counted<'s>(count: Count, value: &Value) -> Option<Assertion<'s>>
 pub(crate) fn bounded<'s>(bound: Bound, value: &Value) -> Option<Assertion<'s>>
     ensures { option_map assertion_of result ≡ option_map (bound_assertion bound) (whole_number (view value.now)) }
 {
-    match whole(value) {
+    match WholeNumber::of(value) {
         Some(limit) => Some(Assertion::Limit { bound, limit }),
         None => None,
     }
@@ -77,7 +77,7 @@ pub(crate) fn bounded_in_draft_4<'s>(
 ) -> Option<Assertion<'s>>
     ensures { option_map assertion_of result ≡ option_map (λ z. old_assertion side z strict) (whole_number (view value.now)) }
 {
-    match whole(value) {
+    match WholeNumber::of(value) {
         Some(limit) => Some(Assertion::LimitOfDraft4 {
             side,
             limit,
