@@ -1,0 +1,116 @@
+//! What keywords that only assert tell.
+ghost use Rattle.std.specs.Prelude.{◌≡◌, false, OnOk};
+ghost use Rattle.serde_json.specs.View.{view};
+ghost use Rattle.schema_reports.specs.Observers.{is_for_all};
+ghost use Rattle.assertions.specs.Shapes.{assertion_of};
+ghost use Rattle.assertions.specs.Wrong.{kind_of as kind_of_wrong, notes_of};
+ghost use Rattle.assertion_faults.specs.Tellings.{TellsOne, TellsNotes, TellsAssertion};
+
+use crate::kinds::kind_of_wrong;
+use assertions::assertion::{Assertion, Wrong};
+use schema_reports::{Observer, Roads};
+use serde_json::Value;
+use std::alloc::{AllocError, Global};
+
+// A fault of a keyword, which is made where the observer wants it.
+fn tell_wrong<'i>(
+    alloc: Global,
+    keyword: &str,
+    wrong: Wrong<'_>,
+    value: &'i Value,
+    roads: Roads<'_>,
+    observer: &mut Observer<'i>,
+) -> Result<(), AllocError>
+    ensures { OnOk result (TellsOne (view value.now) roads.entry keyword.now (kind_of_wrong wrong.entry) observer.old observer.new) }
+{
+    if !observer.hear() {
+        return Ok(());
+    }
+    let schema = roads.schema.push_name(keyword);
+    let evaluation = roads.evaluation.push_name(keyword);
+    let at = Roads {
+        schema: &schema,
+        evaluation: &evaluation,
+        ..roads
+    };
+    observer.tell(alloc, kind_of_wrong(alloc, wrong)?, value, at)
+}
+
+fn tell_each<'i>(
+    alloc: Global,
+    keyword: &str,
+    found: &[Wrong<'_>],
+    value: &'i Value,
+    roads: Roads<'_>,
+    observer: &mut Observer<'i>,
+) -> Result<(), AllocError>
+    ensures { OnOk result (TellsNotes (view value.now) roads.entry keyword.now (notes_of (view value.now) found.now) observer.old observer.new) }
+{
+    for wrong in found {
+        tell_wrong(alloc, keyword, *wrong, value, roads, observer)?;
+    }
+    Ok(())
+}
+
+fn tell_all<'i>(
+    alloc: Global,
+    assertion: &Assertion<'_>,
+    value: &'i Value,
+    roads: Roads<'_>,
+    observer: &mut Observer<'i>,
+) -> Result<(), AllocError>
+    ensures { OnOk result (TellsAssertion (view value.now) roads.entry (assertion_of assertion.now) observer.old observer.new) }
+{
+    let found = assertion.wrong(alloc, value)?;
+    tell_each(
+        alloc,
+        assertion.name(),
+        found.as_slice(),
+        value,
+        roads,
+        observer,
+    )
+}
+
+// The first fault is enough for an observer that does not keep each.
+fn tell_first<'i>(
+    alloc: Global,
+    assertion: &Assertion<'_>,
+    value: &'i Value,
+    roads: Roads<'_>,
+    observer: &mut Observer<'i>,
+) -> Result<(), AllocError>
+    requires { is_for_all observer.now ≡ false }
+    ensures { OnOk result (TellsAssertion (view value.now) roads.entry (assertion_of assertion.now) observer.old observer.new) }
+{
+    match assertion.first_wrong(alloc, value)? {
+        Some(wrong) => tell_wrong(alloc, assertion.name(), wrong, value, roads, observer),
+        None => Ok(()),
+    }
+}
+
+/// Tells an observer what a keyword finds wrong with a value: a name that is missing each by itself, in order, and one thing at
+/// most for any other keyword, under the keyword's name (for a strict limit of Draft 4, that of the boolean beside).
+///
+/// It looks for no more than the observer is to hear, and copies what the keyword has for a fault that the observer keeps alone.
+///
+/// # Errors
+///
+/// Where memory was refused or a count of owners is full.
+pub fn tell_assertion<'i>(
+    alloc: Global,
+    assertion: &Assertion<'_>,
+    value: &'i Value,
+    roads: Roads<'_>,
+    observer: &mut Observer<'i>,
+) -> Result<(), AllocError>
+    ensures { OnOk result (TellsAssertion (view value.now) roads.entry (assertion_of assertion.now) observer.old observer.new) }
+{
+    if observer.is_settled() {
+        Ok(())
+    } else if observer.keeps_all() {
+        tell_all(alloc, assertion, value, roads, observer)
+    } else {
+        tell_first(alloc, assertion, value, roads, observer)
+    }
+}
