@@ -1,8 +1,8 @@
 -- Faults told one after another.
-use Rattle.std.proofs.Common.{◌≡◌, ℕ, List, [], ◌∷◌, Bool, true, false, Option, Some, None, option_map, refl, sym, ap, ◌∙◌, subst}
+use Rattle.std.proofs.Common.{◌≡◌, ℕ, List, [], ◌∷◌, Bool, true, false, Option, Some, None, refl, sym, ap, ◌∙◌, subst}
 use Rattle.std.proofs.lemmas.Bool.{true≢false}
 use Rattle.serde_json.specs.Data.{Data}
-use Rattle.schema_meaning.specs.Faults.{Kind, Faults, none, also, joined, is_none}
+use Rattle.schema_meaning.specs.Faults.{Faults, none, also, joined, is_none}
 use Rattle.schema_meaning.specs.Rules.{Note, own_faults}
 use Rattle.schema_meaning.specs.Questions.{at}
 use Rattle.schema_meaning.specs.Keywords.{Assertion, named, wrong}

@@ -3,5 +3,7 @@
 
 mod kinds;
 mod telling;
+#[cfg(test)]
+mod tests;
 
 pub use telling::tell_assertion;

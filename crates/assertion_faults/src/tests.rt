@@ -1,0 +1,207 @@
+use crate::telling::tell_assertion;
+use assertions::assertion::Assertion;
+use assertions::reading::{Reading, read};
+use schema_drafts::draft::Draft;
+use schema_reports::{
+    AllFaults, FirstFault, LazyLocation, Observation, Observer, Reference, Roads, ValidationError,
+    Verdict,
+};
+use serde_json::Value;
+use std::alloc::{AllocError, Global};
+use std::test::Fail;
+
+// The first item of the instance, at a schema that a reference led to.
+fn tell<'i>(
+    alloc: Global,
+    assertion: &Assertion<'_>,
+    value: &'i Value,
+    observer: &mut Observer<'i>,
+) -> Result<(), AllocError> {
+    let top = LazyLocation::new();
+    let item = top.push_index(0);
+    let evaluation = top.push_name("$ref");
+    let roads = Roads {
+        instance: &item,
+        schema: &top,
+        reference: Reference::followed("#/$defs/a"),
+        evaluation: &evaluation,
+    };
+    tell_assertion(alloc, assertion, value, roads, observer)
+}
+
+fn observing<'i>(alloc: Global, kept: Observation) -> Observer<'i> {
+    match kept {
+        Observation::Verdict => Observer::Verdict(Verdict::new()),
+        Observation::First => Observer::First(FirstFault::new()),
+        Observation::All => Observer::All(AllFaults::new(alloc)),
+    }
+}
+
+fn push_line(
+    alloc: Global,
+    text: &mut String,
+    error: &ValidationError<'_>,
+) -> Result<(), AllocError> {
+    let kind = error.kind();
+    let instance = error.instance_path().to_pointer(alloc)?;
+    let schema = error.schema_path().to_pointer(alloc)?;
+    let evaluation = error.evaluation_path().to_pointer(alloc)?;
+    let line = format!(in alloc; "{instance} {schema} {evaluation} {kind:?}\n")?;
+    text.push_str(line.as_str())
+}
+
+// A line for each fault that the observer keeps.
+fn lines(alloc: Global, observer: Observer<'_>) -> Result<String, AllocError> {
+    let mut text = String::new(alloc);
+    match observer {
+        Observer::Verdict(verdict) => {
+            if !verdict.accepts() {
+                text.push_str("refused")?;
+            }
+        }
+        Observer::First(first) => {
+            if let Some(error) = first.into_error() {
+                push_line(alloc, &mut text, &error)?;
+            }
+        }
+        Observer::All(all) => {
+            for error in all.into_errors() {
+                push_line(alloc, &mut text, &error)?;
+            }
+        }
+    }
+    Ok(text)
+}
+
+// A limit is read with `true` as the strict one beside.
+fn told(
+    alloc: Global,
+    kept: Observation,
+    draft: Draft,
+    name: &str,
+    keyword: &str,
+    value: &str,
+) -> Result<String, Fail> {
+    let keyword = Value::from_str(alloc, keyword)?;
+    let value = Value::from_str(alloc, value)?;
+    let strict = Value::Bool(true);
+    let mut observer = observing(alloc, kept);
+    match read(alloc, draft, name, &keyword, Some(&strict))?.ok_or("no keyword")? {
+        Reading::Read(assertion) => tell(alloc, &assertion, &value, &mut observer)?,
+        _ => return Err(Fail::new("no assertion")),
+    }
+    Ok(lines(alloc, observer)?)
+}
+
+#[test]
+fn tells_kinds_and_paths(rt: HostRuntime) -> Result<(), Fail> {
+    let alloc = rt.alloc();
+    for (name, keyword, value, kind) in [
+        ("type", r#""null""#, "3", "Types { names: One(Null) }"),
+        (
+            "enum",
+            "[1,\"a\"]",
+            "3",
+            "Enumeration { options: Array [Number(1), String(\"a\")] }",
+        ),
+        (
+            "const",
+            "{\"a\":1}",
+            "{}",
+            "Constant { expected_value: Object {\"a\": Number(1)} }",
+        ),
+        (
+            "multipleOf",
+            "2",
+            "-3",
+            "MultipleOf { multiple_of: Number(2) }",
+        ),
+        ("maximum", "-3", "-2", "Maximum { limit: Number(-3) }"),
+        (
+            "exclusiveMaximum",
+            "3",
+            "3",
+            "ExclusiveMaximum { limit: Number(3) }",
+        ),
+        (
+            "minimum",
+            "18446744073709551615",
+            "0",
+            "Minimum { limit: Number(18446744073709551615) }",
+        ),
+        (
+            "exclusiveMinimum",
+            "3",
+            "3",
+            "ExclusiveMinimum { limit: Number(3) }",
+        ),
+        ("maxLength", "1", "\"ab\"", "MaxLength { limit: 1 }"),
+        ("minLength", "1", "\"\"", "MinLength { limit: 1 }"),
+        ("maxItems", "0", "[1]", "MaxItems { limit: 0 }"),
+        ("minItems", "2", "[1]", "MinItems { limit: 2 }"),
+        ("uniqueItems", "true", "[1,1]", "UniqueItems"),
+        ("maxProperties", "0", "{\"a\":1}", "MaxProperties { limit: 0 }"),
+        ("minProperties", "1", "{}", "MinProperties { limit: 1 }"),
+        ("required", "[\"a\"]", "{}", "Required { property: \"a\" }"),
+        (
+            "dependentRequired",
+            "{\"a\":[\"b\"]}",
+            "{\"a\":1}",
+            "Required { property: \"b\" }",
+        ),
+    ] {
+        let found = told(
+            alloc,
+            Observation::All,
+            Draft::Draft202012,
+            name,
+            keyword,
+            value,
+        )?;
+        let want = format!(in alloc; "/0 /$defs/a/{name} /$ref/{name} {kind}\n")?;
+        assert_eq!(rt; found.as_str(), want.as_str(), "{name}");
+    }
+    Ok(())
+}
+
+#[test]
+fn strict_limits_of_draft_4_have_the_name_of_the_boolean(rt: HostRuntime) -> Result<(), Fail> {
+    let found = told(
+        rt.alloc(),
+        Observation::All,
+        Draft::Draft4,
+        "maximum",
+        "3",
+        "3",
+    )?;
+    assert_eq!(rt;
+        found.as_str(),
+        "/0 /$defs/a/exclusiveMaximum /$ref/exclusiveMaximum ExclusiveMaximum { limit: Number(3) }\n"
+    );
+    Ok(())
+}
+
+#[test]
+fn observers_keep_what_they_are_for(rt: HostRuntime) -> Result<(), Fail> {
+    let first = "/0 /$defs/a/required /$ref/required Required { property: \"a\" }\n";
+    let both = "/0 /$defs/a/required /$ref/required Required { property: \"a\" }\n/0 /$defs/a/required /$ref/required Required { property: \"c\" }\n";
+    for (kept, value, want) in [
+        (Observation::Verdict, "{\"b\":1}", "refused"),
+        (Observation::First, "{\"b\":1}", first),
+        (Observation::All, "{\"b\":1}", both),
+        (Observation::Verdict, "[]", ""),
+        (Observation::First, "[]", ""),
+        (Observation::All, "[]", ""),
+    ] {
+        let found = told(
+            rt.alloc(),
+            kept,
+            Draft::Draft202012,
+            "required",
+            "[\"a\",\"b\",\"c\"]",
+            value,
+        )?;
+        assert_eq!(rt; found.as_str(), want, "{kept:?} {value}");
+    }
+    Ok(())
+}
