@@ -3,7 +3,5 @@
 
 mod kinds;
 mod telling;
-#[cfg(test)]
-mod tests;
 
 pub use telling::tell_assertion;

@@ -1,4 +1,5 @@
-use crate::telling::tell_assertion;
+// What each observer keeps of the faults of keywords that only assert.
+use assertion_faults::tell_assertion;
 use assertions::assertion::Assertion;
 use assertions::reading::{Reading, read};
 use schema_drafts::draft::Draft;
@@ -10,7 +11,7 @@ use serde_json::Value;
 use std::alloc::{AllocError, Global};
 use std::test::Fail;
 
-// The first item of the instance, at a schema that a reference led to.
+// The first item of the instance, refused by a schema below another.
 fn tell<'i>(
     alloc: Global,
     assertion: &Assertion<'_>,
@@ -19,11 +20,12 @@ fn tell<'i>(
 ) -> Result<(), AllocError> {
     let top = LazyLocation::new();
     let item = top.push_index(0);
+    let schema = top.push_name("not");
     let evaluation = top.push_name("$ref");
     let roads = Roads {
         instance: &item,
-        schema: &top,
-        reference: Reference::followed("#/$defs/a"),
+        schema: &schema,
+        reference: Reference::none(),
         evaluation: &evaluation,
     };
     tell_assertion(alloc, assertion, value, roads, observer)
@@ -73,6 +75,18 @@ fn lines(alloc: Global, observer: Observer<'_>) -> Result<String, AllocError> {
     Ok(text)
 }
 
+// What an observer keeps of a value that the keyword is asked of.
+fn heard(
+    alloc: Global,
+    kept: Observation,
+    assertion: &Assertion<'_>,
+    value: &Value,
+) -> Result<String, AllocError> {
+    let mut observer = observing(alloc, kept);
+    tell(alloc, assertion, value, &mut observer)?;
+    lines(alloc, observer)
+}
+
 // A limit is read with `true` as the strict one beside.
 fn told(
     alloc: Global,
@@ -85,12 +99,11 @@ fn told(
     let keyword = Value::from_str(alloc, keyword)?;
     let value = Value::from_str(alloc, value)?;
     let strict = Value::Bool(true);
-    let mut observer = observing(alloc, kept);
-    match read(alloc, draft, name, &keyword, Some(&strict))?.ok_or("no keyword")? {
-        Reading::Read(assertion) => tell(alloc, &assertion, &value, &mut observer)?,
-        _ => return Err(Fail::new("no assertion")),
+    let reading = read(alloc, draft, name, &keyword, Some(&strict))?;
+    match reading {
+        Some(Reading::Read(assertion)) => Ok(heard(alloc, kept, &assertion, &value)?),
+        _ => Err(Fail::new("no assertion")),
     }
-    Ok(lines(alloc, observer)?)
 }
 
 #[test]
@@ -158,7 +171,7 @@ fn tells_kinds_and_paths(rt: HostRuntime) -> Result<(), Fail> {
             keyword,
             value,
         )?;
-        let want = format!(in alloc; "/0 /$defs/a/{name} /$ref/{name} {kind}\n")?;
+        let want = format!(in alloc; "/0 /not/{name} /$ref/{name} {kind}\n")?;
         assert_eq!(rt; found.as_str(), want.as_str(), "{name}");
     }
     Ok(())
@@ -176,15 +189,15 @@ fn strict_limits_of_draft_4_have_the_name_of_the_boolean(rt: HostRuntime) -> Res
     )?;
     assert_eq!(rt;
         found.as_str(),
-        "/0 /$defs/a/exclusiveMaximum /$ref/exclusiveMaximum ExclusiveMaximum { limit: Number(3) }\n"
+        "/0 /not/exclusiveMaximum /$ref/exclusiveMaximum ExclusiveMaximum { limit: Number(3) }\n"
     );
     Ok(())
 }
 
 #[test]
 fn observers_keep_what_they_are_for(rt: HostRuntime) -> Result<(), Fail> {
-    let first = "/0 /$defs/a/required /$ref/required Required { property: \"a\" }\n";
-    let both = "/0 /$defs/a/required /$ref/required Required { property: \"a\" }\n/0 /$defs/a/required /$ref/required Required { property: \"c\" }\n";
+    let first = "/0 /not/required /$ref/required Required { property: \"a\" }\n";
+    let both = "/0 /not/required /$ref/required Required { property: \"a\" }\n/0 /not/required /$ref/required Required { property: \"c\" }\n";
     for (kept, value, want) in [
         (Observation::Verdict, "{\"b\":1}", "refused"),
         (Observation::First, "{\"b\":1}", first),
