@@ -8,3 +8,6 @@ pub mod Keys
 pub mod Followed
 pub mod Chains
 pub mod Prepared
+pub mod Compared
+pub mod Uris
+pub mod Vocabularies

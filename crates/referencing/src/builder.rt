@@ -32,7 +32,7 @@ pub struct RegistryBuilder<'a, R = DefaultRetriever> {
 }
 
 /// A call that was refused: the builder as it was left, and why.
-#[derive(Drop)]
+#[derive(Debug, Drop)]
 pub struct Refused<'a, R = DefaultRetriever> {
     pub builder: RegistryBuilder<'a, R>,
     pub error: Error,

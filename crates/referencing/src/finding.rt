@@ -112,7 +112,7 @@ impl<'a> Registry<'a> {
     }
 
     // What the last schema place that bears a URI holds.
-    fn contents_of(&self, uri: &str) -> Option<&Value>
+    pub(crate) fn contents_of(&self, uri: &str) -> Option<&Value>
         ensures { option_map (λ v. view v.now) result ≡ option_map (λ (s : bearers.Standing). s.place.contents) (bearers.bearer (documents_of self.now ∷ []) uri.now) }
     {
         let (document, bearer) = answers::bearer(&self.documents, &self.index, uri)?;

@@ -4,7 +4,9 @@
 //! prepared; a [`Resolver`] looks references up from a base URI, and lends what they lead to.
 #![tactic(auto)]
 
+mod asking;
 pub mod builder;
+mod compared;
 mod dynamic;
 mod finding;
 pub mod following;

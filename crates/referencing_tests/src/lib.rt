@@ -4,6 +4,8 @@
 #[cfg(test)]
 mod adding;
 #[cfg(test)]
+mod asking;
+#[cfg(test)]
 mod chains;
 #[cfg(test)]
 mod lookups;
