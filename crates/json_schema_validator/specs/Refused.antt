@@ -1,13 +1,12 @@
 -- Which error comes when. Each but want of memory names a cause.
-use Rattle.std.specs.Prelude.{◌≡◌, ℕ, List, Bool, Err}
+use Rattle.std.specs.Prelude.{◌≡◌, ℕ, List, [], ◌∷◌, Bool, Err}
 use Rattle.schema_meaning.specs.Members.{In}
 use Rattle.schema_documents.specs.Bearers.{Document}
-use Rattle.schema_documents.specs.DocumentCauses.{DocumentCause}
+use Rattle.schema_documents.specs.DocumentCauses.{DocumentCause, document_causes}
 use Rattle.schema_documents.specs.Lookup.{Target, LookupCause, lookup}
 use Rattle.schema_reading.specs.Sites.{root_site}
 use Rattle.schema_reading.specs.NotYet.{Cause, IsBuildCause}
 use Rattle.referencing_errors.specs.Causes.{NamesLookup, NamesDocument}
-use Rattle.referencing.specs.Causes.{causes_of}
 use Rattle.reached_sites.specs.Causes.{NamesCause}
 use Rattle.schema_roots.specs.Roots.{Root, Finds}
 use Rattle.json_schema_validator.specs.declared.error.BuildError.{BuildError}
@@ -15,7 +14,7 @@ use Rattle.json_schema_validator.specs.declared.error.BuildError.TheVariants as 
 
 -- documents are refused for one of their causes
 abbrev pub RefusesDocuments : List Document → BuildError → Type 0
-RefusesDocuments documents (error.Registry e) = (cause : DocumentCause) × In cause (causes_of documents) × NamesDocument cause e
+RefusesDocuments documents (error.Registry e) = (cause : DocumentCause) × In cause (document_causes (documents ∷ [])) × NamesDocument cause e
 RefusesDocuments documents (error.Root e) = ⊥
 RefusesDocuments documents (error.Schema e) = ⊥
 RefusesDocuments documents error.Memory = Unit {0}

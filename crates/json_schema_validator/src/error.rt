@@ -1,12 +1,12 @@
 //! Why there is no validator.
 
-ghost use Rattle.std.specs.Prelude.{◌≡◌, List};
+ghost use Rattle.std.specs.Prelude.{◌≡◌, List, [], ◌∷◌};
 ghost use Rattle.schema_documents.specs.Bearers.{Document};
+ghost use Rattle.schema_documents.specs.DocumentCauses.{document_causes};
 ghost use Rattle.schema_documents.specs.Lookup.{Target, lookup};
 ghost use Rattle.schema_reading.specs.Sites.{root_site};
 ghost use Rattle.referencing_errors.specs.Causes.{RefusesLookup};
-ghost use Rattle.referencing.specs.Causes.{causes_of};
-ghost use Rattle.referencing.specs.Named.{NamesOne};
+ghost use Rattle.document_causes.specs.Named.{NamesOne};
 ghost use Rattle.reached_sites.specs.Causes.{RefusesRoot};
 ghost use Rattle.schema_roots.specs.Roots.{Root, Finds};
 ghost use Rattle.json_schema_validator.specs.Refused.{RefusesDocuments, RefusesBuild};
@@ -46,7 +46,7 @@ impl From<AllocError> for BuildError {
 impl BuildError {
     /// The error of documents that are refused.
     pub(crate) fn of_registry(error: ReferenceError) -> BuildError
-        ensures { (documents : List Document) → NamesOne (causes_of documents) error → RefusesDocuments documents result }
+        ensures { (documents : List Document) → NamesOne (document_causes (documents ∷ [])) error → RefusesDocuments documents result }
     {
         match error {
             ReferenceError::Memory => BuildError::Memory,

@@ -5,7 +5,6 @@ ghost use Rattle.schema_drafts.specs.Drafts as drafts;
 ghost use Rattle.schema_documents.specs.DocumentCauses.{document_causes};
 ghost use Rattle.schema_documents.specs.Lookup.{Target};
 ghost use Rattle.given_documents.specs.Given.{documents_by};
-ghost use Rattle.referencing.specs.Causes.{causes_of};
 ghost use Rattle.schema_registries.specs.Seen.{documents_given, documents_in_registry};
 ghost use Rattle.schema_roots.specs.Roots.{IsSound, Finds};
 ghost use Rattle.json_schema_validator.specs.Refused.{RefusesDocuments, RefusesBuild};
@@ -79,7 +78,6 @@ impl ValidationOptions {
     pub fn prepare(&self, documents: &Documents) -> Result<SchemaRegistry, BuildError>
         ensures documents { IfOk result (λ r. documents_in_registry r ≡ documents_by self.now.draft (documents_given documents.now)) }
         ensures base { IfOk result (λ r. r.base ≡ self.now.base) }
-        ensures accepted { OnOk result (causes_of (documents_by self.now.draft (documents_given documents.now)) ≡ []) }
         ensures no_cause { OnOk result (document_causes (documents_by self.now.draft (documents_given documents.now) ∷ []) ≡ []) }
         ensures refused { IfErr result (RefusesDocuments (documents_by self.now.draft (documents_given documents.now))) }
     {
