@@ -3,6 +3,7 @@ use schema_drafts::draft::Draft;
 use schema_places::document::places;
 use schema_places::place::{Place, enter, is_schema, root};
 use schema_steps::Path;
+use schema_vocabularies::{Dialect, MetaSchemas};
 use serde_json::Value;
 use std::alloc::Global;
 use std::rc::Rc;
@@ -11,7 +12,7 @@ use uri_references::uri::Uri;
 
 fn write_place(alloc: Global, lines: &mut String, place: &Place<'_>) -> Result<(), Fail> {
     let pointer = place.path.to_pointer(alloc)?;
-    let line = format!(in alloc; "#{pointer} {} {:?}\n", place.base.as_str(), place.draft)?;
+    let line = format!(in alloc; "#{pointer} {} {:?}\n", place.base.as_str(), place.dialect.draft)?;
     lines.push_str(&line)?;
     if let Some(uri) = &place.awaits {
         lines.push_str(&format!(in alloc; "  awaits {}\n", uri.as_str())?)?;
@@ -23,8 +24,9 @@ fn write_place(alloc: Global, lines: &mut String, place: &Place<'_>) -> Result<(
 fn written_places(alloc: Global, text: &str) -> Result<String, Fail> {
     let contents = Value::from_str(alloc, text)?;
     let uri = Rc::new(alloc, Uri::parse(alloc, "http://a.test/root.json")?)?;
+    let known = MetaSchemas::none(alloc);
     let mut lines = String::new(alloc);
-    for place in &places(alloc, &uri, Draft::Draft202012, &contents)? {
+    for place in &places(alloc, &known, &uri, Draft::Draft202012, &contents)? {
         write_place(alloc, &mut lines, place)?;
     }
     Ok(lines)
@@ -88,12 +90,14 @@ fn places_share_bases(rt: HostRuntime) -> Result<(), Fail> {
         "{\"$id\": \"http://c.test/d\", \"not\": {\"$id\": \"e\"}}",
     )?;
     let uri = Rc::new(rt.alloc(), Uri::parse(rt.alloc(), "http://a.test/")?)?;
-    let whole = root(rt.alloc(), &uri, Draft::Draft4, &contents)?;
-    assert!(rt; Rc::ptr_eq(&uri, &whole.base) && whole.draft == Draft::Draft4);
+    let known = MetaSchemas::none(rt.alloc());
+    let whole = root(rt.alloc(), &known, &uri, Draft::Draft4, &contents)?;
+    assert!(rt; Rc::ptr_eq(&uri, &whole.base) && whole.dialect.draft == Draft::Draft4);
     let inner = contents.get("not").ok_or("no member")?;
     assert!(rt; is_schema(inner) && !is_schema(inner.get("$id").ok_or("no member")?));
     let path = Path::root().push_name(rt.alloc(), "not")?;
-    let place = enter(rt.alloc(), &uri, Draft::Draft6, path, inner)?;
+    let dialect = Dialect::standard(Draft::Draft6);
+    let place = enter(rt.alloc(), &known, &uri, dialect, path, inner)?;
     let copy = place.clone()?;
     assert_eq!(rt; copy.base.as_str(), "http://a.test/e");
     assert!(rt; Rc::ptr_eq(&place.base, &copy.base) && copy.path == place.path);

@@ -3,6 +3,7 @@ use reference_walks::reached::{Reached, follow_pointer};
 use schema_drafts::draft::Draft;
 use schema_places::place::{Place, enter, root};
 use schema_steps::Path;
+use schema_vocabularies::{Dialect, MetaSchemas};
 use serde_json::Value;
 use std::alloc::Global;
 use std::process::Abort;
@@ -11,26 +12,29 @@ use std::test::Fail;
 use uri_references::uri::Uri;
 
 fn written(alloc: Global, from: &Place<'_>, fragment: &str) -> Result<String, Fail> {
-    let reached = match follow_pointer(alloc, from, fragment) {
+    let known = MetaSchemas::none(alloc);
+    let reached = match follow_pointer(alloc, &known, from, fragment) {
         Ok(reached) => reached,
         Err(error) => return Ok(format!(in alloc; "{error}")?),
     };
     let Reached {
         path,
         base,
-        draft,
+        dialect,
         is_place,
         ..
     } = reached;
     let pointer = path.to_pointer(alloc)?;
     let what = if is_place { "place" } else { "part" };
+    let draft = dialect.draft;
     Ok(format!(in alloc; "{what} #{pointer} {} {draft:?}", base.as_str())?)
 }
 
 // By 2020-12 where the document names no draft.
 fn root_of<'d>(alloc: Global, contents: &'d Value) -> Result<Place<'d>, Fail> {
     let uri = Rc::new(alloc, Uri::parse(alloc, "http://a.test/root.json")?)?;
-    Ok(root(alloc, &uri, Draft::Draft202012, contents)?)
+    let known = MetaSchemas::none(alloc);
+    Ok(root(alloc, &known, &uri, Draft::Draft202012, contents)?)
 }
 
 fn assert_leads(
@@ -191,13 +195,15 @@ fn paths_go_on_from_the_place(rt: HostRuntime) -> Result<(), Fail> {
     let path = Path::root()
         .push_name(rt.alloc(), "$defs")?
         .push_name(rt.alloc(), "s")?;
-    let from = enter(rt.alloc(), &uri, Draft::Draft6, path, &contents)?;
+    let known = MetaSchemas::none(rt.alloc());
+    let dialect = Dialect::standard(Draft::Draft6);
+    let from = enter(rt.alloc(), &known, &uri, dialect, path, &contents)?;
     let fragment = "/not";
     assert_eq!(rt;
         written(rt.alloc(), &from, fragment)?.as_str(),
         "place #/$defs/s/not http://a.test/sub/ Draft6"
     );
-    let reached = follow_pointer(rt.alloc(), &from, fragment)?;
+    let reached = follow_pointer(rt.alloc(), &known, &from, fragment)?;
     assert!(rt; Rc::ptr_eq(&from.base, &reached.base));
     assert_eq!(rt;
         reached.contents.to_string(rt.alloc())?.as_str(),
