@@ -87,6 +87,41 @@ fn by_what_documents_have(rt: HostRuntime) -> Result<(), Fail> {
 }
 
 #[test]
+fn by_meta_schemas(rt: HostRuntime) -> Result<(), Fail> {
+    let alloc = rt.alloc();
+    for (root, other, want) in [
+        (
+            "{\"$schema\":\"http://a.test/s\"}",
+            "{\"$schema\":\"http://a.test/r\"}",
+            "Circular meta-schema 'http://a.test/r'",
+        ),
+        (
+            "{\"$schema\":\"http://a.test/s\"}",
+            "{\"$schema\":\"http://a.test/none\"}",
+            "Unknown meta-schema 'http://a.test/none'",
+        ),
+        (
+            "{\"$defs\":{\"u\":{\"$id\":\"u\",\"$schema\":\"s\"}}}",
+            "true",
+            "Unknown meta-schema 'json-schema:///s'",
+        ),
+        (
+            "{\"$schema\":\"http://a.test/s\",\"minimum\":1,\"type\":5}",
+            "{\"$vocabulary\":{\"https://json-schema.org/draft/2020-12/vocab/core\":true}}",
+            "built",
+        ),
+        (
+            "{\"$schema\":\"http://a.test/s\",\"unevaluatedItems\":false}",
+            "{\"$vocabulary\":{\"https://json-schema.org/draft/2020-12/vocab/unevaluated\":true}}",
+            "Keyword at 'http://a.test/r#/unevaluatedItems' is left out",
+        ),
+    ] {
+        assert_eq!(rt; outcome(alloc, root, other)?.as_str(), want);
+    }
+    Ok(())
+}
+
+#[test]
 fn on_one_registry(rt: HostRuntime) -> Result<(), Fail> {
     let alloc = rt.alloc();
     let mut documents = Documents::new(alloc);

@@ -6,6 +6,8 @@ mod building;
 #[cfg(test)]
 mod checks;
 #[cfg(test)]
+mod dialects;
+#[cfg(test)]
 mod drafts;
 #[cfg(test)]
 mod faults;
