@@ -1,4 +1,4 @@
-//! Checks lines of JSON against a JSON Schema: `cribhemlock SCHEMA [URI=FILE]... [--base URI]`.
+//! Checks lines of JSON against a JSON Schema: `cribhemlock SCHEMA [URI=FILE]... [--base URI] [--draft DRAFT]`.
 #![tactic(auto)]
 
 use line_devices::{OverRead, OverWrite};

@@ -3,7 +3,7 @@
 ghost use Rattle.std.specs.Prelude.{◌≡◌, IfOk};
 ghost use Rattle.clap.specs.Built.{FitsChain, TakesValue};
 ghost use Rattle.clap.specs.Words.{app_of, rule_of};
-ghost use Rattle.program_words.specs.Program.{program_app, schema_rule, files_rule, base_rule, HasSchema};
+ghost use Rattle.program_words.specs.Program.{program_app, schema_rule, files_rule, base_rule, draft_rule, HasSchema};
 
 use clap::{Arg, ArgAction, Command};
 use std::alloc::{AllocError, Global};
@@ -59,6 +59,18 @@ fn base<'a>(alloc: Global) -> Arg<'a>
         .help("The URI of the schema [default: json-schema:///]")
 }
 
+/// `--draft DRAFT`
+fn draft<'a>(alloc: Global) -> Arg<'a>
+    ensures rule { rule_of result ≡ draft_rule }
+    ensures fits { FitsChain result }
+{
+    Arg::new(alloc, "draft")
+        .long("draft")
+        .value_name("DRAFT")
+        .action(ArgAction::Set)
+        .help("The draft of documents that name none: 4, 6, 7, 2019-09 or 2020-12 [default: 2020-12]")
+}
+
 /// The command line. Each parse of it that succeeds has a schema.
 pub(crate) fn program_command<'a>(alloc: Global) -> Result<Command<'a>, AllocError>
     ensures app { IfOk result (λ c. app_of c ≡ program_app) }
@@ -71,5 +83,6 @@ pub(crate) fn program_command<'a>(alloc: Global) -> Result<Command<'a>, AllocErr
         .no_binary_name(true)
         .arg(schema(alloc))?
         .arg(files(alloc))?
-        .arg(base(alloc))
+        .arg(base(alloc))?
+        .arg(draft(alloc))
 }

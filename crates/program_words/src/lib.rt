@@ -1,4 +1,4 @@
-//! The words of the program, as `cribhemlock SCHEMA [URI=FILE]... [--base URI]`.
+//! The words of the program, as `cribhemlock SCHEMA [URI=FILE]... [--base URI] [--draft DRAFT]`.
 #![tactic(auto)]
 
 mod command;

@@ -11,7 +11,7 @@ use clap::error::ErrorKind;
 use clap::{ArgMatches, Error};
 use std::alloc::{AllocError, Global};
 
-/// The words that the program was given. No URI is read and no file is opened yet.
+/// The words that the program was given. No URI and no draft is read and no file is opened yet.
 #[derive(Debug, Drop)]
 pub struct ProgramWords<'a> {
     /// The file of the schema.
@@ -20,6 +20,8 @@ pub struct ProgramWords<'a> {
     pub files: Vec<&'a str>,
     /// The URI of the schema, where one was given.
     pub base: Option<&'a str>,
+    /// The draft of the documents that name none, where one was given. It may be a word that names no draft.
+    pub draft: Option<&'a str>,
 }
 
 impl<'a> ProgramWords<'a> {
@@ -45,6 +47,7 @@ impl<'a> ProgramWords<'a> {
             schema: matches.get_str("schema").unwrap(),
             files: Vec::from_slice(alloc, matches.get_strs("files").unwrap_or(&[]))?,
             base: matches.get_str("base"),
+            draft: matches.get_str("draft"),
         })
     }
 }

@@ -11,6 +11,9 @@ const ROOT: &str =
 
 const LEAF: &str = "{\"$id\":\"http://a.test/leaf.json\",\"type\":\"string\"}";
 
+const BESIDE: &str =
+    "{\"properties\":{\"x\":{\"$ref\":\"#/definitions/s\",\"minItems\":3}},\"definitions\":{\"s\":{\"type\":\"array\"}}}";
+
 fn files(alloc: Global) -> Result<MapFiles, Fail> {
     let mut files = MapFiles::new(alloc);
     files.add(alloc, "root.json", ROOT.as_bytes())?;
@@ -20,6 +23,7 @@ fn files(alloc: Global) -> Result<MapFiles, Fail> {
     files.add(alloc, "none", b"{")?;
     files.add(alloc, "half", b"1.5")?;
     files.add(alloc, "wrong.json", b"{\"type\":5}")?;
+    files.add(alloc, "beside.json", BESIDE.as_bytes())?;
     Ok(files)
 }
 
@@ -61,10 +65,43 @@ fn a_whole_run(rt: HostRuntime) -> Result<(), Fail> {
 }
 
 #[test]
+fn by_draft(rt: HostRuntime) -> Result<(), Fail> {
+    let alloc = rt.alloc();
+    let cases: [(&[&str], &str); 5] = [
+        (&["beside.json", "--draft", "7"], "0 []\n "),
+        (&["--draft=4", "beside.json"], "0 []\n "),
+        (
+            &["beside.json"],
+            "1 [[\"/x\",\"/properties/x/minItems\"]]\n ",
+        ),
+        (
+            &["beside.json", "--draft", "2019-09"],
+            "1 [[\"/x\",\"/properties/x/minItems\"]]\n ",
+        ),
+        (
+            &["beside.json", "--draft", "2020-12"],
+            "1 [[\"/x\",\"/properties/x/minItems\"]]\n ",
+        ),
+    ];
+    for (words, want) in cases {
+        assert_eq!(rt; outcome(alloc, words, "{\"x\":[]}\n")?.as_str(), want);
+    }
+    Ok(())
+}
+
+#[test]
 fn refusals(rt: HostRuntime) -> Result<(), Fail> {
     let alloc = rt.alloc();
-    let cases: [(&[&str], &str); 10] = [
+    let cases: [(&[&str], &str); 12] = [
         (&["absent", "u:x", "--base", "%"], "2  words refused: u:x\n"),
+        (
+            &["absent", "--draft", "5", "--base", "%"],
+            "2  words refused: --draft 5\n",
+        ),
+        (
+            &["plain.json", "--draft", ""],
+            "2  words refused: --draft \n",
+        ),
         (
             &["absent", "--base", "%"],
             "2  build refused: Invalid URI '%'\n",
@@ -112,7 +149,7 @@ fn words_by_clap(rt: HostRuntime) -> Result<(), Fail> {
         (&[], "2  error: "),
         (&["--help"], "2  Checks lines of JSON"),
         (
-            &["plain.json", "--draft", "7"],
+            &["plain.json", "--drafts", "7"],
             "2  error: unexpected argument",
         ),
     ];

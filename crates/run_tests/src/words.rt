@@ -28,21 +28,23 @@ fn in_any_order(rt: HostRuntime) -> Result<(), Fail> {
     assert_eq!(rt; read.schema, "a");
     assert_eq!(rt; read.files.as_slice(), ["b=c", "--d"].as_slice());
     assert_eq!(rt; read.base, Some("u:/"));
-    let words = ["a", "b=c", "--base", "u:/", "d=e"];
+    let words = ["a", "b=c", "--base", "u:/", "d=e", "--draft", "none"];
     let read = ProgramWords::read(rt.alloc(), &words)?;
     assert_eq!(rt; read.files.as_slice(), ["b=c", "d=e"].as_slice());
+    assert_eq!(rt; read.draft, Some("none"));
     let words = ["a"];
     let read = ProgramWords::read(rt.alloc(), &words)?;
-    assert!(rt; read.files.is_empty() && read.base.is_none());
+    assert!(rt; read.files.is_empty() && read.base.is_none() && read.draft.is_none());
     Ok(())
 }
 
 #[test]
 fn refused(rt: HostRuntime) -> Result<(), Fail> {
-    let cases: [(&[&str], ErrorKind); 7] = [
+    let cases: [(&[&str], ErrorKind); 8] = [
         (&[], ErrorKind::MissingRequiredArgument),
         (&["--base", "u:/"], ErrorKind::MissingRequiredArgument),
-        (&["a", "--draft", "7"], ErrorKind::UnknownArgument),
+        (&["a", "--drafts", "7"], ErrorKind::UnknownArgument),
+        (&["a", "--draft"], ErrorKind::InvalidValue),
         (
             &["a", "--base", "u:/", "--base", "v:/"],
             ErrorKind::ArgumentConflict,
@@ -70,6 +72,7 @@ fn help(rt: HostRuntime) -> Result<(), Fail> {
     for part in [
         "Usage: cribhemlock [OPTIONS] <SCHEMA> [URI=FILE]...",
         "--base <URI>",
+        "--draft <DRAFT>",
     ] {
         assert!(rt; text.contains(part), "{text}");
     }

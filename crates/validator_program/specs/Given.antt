@@ -1,9 +1,11 @@
 -- The documents that the program is given, and the root that it builds.
-use Rattle.std.specs.Prelude.{◌≡◌, ℕ, List, [], ◌∷◌, ⊤, Option, Some, codes, unwrap_or}
+use Rattle.std.specs.Prelude.{◌≡◌, ℕ, List, [], ◌∷◌, ⊤, Option, Some, None, codes, unwrap_or}
 use Rattle.std.specs.List.{AllZip}
 use Rattle.uri_grammar.specs.Texts.{cut_at_last}
 use Rattle.uri_references.specs.Identity.{identity_of}
-use Rattle.schema_drafts.specs.Drafts.{newest}
+use Rattle.schema_drafts.specs.Drafts.{newest, draft_among}
+use Rattle.schema_drafts.specs.declared.draft.Draft.{Draft}
+use Rattle.schema_drafts.specs.declared.draft.Draft.TheVariants.{Draft4, Draft6, Draft7, Draft201909, Draft202012}
 use Rattle.given_documents.specs.Given.{Given}
 use Rattle.schema_registries.specs.Seen.{AddsText}
 use Rattle.schema_roots.specs.Roots.{Root}
@@ -46,10 +48,28 @@ AddsFiles held (p ∷ ps) old new = (middle : List Given) × AddsFile held p old
 abbrev pub base_of : Option (List ℕ) → List ℕ
 base_of base = identity_of (unwrap_or base (codes "json-schema:///"))
 
--- the schema is added under the base and each further document under its URI; the root is what the base leads to
-pub record IsBuiltOf (held : List ℕ → Held) (schema : List ℕ) (words : List (List ℕ)) (base : Option (List ℕ)) (root : Root) : Type 0 where
+-- the words that name drafts
+abbrev pub draft_words : List (List ℕ × Draft)
+draft_words =
+    (codes "4", Draft4)
+    ∷ (codes "6", Draft6)
+    ∷ (codes "7", Draft7)
+    ∷ (codes "2019-09", Draft201909)
+    ∷ (codes "2020-12", Draft202012)
+    ∷ []
+
+-- the draft that a word names, or the newest where there is no word
+abbrev pub draft_of : Option (List ℕ) → Option Draft
+draft_of None = Some newest
+draft_of (Some word) = draft_among draft_words word
+
+-- the schema is added under the base and each further document under its URI; the root is what the base leads to, and documents
+-- that name no draft have the one that is given
+pub record IsBuiltOf (held : List ℕ → Held) (schema : List ℕ) (words : List (List ℕ)) (base draft : Option (List ℕ)) (root : Root) : Type 0 where
   pub pairs : List Pair
   pub given : List Given
+  pub else_draft : Draft
   pub cut : AreCut words pairs
+  pub is_draft : draft_of draft ≡ Some else_draft
   pub added : AddsFiles held ((base_of base, schema) ∷ pairs) [] given
-  pub is_root : root ≡ root_under newest (base_of base) given []
+  pub is_root : root ≡ root_under else_draft (base_of base) given []

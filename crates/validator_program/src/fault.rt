@@ -19,6 +19,9 @@ pub(crate) enum ProgramFault<'a> {
     /// A further word without `=`.
     #[error("words refused: {word}")]
     Word { word: &'a str },
+    /// A word for the draft that names none.
+    #[error("words refused: --draft {word}")]
+    Draft { word: &'a str },
     /// A word that is no text.
     #[error("words refused: a word is no UTF-8")]
     NotText,

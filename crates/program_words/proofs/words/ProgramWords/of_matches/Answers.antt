@@ -14,4 +14,5 @@ returns c =
       files = ap texts c.in_ok-from_slice.ensures.items ∙ ap (λ s. texts s.now) c.unwrap_or.ensures ∙ texts_or_none c.get_strs.result _ refl
           ∙ ap (λ o. unwrap_or o []) (c.get_strs.ensures ∙ raw_values-rows f (codes "files"));
       base = c.get_str-2.ensures ∙ first_value-rows f (codes "base");
+      draft = c.get_str-3.ensures ∙ first_value-rows f (codes "draft");
     }

@@ -1,9 +1,16 @@
-use Rattle.std.proofs.Common.{◌≡◌, ◌∙◌, ap, sym, refl, true}
+use Rattle.std.proofs.Common.{◌≡◌, ◌∙◌, ap, sym, subst, refl, true}
 use Rattle.std.proofs.lemmas.Result.{err_from_is_err_and}
-use Rattle.clap.specs.Words.{App, is_simple_and_free, takes, fault_of, kind_of}
+use Rattle.clap.specs.Words.{App, is_simple, is_simple_and_free, matches_of, takes, fault_of, kind_of}
 use Rattle.clap.specs.Walk.{texts}
 use Rattle.program_words.specs.Program.{program_app}
+use Rattle.program_words.specs.Read.{HasWordsOf}
 use Rattle.program_words.proofs.words.ProgramWords.read.Goals as goal
+
+pub returns-clause-ok : goal.returns-clause-ok
+returns-clause-ok c =
+    let app = c.in_ok-program_command.ensures.app in
+    let rows = c.in_ok-matches.ensures.matches (ap is_simple app ∙ refl) in
+    subst (λ rs. HasWordsOf rs c.in_ok-of_matches.field-0) (rows.0 ∙ ap (λ (a : App). matches_of a (texts c.args.words.now)) app) c.in_ok-of_matches.ensures
 
 pub returns-in_err-matches-clause-accepted : goal.returns-in_err-matches-clause-accepted
 returns-in_err-matches-clause-accepted c =
