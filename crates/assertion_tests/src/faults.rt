@@ -153,7 +153,12 @@ fn tells_kinds_and_paths(rt: HostRuntime) -> Result<(), Fail> {
         ("maxItems", "0", "[1]", "MaxItems { limit: 0 }"),
         ("minItems", "2", "[1]", "MinItems { limit: 2 }"),
         ("uniqueItems", "true", "[1,1]", "UniqueItems"),
-        ("maxProperties", "0", "{\"a\":1}", "MaxProperties { limit: 0 }"),
+        (
+            "maxProperties",
+            "0",
+            "{\"a\":1}",
+            "MaxProperties { limit: 0 }",
+        ),
         ("minProperties", "1", "{}", "MinProperties { limit: 1 }"),
         ("required", "[\"a\"]", "{}", "Required { property: \"a\" }"),
         (
@@ -197,7 +202,8 @@ fn strict_limits_of_draft_4_have_the_name_of_the_boolean(rt: HostRuntime) -> Res
 #[test]
 fn observers_keep_what_they_are_for(rt: HostRuntime) -> Result<(), Fail> {
     let first = "/0 /not/required /$ref/required Required { property: \"a\" }\n";
-    let both = "/0 /not/required /$ref/required Required { property: \"a\" }\n/0 /not/required /$ref/required Required { property: \"c\" }\n";
+    let both =
+        "/0 /not/required /$ref/required Required { property: \"a\" }\n/0 /not/required /$ref/required Required { property: \"c\" }\n";
     for (kept, value, want) in [
         (Observation::Verdict, "{\"b\":1}", "refused"),
         (Observation::First, "{\"b\":1}", first),

@@ -58,8 +58,8 @@ wanted docs base (Some t) = append-nil (all.wanted_by docs base (cut_at 35 t).0)
 module _ (own : List Document) where
   by_awaited : (s : Standing) (o : Option (List ℕ))
       → (if is_some o then map (awaited_cause (own ∷ []) (suc (how_many_await (own ∷ []) (own ∷ [])))) (listed o)
-        else flat_map unless_reference (listed (identifier_text s.place.dialect.draft s.place.contents))
-        ++ flat_map (λ t. all.wanted_by (own ∷ []) s.place.base (cut_at 35 t).0) (listed (text_at (codes "$ref") s.place.contents)))
+      else flat_map unless_reference (listed (identifier_text s.place.dialect.draft s.place.contents))
+      ++ flat_map (λ t. all.wanted_by (own ∷ []) s.place.base (cut_at 35 t).0) (listed (text_at (codes "$ref") s.place.contents)))
       ≡ awaited_from (borne_by (own ∷ [])) (unknown_by own) s o
   by_awaited s None =
       let identifier = identifier_text s.place.dialect.draft s.place.contents in

@@ -14,7 +14,9 @@ use document_index::index::Index;
 use document_index::standing::Standing;
 use meta_schemas::causes::{Unsettled, awaited_cause};
 use referencing_errors::error::Error;
-use referencing_errors::named::{circular_metaschema, invalid_uri, not_borne, unknown_specification};
+use referencing_errors::named::{
+    circular_metaschema, invalid_uri, not_borne, unknown_specification,
+};
 use schema_identifiers::bases::resolved;
 use schema_identifiers::identifiers::{identifier_text, schema_in_force, text_at};
 use std::alloc::Global;

@@ -51,7 +51,10 @@ fn the_last_bearer_of_a_uri(rt: HostRuntime) -> Result<(), Fail> {
         document(alloc, "http://a.test/first", Contents::Lent(&lent))?,
         document(alloc, "http://a.test/second", Contents::Shared(shared))?,
     ]?;
-    let index = Index::of(alloc, &standings(alloc, &MetaSchemas::none(alloc), &documents)?)?;
+    let index = Index::of(
+        alloc,
+        &standings(alloc, &MetaSchemas::none(alloc), &documents)?,
+    )?;
     for (uri, want) in [
         ("http://a.test/first", "0# http://a.test/own/ Draft202012"),
         ("http://a.test/own/", "0# http://a.test/own/ Draft202012"),

@@ -91,20 +91,11 @@ fn draft_and_vocabularies_of_a_meta_schema(rt: HostRuntime) -> Result<(), Fail> 
     assert_eq!(rt; how_many(&documents), Some(2));
     let told = meta_schemas(alloc, &documents)?;
     let meta = written(alloc, &told.meta_schemas, "http://a.test/m")?;
-    assert_eq!(rt;
-        meta.as_str(),
-        "Draft202012 core validation"
-    );
+    assert_eq!(rt; meta.as_str(), "Draft202012 core validation");
     let outer = written(alloc, &told.meta_schemas, "http://a.test/s")?;
-    assert_eq!(rt;
-        outer.as_str(),
-        "Draft202012"
-    );
+    assert_eq!(rt; outer.as_str(), "Draft202012");
     let inner = written(alloc, &told.meta_schemas, "http://a.test/inner")?;
-    assert_eq!(rt;
-        inner.as_str(),
-        "Draft202012"
-    );
+    assert_eq!(rt; inner.as_str(), "Draft202012");
     assert_eq!(rt;
         written(alloc, &told.meta_schemas, "http://a.test/t")?.as_str(),
         "none"

@@ -68,7 +68,9 @@ fn draft<'a>(alloc: Global) -> Arg<'a>
         .long("draft")
         .value_name("DRAFT")
         .action(ArgAction::Set)
-        .help("The draft of documents that name none: 4, 6, 7, 2019-09 or 2020-12 [default: 2020-12]")
+        .help(
+            "The draft of documents that name none: 4, 6, 7, 2019-09 or 2020-12 [default: 2020-12]",
+        )
 }
 
 /// The command line. Each parse of it that succeeds has a schema.

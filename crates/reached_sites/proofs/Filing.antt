@@ -75,8 +75,7 @@ among-known vs positions w h = record { visit = h.2.0; listed = in-place vs h.0 
 pub known-among : (targets : Targets) (vs : List Visit) (w : Visit) → Filed targets vs → Known vs w → RepeatedAmong vs (positions_under targets (place_text (place_in w.place))) w
 known-among targets vs w f k =
     let at = place-of vs k.visit k.listed in
-    let keys = have-keys k.visit.key w.key k.same.key in
-    (
+    let keys = have-keys k.visit.key w.key k.same.key in (
       at.0,
       subst (λ (p : Place). In at.0 (positions_under targets (place_text p))) k.same.place (f.each at.0 k.visit at.1 keys.0),
       (k.visit, at.1, k.same),

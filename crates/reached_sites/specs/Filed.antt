@@ -1,7 +1,6 @@
 -- Visits found by the texts of their places.
 use Rattle.std.specs.Prelude.{◌≡◌, ℕ, List, [], ◌++◌, true, Some, is_some, reverse, slice_get}
 use Rattle.std.specs.BTreeMap.{get_by_text}
-
 use Rattle.json_paths.specs.Pointers.{pointer_text}
 use Rattle.schema_documents.specs.Words.{or}
 use Rattle.schema_meaning.specs.Members.{In}

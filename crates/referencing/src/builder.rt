@@ -153,10 +153,7 @@ impl<'a, S: Drop> RegistryBuilder<'a, S> {
     }
 
     // Adds a document, or gives the builder back.
-    fn with_document(
-        self,
-        document: Document<'a>,
-    ) -> Result<RegistryBuilder<'a, S>, Refused<'a, S>>
+    fn with_document(self, document: Document<'a>) -> Result<RegistryBuilder<'a, S>, Refused<'a, S>>
         ensures ok { IfOk result (λ b. given_in b ≡ with_given (given_in self.entry) (given_of document.entry)) }
         ensures draft { IfOk result (λ b. b.draft ≡ self.entry.draft) }
         ensures retrieval { IfOk result (AsksAlike self.entry) }

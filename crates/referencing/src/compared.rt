@@ -31,7 +31,11 @@ impl<'r> Eq for Resolver<'r> {
 /// The base and the scope.
 impl<'r> fmt::Debug for Resolver<'r> {
     fn fmt<W: fmt::Write>(&self, f: &mut fmt::Formatter<W>) -> fmt::Result {
-        write!(f, "Resolver {{ base: {:?}, scope: {:?} }}", self.base, self.scope)
+        write!(
+            f,
+            "Resolver {{ base: {:?}, scope: {:?} }}",
+            self.base, self.scope
+        )
     }
 }
 

@@ -46,10 +46,7 @@ fn put<'a>(
     }
 }
 
-fn listed<'a>(
-    alloc: Global,
-    documents: &[Document<'a>],
-) -> Result<DocumentList<'a>, AllocError>
+fn listed<'a>(alloc: Global, documents: &[Document<'a>]) -> Result<DocumentList<'a>, AllocError>
     ensures { IfOk result (λ l. givens_of l ≡ inherited (map document_of documents.now)) }
 {
     let mut list = DocumentList::new(alloc);

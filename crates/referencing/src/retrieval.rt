@@ -77,8 +77,9 @@ fn registry_of<'a, R: Retrieve>(
     ensures alone { IfOk result (λ r. AnswersNothing (asking R.may_answer R.may_refuse retriever.now default) → (documents_of r ≡ map document_of documents.entry.items) × (retrieved_by r ≡ [])) }
     ensures refused { IfErr result (RefusesRegistry (asking R.may_answer R.may_refuse retriever.now default) limit (map document_of documents.entry.items)) }
 {
-    let Retrieved { documents, uris } =
-        retrieve_wanted(alloc, documents, default, retriever, limit)?;
+    let Retrieved { documents, uris } = retrieve_wanted(
+        alloc, documents, default, retriever, limit,
+    )?;
     Registry::with_retrieved(alloc, documents, uris)
 }
 

@@ -47,8 +47,14 @@ fn vocabularies_of_schemas(rt: HostRuntime) -> Result<(), Fail> {
     let registry = registry(alloc)?;
     let resolver = registry.resolver(from_str(alloc, "http://a.test/r")?)?;
     for (text, want) in [
-        ("{\"$schema\":\"HTTP://a.test/m\"}", "applicator http://a.test/v"),
-        ("{\"$schema\":\"http://a.test/n\"}", "applicator validation "),
+        (
+            "{\"$schema\":\"HTTP://a.test/m\"}",
+            "applicator http://a.test/v",
+        ),
+        (
+            "{\"$schema\":\"http://a.test/n\"}",
+            "applicator validation ",
+        ),
         ("{\"$vocabulary\":{}}", "applicator validation "),
         ("true", "applicator validation "),
     ] {
@@ -66,9 +72,15 @@ fn uris_resolved(rt: HostRuntime) -> Result<(), Fail> {
     let alloc = rt.alloc();
     let registry = registry(alloc)?;
     let base = from_str(alloc, "http://a.test/b/c")?;
-    assert_eq!(rt; registry.resolve_uri(&base, "../d#")?.as_str(), "http://a.test/d");
+    assert_eq!(rt;
+        registry.resolve_uri(&base, "../d#")?.as_str(),
+        "http://a.test/d"
+    );
     let resolver = registry.resolver(base)?;
-    assert_eq!(rt; resolver.resolve_uri("d?e#f")?.as_str(), "http://a.test/b/d?e#f");
+    assert_eq!(rt;
+        resolver.resolve_uri("d?e#f")?.as_str(),
+        "http://a.test/b/d?e#f"
+    );
     match resolver.resolve_uri("a b") {
         Ok(_) => assert!(rt; false),
         Err(error) => assert_eq!(rt; format!(in alloc; "{error}")?.as_str(), "Invalid URI 'a b'"),
@@ -103,7 +115,9 @@ fn builders_printed(rt: HostRuntime) -> Result<(), Fail> {
         format!(in alloc; "{builder:?}")?.as_str(),
         "RegistryBuilder { draft: Draft202012, documents: 1, retriever: DefaultRetriever, limit: 256 }"
     );
-    let other = builder.retriever(MapRetriever::new(alloc)).retrieval_limit(2);
+    let other = builder
+        .retriever(MapRetriever::new(alloc))
+        .retrieval_limit(2);
     assert_eq!(rt;
         format!(in alloc; "{other:?}")?.as_str(),
         "RegistryBuilder { draft: Draft202012, documents: 1, retriever: MapRetriever { documents: {} }, limit: 2 }"

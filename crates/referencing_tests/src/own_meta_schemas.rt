@@ -45,7 +45,8 @@ fn dialect(
     Ok(output)
 }
 
-const APPLICATORS_ALONE: &str = "{\"$schema\": \"https://json-schema.org/draft/2020-12/schema\", \"$id\": \"http://a.test/m\",
+const APPLICATORS_ALONE: &str =
+    "{\"$schema\": \"https://json-schema.org/draft/2020-12/schema\", \"$id\": \"http://a.test/m\",
     \"$vocabulary\": {\"https://json-schema.org/draft/2020-12/vocab/core\": true,
     \"https://json-schema.org/draft/2020-12/vocab/applicator\": true,
     \"https://json-schema.org/draft/2020-12/vocab/validation\": false,
@@ -94,7 +95,10 @@ fn meta_schemas_above_one_another(rt: HostRuntime) -> Result<(), Fail> {
         ("http://a.test/n", "{\"$schema\": \"http://a.test/m7\"}"),
         ("http://a.test/m7", OF_DRAFT_7),
     ];
-    assert_eq!(rt; dialect(alloc, &documents, "http://a.test/d", "")?.as_str(), "Draft7 items type");
+    assert_eq!(rt;
+        dialect(alloc, &documents, "http://a.test/d", "")?.as_str(),
+        "Draft7 items type"
+    );
     Ok(())
 }
 
@@ -105,7 +109,10 @@ fn causes_of_meta_schemas(rt: HostRuntime) -> Result<(), Fail> {
         (
             [
                 ("http://a.test/a", "{\"$schema\": \"http://a.test/b\"}"),
-                ("http://a.test/b", "{\"$schema\": \"http://a.test/nowhere\"}"),
+                (
+                    "http://a.test/b",
+                    "{\"$schema\": \"http://a.test/nowhere\"}",
+                ),
             ],
             "Unknown meta-schema 'http://a.test/nowhere'",
         ),
@@ -125,7 +132,10 @@ fn causes_of_meta_schemas(rt: HostRuntime) -> Result<(), Fail> {
         ),
         (
             [
-                ("http://a.test/a", "{\"$schema\": \"http://a.test/b\", \"items\": {\"$ref\": \"c\"}}"),
+                (
+                    "http://a.test/a",
+                    "{\"$schema\": \"http://a.test/b\", \"items\": {\"$ref\": \"c\"}}",
+                ),
                 ("http://a.test/b", "{}"),
             ],
             "Resource 'http://a.test/c' is not present and retrieving it failed",

@@ -121,7 +121,10 @@ fn children_of_registries(rt: HostRuntime) -> Result<(), Fail> {
     let parent = prepared(alloc, root, retriever_of(alloc, &pairs)?, 256)?;
     let more = parent.add("http://a.test/z", Value::Null)?.prepare()?;
     assert_eq!(rt; more.retrieved().len(), 0);
-    assert_eq!(rt; document(alloc, &more, "http://a.test/r")?.as_str(), "{\"$ref\":\"x\"}");
+    assert_eq!(rt;
+        document(alloc, &more, "http://a.test/r")?.as_str(),
+        "{\"$ref\":\"x\"}"
+    );
     assert_eq!(rt; document(alloc, &more, "http://a.test/x")?.as_str(), "[1]");
     assert_eq!(rt; document(alloc, &more, "http://a.test/z")?.as_str(), "null");
     let pairs = vec![in alloc;
@@ -129,9 +132,21 @@ fn children_of_registries(rt: HostRuntime) -> Result<(), Fail> {
         ("http://a.test/w", Value::Bool(false)),
     ]?;
     let other = more.extend(pairs)?.prepare()?;
-    assert_eq!(rt; document(alloc, &other, "http://a.test/x")?.as_str(), "true");
-    assert_eq!(rt; document(alloc, &other, "http://a.test/w")?.as_str(), "false");
-    assert_eq!(rt; document(alloc, &other, "http://a.test/z")?.as_str(), "null");
-    assert_eq!(rt; document(alloc, &parent, "http://a.test/x")?.as_str(), "[1]");
+    assert_eq!(rt;
+        document(alloc, &other, "http://a.test/x")?.as_str(),
+        "true"
+    );
+    assert_eq!(rt;
+        document(alloc, &other, "http://a.test/w")?.as_str(),
+        "false"
+    );
+    assert_eq!(rt;
+        document(alloc, &other, "http://a.test/z")?.as_str(),
+        "null"
+    );
+    assert_eq!(rt;
+        document(alloc, &parent, "http://a.test/x")?.as_str(),
+        "[1]"
+    );
     Ok(())
 }

@@ -13,7 +13,10 @@ pub enum Keyword<'r> {
     Types(TypeNames),
     MinItems(u64),
     /// One schema for the items from `start` on, which is the length of the list at `prefixItems` beside.
-    Items { start: usize, schema: &'r Value },
+    Items {
+        start: usize,
+        schema: &'r Value,
+    },
     Properties(&'r Map<String, Value>),
     /// A reference with what it leads to, which for those by the dynamic scope depends on the site's.
     Reference {

@@ -74,11 +74,7 @@ fn has_reference(members: &Map<String, Value>) -> bool
 }
 
 // The member of a name, where it counts.
-fn beside<'m>(
-    site: &Site<'_>,
-    members: &'m Map<String, Value>,
-    name: &str,
-) -> Option<&'m Value>
+fn beside<'m>(site: &Site<'_>, members: &'m Map<String, Value>, name: &str) -> Option<&'m Value>
     ensures { option_map (λ v. view v.now) result ≡ beside_at site.now (members_view members.now.entries) name.now }
 {
     if site.counts(has_reference(members), name) {

@@ -201,7 +201,7 @@ module _ (docs : Documents) (makes : List ℕ → Bool) (s : Site) (scope : List
       where
         by : (p : Option (List (List ℕ)))
             → Both Any (elim p [ None ↦ Err (expected one (name n ∷ name k ∷ []) (codes "unique names")) | Some ks ↦ Ok ks ])
-              (elim p [ None ↦ Err (expected other (name n ∷ name k ∷ []) (codes "unique names")) | Some ks ↦ Ok ks ])
+            (elim p [ None ↦ Err (expected other (name n ∷ name k ∷ []) (codes "unique names")) | Some ks ↦ Ok ks ])
         by None = wrong
         by (Some ks) = right tt
 

@@ -12,7 +12,11 @@ use uri_references::uri::Uri;
 
 fn write_place(alloc: Global, lines: &mut String, place: &Place<'_>) -> Result<(), Fail> {
     let pointer = place.path.to_pointer(alloc)?;
-    let line = format!(in alloc; "#{pointer} {} {:?}\n", place.base.as_str(), place.dialect.draft)?;
+    let line = format!(in alloc;
+        "#{pointer} {} {:?}\n",
+        place.base.as_str(),
+        place.dialect.draft
+    )?;
     lines.push_str(&line)?;
     if let Some(uri) = &place.awaits {
         lines.push_str(&format!(in alloc; "  awaits {}\n", uri.as_str())?)?;

@@ -195,9 +195,14 @@ fn by_recursive_anchors(rt: HostRuntime) -> Result<(), Fail> {
 #[test]
 fn dynamic_circles(rt: HostRuntime) -> Result<(), Fail> {
     let alloc = rt.alloc();
-    let tree = "{\"$id\":\"http://a.test/tree\",\"$dynamicAnchor\":\"node\",\"properties\":{\"a\":{\"$dynamicRef\":\"#node\"},\"b\":{\"$ref\":\"r\"}}}";
-    let root = "{\"$id\":\"http://a.test/r\",\"$dynamicAnchor\":\"node\",\"$ref\":\"tree\",\"items\":{\"$dynamicRef\":\"tree#node\"}}";
-    let found = checked_among(alloc, &[("http://a.test/r", root), ("http://a.test/tree", tree)])?;
+    let tree =
+        "{\"$id\":\"http://a.test/tree\",\"$dynamicAnchor\":\"node\",\"properties\":{\"a\":{\"$dynamicRef\":\"#node\"},\"b\":{\"$ref\":\"r\"}}}";
+    let root =
+        "{\"$id\":\"http://a.test/r\",\"$dynamicAnchor\":\"node\",\"$ref\":\"tree\",\"items\":{\"$dynamicRef\":\"tree#node\"}}";
+    let found = checked_among(
+        alloc,
+        &[("http://a.test/r", root), ("http://a.test/tree", tree)],
+    )?;
     assert_eq!(rt; found.as_str(), "accepted");
     Ok(())
 }

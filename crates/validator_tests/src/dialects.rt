@@ -23,7 +23,11 @@ fn told_beside(alloc: Global, schema: &str, instance: &str) -> Result<String, Fa
         ("http://a.test/old", OLD),
         ("http://a.test/r", schema),
     ];
-    told(alloc, &built_of(alloc, &documents, "http://a.test/r")?, instance)
+    told(
+        alloc,
+        &built_of(alloc, &documents, "http://a.test/r")?,
+        instance,
+    )
 }
 
 #[test]
@@ -31,11 +35,7 @@ fn vocabularies_that_are_required(rt: HostRuntime) -> Result<(), Fail> {
     let alloc = rt.alloc();
     let schema =
         "{\"$schema\":\"http://a.test/meta\",\"properties\":{\"a\":false},\"minItems\":3,\"type\":\"object\"}";
-    for (instance, want) in [
-        ("{}", ""),
-        ("[]", ""),
-        ("{\"a\":1}", "/a /properties/a\n"),
-    ] {
+    for (instance, want) in [("{}", ""), ("[]", ""), ("{\"a\":1}", "/a /properties/a\n")] {
         assert_eq!(rt; told_beside(alloc, schema, instance)?.as_str(), want);
     }
     let asserting =

@@ -15,11 +15,7 @@ pub(crate) struct Subject {
 }
 
 // A validator of several documents, each a URI with a text, from the root at a base.
-pub(crate) fn built_of(
-    alloc: Global,
-    texts: &[(&str, &str)],
-    base: &str,
-) -> Result<Subject, Fail> {
+pub(crate) fn built_of(alloc: Global, texts: &[(&str, &str)], base: &str) -> Result<Subject, Fail> {
     let mut documents = Documents::new(alloc);
     for (uri, text) in texts {
         documents.add_text(uri, text.as_bytes())?;

@@ -9,8 +9,7 @@ returns-clause-apart c = λ f a.
     let vs = c.args.visits.now.items in
     let w = c.args.lead in
     let targets = c.args.targets.now in
-    let plain : is_some w.key ≡ false = sym c.is_some.ensures ∙ c.if-is_some.false in
-    (
+    let plain : is_some w.key ≡ false = sym c.is_some.ensures ∙ c.if-is_some.false in (
       subst (λ us. Filed targets us) (sym c.in_ok-push.ensures.items) (filed-stays targets vs w plain f),
       subst (λ us. Apart us) (sym c.in_ok-push.ensures.items) (apart-stays targets vs w plain a),
     )

@@ -29,8 +29,7 @@ returns-clause-apart c = λ f a.
     let put : PutAs old new text (length vs) = record {
       each = λ q. c.in_ok-put.ensures q ∙ ap (λ t. if bytes_eq t q then c.len.result ∷ positions_under old t else positions_under old q) again
           ∙ ap (λ i. if bytes_eq text q then i ∷ positions_under old text else positions_under old q) (c.len.ensures ∙ c.args.visits.now.ok.0);
-    } in
-    (
+    } in (
       subst (λ us. Filed new us) (sym c.in_ok-push.ensures.items) (filed-put old new vs w put f),
       subst (λ us. Apart us) (sym c.in_ok-push.ensures.items) (one_more w a (λ k. false≢true (sym c.if-branch.false ∙ c.in_ok-is_under.ensures.1 (among k)))),
     )

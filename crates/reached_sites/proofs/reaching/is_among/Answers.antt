@@ -16,9 +16,8 @@ loop-position-preserved c =
     let vs = c.args.visits.now in
     let w = c.args.visit.now in
     let i = c.in-Some.position.now in
-    let rest = c.next.new.self in
-    (
+    let rest = c.next.new.self in (
       λ h. among-rest vs i rest w (λ r. false≢true (sym c.if-branch.false ∙ c.in_ok-is_at.ensures.1 r))
-      (subst (λ is. RepeatedAmong vs is w) c.in-Some.ensures.steps (c.loop-position.invariant.0 h)),
+          (subst (λ is. RepeatedAmong vs is w) c.in-Some.ensures.steps (c.loop-position.invariant.0 h)),
       λ h. c.loop-position.invariant.1 (subst (λ is. RepeatedAmong vs is w) (sym c.in-Some.ensures.steps) (among-more vs i rest w h)),
     )

@@ -18,4 +18,4 @@ returns-else-eq c =
     let a = position_of c.args.self.now in
     let b = position_of c.args.other.now in
     let bases : bytes_eq a.base b.base ≡ false = sym c.eq.ensures ∙ c.if-eq.false in
-    record { value = c.if-eq.false ∙ sym (ap (λ t. t && pointwise bytes_eq a.scope b.scope) bases); }
+    record { value = c.if-eq.false ∙ sym (ap (λ t. t && pointwise bytes_eq a.scope b.scope) bases) }
