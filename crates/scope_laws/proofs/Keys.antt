@@ -27,25 +27,34 @@ entered_is_present new base scope here = entered-present new base scope (bytes_e
 module _ (docs : Documents) where
   -- ---- dynamic references
 
+  pub same_outermost_by : (k base : List ℕ) (left right : List (List ℕ)) → last_that (λ u. is_some (dynamically_anchored docs u k)) left ≡ last_that (λ u. is_some (dynamically_anchored docs u k)) right
+      → outermost docs k (base ∷ left) ≡ outermost docs k (base ∷ right)
+  same_outermost_by k base left right same =
+      let test = λ (u : List ℕ). is_some (dynamically_anchored docs u k) in
+      ap (λ o. result_map target_of (ok_or (no_such_anchor k) (option_and_then (λ u. dynamically_anchored docs u k) (or_else o (if test base then Some base else None))))) same
+
   same_outermost : (k base : List ℕ) (left right : List (List ℕ)) → first_ones [] (reversed_onto left []) ≡ first_ones [] (reversed_onto right [])
       → outermost docs k (base ∷ left) ≡ outermost docs k (base ∷ right)
   same_outermost k base left right e =
       let test = λ (u : List ℕ). is_some (dynamically_anchored docs u k) in
-      let same : last_that test left ≡ last_that test right = by_firsts test left ∙ ap (λ us. first_that test us) e ∙ sym (by_firsts test right) in
-      ap (λ o. result_map target_of (ok_or (no_such_anchor k) (option_and_then (λ u. dynamically_anchored docs u k) (or_else o (if test base then Some base else None))))) same
+      same_outermost_by k base left right (by_firsts test left ∙ ap (λ us. first_that test us) e ∙ sym (by_firsts test right))
 
   same_behind : {X Y E : Type 0} (r : Result X E) (f g : X → Result Y E) → ((x : X) → f x ≡ g x) → and_then r f ≡ and_then r g
   same_behind (Ok x) f g h = h x
   same_behind (Err e) f g h = refl
 
-  same_dynamic : (base : List ℕ) (left right : List (List ℕ)) → first_ones [] (reversed_onto left []) ≡ first_ones [] (reversed_onto right [])
+  pub same_dynamic_by : (base : List ℕ) (left right : List (List ℕ)) → ((k : List ℕ) (inner : List ℕ) → outermost docs k (inner ∷ left) ≡ outermost docs k (inner ∷ right))
       → (reference : List ℕ) → dynamic_lookup docs base left reference ≡ dynamic_lookup docs base right reference
-  same_dynamic base left right e reference =
+  same_dynamic_by base left right same reference =
       let k = or [] (cut_at 35 reference).1 in
       same_behind (lookup docs base reference)
       (λ t. if is_name k && has_text k (dynamic_anchors t.dialect.draft t.contents) then outermost docs k (t.base ∷ left) else Ok t)
       (λ t. if is_name k && has_text k (dynamic_anchors t.dialect.draft t.contents) then outermost docs k (t.base ∷ right) else Ok t)
-      (λ t. ap (λ r. if is_name k && has_text k (dynamic_anchors t.dialect.draft t.contents) then r else Ok t) (same_outermost k t.base left right e))
+      (λ t. ap (λ r. if is_name k && has_text k (dynamic_anchors t.dialect.draft t.contents) then r else Ok t) (same k t.base))
+
+  same_dynamic : (base : List ℕ) (left right : List (List ℕ)) → first_ones [] (reversed_onto left []) ≡ first_ones [] (reversed_onto right [])
+      → (reference : List ℕ) → dynamic_lookup docs base left reference ≡ dynamic_lookup docs base right reference
+  same_dynamic base left right e reference = same_dynamic_by base left right (λ k inner. same_outermost k inner left right e) reference
 
   -- ---- runs
 
@@ -59,7 +68,7 @@ module _ (docs : Documents) where
       subst (λ b. end_of_run docs new (v ∷ us) ≡ (if recurs docs b then run_end docs b (v ∷ us) else new)) (present-first base v us here)
       (thrice (recurs docs v) (end_of_run docs v us) v new)
 
-  same_run : (new base : List ℕ) (left right : List (List ℕ)) → IsPresent base left → IsPresent base right → run_end docs base left ≡ run_end docs base right
+  pub same_run : (new base : List ℕ) (left right : List (List ℕ)) → IsPresent base left → IsPresent base right → run_end docs base left ≡ run_end docs base right
       → run_end docs new (new ∷ left) ≡ run_end docs new (new ∷ right)
   same_run new base left right here there e =
       let same : end_of_run docs new left ≡ end_of_run docs new right = ran new base left here ∙ ap (λ u. if recurs docs base then u else new) e ∙ sym (ran new base right there) in
