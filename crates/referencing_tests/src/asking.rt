@@ -89,25 +89,6 @@ fn uris_resolved(rt: HostRuntime) -> Result<(), Fail> {
 }
 
 #[test]
-fn resolvers_by_base_and_scope(rt: HostRuntime) -> Result<(), Fail> {
-    let alloc = rt.alloc();
-    let registry = registry(alloc)?;
-    let other = Registry::new(alloc).prepare()?;
-    let at_m = registry.resolver(from_str(alloc, "http://a.test/m")?)?;
-    let elsewhere = other.resolver(from_str(alloc, "http://a.test/r")?)?;
-    let at_r = registry.resolver(from_str(alloc, "http://a.test/r")?)?;
-    assert!(rt; at_r == elsewhere);
-    assert!(rt; at_m != at_r);
-    let entered = at_r.at(at_m.base_uri()?)?;
-    assert!(rt; entered != at_m);
-    assert_eq!(rt;
-        format!(in alloc; "{entered:?}")?.as_str(),
-        "Resolver { base: \"http://a.test/m\", scope: [\"http://a.test/m\", \"http://a.test/r\"] }"
-    );
-    Ok(())
-}
-
-#[test]
 fn builders_printed(rt: HostRuntime) -> Result<(), Fail> {
     let alloc = rt.alloc();
     let builder = Registry::new(alloc).add("http://a.test/m", Value::Null)?;

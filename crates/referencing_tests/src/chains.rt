@@ -62,42 +62,45 @@ fn dynamic_references(rt: HostRuntime) -> Result<(), Fail> {
     let builder = added(Registry::new(alloc), "http://a.test/list", &list)?;
     let registry = added(builder, "http://a.test/strings", &strings)?.prepare()?;
     let items = ResourceRef::new(list.get("items").ok_or("items")?, Draft::Draft202012);
-    for (base, steps, want) in [
-        (
+    let to_list = Step::Lookup("list");
+    let inside = Step::Enter(items);
+    let to_item = Step::Dynamic("#item");
+    assert_eq!(rt;
+        led(
+            &registry,
             "http://a.test/strings",
-            [
-                Step::Lookup("list"),
-                Step::Enter(items),
-                Step::Lookup("#item"),
-            ],
-            "http://a.test/list#/$defs/d http://a.test/list",
-        ),
-        (
+            &[to_list, inside, Step::Lookup("#item")]
+        )?
+        .as_str(),
+        "http://a.test/list#/$defs/d http://a.test/list"
+    );
+    assert_eq!(rt;
+        led(
+            &registry,
             "http://a.test/strings",
-            [
-                Step::Lookup("list"),
-                Step::Enter(items),
-                Step::Dynamic("#item"),
-            ],
-            "http://a.test/strings#/$defs/s http://a.test/strings",
-        ),
-        (
+            &[to_list, inside, to_item]
+        )?
+        .as_str(),
+        "http://a.test/strings#/$defs/s http://a.test/strings"
+    );
+    assert_eq!(rt;
+        led(
+            &registry,
             "http://a.test/list",
-            [Step::Lookup(""), Step::Enter(items), Step::Dynamic("#item")],
-            "http://a.test/list#/$defs/d http://a.test/list",
-        ),
-        (
+            &[Step::Lookup(""), inside, to_item]
+        )?
+        .as_str(),
+        "http://a.test/list#/$defs/d http://a.test/list"
+    );
+    assert_eq!(rt;
+        led(
+            &registry,
             "http://a.test/strings",
-            [
-                Step::Lookup("list"),
-                Step::Enter(items),
-                Step::Dynamic("#none"),
-            ],
-            "Anchor 'none' does not exist",
-        ),
-    ] {
-        assert_eq!(rt; led(&registry, base, &steps)?.as_str(), want);
-    }
+            &[to_list, inside, Step::Dynamic("#none")]
+        )?
+        .as_str(),
+        "Anchor 'none' does not exist"
+    );
     let resolver = registry.resolver(from_str(alloc, "http://a.test/strings")?)?;
     let there = resolver.lookup("list")?;
     let item = there.resolver().lookup_dynamic_ref("#item")?;
