@@ -5,12 +5,12 @@ use Rattle.std.specs.declared.alloc.AllocError.{AllocError}
 use Rattle.serde_json.specs.Data.{Data}
 use Rattle.schema_drafts.specs.declared.draft.Draft.{Draft}
 use Rattle.schema_meaning.specs.Keywords as told
-use Rattle.schema_meaning.specs.Members.{first}
+use Rattle.schema_meaning.specs.Members.{first, is_listed}
 use Rattle.schema_reading.specs.Rows.{Row, Context, asserted, assertion, reads, bad_value, keyword_value, place_at, at, beside, is_draft_4, is_true, nothing_read, readers, read_among, unique_row}
 use Rattle.serde_json.specs.Find.{as_bool}
 use Rattle.schema_reading.specs.Values.{whole_number}
 use Rattle.assertions.specs.Arms.{row_of, limit_row, strict_row}
-use Rattle.assertions.specs.Names.{name_of, limit_name, strict_name}
+use Rattle.assertions.specs.Names.{name_of, limit_name, strict_name, assertion_names}
 use Rattle.assertions.specs.Reads.{ReadsAs, Makes, Surrounds, IsCause}
 use Rattle.assertions.specs.Shapes.{assertion_of, bound_assertion, old_assertion, plain_bound, strict_bound}
 use Rattle.assertions.specs.declared.assertion.Assertion.{Assertion}
@@ -57,6 +57,29 @@ at-name (keyword.Count count.MinProperties) c d = refl
 at-name keyword.UniqueItems c d = refl
 at-name keyword.Required c d = refl
 at-name keyword.DependentRequired c d = refl
+
+-- its name is among those of the keywords that only assert
+listed-name : (w : AssertionKeyword) → is_listed (name_of w) assertion_names ≡ true
+listed-name keyword.Type = refl
+listed-name keyword.Enum = refl
+listed-name keyword.Const = refl
+listed-name keyword.MultipleOf = refl
+listed-name (keyword.Limit side.Maximum) = refl
+listed-name (keyword.Limit side.Minimum) = refl
+listed-name (keyword.ExclusiveLimit side.Maximum) = refl
+listed-name (keyword.ExclusiveLimit side.Minimum) = refl
+listed-name (keyword.Count count.MaxLength) = refl
+listed-name (keyword.Count count.MinLength) = refl
+listed-name (keyword.Count count.MaxItems) = refl
+listed-name (keyword.Count count.MinItems) = refl
+listed-name (keyword.Count count.MaxProperties) = refl
+listed-name (keyword.Count count.MinProperties) = refl
+listed-name keyword.UniqueItems = refl
+listed-name keyword.Required = refl
+listed-name keyword.DependentRequired = refl
+
+pub listed-known : (k : List ℕ) (w : AssertionKeyword) → k ≡ name_of w → is_listed k assertion_names ≡ true
+listed-known k w is = ap (λ (n : List ℕ). is_listed n assertion_names) is ∙ listed-name w
 
 if-true : {A : Type 0} (b : Bool) (x y : A) → b ≡ true → (if b then x else y) ≡ x
 if-true true x y e = refl

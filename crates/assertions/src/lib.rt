@@ -8,7 +8,5 @@ pub mod missing;
 pub mod named;
 mod names;
 pub mod reading;
-#[cfg(test)]
-mod tests;
 mod values;
 pub mod whole_number;

@@ -1,5 +1,5 @@
 //! Keywords that only assert, read from the members of a schema.
-ghost use Rattle.std.specs.Prelude.{◌≡◌, IfOk, IfSome, IfNone, codes, option_map, false};
+ghost use Rattle.std.specs.Prelude.{◌≡◌, IfOk, IfSome, IfNone, codes, option_map, false, true};
 ghost use Rattle.serde_json.specs.View.{view, items_view};
 ghost use Rattle.schema_meaning.specs.Members.{is_listed};
 ghost use Rattle.schema_reading.specs.Rows.{Context, read_among, readers};
@@ -158,6 +158,7 @@ pub fn read<'s>(
     strict_beside: Option<&Value>,
 ) -> Result<Option<Reading<'s>>, AllocError>
     ensures read { IfOk result (λ o. IfSome o (λ r. (c : Context) → Surrounds draft (option_map (λ v. view v.now) strict_beside.entry) name.now c → ReadsAs c name.now (read_among readers c name.now (view value.now)) r)) }
+    ensures named { IfOk result (λ o. IfSome o (λ r. is_listed name.now assertion_names ≡ true)) }
     ensures other { IfOk result (λ o. IfNone o (is_listed name.now assertion_names ≡ false)) }
 {
     match AssertionKeyword::from_name(name) {

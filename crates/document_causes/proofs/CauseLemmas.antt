@@ -11,10 +11,10 @@ use Rattle.schema_documents.specs.DocumentCauses.{DocumentCause, unretrieved, un
 use Rattle.schema_vocabularies.specs.Dialects.{dialects_in}
 use Rattle.schema_vocabularies.specs.declared.meta_schemas.MetaSchemas.{MetaSchemas}
 use Rattle.place_laws.proofs.Alike.{alike_tell}
-use Rattle.document_index.specs.Located.{Located, kept_of, located_standings, last_located}
-use Rattle.document_index.specs.Indexes.{Indexes}
-use Rattle.document_index.specs.declared.index.Index.{Index}
-use Rattle.document_index.proofs.AnswerLemmas.{last-of-own}
+use Rattle.meta_schemas.specs.Passed.{Located, kept_of, located_standings, last_located}
+use Rattle.meta_schemas.specs.Passed.{Indexes}
+use Rattle.meta_schemas.specs.Passed.{Index}
+use Rattle.meta_schemas.proofs.Passed.{last-of-own}
 use Rattle.meta_schemas.specs.Told.{Tells}
 use Rattle.document_causes.specs.Checked.{borne_in, borne_by, unknown_by, wanted_from, wanted_at, of_text, awaited_from, causes_at}
 use Rattle.document_causes.proofs.NamedLemmas.{is_some-map}

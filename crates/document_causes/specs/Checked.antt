@@ -6,8 +6,8 @@ use Rattle.schema_documents.specs.Identifiers.{resolved, identifier_text}
 use Rattle.schema_documents.specs.Places.{schema_in_force}
 use Rattle.schema_documents.specs.Bearers.{Document, Documents, Standing, is_root, bearer}
 use Rattle.schema_documents.specs.DocumentCauses.{DocumentCause, no_reference, unretrieved, unless_reference, awaited_cause, how_many_await}
-use Rattle.document_index.specs.Indexes.{bearer_in}
-use Rattle.document_index.specs.declared.index.Index.{Index}
+use Rattle.meta_schemas.specs.Passed.{bearer_in}
+use Rattle.meta_schemas.specs.Passed.{Index}
 
 -- who bears a URI, by an index and by documents
 abbrev pub borne_in : Index → List ℕ → Bool

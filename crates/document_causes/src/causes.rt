@@ -4,15 +4,14 @@ ghost use Rattle.std.specs.Prelude.{◌≡◌, List, [], map, option_map, OnOk, 
 ghost use Rattle.std.specs.List.{flat_map};
 ghost use Rattle.schema_documents.specs.Bearers.{Document};
 ghost use Rattle.schema_documents.specs.DocumentCauses.{unless_reference};
-ghost use Rattle.document_index.specs.Seen.{standing_of};
+ghost use Rattle.meta_schemas.specs.Passed.{standing_of};
 ghost use Rattle.meta_schemas.specs.Awaited.{AwaitedIn, cause_of};
 ghost use Rattle.document_causes.specs.Checked as spec;
 ghost use Rattle.document_causes.specs.Checked.{borne_in, unknown_by};
 ghost use Rattle.document_causes.specs.Named.{NamesOne, NamesCause};
 
-use document_index::index::Index;
-use document_index::standing::Standing;
 use meta_schemas::causes::{Unsettled, awaited_cause};
+use meta_schemas::{Index, Standing};
 use referencing_errors::error::Error;
 use referencing_errors::named::{
     circular_metaschema, invalid_uri, not_borne, unknown_specification,

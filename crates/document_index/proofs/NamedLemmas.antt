@@ -21,6 +21,10 @@ pub lent : {X K : Type 0} (f : X → K) (o : Option (Bor X)) (p : Option X) → 
 lent f None p e = ap (option_map f) e
 lent f (Some b) p e = ap (option_map f) e
 
+pub lent-then : {X K : Type 0} (f : X → Option K) (o : Option (Bor X)) (p : Option X) → option_copied o ≡ p → option_and_then (λ b. f b.now) o ≡ option_and_then f p
+lent-then f None p e = ap (option_and_then f) e
+lent-then f (Some b) p e = ap (option_and_then f) e
+
 map-if : {X K : Type 0} (f : X → K) (b : Bool) (x : X) (o : Option X) → option_map f (if b then Some x else o) ≡ (if b then Some (f x) else option_map f o)
 map-if f true x o = refl
 map-if f false x o = refl

@@ -1,6 +1,6 @@
 //! The index of the schema places that bear a URI or an anchor.
 
-ghost use Rattle.std.specs.Prelude.{◌≡◌, ℕ, List, map, IfOk, OnOk, Some, option_map, if◌then◌else◌, bytes_eq, ◌&&◌};
+ghost use Rattle.std.specs.Prelude.{◌≡◌, ℕ, List, map, IfOk, OnOk, Some, option_map, option_and_then, if◌then◌else◌, bytes_eq, ◌&&◌};
 ghost use Rattle.std.specs.Prelude.{◌||◌, is_some};
 ghost use Rattle.serde_json.specs.View.{view};
 ghost use Rattle.schema_documents.specs.Words as words;
@@ -11,7 +11,7 @@ ghost use Rattle.document_index.specs.Located.{kept_of};
 ghost use Rattle.document_index.specs.Indexes.{bearer_of, named, anchor_named};
 
 use crate::standing::Standing;
-use schema_identifiers::identifiers::{anchor, dynamic_anchor, identifier};
+use schema_places::{anchor, dynamic_anchor, identifier};
 use schema_steps::Path;
 use schema_vocabularies::Dialect;
 use std::alloc::{AllocError, Global};
@@ -221,5 +221,12 @@ impl Index {
         ensures { option_map (λ b. bearer_of b.now) result ≡ dynamically_anchored_in self.now base.now name.now }
     {
         self.by_dynamic_anchor.get(base)?.get(name)
+    }
+
+    /// The last bearers of the dynamic anchors under a base, by their names, if there are any.
+    pub fn dynamic_anchors(&self, base: &str) -> Option<&BTreeMap<String, Bearer>>
+        ensures { (name : List ℕ) → option_and_then (λ names. named names.now name) result ≡ dynamically_anchored_in self.now base.now name }
+    {
+        self.by_dynamic_anchor.get(base)
     }
 }

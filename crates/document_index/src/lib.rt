@@ -5,5 +5,3 @@ pub mod answers;
 pub mod document;
 pub mod index;
 pub mod standing;
-#[cfg(test)]
-mod tests;

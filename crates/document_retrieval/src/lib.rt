@@ -1,9 +1,8 @@
-//! Documents that are wanted and not at hand, asked for by rounds.
+//! Documents that are given, and those that they want and that are not at hand, asked for by rounds.
 #![tactic(auto)]
 
+pub mod given;
 mod names;
 mod round;
 pub mod rounds;
-#[cfg(test)]
-mod tests;
 pub mod wants;

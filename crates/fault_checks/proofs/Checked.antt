@@ -9,8 +9,8 @@ use Rattle.schema_documents.specs.Lookup.{Target, LookupCause, lookup}
 use Rattle.schema_reading.specs.Sites.{root_site}
 use Rattle.schema_reading.specs.PathTexts.{AreCertificate}
 use Rattle.schema_reading.specs.Plain.{plain}
-use Rattle.referencing.specs.Resolved.{scope_of}
-use Rattle.schema_sites.specs.Seen.{documents_at, Stands}
+use Rattle.fault_steps.specs.Passed.{scope_of}
+use Rattle.fault_steps.specs.Passed.{documents_at, Stands}
 use Rattle.check_laws.specs.Spelled.{AreSpelled}
 use Rattle.fault_steps.specs.declared.walk.Walk.{Walk}
 use Rattle.fault_steps.specs.declared.walk.Step.TheVariants.{Answered}

@@ -8,8 +8,8 @@ use Rattle.schema_reading.specs.PathTexts.{AreCertificate}
 use Rattle.schema_roots.specs.Roots.{Root, Finds}
 use Rattle.schema_roots.specs.Answers.{ComesBack}
 use Rattle.check_laws.specs.Spelled.{AreSpelled}
-use Rattle.keyword_refusals.specs.Scenes.{Scene, reading_of, IsRight, IsStraight}
-use Rattle.keyword_refusals.specs.Verdicts.{IsDecided}
+use Rattle.fault_steps.specs.Passed.{Scene, reading_of, IsRight, IsStraight}
+use Rattle.fault_steps.specs.Passed.{IsDecided}
 use Rattle.fault_checks.specs.declared.checking.CheckAnswer.{CheckAnswer}
 use Rattle.fault_checks.specs.declared.checking.CheckAnswer.TheVariants.{Accepted, Refused, Circular}
 

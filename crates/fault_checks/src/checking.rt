@@ -3,7 +3,7 @@ ghost use Rattle.std.specs.Prelude.{◌≡◌, ◌≤◌, ◌∷◌, [], IfOk};
 ghost use Rattle.serde_json.specs.Data.{depth};
 ghost use Rattle.serde_json.specs.View.{view};
 ghost use Rattle.schema_reading.specs.Plain.{deepest};
-ghost use Rattle.referencing.specs.Resolved.{documents_in, target_in};
+ghost use Rattle.fault_steps.specs.Passed.{documents_in, target_in};
 ghost use Rattle.schema_roots.specs.Roots.{IsSound, root_on};
 ghost use Rattle.fault_checks.specs.Checked.{IsChecked, DecidesRoot};
 ghost use Rattle.path_parts.specs.Texts.{text_left};
@@ -11,11 +11,10 @@ ghost use Rattle.fault_steps.specs.Steps.{Passes};
 
 use fault_steps::stepping::step;
 use fault_steps::walk::{Step, Walk};
+use fault_steps::{Error, Resolved, at_root};
 use path_parts::parts::opened;
-use referencing::{Error, Resolved};
-use schema_registries::registry::SchemaRegistry;
 use schema_reports::Reference;
-use schema_sites::site::at_root;
+use schema_roots::SchemaRegistry;
 use serde_json::Value;
 use std::alloc::{AllocError, Global};
 

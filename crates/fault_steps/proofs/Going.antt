@@ -15,10 +15,9 @@ use Rattle.check_laws.specs.Spelled.{AreSpelled, AreSpelledBy, refuses, goes}
 use Rattle.std.specs.Cow.{cow_str_bytes}
 use Rattle.std.specs.declared.borrow.CowStr.{CowStr}
 use Rattle.serde_json.specs.View.{view}
-use Rattle.schema_sites.specs.Read.{Finds}
-use Rattle.schema_sites.specs.declared.site.Site as code
-use Rattle.schema_sites.specs.declared.keyword.Keyword.{Keyword}
-use Rattle.schema_sites.specs.declared.keyword.Keyword.TheVariants as keyword
+use Rattle.keyword_refusals.specs.Passed.{Finds}
+use Rattle.keyword_refusals.specs.Passed as code
+use Rattle.keyword_refusals.specs.Passed.{Keyword}
 use Rattle.walk_laws.specs.Words.{cuts, cuts_behind}
 use Rattle.walk_laws.proofs.Cuts.{cut_joined}
 use Rattle.fault_steps.specs.declared.walk.Step.{Step}
@@ -107,12 +106,11 @@ pub shorter_at : (step : Step) (t u : List ℕ) → t ≡ u → IsShorter u step
 shorter_at step t u e h = subst (λ x. IsShorter x step) (sym e) h
 
 pub lies_in : (c : code.Site) (d : Data) (k : Keyword) → Finds c d k → depth d < depth (view c.contents.now) → LiesIn c k
-lies_in c d keyword.Nothing f h = tt
-lies_in c d (keyword.Types names) f h = tt
-lies_in c d (keyword.MinItems limit) f h = tt
-lies_in c d (keyword.Items start schema) f h = subst (λ e. depth e < depth (view c.contents.now)) f h
-lies_in c d (keyword.Properties map) f h = subst (λ e. depth e < depth (view c.contents.now)) f h
-lies_in c d (keyword.Reference by text target) f h = f
+lies_in c d code.Nothing f h = tt
+lies_in c d (code.Assertion a) f h = tt
+lies_in c d (code.Items start schema) f h = subst (λ e. depth e < depth (view c.contents.now)) f h
+lies_in c d (code.Properties map) f h = subst (λ e. depth e < depth (view c.contents.now)) f h
+lies_in c d (code.Reference by text target) f h = f
 
 pub shorter_part : (after : Option (Bor (List ℕ))) (text token : List ℕ) (left : Option (Bor (List ℕ))) → text_left after ≡ 47 ∷ text → cuts text ≡ token ∷ cuts_behind (text_left left)
     → length (text_left left) ≤ length (text_left after)

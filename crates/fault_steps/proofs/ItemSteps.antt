@@ -10,7 +10,7 @@ use Rattle.schema_meaning.specs.Questions as asking
 use Rattle.schema_meaning.specs.Rules.{every}
 use Rattle.schema_meaning.specs.Keywords.{items}
 use Rattle.schema_reading.specs.Sites.{Site}
-use Rattle.plain_reader.proofs.ItemTelling.{Child}
+use Rattle.keyword_refusals.proofs.Passed.{Child}
 use Rattle.schema_reading.specs.PathTexts.{path_text}
 use Rattle.check_laws.specs.Spelled.{AreSpelled}
 use Rattle.check_laws.proofs.Answers.{answers_there}

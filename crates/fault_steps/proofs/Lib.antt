@@ -2,4 +2,6 @@ pub mod Going
 pub mod ItemSteps
 pub mod MemberSteps
 pub mod ReferenceSteps
+pub mod OwnNames
 pub mod WalkSteps
+pub mod Passed

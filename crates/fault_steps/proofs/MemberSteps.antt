@@ -13,7 +13,7 @@ use Rattle.schema_meaning.specs.Rules.{every}
 use Rattle.schema_meaning.specs.Keywords.{properties, rule}
 use Rattle.schema_reading.specs.Sites.{Site}
 use Rattle.place_laws.specs.Rising.{are_rising}
-use Rattle.plain_reader.proofs.ItemTelling.{Child}
+use Rattle.keyword_refusals.proofs.Passed.{Child}
 use Rattle.schema_reading.specs.PathTexts.{path_text}
 use Rattle.check_laws.specs.Spelled.{AreSpelled, AreSpelledBy}
 use Rattle.check_laws.proofs.Answers.{answers_there}

@@ -13,10 +13,10 @@ use Rattle.schema_meaning.specs.Keywords.{Assertion, named, asserts, reference, 
 use Rattle.schema_meaning.specs.Readings.{Reading}
 use Rattle.schema_reading.specs.Sites.{Site, target_site, path_of_reference}
 use Rattle.schema_reading.specs.Rows.{Row}
-use Rattle.referencing.specs.Resolved.{target_in}
-use Rattle.referencing.specs.declared.resolver.Resolved.{Resolved}
-use Rattle.schema_sites.specs.Read.{row_of}
-use Rattle.schema_sites.specs.declared.keyword.Keyword.{Keyword}
+use Rattle.keyword_refusals.specs.Passed.{target_in}
+use Rattle.keyword_refusals.specs.Passed.{Resolved}
+use Rattle.keyword_refusals.specs.Passed.{row_of}
+use Rattle.keyword_refusals.specs.Passed.{Keyword}
 use Rattle.schema_reading.specs.PathTexts.{path_text}
 use Rattle.check_laws.specs.Spelled.{AreSpelled, AreSpelledBy, refuses, goes}
 use Rattle.check_laws.proofs.Answers.{answers_there}
@@ -28,8 +28,8 @@ use Rattle.fault_steps.specs.declared.walk.Step.TheVariants.{Answered, On}
 use Rattle.path_parts.specs.Texts.{text_left}
 use Rattle.fault_steps.specs.Steps.{path_at, IsMore, Outcome, PassesThrough, PassesBy}
 use Rattle.keyword_refusals.specs.Scenes.{Scene, reading_of, Meets, Stage}
-use Rattle.schema_sites.specs.References.{kind_of, name_of}
-use Rattle.schema_sites.specs.declared.reference_keyword.ReferenceKeyword.{ReferenceKeyword}
+use Rattle.keyword_refusals.specs.Passed.{kind_of, name_of}
+use Rattle.keyword_refusals.specs.Passed.{ReferenceKeyword}
 use Rattle.keyword_refusals.specs.Rows.{reference_row, reference_questions}
 use Rattle.keyword_refusals.proofs.Right.{told_there, right_on, asked_back}
 use Rattle.keyword_refusals.proofs.Children.{AtTarget, meets_shallow, target_meets}

@@ -1,6 +1,7 @@
 -- One step of a walk, and walks of many.
-use Rattle.std.proofs.Common.{◌≡◌, ◌∙◌, ◌++◌, ℕ, List, [], ◌∷◌, Bool, true, false, true≢false, Bor, Option, None, Some, map, refl, sym, ap, subst, append-nil}
+use Rattle.std.proofs.Common.{◌≡◌, ◌∙◌, ◌++◌, ℕ, List, [], ◌∷◌, Bool, true, false, true≢false, Bor, Option, None, Some, bytes_eq, map, refl, sym, ap, subst, append-nil}
 use Rattle.std.specs.List.{AllByRecursion}
+use Rattle.std.proofs.lemmas.Slice.Eq.{bytes_eq-Decides}
 use Rattle.serde_json.specs.Data.{Data, null, boolean, number, string, array, object, Members}
 use Rattle.serde_json.specs.Find.{get_member}
 use Rattle.serde_json.specs.View.{view}
@@ -8,41 +9,44 @@ use Rattle.json_paths.specs.Pointers.{escape}
 use Rattle.schema_meaning.specs.Members.{In, first, later}
 use Rattle.schema_meaning.specs.Places.{whole}
 use Rattle.schema_meaning.specs.Circular.{IsCircular}
-use Rattle.schema_meaning.specs.Questions.{at}
+use Rattle.schema_meaning.specs.Questions.{at, listed_members}
 use Rattle.schema_meaning.specs.Rules.{Rule, refuses_at}
-use Rattle.schema_meaning.specs.Keywords.{rule}
+use Rattle.schema_meaning.specs.Keywords.{Shape, rule}
 use Rattle.schema_meaning.specs.Readings.{Reading}
 use Rattle.schema_reading.specs.Sites.{Site}
-use Rattle.schema_reading.specs.Rows.{Row, row_at, rows_at}
-use Rattle.referencing.specs.Resolved.{scope_of}
+use Rattle.schema_reading.specs.Rows.{Row, is_draft_4, row_at, rows_at}
+use Rattle.keyword_refusals.specs.Passed.{scope_of}
 use Rattle.schema_documents.specs.Bearers.{Documents}
-use Rattle.schema_sites.specs.Seen.{documents_at, Stands}
-use Rattle.schema_sites.specs.Read.{row_of, context_at}
-use Rattle.schema_sites.specs.Refused.{Refuses}
-use Rattle.schema_sites.specs.declared.keyword.Keyword.{Keyword}
-use Rattle.schema_sites.specs.declared.keyword.Refusal.{Refusal}
-use Rattle.schema_sites.specs.declared.keyword.Refusal.TheVariants as refusal
+use Rattle.schema_documents.specs.Places.{Dialect}
+use Rattle.keyword_refusals.specs.Passed.{documents_at, Stands, is_draft_4_at}
+use Rattle.keyword_refusals.specs.Passed.{row_of, context_at}
+use Rattle.keyword_refusals.specs.Passed.{Refuses}
+use Rattle.keyword_refusals.specs.Passed.{Keyword}
+use Rattle.keyword_refusals.specs.Passed.{Refusal}
+use Rattle.keyword_refusals.specs.PassedRefusals as refusal
 use Rattle.place_laws.specs.Rising.{are_rising}
 use Rattle.schema_reading.specs.PathTexts.{path_text}
 use Rattle.check_laws.specs.Spelled.{AreSpelled, AreSpelledBy, refuses, goes}
 use Rattle.check_laws.proofs.Answers.{obliged_refuses}
 use Rattle.check_laws.proofs.Steps.{from_step}
-use Rattle.walk_laws.specs.Words.{IsOf, cuts, cuts_behind}
+use Rattle.walk_laws.specs.Words.{IsOf, IsUnder, member_of, IsRest, cuts, cuts_behind}
 use Rattle.walk_laws.proofs.Cuts.{cut_is, cut_joined, escape_no_slash}
-use Rattle.walk_laws.proofs.Listed.{in_mapped}
+use Rattle.walk_laws.proofs.Listed.{each_in, in_mapped}
 use Rattle.walk_laws.proofs.Begun.{shape_begins, begun, one_rule, context, rules_of, spelled_member, rules_stand, member_row, not_spelled, false_spelled, spelled_false}
 use Rattle.fault_steps.specs.declared.walk.Walk.{Walk}
 use Rattle.fault_steps.specs.declared.walk.Step.{Step}
 use Rattle.fault_steps.specs.declared.walk.Step.TheVariants.{Answered, On}
 use Rattle.path_parts.specs.Texts.{text_left}
-use Rattle.fault_steps.specs.Steps.{path_at, Outcome, IsLeft, Passes, PassesBy}
-use Rattle.keyword_refusals.specs.Scenes.{Scene, reading_of, IsRight, Stage}
+use Rattle.fault_steps.specs.Steps.{path_at, Outcome, IsLeft, Passes, PassesAs, PassesBy}
+use Rattle.fault_steps.specs.Names.{own_name}
+use Rattle.keyword_refusals.specs.Scenes.{Scene, reading_of, IsRight, Meets, Stage}
 use Rattle.keyword_refusals.specs.Verdicts.{SomeRefuses, rules_by, IsRefusal}
 use Rattle.keyword_refusals.proofs.Names.{listed_found, found_listed}
-use Rattle.keyword_refusals.proofs.Right.{no_cause, member_read, member_named, member_plain}
+use Rattle.keyword_refusals.proofs.Right.{no_cause, member_read, member_named}
 use Rattle.path_parts.proofs.ItemFacts.{some_one}
 use Rattle.path_parts.proofs.TextFacts.{rest_left, no_part}
 use Rattle.fault_steps.proofs.Going.{name_text}
+use Rattle.fault_steps.proofs.OwnNames.{IsOwn, own_named, are_named}
 
 -- ---- one step behind another
 
@@ -63,9 +67,33 @@ passes_on w v step p q = record {
 pub passes_first : (w : Walk) → Passes w (On w)
 passes_first w = record { outcome = λ x s meets straight. record { site = s; meets = meets; back = λ c. c; to = λ p. p; from = λ u. u } }
 
+-- ---- the keyword of a member under a name
+
+pub as_other : (w : Walk) (k : Keyword) (n member : List ℕ) (after : Option (Bor (List ℕ))) → (own_name k member ≡ n → ⊥) → PassesAs w k n member after (Answered false)
+as_other w k n member after other = record { same = λ e. absurd (other e); other = λ e. refl }
+
+pub as_own : (w : Walk) (k : Keyword) (n member : List ℕ) (after : Option (Bor (List ℕ))) (step : Step) → own_name k member ≡ n → PassesBy w k after step → PassesAs w k n member after step
+as_own w k n member after step same p = record { same = λ e. p; other = λ e. absurd (e same) }
+
 -- ---- nothing is left of the evaluation path
 
 module _ (x : Scene) (s : Site) (d : Data) (right : IsRight x s) where
+  abbrev of_draft_4 : Bool
+  of_draft_4 = is_draft_4 s.dialect.draft
+
+  -- the name under which the shape refuses by whose rule a member's certificate begins
+  under : (ms : Members) (k : List ℕ) (v : Data) (i e : List ℕ) → s.contents ≡ object ms → In (k, v) (listed_members ms)
+      → AreSpelledBy (reading_of x) d (rules_of x.documents x.makes x.matches s ms d k v) i e
+      → (shape : Shape Site) × (u : IsUnder of_draft_4 k shape) × (rest : List ℕ) × (e ≡ 47 ∷ (escape u.name ++ rest)) × IsRest rest
+  under ms k v i e is listed h =
+      let shapes = (row_at (context x.documents x.makes x.matches s ms) k v).shapes in
+      let one = one_rule (reading_of x) d _ i e h in
+      let shape = in_mapped (rule x.matches d) shapes one.1 in
+      let u = each_in (IsUnder of_draft_4 k) shapes (member_named x s ms k v right is listed) shape.0 shape.1 in
+      let alone = one.2 (rule x.matches d shape.0 ∷ []) (subst (λ r. In r (rule x.matches d shape.0 ∷ [])) shape.2 first) in
+      let b = begun (reading_of x) d u.name (shape.0 ∷ []) i e (u.named, tt) alone in
+      (shape.0, u, b.0, b.1, b.2)
+
   ends_false : (i e : List ℕ) → e ≡ [] → AreSpelled (reading_of x) s d i e → (c : Data) → s.contents ≡ c → (c ≡ boolean false) × (i ≡ [])
   ends_false i e none h null is = absurd (not_spelled x.documents x.makes x.matches s null d i e is refl h)
   ends_false i e none h (boolean true) is = absurd (not_spelled x.documents x.makes x.matches s (boolean true) d i e is refl h)
@@ -75,8 +103,8 @@ module _ (x : Scene) (s : Site) (d : Data) (right : IsRight x s) where
   ends_false i e none h (array ds) is = absurd (not_spelled x.documents x.makes x.matches s (array ds) d i e is refl h)
   ends_false i e none h (object ms) is =
       let m = spelled_member x.documents x.makes x.matches s ms d i e is h in
-      let b = begun (reading_of x) d m.0 _ i e (member_named x s ms m.0 m.1 right is m.2) m.3 in
-      absurd (no_part 47 _ (sym b.1 ∙ none))
+      let u = under ms m.0 m.1 i e is m.2 m.3 in
+      absurd (no_part 47 _ (sym u.3 ∙ none))
 
   -- a part is left where there are no members
   abbrev IsObject : Data → Type 0
@@ -91,24 +119,20 @@ module _ (x : Scene) (s : Site) (d : Data) (right : IsRight x s) where
   needs_object i text h (array ds) is = absurd (not_spelled x.documents x.makes x.matches s (array ds) d i _ is refl h)
   needs_object i text h (object ms) is = (ms, refl)
 
-  -- the member by whose name the path goes on
+  -- the member whose keyword refuses under the name by which the path goes on
   pub name_found : (ms : Members) (i text token : List ℕ) (after : Option (Bor (List ℕ))) → s.contents ≡ object ms → are_rising ms ≡ true
       → cuts text ≡ token ∷ cuts_behind (text_left after) → AreSpelled (reading_of x) s d i (47 ∷ text)
-      → (v : Data) × (get_member token ms ≡ Some v) × AreSpelledBy (reading_of x) d (rules_of x.documents x.makes x.matches s ms d token v) i (47 ∷ (token ++ text_left after))
+      → (v : Data) × (get_member (member_of of_draft_4 token) ms ≡ Some v)
+      × AreSpelledBy (reading_of x) d (rules_of x.documents x.makes x.matches s ms d (member_of of_draft_4 token) v) i (47 ∷ text)
   name_found ms i text token after is rising cut h =
       let m = spelled_member x.documents x.makes x.matches s ms d i (47 ∷ text) is h in
-      let shapes = (row_at (context x.documents x.makes x.matches s ms) m.0 m.1).shapes in
-      let b = begun (reading_of x) d m.0 shapes i (47 ∷ text) (member_named x s ms m.0 m.1 right is m.2) m.3 in
-      let one = one_rule (reading_of x) d _ i (47 ∷ text) m.3 in
-      let shape = in_mapped (rule x.matches d) shapes one.1 in
-      let plain = member_plain x s ms m.0 m.1 right is m.2 shape.0 shape.1 in
-      let both = cut_is text token (text_left after) (escape m.0) b.0 cut (rest_left after) (escape_no_slash m.0) b.2 (let e : 47 ∷ text ≡ 47 ∷ (escape m.0 ++ b.0) = b.1 in cc) in
-      let same : m.0 ≡ token = sym (both.0 ∙ plain) in
-      let joined : 47 ∷ text ≡ 47 ∷ (token ++ text_left after) = ap (λ t. 47 ∷ t) (cut_joined text token (text_left after) cut (rest_left after)) in (
+      let u = under ms m.0 m.1 i (47 ∷ text) is m.2 m.3 in
+      let both = cut_is text token (text_left after) (escape u.1.name) u.2 cut (rest_left after) (escape_no_slash u.1.name) u.4 (let e : 47 ∷ text ≡ 47 ∷ (escape u.1.name ++ u.2) = u.3 in cc) in
+      let same : token ≡ u.1.name = both.0 ∙ u.1.plain in
+      let member : m.0 ≡ member_of of_draft_4 token = sym (ap (member_of of_draft_4) same ∙ u.1.of_member) in (
         m.1,
-        subst (λ k. get_member k ms ≡ Some m.1) same (listed_found m.0 m.1 ms rising m.2),
-        subst (λ e. AreSpelledBy (reading_of x) d (rules_of x.documents x.makes x.matches s ms d token m.1) i e) joined
-            (subst (λ k. AreSpelledBy (reading_of x) d (rules_of x.documents x.makes x.matches s ms d k m.1) i (47 ∷ text)) same m.3),
+        subst (λ k. get_member k ms ≡ Some m.1) member (listed_found m.0 m.1 ms rising m.2),
+        subst (λ k. AreSpelledBy (reading_of x) d (rules_of x.documents x.makes x.matches s ms d k m.1) i (47 ∷ text)) member m.3,
       )
 
 -- ---- the steps
@@ -139,70 +163,124 @@ module _ (w : Walk) (text : List ℕ) (is : text_left w.evaluation ≡ 47 ∷ te
         none o.0 o.1;
   }
 
-  module _ (ms : Members) (token : List ℕ) (after : Option (Bor (List ℕ))) (contents : view w.site.contents.now ≡ object ms) (rising : are_rising ms ≡ true)
-      (cut : cuts text ≡ token ∷ cuts_behind (text_left after)) where
-    pub no_such_member : get_member token ms ≡ None → Passes w (Answered false)
+  module _ (ms : Members) (token member : List ℕ) (after : Option (Bor (List ℕ))) (contents : view w.site.contents.now ≡ object ms) (rising : are_rising ms ≡ true)
+      (of_member : member ≡ member_of (is_draft_4_at w.site) token) (cut : cuts text ≡ token ∷ cuts_behind (text_left after)) where
+    joined : 47 ∷ text ≡ 47 ∷ (token ++ text_left after)
+    joined = ap (λ t. 47 ∷ t) (cut_joined text token (text_left after) cut (rest_left after))
+
+    found_here : (x : Scene) (s : Site) → Meets w.site (path_at w) x s → IsLeft x w s → (v : Data) × (get_member member ms ≡ Some v)
+        × AreSpelledBy (reading_of x) (view w.value.now) (rules_of x.documents x.makes x.matches s ms (view w.value.now) member v) (text_left w.instance) (47 ∷ text)
+    found_here x s meets h =
+        let d = view w.value.now in
+        let f = name_found x s d meets.right ms (text_left w.instance) text token after (meets.stands.contents ∙ contents) rising cut (on_text x s h) in
+        let same : member_of (is_draft_4 s.dialect.draft) token ≡ member = ap (λ (y : Dialect). member_of (is_draft_4 y.draft) token) meets.stands.dialect ∙ sym of_member in (
+          f.0,
+          subst (λ k. get_member k ms ≡ Some f.0) same f.1,
+          subst (λ k. AreSpelledBy (reading_of x) d (rules_of x.documents x.makes x.matches s ms d k f.0) (text_left w.instance) (47 ∷ text)) same f.2,
+        )
+
+    pub no_such_member : get_member member ms ≡ None → Passes w (Answered false)
     no_such_member none = record {
       outcome = λ x s meets straight h.
-          let f = name_found x s (view w.value.now) meets.right ms (text_left w.instance) text token after (meets.stands.contents ∙ contents) rising cut (on_text x s h) in
+          let f = found_here x s meets h in
           let no : None ≡ Some f.0 = sym none ∙ f.1 in cc;
     }
 
-    pub by_member : (v : Data) (k : Keyword) (step : Step) → get_member token ms ≡ Some v
-        → ((makes : List ℕ → Bool) (s : Site) → Stands w.site s → s.scope ≡ scope_of w.site.resolver → row_at (context_at w.site ms makes s) token v ≡ row_of (documents_at w.site) s k)
-        → PassesBy w k after step → Passes w step
-    by_member v k step found reads p = record {
-      outcome = λ x s meets straight.
-          let d = view w.value.now in
-          let there : s.contents ≡ object ms = meets.stands.contents ∙ contents in
-          let listed = found_listed token v ms found in
-          let here : Row = row_at (context x.documents x.makes x.matches s ms) token v in
-          let row : here ≡ row_of x.documents s k =
-          subst (λ (docs : Documents). row_at (record { documents = docs; makes = x.makes; site = s; members = ms }) token v ≡ row_of docs s k) (sym meets.documents)
-          (reads x.makes s meets.stands meets.scope) in
-          let stands = member_row x.documents x.makes x.matches s ms token v there listed in
-          let stage : Stage w.site (path_at w) d token (row_of x.documents s k) x s = record {
-            meets = meets;
-            straight = straight;
-            stands = subst (λ r. In r (rows_at x.documents x.makes s)) row stands;
-            named = subst (λ (r : Row). AllByRecursion (IsOf token) r.shapes) row (member_named x s ms token v meets.right there listed);
-            plain = λ shape i. member_plain x s ms token v meets.right there listed shape (subst (λ (r : Row). In shape r.shapes) (sym row) i);
-          } in
-          let joined : 47 ∷ text ≡ 47 ∷ (token ++ text_left after) = ap (λ t. 47 ∷ t) (cut_joined text token (text_left after) cut (rest_left after)) in
-          let to : IsLeft x w s → AreSpelledBy (reading_of x) d (rules_by x s d k) (text_left w.instance) (47 ∷ (token ++ text_left after)) = λ h.
-          (let f = name_found x s d meets.right ms (text_left w.instance) text token after there rising cut (on_text x s h) in
-          subst (λ (r : Row). AreSpelledBy (reading_of x) d (map (rule x.matches d) r.shapes) (text_left w.instance) (47 ∷ (token ++ text_left after))) row
-          (subst (λ u. AreSpelledBy (reading_of x) d (rules_of x.documents x.makes x.matches s ms d token u) (text_left w.instance) (47 ∷ (token ++ text_left after)))
-          (some_one (get_member token ms) f.0 v f.1 found) f.2)) in
-          let from : AreSpelledBy (reading_of x) d (rules_by x s d k) (text_left w.instance) (47 ∷ (token ++ text_left after)) → IsLeft x w s = λ h.
-          subst (λ e. AreSpelled (reading_of x) s d (text_left w.instance) e) (sym (is ∙ joined))
-          (from_step (reading_of x) s d (rules_by x s d k) (text_left w.instance) (47 ∷ (token ++ text_left after))
-          (rules_stand x.documents x.makes x.matches s (row_of x.documents s k) d (subst (λ r. In r (rows_at x.documents x.makes s)) row stands)) h) in
-          outcome_through x s s d d (IsLeft x w s) _ step (λ c. c) to from (p.outcome x s token stage);
-    }
+    module _ (v : Data) (k : Keyword) (found : get_member member ms ≡ Some v)
+        (reads : (makes : List ℕ → Bool) (s : Site) → Stands w.site s → s.scope ≡ scope_of w.site.resolver → row_at (context_at w.site ms makes s) member v ≡ row_of (documents_at w.site) s k) where
+      row_here : (x : Scene) (s : Site) → Meets w.site (path_at w) x s → row_at (context x.documents x.makes x.matches s ms) member v ≡ row_of x.documents s k
+      row_here x s meets =
+          subst (λ (docs : Documents). row_at (record { documents = docs; makes = x.makes; site = s; members = ms }) member v ≡ row_of docs s k) (sym meets.documents)
+          (reads x.makes s meets.stands meets.scope)
 
-    stands_there : (x : Scene) (s : Site) (v : Data) → s.contents ≡ object ms → get_member token ms ≡ Some v
-        → In (row_at (context x.documents x.makes x.matches s ms) token v) (rows_at x.documents x.makes s)
-    stands_there x s v there found = member_row x.documents x.makes x.matches s ms token v there (found_listed token v ms found)
+      spelled_here : (x : Scene) (s : Site) → Meets w.site (path_at w) x s → IsLeft x w s
+          → AreSpelledBy (reading_of x) (view w.value.now) (rules_by x s (view w.value.now) k) (text_left w.instance) (47 ∷ text)
+      spelled_here x s meets h =
+          let d = view w.value.now in
+          let f = found_here x s meets h in
+          subst (λ (r : Row). AreSpelledBy (reading_of x) d (map (rule x.matches d) r.shapes) (text_left w.instance) (47 ∷ text)) (row_here x s meets)
+          (subst (λ u. AreSpelledBy (reading_of x) d (rules_of x.documents x.makes x.matches s ms d member u) (text_left w.instance) (47 ∷ text))
+          (some_one (get_member member ms) f.0 v f.1 found) f.2)
+
+      own_here : (x : Scene) (s : Site) → Meets w.site (path_at w) x s → AllByRecursion (IsOwn (own_name k member)) (row_of x.documents s k).shapes
+      own_here x s meets =
+          own_named (is_draft_4 s.dialect.draft) k member x.documents s
+          (subst (λ (r : Row). AllByRecursion (IsUnder (is_draft_4 s.dialect.draft) member) r.shapes) (row_here x s meets)
+          (member_named x s ms member v meets.right (meets.stands.contents ∙ contents) (found_listed member v ms found)))
+
+      -- where the keyword refuses under the name
+      under_name : (step : Step) → own_name k member ≡ token → PassesBy w k after step → Passes w step
+      under_name step same p = record {
+        outcome = λ x s meets straight.
+            let d = view w.value.now in
+            let stands : In (row_of x.documents s k) (rows_at x.documents x.makes s) =
+            subst (λ r. In r (rows_at x.documents x.makes s)) (row_here x s meets)
+            (member_row x.documents x.makes x.matches s ms member v (meets.stands.contents ∙ contents) (found_listed member v ms found)) in
+            let own = subst (λ n. AllByRecursion (IsOwn n) (row_of x.documents s k).shapes) same (own_here x s meets) in
+            let stage : Stage w.site (path_at w) d token (row_of x.documents s k) x s = record {
+              meets = meets;
+              straight = straight;
+              stands = stands;
+              named = are_named token (row_of x.documents s k).shapes own;
+              plain = λ shape i. (each_in (IsOwn token) (row_of x.documents s k).shapes own shape i).plain;
+            } in
+            let to : IsLeft x w s → AreSpelledBy (reading_of x) d (rules_by x s d k) (text_left w.instance) (47 ∷ (token ++ text_left after)) =
+            λ h. subst (λ e. AreSpelledBy (reading_of x) d (rules_by x s d k) (text_left w.instance) e) joined (spelled_here x s meets h) in
+            let from : AreSpelledBy (reading_of x) d (rules_by x s d k) (text_left w.instance) (47 ∷ (token ++ text_left after)) → IsLeft x w s = λ h.
+            subst (λ e. AreSpelled (reading_of x) s d (text_left w.instance) e) (sym (is ∙ joined))
+            (from_step (reading_of x) s d (rules_by x s d k) (text_left w.instance) (47 ∷ (token ++ text_left after))
+            (rules_stand x.documents x.makes x.matches s (row_of x.documents s k) d stands) h) in
+            outcome_through x s s d d (IsLeft x w s) _ step (λ c. c) to from (p.outcome x s token stage);
+      }
+
+      -- where it refuses under another
+      under_other : (own_name k member ≡ token → ⊥) → Passes w (Answered false)
+      under_other other = record {
+        outcome = λ x s meets straight h.
+            let d = view w.value.now in
+            let shapes = (row_of x.documents s k).shapes in
+            let spelled = spelled_here x s meets h in
+            let own = own_here x s meets in
+            let one = one_rule (reading_of x) d _ (text_left w.instance) (47 ∷ text) spelled in
+            let shape = in_mapped (rule x.matches d) shapes one.1 in
+            let plain = (each_in (IsOwn (own_name k member)) shapes own shape.0 shape.1).plain in
+            let b = begun (reading_of x) d (own_name k member) shapes (text_left w.instance) (47 ∷ text) (are_named (own_name k member) shapes own) spelled in
+            let both = cut_is text token (text_left after) (escape (own_name k member)) b.0 cut (rest_left after) (escape_no_slash (own_name k member)) b.2
+            (let e : 47 ∷ text ≡ 47 ∷ (escape (own_name k member) ++ b.0) = b.1 in cc) in
+            other (sym (both.0 ∙ plain));
+      }
+
+      pub by_member : (step : Step) → PassesAs w k token member after step → Passes w step
+      by_member step p = by (bytes_eq (own_name k member) token) refl
+        where
+          by : (b : Bool) → bytes_eq (own_name k member) token ≡ b → Passes w step
+          by true e = (let same = (bytes_eq-Decides (own_name k member) token).0 e in under_name step same (p.same same))
+          by false e =
+              let other : own_name k member ≡ token → ⊥ = λ same. true≢false (sym ((bytes_eq-Decides (own_name k member) token).1 same) ∙ e) in
+              subst (λ st. Passes w st) (sym (p.other other)) (under_other other)
+
+    stands_there : (x : Scene) (s : Site) (v : Data) → s.contents ≡ object ms → get_member member ms ≡ Some v
+        → In (row_at (context x.documents x.makes x.matches s ms) member v) (rows_at x.documents x.makes s)
+    stands_there x s v there found = member_row x.documents x.makes x.matches s ms member v there (found_listed member v ms found)
 
     -- a member that is refused is none of a schema that is right
-    refused_not : (x : Scene) (s : Site) (v : Data) (e : Refusal) → IsRight x s → s.contents ≡ object ms → get_member token ms ≡ Some v → (e ≡ refusal.Memory → ⊥)
-        → Refuses (context x.documents x.makes x.matches s ms) token v (row_at (context x.documents x.makes x.matches s ms) token v) e → ⊥
+    refused_not : (x : Scene) (s : Site) (v : Data) (e : Refusal) → IsRight x s → s.contents ≡ object ms → get_member member ms ≡ Some v → (e ≡ refusal.Memory → ⊥)
+        → Refuses (context x.documents x.makes x.matches s ms) member v (row_at (context x.documents x.makes x.matches s ms) member v) e → ⊥
     refused_not x s v (refusal.Value expected) right there found other r = no_cause x s _ _ right (stands_there x s v there found) r.stands
-    refused_not x s v (refusal.Subschema n) right there found other r = no_cause x s _ _ right (stands_there x s v there found) r.stands
+    refused_not x s v (refusal.Entry n expected) right there found other r = no_cause x s _ _ right (stands_there x s v there found) r.stands
     refused_not x s v (refusal.Target target) right there found other r = no_cause x s _ _ right (stands_there x s v there found) r.stands
     refused_not x s v (refusal.Reference error) right there found other r = no_cause x s _ _ right (stands_there x s v there found) r.2.stands
     refused_not x s v refusal.LeftOut right there found other r = no_cause x s _ _ right (stands_there x s v there found) r.stands
-    refused_not x s v refusal.NotYet right there found other r = true≢false (sym r ∙ member_read x s ms token v right there (found_listed token v ms found))
+    refused_not x s v refusal.NotYet right there found other r = true≢false (sym r ∙ member_read x s ms member v right there (found_listed member v ms found))
     refused_not x s v refusal.Memory right there found other r = absurd (other refl)
 
-    pub refused_member : (v : Data) (e : Refusal) → get_member token ms ≡ Some v → (e ≡ refusal.Memory → ⊥)
+    pub refused_member : (v : Data) (e : Refusal) → get_member member ms ≡ Some v → (e ≡ refusal.Memory → ⊥)
         → ((makes : List ℕ → Bool) (s : Site) → Stands w.site s → s.scope ≡ scope_of w.site.resolver
-        → Refuses (context_at w.site ms makes s) token v (row_at (context_at w.site ms makes s) token v) e) → Passes w (Answered false)
+        → Refuses (context_at w.site ms makes s) member v (row_at (context_at w.site ms makes s) member v) e) → Passes w (Answered false)
     refused_member v e found other r = record {
       outcome = λ x s meets straight h.
           refused_not x s v e meets.right (meets.stands.contents ∙ contents) found other
-          (subst (λ (docs : Documents). Refuses (record { documents = docs; makes = x.makes; site = s; members = ms }) token v (row_at (record { documents = docs; makes = x.makes; site = s; members = ms }) token v) e)
+          (subst (λ (docs : Documents). Refuses (record { documents = docs; makes = x.makes; site = s; members = ms }) member v (row_at (record { documents = docs; makes = x.makes; site = s; members = ms }) member v) e)
           (sym meets.documents) (r x.makes s meets.stands meets.scope));
     }
 
@@ -211,11 +289,6 @@ module _ (w : Walk) (text : List ℕ) (is : text_left w.evaluation ≡ 47 ∷ te
 by_refuses : (r : Reading Site) (d : Data) (ks : List (Rule Site)) (i e : List ℕ) → AreSpelledBy r d ks i e → SomeRefuses r d ks
 by_refuses r d ks i e (refuses k bs j a wrong at_i on_e) = (k, bs, j, a, wrong)
 by_refuses r d ks i e (goes k bs q x y j a o under at_i on_e) = (k, bs, j, a, obliged_refuses r d k bs q x y a o under)
-
-each_in : {A : Type 0} (P : A → Type 0) (xs : List A) → AllByRecursion P xs → (x : A) → In x xs → P x
-each_in P [] h x i = elim i [ ]
-each_in P (y ∷ xs) h x first = h.0
-each_in P (y ∷ xs) h x (later i) = each_in P xs h.1 x i
 
 pub last_passes : (w : Walk) (k : Keyword) (after : Option (Bor (List ℕ))) (b : Bool) → text_left w.instance ≡ [] → text_left after ≡ [] → IsRefusal w.site (path_at w) (view w.value.now) k b
     → PassesBy w k after (Answered b)

@@ -10,9 +10,10 @@ use Rattle.schema_meaning.specs.Keywords.{rule}
 use Rattle.schema_reading.specs.Sites.{Site, path_of_reference}
 use Rattle.schema_reading.specs.Rows.{Row}
 use Rattle.schema_reports.specs.References.{text_of}
-use Rattle.schema_sites.specs.Read.{row_of}
-use Rattle.schema_sites.specs.declared.keyword.Keyword.{Keyword}
+use Rattle.keyword_refusals.specs.Passed.{row_of}
+use Rattle.keyword_refusals.specs.Passed.{Keyword}
 use Rattle.check_laws.specs.Spelled.{AreSpelled, AreSpelledBy}
+use Rattle.fault_steps.specs.Names.{own_name}
 use Rattle.fault_steps.specs.declared.walk.Walk.{Walk}
 use Rattle.fault_steps.specs.declared.walk.Step.{Step}
 use Rattle.fault_steps.specs.declared.walk.Step.TheVariants.{Answered, On}
@@ -48,6 +49,11 @@ pub record Passes (w : Walk) (step : Step) : Type 0 where
 pub record PassesBy (w : Walk) (k : Keyword) (after : Option (Bor (List ℕ))) (step : Step) : Type 0 where
   pub outcome : (x : Scene) (s : Site) (name : List ℕ) → Stage w.site (path_at w) (view w.value.now) name (row_of x.documents s k) x s
       → Outcome x s (view w.value.now) (AreSpelledBy (reading_of x) (view w.value.now) (rules_by x s (view w.value.now) k) (text_left w.instance) (47 ∷ (name ++ text_left after))) step
+
+-- the same by the keyword of a member under a name
+pub record PassesAs (w : Walk) (k : Keyword) (n member : List ℕ) (after : Option (Bor (List ℕ))) (step : Step) : Type 0 where
+  pub same : own_name k member ≡ n → PassesBy w k after step
+  pub other : (own_name k member ≡ n → ⊥) → step ≡ Answered false
 
 -- the same by its row, for the keywords that ask
 pub record PassesThrough (w : Walk) (row : Scene → Site → Row) (after : Option (Bor (List ℕ))) (step : Step) : Type 0 where

@@ -3,5 +3,8 @@
 
 mod items;
 mod members;
+mod names;
 pub mod stepping;
 pub mod walk;
+
+pub use keyword_refusals::{Error, Resolved, at_root};

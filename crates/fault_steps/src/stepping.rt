@@ -2,26 +2,25 @@
 ghost use Rattle.std.specs.Prelude.{◌≡◌, ◌<◌, ◌∷◌, ◌||◌, IfOk, is_some};
 ghost use Rattle.serde_json.specs.Data.{depth};
 ghost use Rattle.serde_json.specs.View.{view};
-ghost use Rattle.referencing.specs.Resolved.{target_in};
-ghost use Rattle.schema_sites.specs.Read.{FindsTarget};
+ghost use Rattle.keyword_refusals.specs.Passed.{target_in};
+ghost use Rattle.keyword_refusals.specs.Passed.{FindsTarget};
 ghost use Rattle.keyword_refusals.specs.Rows.{reference_row};
 ghost use Rattle.path_parts.specs.Texts.{text_left};
 ghost use Rattle.keyword_refusals.specs.Verdicts.{LiesIn};
-ghost use Rattle.fault_steps.specs.Steps.{Passes, PassesBy, PassesThrough, IsMore, Ends, IsNotLonger, IsShorter};
+ghost use Rattle.fault_steps.specs.Steps.{Passes, PassesAs, PassesBy, PassesThrough, IsMore, Ends, IsNotLonger, IsShorter};
 
 use crate::items::through_items;
 use crate::members::through_properties;
+use crate::names::{member_of, own_name};
 use crate::walk::{Step, Walk};
 use keyword_refusals::members::names_rise;
 use keyword_refusals::refusing::refuses;
+use keyword_refusals::{
+    Keyword, ReferenceKeyword, Refusal, Resolved, at_target, keyword as read_keyword,
+};
 use path_parts::members::member_named;
 use path_parts::parts::first_part;
-use referencing::Resolved;
 use schema_reports::{LazyLocation, Reference};
-use schema_sites::keyword::{Keyword, Refusal};
-use schema_sites::reading::keyword as read_keyword;
-use schema_sites::reference_keyword::ReferenceKeyword;
-use schema_sites::site::at_target;
 use serde_json::Value;
 use std::alloc::{AllocError, Global};
 
@@ -71,8 +70,7 @@ fn through<'r, 'i, 'p>(
             target,
         } => { through_reference(alloc, walk, by, text, target, after) }
         Keyword::Nothing => Ok(Step::Answered(false)),
-        Keyword::Types(_names) => Ok(Step::Answered(false)),
-        Keyword::MinItems(_least) => Ok(Step::Answered(false)),
+        Keyword::Assertion(_assertion) => Ok(Step::Answered(false)),
     }
 }
 
@@ -110,6 +108,25 @@ fn by_keyword<'r, 'i, 'p>(
     Ok(Step::Answered(refused))
 }
 
+// The step by the keyword of a member, where it may refuse under the name that the evaluation path goes on with.
+fn by_own_name<'r, 'i, 'p>(
+    alloc: Global,
+    walk: Walk<'r, 'i, 'p>,
+    name: &str,
+    member: &str,
+    keyword: Keyword<'r>,
+    after: Option<&'p str>,
+) -> Result<Step<'r, 'i, 'p>, AllocError>
+    requires lies { LiesIn walk.site keyword }
+    ensures passes { IfOk result (PassesAs walk.entry keyword.entry name.now member.now after.entry) }
+    ensures shorter { IfOk result (IsNotLonger after.entry) }
+{
+    if own_name(&keyword, member) != name {
+        return Ok(Step::Answered(false));
+    }
+    by_keyword(alloc, walk, keyword, after)
+}
+
 // Whether a schema is `false` where nothing is left of the instance's path.
 fn ends_here(contents: &Value, instance: Option<&str>) -> bool
     ensures { Ends (view contents.now) instance.entry result }
@@ -135,11 +152,12 @@ fn by_name<'r, 'i, 'p>(
         return Ok(Step::Answered(false));
     };
     names_rise(members);
-    let Some(part) = member_named(members, name) else {
+    let member = member_of(&walk.site, name);
+    let Some(part) = member_named(members, member) else {
         return Ok(Step::Answered(false));
     };
-    match read_keyword(alloc, &walk.site, members, name, part) {
-        Ok(keyword) => by_keyword(alloc, walk, keyword, after),
+    match read_keyword(alloc, &walk.site, members, member, part) {
+        Ok(keyword) => by_own_name(alloc, walk, name, member, keyword, after),
         Err(refusal) => match refusal {
             Refusal::Memory => Err(AllocError),
             _ => Ok(Step::Answered(false)),

@@ -3,10 +3,10 @@ ghost use Rattle.std.specs.Prelude.{◌≤◌};
 ghost use Rattle.serde_json.specs.Data.{depth};
 ghost use Rattle.serde_json.specs.View.{view};
 ghost use Rattle.schema_reading.specs.Plain.{deepest};
-ghost use Rattle.schema_sites.specs.Seen.{documents_at};
+ghost use Rattle.keyword_refusals.specs.Passed.{documents_at};
 
+use keyword_refusals::Site;
 use schema_reports::Reference;
-use schema_sites::site::Site;
 use serde_json::Value;
 use std::borrow::CowStr;
 

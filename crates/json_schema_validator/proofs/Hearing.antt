@@ -8,7 +8,7 @@ use Rattle.schema_meaning.specs.Readings.{Telling, verdicts, bags, IsTold}
 use Rattle.schema_documents.specs.Bearers.{Documents}
 use Rattle.schema_documents.specs.Lookup.{Target}
 use Rattle.schema_reading.specs.Sites.{Site, root_site}
-use Rattle.schema_reading.specs.NotYet.{unread, not_yet, is_not_yet}
+use Rattle.unread_keywords.specs.NotYet.{unread, not_yet, is_not_yet}
 use Rattle.schema_reading.specs.Plain.{plain}
 use Rattle.schema_reading.specs.AllKeys.{keys_of}
 use Rattle.plain_reader.specs.Tellings.{AreRead}

@@ -5,7 +5,7 @@ use Rattle.schema_documents.specs.Bearers.{Document}
 use Rattle.schema_documents.specs.DocumentCauses.{DocumentCause, document_causes}
 use Rattle.schema_documents.specs.Lookup.{Target, LookupCause, lookup}
 use Rattle.schema_reading.specs.Sites.{root_site}
-use Rattle.schema_reading.specs.NotYet.{Cause, IsBuildCause}
+use Rattle.unread_keywords.specs.NotYet.{Cause, IsBuildCause}
 use Rattle.referencing_errors.specs.Causes.{NamesLookup, NamesDocument}
 use Rattle.reached_sites.specs.Causes.{NamesCause}
 use Rattle.schema_roots.specs.Roots.{Root, Finds}

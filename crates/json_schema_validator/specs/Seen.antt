@@ -2,7 +2,7 @@
 use Rattle.std.specs.Prelude.{ℕ, List, [], ◌∷◌, string_bytes}
 use Rattle.schema_drafts.specs.declared.draft.Draft.{Draft}
 use Rattle.given_documents.specs.Given.{Given, documents_by}
-use Rattle.referencing.specs.Seen.{documents_of}
+use Rattle.reached_sites.specs.Passed.{documents_of}
 use Rattle.schema_roots.specs.Roots.{Root}
 use Rattle.json_schema_validator.specs.declared.validator.Validator.{Validator}
 

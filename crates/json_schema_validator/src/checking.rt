@@ -13,8 +13,8 @@ ghost use Rattle.json_schema_validator.specs.Joined.{IsFaultChecked, WhereStraig
 
 use crate::validator::Validator;
 use fault_checks::checking::{CheckAnswer, FaultPath, check_fault};
-use schema_registries::registry::SchemaRegistry;
 use schema_reports::{ErrorIterator, ValidationError};
+use schema_roots::SchemaRegistry;
 use serde_json::Value;
 use std::alloc::{AllocError, Global};
 

@@ -11,8 +11,8 @@ ghost use Rattle.reached_sites.specs.Causes.{RefusesRoot};
 ghost use Rattle.schema_roots.specs.Roots.{Root, Finds};
 ghost use Rattle.json_schema_validator.specs.Refused.{RefusesDocuments, RefusesBuild};
 
+use reached_sites::Error as ReferenceError;
 use reached_sites::cause::BuildCause;
-use referencing::Error as ReferenceError;
 use std::alloc::AllocError;
 use thiserror::Error;
 

@@ -5,7 +5,7 @@ ghost use Rattle.schema_drafts.specs.Drafts as drafts;
 ghost use Rattle.schema_documents.specs.DocumentCauses.{document_causes};
 ghost use Rattle.schema_documents.specs.Lookup.{Target};
 ghost use Rattle.given_documents.specs.Given.{documents_by};
-ghost use Rattle.schema_registries.specs.Seen.{documents_given, documents_in_registry};
+ghost use Rattle.schema_roots.specs.Passed.{documents_given, documents_in_registry};
 ghost use Rattle.schema_roots.specs.Roots.{IsSound, Finds};
 ghost use Rattle.json_schema_validator.specs.Refused.{RefusesDocuments, RefusesBuild};
 
@@ -13,8 +13,7 @@ use crate::error::BuildError;
 use crate::validator::Validator;
 use reached_sites::checking::check_reached;
 use schema_drafts::draft::Draft;
-use schema_registries::documents::Documents;
-use schema_registries::registry::SchemaRegistry;
+use schema_roots::{Documents, SchemaRegistry};
 use std::alloc::{AllocError, Global};
 use uri_references::uri::Uri;
 

@@ -5,7 +5,7 @@ ghost use Rattle.serde_json.specs.View.{view};
 ghost use Rattle.schema_drafts.specs.Drafts as drafts;
 ghost use Rattle.schema_meaning.specs.Faults.{Faults};
 ghost use Rattle.schema_meaning.specs.Readings.{verdicts, bags};
-ghost use Rattle.referencing.specs.Seen.{documents_of};
+ghost use Rattle.reached_sites.specs.Passed.{documents_of};
 ghost use Rattle.schema_reports.specs.Left.{errors_left};
 ghost use Rattle.schema_reports.specs.Stands.{first_stands};
 ghost use Rattle.schema_reports.specs.Told.{fault_of, faults_of};
@@ -16,7 +16,7 @@ ghost use Rattle.schema_roots.specs.Roots.{IsSound};
 
 use crate::options::ValidationOptions;
 use plain_reader::root::tell_root;
-use referencing::Registry;
+use reached_sites::Registry;
 use schema_drafts::draft::Draft;
 use schema_reports::{AllFaults, ErrorIterator, FirstFault, Observer, ValidationError, Verdict};
 use serde_json::Value;

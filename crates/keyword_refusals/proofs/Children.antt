@@ -7,12 +7,12 @@ use Rattle.schema_documents.specs.Bearers.{Documents}
 use Rattle.schema_documents.specs.Scopes.{entered_scope}
 use Rattle.schema_reading.specs.Sites.{Site, below, target_site, path_of_reference}
 use Rattle.schema_reading.specs.Plain.{deepest}
-use Rattle.referencing.specs.Resolved.{base_of, scope_of, documents_in, target_in}
-use Rattle.referencing.specs.declared.resolver.Resolved.{Resolved}
-use Rattle.schema_sites.specs.Seen.{documents_at, Stands}
-use Rattle.schema_sites.specs.Read.{FindsTarget}
-use Rattle.schema_sites.specs.declared.reference_keyword.ReferenceKeyword.{ReferenceKeyword}
-use Rattle.schema_sites.specs.declared.site.Site as code
+use Rattle.plain_reader.specs.Passed.{base_of, scope_of, documents_in, target_in}
+use Rattle.plain_reader.specs.Passed.{Resolved}
+use Rattle.plain_reader.specs.Passed.{documents_at, Stands}
+use Rattle.plain_reader.specs.Passed.{FindsTarget}
+use Rattle.plain_reader.specs.Passed.{ReferenceKeyword}
+use Rattle.plain_reader.specs.Passed as code
 use Rattle.plain_reader.proofs.ItemTelling.{Child}
 use Rattle.plain_reader.proofs.LookedLemmas.{looked_up_lies}
 use Rattle.keyword_refusals.specs.Scenes.{Scene, IsRight, Meets}

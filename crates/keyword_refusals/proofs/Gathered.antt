@@ -5,28 +5,27 @@ use Rattle.serde_json.specs.Data.{Data, Members, no_members, member, depth}
 use Rattle.serde_json.specs.Find.{at, get}
 use Rattle.serde_json.specs.View.{view}
 use Rattle.json_paths.specs.Parts.{Part}
-use Rattle.schema_meaning.specs.Members.{In, first, later}
+use Rattle.schema_meaning.specs.Members.{In, first, later, is_empty}
 use Rattle.schema_meaning.specs.Places.{whole, value_after, stay}
-use Rattle.schema_meaning.specs.Faults.{Kind}
 use Rattle.schema_meaning.specs.Rules.{every}
 use Rattle.schema_meaning.specs.Questions.{Question, listed_members, items_of, items_from}
 use Rattle.schema_meaning.specs.Questions as asking
-use Rattle.schema_meaning.specs.Keywords.{items, properties, reference, rule, unless}
+use Rattle.schema_meaning.specs.Keywords.{Assertion, named, wrong, items, properties, reference, rule}
 use Rattle.schema_meaning.specs.Readings.{verdicts, IsTold}
 use Rattle.schema_reading.specs.Sites.{Site, target_site, path_of_reference}
 use Rattle.schema_reading.specs.Rows.{Row}
 use Rattle.schema_reading.specs.Plain.{deepest}
-use Rattle.referencing.specs.Resolved.{target_in}
-use Rattle.referencing.specs.declared.resolver.Resolved.{Resolved}
-use Rattle.schema_sites.specs.Seen.{documents_at}
-use Rattle.schema_sites.specs.Read.{row_of}
-use Rattle.schema_sites.specs.declared.keyword.Keyword.{Keyword}
+use Rattle.plain_reader.specs.Passed.{target_in}
+use Rattle.plain_reader.specs.Passed.{Resolved}
+use Rattle.plain_reader.specs.Passed.{documents_at}
+use Rattle.plain_reader.specs.Passed.{row_of}
+use Rattle.plain_reader.specs.Passed.{Keyword}
 use Rattle.place_laws.specs.Rising.{are_rising}
-use Rattle.schema_sites.specs.declared.site.Site as code
+use Rattle.plain_reader.specs.Passed as code
 use Rattle.plain_reader.proofs.ItemTelling.{Child}
 use Rattle.keyword_refusals.specs.Scenes.{Scene, reading_of, Meets, Stage}
-use Rattle.schema_sites.specs.References.{kind_of, name_of}
-use Rattle.schema_sites.specs.declared.reference_keyword.ReferenceKeyword.{ReferenceKeyword}
+use Rattle.plain_reader.specs.Passed.{kind_of, name_of}
+use Rattle.plain_reader.specs.Passed.{ReferenceKeyword}
 use Rattle.keyword_refusals.specs.Rows.{items_site, items_row, items_questions, property_site, declared_in, properties_row, properties_questions, reference_row, reference_questions}
 use Rattle.keyword_refusals.specs.Verdicts.{IsDecided, SomeRefuses, IsVerdict, AreRefused, IsMemberRefused, IsRefusal, rules_by}
 use Rattle.keyword_refusals.proofs.Right.{told_there, right_on, asked_back}
@@ -184,10 +183,10 @@ by_questions c path d k row p questions b shallow is rules h = record {
       (decided_by b x s d (row x s) p (questions x s) _ there.stands (rules x s) told (h.answers x s n there));
 }
 
-pub by_assertion : (c : code.Site) (path : List Part) (d : Data) (k : Keyword) (p : List Part) (kind : Kind) (b v : Bool) → b ≡ v
-    → ((x : Scene) (s : Site) → rules_by x s d k ≡ every p (unless v kind d) [] ∷ []) → IsRefusal c path d k (not b)
-by_assertion c path d k p kind b v same rules = record {
-  decides = λ x s n stage. decided_asserted b v (reading_of x) d d p kind (rules_by x s d k) same (rules x s);
+pub by_assertion : (c : code.Site) (path : List Part) (d : Data) (k : Keyword) (a : Assertion) (b : Bool) → ((matches : List ℕ → List ℕ → Bool) → b ≡ is_empty (wrong matches a d))
+    → ((x : Scene) (s : Site) → rules_by x s d k ≡ every (asking.at (named a)) (wrong x.matches a d) [] ∷ []) → IsRefusal c path d k (not b)
+by_assertion c path d k a b same rules = record {
+  decides = λ x s n stage. decided_asserted b (reading_of x) d (asking.at (named a)) (wrong x.matches a d) (rules_by x s d k) (same x.matches) (rules x s);
 }
 
 pub by_nothing : (c : code.Site) (path : List Part) (d : Data) (k : Keyword) → ((x : Scene) (s : Site) → rules_by x s d k ≡ []) → IsRefusal c path d k false

@@ -5,3 +5,4 @@ pub mod ItemQuestions
 pub mod MemberQuestions
 pub mod Refusals
 pub mod Gathered
+pub mod Passed

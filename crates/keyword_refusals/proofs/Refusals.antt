@@ -1,14 +1,14 @@
 -- Whether keywords refuse, by what is told of their questions.
-use Rattle.std.proofs.Common.{◌≡◌, ◌∙◌, ◌≤◌, List, [], ◌∷◌, Bool, true, false, not, map, Some, refl, sym, ap, subst}
+use Rattle.std.proofs.Common.{◌≡◌, ◌∙◌, ◌≤◌, List, [], ◌∷◌, Bool, true, false, not, ◌&&◌, map, Some, refl, sym, ap, subst}
 use Rattle.serde_json.specs.Data.{Data, depth}
 use Rattle.serde_json.specs.View.{view}
 use Rattle.json_paths.specs.Parts.{Part}
-use Rattle.schema_meaning.specs.Members.{In, first, later, all_true}
+use Rattle.schema_meaning.specs.Members.{In, first, later, all_true, is_empty}
 use Rattle.schema_meaning.specs.Places.{whole, value_after}
-use Rattle.schema_meaning.specs.Faults.{Faults, none, is_none, Kind}
+use Rattle.schema_meaning.specs.Faults.{Faults, none, is_none}
 use Rattle.schema_meaning.specs.Questions.{Question}
 use Rattle.schema_meaning.specs.Rules.{Rule, Note, every, accepts}
-use Rattle.schema_meaning.specs.Keywords.{unless, rule}
+use Rattle.schema_meaning.specs.Keywords.{rule}
 use Rattle.schema_meaning.specs.Readings.{Reading, verdicts, IsTold}
 use Rattle.schema_meaning.specs.Cut.{cut}
 use Rattle.schema_meaning.specs.Certificates.{AreAnswers}
@@ -17,8 +17,8 @@ use Rattle.schema_reading.specs.Rows.{Row, rows_at}
 use Rattle.schema_reading.specs.Plain.{deepest, plain}
 use Rattle.schema_reading.specs.AllKeys.{keys_of}
 use Rattle.meaning_laws.proofs.Verdicts.{cut_agrees}
-use Rattle.schema_sites.specs.Seen.{documents_at}
-use Rattle.schema_sites.specs.declared.site.Site as code
+use Rattle.plain_reader.specs.Passed.{documents_at}
+use Rattle.plain_reader.specs.Passed as code
 use Rattle.schema_reports.specs.Stands.{verdict_stands}
 use Rattle.schema_reports.specs.declared.verdict.Verdict.{Verdict}
 use Rattle.schema_reports.specs.declared.first_fault.FirstFault.{FirstFault}
@@ -107,21 +107,19 @@ decided_by false x s d row p qs v i is told answer = λ h. none h.0 h.1 (subst (
 no_answers : (r : Reading Site) (d : Data) (p : List Part) (notes : List Note) (bs : List Bool) → AreAnswers r (whole d) (every p notes []) bs → bs ≡ []
 no_answers r d p notes bs a = let e : Some [] ≡ Some bs = a.are in cc
 
-asserted : (b : Bool) (r : Reading Site) (d e : Data) (p : List Part) (kind : Kind) → IsDecided (not b) (SomeRefuses r d (every p (unless b kind e) [] ∷ []))
-asserted true r d e p kind = λ h. none h.0 h.1 h.2 h.3 h.4
+asserted : (b : Bool) (r : Reading Site) (d : Data) (p : List Part) (notes : List Note) → b ≡ is_empty notes → IsDecided (not b) (SomeRefuses r d (every p notes [] ∷ []))
+asserted true r d p notes is = λ h. none h.0 h.1 h.2 h.3 h.4
   where
-    none : (k : Rule Site) (bs : List Bool) → In k (every p [] [] ∷ []) → AreAnswers r (whole d) k bs → accepts k bs ≡ false → ⊥
+    none : (k : Rule Site) (bs : List Bool) → In k (every p notes [] ∷ []) → AreAnswers r (whole d) k bs → accepts k bs ≡ false → ⊥
     none _ bs first a wrong =
-        let empty : bs ≡ [] = no_answers r d p [] bs a in
-        let no : true ≡ false = sym (ap all_true empty) ∙ wrong in cc
+        let empty : bs ≡ [] = no_answers r d p notes bs a in
+        let no : true ≡ false = ap (λ v. v && true) is ∙ sym (ap (λ vs. is_empty notes && all_true vs) empty) ∙ wrong in cc
     none k bs (later i) a wrong = elim i [ ]
-asserted false r d e p kind = (every p (unless false kind e) [], [], first, record { unfoldings = 0; are = refl }, refl)
+asserted false r d p notes is = (every p notes [], [], first, record { unfoldings = 0; are = refl }, ap (λ v. v && true) (sym is))
 
-pub decided_asserted : (b c : Bool) (r : Reading Site) (d e : Data) (p : List Part) (kind : Kind) (ks : List (Rule Site)) → b ≡ c → ks ≡ every p (unless c kind e) [] ∷ []
+pub decided_asserted : (b : Bool) (r : Reading Site) (d : Data) (p : List Part) (notes : List Note) (ks : List (Rule Site)) → b ≡ is_empty notes → ks ≡ every p notes [] ∷ []
     → IsDecided (not b) (SomeRefuses r d ks)
-decided_asserted b c r d e p kind ks same is =
-    subst (λ ks. IsDecided (not b) (SomeRefuses r d ks)) (sym is)
-    (subst (λ v. IsDecided (not b) (SomeRefuses r d (every p (unless v kind e) [] ∷ []))) same (asserted b r d e p kind))
+decided_asserted b r d p notes ks same is = subst (λ ks. IsDecided (not b) (SomeRefuses r d ks)) (sym is) (asserted b r d p notes same)
 
 pub decided_nothing : (r : Reading Site) (d : Data) → IsDecided false (SomeRefuses r d [])
 decided_nothing r d = λ h. elim h.2 [ ]

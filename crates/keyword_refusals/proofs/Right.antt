@@ -1,8 +1,6 @@
 -- What nothing wrong below a site says of its rows.
 use Rattle.std.proofs.Common.{◌≡◌, ◌≤◌, ℕ, List, [], ◌∷◌, Bool, false, None, refl}
-use Rattle.std.specs.List.{AllByRecursion}
 use Rattle.serde_json.specs.Data.{Data, object, Members, depth}
-use Rattle.json_paths.specs.Pointers.{escape}
 use Rattle.schema_meaning.specs.Members.{In, first}
 use Rattle.schema_meaning.specs.Places.{whole, value_after, called_after}
 use Rattle.schema_meaning.specs.Questions.{Question, listed_members}
@@ -14,7 +12,7 @@ use Rattle.schema_meaning.specs.Cut.{cut}
 use Rattle.schema_reading.specs.Sites.{Site}
 use Rattle.schema_reading.specs.Rows.{BuildCause, Row, row_at, rows_at}
 use Rattle.schema_reading.specs.BuildCauses.{at_root, by_keyword}
-use Rattle.schema_reading.specs.NotYet.{Cause, wrong, not_yet, unread, is_unread, IsBuildCause, is_wrong, is_not_yet}
+use Rattle.unread_keywords.specs.NotYet.{Cause, wrong, not_yet, unread, is_unread, IsBuildCause, is_wrong, is_not_yet}
 use Rattle.schema_reading.specs.Plain.{deepest}
 use Rattle.schema_reading.specs.AllKeys.{keys_of}
 use Rattle.meaning_laws.proofs.Decided.{cut_is_decided}
@@ -24,8 +22,7 @@ use Rattle.plain_laws.proofs.Keys.{all_keys}
 use Rattle.plain_reader.specs.Tellings.{AreRead}
 use Rattle.plain_reader.proofs.Reading.{reached_on, read_here, read_each}
 use Rattle.check_laws.proofs.Straight.{circular_above}
-use Rattle.walk_laws.specs.Words.{IsOf}
-use Rattle.walk_laws.proofs.Named.{shapes_are_of, shaped_plain}
+use Rattle.walk_laws.proofs.Named.{AreUnder, shapes_are_under}
 use Rattle.walk_laws.proofs.Begun.{context, rules_stand}
 use Rattle.keyword_refusals.specs.Scenes.{Scene, reading_of, IsRight, IsStraight}
 
@@ -54,15 +51,11 @@ module _ (x : Scene) where
   pub member_read : (s : Site) (ms : Members) (k : List ℕ) (v : Data) → IsRight x s → s.contents ≡ object ms → In (k, v) (listed_members ms) → is_unread s ms k v ≡ false
   member_read s ms k v r is i = read_each s ms k v (read_here x.documents x.makes s (right_read s r)) is i
 
-  -- the shapes of a member bear its name, which is written as it is
+  -- the names under which the shapes of a member refuse
   pub member_named : (s : Site) (ms : Members) (k : List ℕ) (v : Data) → IsRight x s → s.contents ≡ object ms → In (k, v) (listed_members ms)
-      → AllByRecursion (IsOf k) (row_at (context x.documents x.makes x.matches s ms) k v).shapes
+      → AreUnder (context x.documents x.makes x.matches s ms) k (row_at (context x.documents x.makes x.matches s ms) k v)
   member_named s ms k v r is i =
-      shapes_are_of (context x.documents x.makes x.matches s ms) k v (member_read s ms k v r is i)
-
-  pub member_plain : (s : Site) (ms : Members) (k : List ℕ) (v : Data) → IsRight x s → s.contents ≡ object ms → In (k, v) (listed_members ms)
-      → (shape : Shape Site) → In shape (row_at (context x.documents x.makes x.matches s ms) k v).shapes → escape k ≡ k
-  member_plain s ms k v r is i = shaped_plain (context x.documents x.makes x.matches s ms) k v (member_read s ms k v r is i)
+      shapes_are_under (context x.documents x.makes x.matches s ms) k v (member_read s ms k v r is i)
 
   -- where no references come back, the cut reading's verdict is the decided one
   pub told_there : (s : Site) (d : Data) → depth s.contents ≤ deepest x.documents → IsStraight x s d

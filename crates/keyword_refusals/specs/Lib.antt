@@ -1,3 +1,5 @@
 pub mod Scenes
 pub mod Rows
 pub mod Verdicts
+pub mod Passed
+pub mod PassedRefusals

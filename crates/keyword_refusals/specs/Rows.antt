@@ -8,9 +8,9 @@ use Rattle.schema_meaning.specs.Keywords.{items, properties, reference}
 use Rattle.schema_documents.specs.Lookup.{Target}
 use Rattle.schema_reading.specs.Sites.{Site, below, target_site}
 use Rattle.schema_reading.specs.Rows.{Row, reads, sites_named}
-use Rattle.schema_sites.specs.Read.{each_below}
-use Rattle.schema_sites.specs.References.{kind_of, name_of}
-use Rattle.schema_sites.specs.declared.reference_keyword.ReferenceKeyword.{ReferenceKeyword}
+use Rattle.plain_reader.specs.Passed.{each_below}
+use Rattle.plain_reader.specs.Passed.{kind_of, name_of}
+use Rattle.plain_reader.specs.Passed.{ReferenceKeyword}
 use Rattle.keyword_refusals.specs.Scenes.{Scene}
 
 abbrev pub items_site : Data → Scene → Site → Site

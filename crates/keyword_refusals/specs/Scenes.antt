@@ -15,10 +15,10 @@ use Rattle.schema_documents.specs.Bearers.{Documents}
 use Rattle.schema_reading.specs.Sites.{Site}
 use Rattle.schema_reading.specs.Plain.{plain}
 use Rattle.schema_reading.specs.Rows.{Row, rows_at}
-use Rattle.schema_reading.specs.NotYet.{Cause, IsBuildCause}
-use Rattle.referencing.specs.Resolved.{scope_of}
-use Rattle.schema_sites.specs.Seen.{documents_at, Stands}
-use Rattle.schema_sites.specs.declared.site.Site as code
+use Rattle.unread_keywords.specs.NotYet.{Cause, IsBuildCause}
+use Rattle.plain_reader.specs.Passed.{scope_of}
+use Rattle.plain_reader.specs.Passed.{documents_at, Stands}
+use Rattle.plain_reader.specs.Passed as code
 use Rattle.walk_laws.specs.Words.{IsOf}
 
 -- the documents, and how patterns are made and matched

@@ -14,10 +14,10 @@ use Rattle.schema_meaning.specs.Certificates.{AreAnswers}
 use Rattle.schema_reading.specs.Sites.{Site}
 use Rattle.schema_reading.specs.Rows.{Row}
 use Rattle.place_laws.specs.Rising.{are_rising}
-use Rattle.schema_sites.specs.Read.{shapes_of, row_of, FindsTarget}
-use Rattle.schema_sites.specs.declared.site.Site as code
-use Rattle.schema_sites.specs.declared.keyword.Keyword.{Keyword}
-use Rattle.schema_sites.specs.declared.keyword.Keyword.TheVariants.{Nothing, Types, MinItems, Items, Properties, Reference}
+use Rattle.plain_reader.specs.Passed.{shapes_of, row_of, FindsTarget}
+use Rattle.plain_reader.specs.Passed as code
+use Rattle.plain_reader.specs.Passed.{Keyword}
+use Rattle.plain_reader.specs.Passed.{Nothing, Assertion, Items, Properties, Reference}
 use Rattle.keyword_refusals.specs.Rows.{property_site, properties_row}
 use Rattle.keyword_refusals.specs.Scenes.{Scene, reading_of, Meets, IsStraight, Stage}
 
@@ -59,8 +59,7 @@ pub record IsRefusal (c : code.Site) (path : List Part) (d : Data) (k : Keyword)
 -- the keyword's schemas lie in the schema, and its target is found
 abbrev pub LiesIn : code.Site → Keyword → Type 0
 LiesIn c Nothing = Unit {0}
-LiesIn c (Types names) = Unit {0}
-LiesIn c (MinItems limit) = Unit {0}
+LiesIn c (Assertion a) = Unit {0}
 LiesIn c (Items start schema) = depth (view schema.now) < depth (view c.contents.now)
 LiesIn c (Properties map) = depth (object (members_view map.now.entries)) < depth (view c.contents.now)
 LiesIn c (Reference keyword text target) = FindsTarget c keyword text.now target

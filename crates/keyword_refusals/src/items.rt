@@ -4,15 +4,15 @@ ghost use Rattle.serde_json.specs.Data.{depth};
 ghost use Rattle.serde_json.specs.View.{view};
 ghost use Rattle.schema_reading.specs.Plain.{deepest};
 ghost use Rattle.schema_reading.specs.Sites.{path_of_reference};
-ghost use Rattle.schema_sites.specs.Seen.{documents_at};
+ghost use Rattle.plain_reader.specs.Passed.{documents_at};
 ghost use Rattle.schema_reports.specs.Locations.{location_of};
 ghost use Rattle.schema_reports.specs.References.{text_of};
 ghost use Rattle.keyword_refusals.specs.Rows.{items_row, items_questions};
 ghost use Rattle.keyword_refusals.specs.Verdicts.{AreRefused};
 
 use crate::refusing::is_refused;
+use plain_reader::Site;
 use schema_reports::{LazyLocation, Reference};
-use schema_sites::site::Site;
 use serde_json::Value;
 use std::alloc::{AllocError, Global};
 

@@ -4,3 +4,8 @@
 mod items;
 pub mod members;
 pub mod refusing;
+
+pub use plain_reader::{
+    Assertion, Error, Keyword, ReferenceKeyword, Refusal, Resolved, Site, at_root, at_target,
+    keyword,
+};

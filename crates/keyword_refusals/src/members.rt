@@ -4,7 +4,7 @@ ghost use Rattle.serde_json.specs.Data.{depth, object};
 ghost use Rattle.serde_json.specs.View.{view, members_view};
 ghost use Rattle.schema_reading.specs.Plain.{deepest};
 ghost use Rattle.schema_reading.specs.Sites.{path_of_reference};
-ghost use Rattle.schema_sites.specs.Seen.{documents_at};
+ghost use Rattle.plain_reader.specs.Passed.{documents_at};
 ghost use Rattle.schema_reports.specs.Locations.{location_of};
 ghost use Rattle.schema_reports.specs.References.{text_of};
 ghost use Rattle.place_laws.specs.Rising.{are_rising};
@@ -12,8 +12,8 @@ ghost use Rattle.keyword_refusals.specs.Rows.{properties_row, properties_questio
 ghost use Rattle.keyword_refusals.specs.Verdicts.{AreRefused, IsMemberRefused};
 
 use crate::refusing::is_refused;
+use plain_reader::Site;
 use schema_reports::{LazyLocation, Reference};
-use schema_sites::site::Site;
 use serde_json::{Map, Value};
 use std::alloc::{AllocError, Global};
 

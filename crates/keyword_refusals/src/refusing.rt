@@ -4,11 +4,11 @@ ghost use Rattle.serde_json.specs.Data.{depth};
 ghost use Rattle.serde_json.specs.View.{view};
 ghost use Rattle.schema_reading.specs.Plain.{deepest};
 ghost use Rattle.schema_reading.specs.Sites.{path_of_reference};
-ghost use Rattle.schema_sites.specs.Seen.{documents_at};
-ghost use Rattle.schema_sites.specs.Read.{FindsTarget};
+ghost use Rattle.plain_reader.specs.Passed.{documents_at};
+ghost use Rattle.plain_reader.specs.Passed.{FindsTarget};
 ghost use Rattle.schema_reports.specs.Locations.{location_of};
 ghost use Rattle.schema_reports.specs.References.{text_of};
-ghost use Rattle.referencing.specs.Resolved.{target_in};
+ghost use Rattle.plain_reader.specs.Passed.{target_in};
 ghost use Rattle.keyword_refusals.specs.Scenes.{behind};
 ghost use Rattle.keyword_refusals.specs.Rows.{reference_row, reference_questions};
 ghost use Rattle.keyword_refusals.specs.Verdicts.{IsVerdict, IsRefusal, AreRefused, LiesIn};
@@ -16,12 +16,8 @@ ghost use Rattle.keyword_refusals.specs.Verdicts.{IsVerdict, IsRefusal, AreRefus
 use crate::items::some_item_refused;
 use crate::members::some_member_refused;
 use plain_reader::site::tell_site;
-use plain_reader::telling::has_items;
-use referencing::Resolved;
+use plain_reader::{Keyword, ReferenceKeyword, Resolved, Site, at_target};
 use schema_reports::{LazyLocation, Observer, Reference, Verdict};
-use schema_sites::keyword::Keyword;
-use schema_sites::reference_keyword::ReferenceKeyword;
-use schema_sites::site::{Site, at_target};
 use serde_json::Value;
 use std::alloc::{AllocError, Global};
 use std::borrow::CowStr;
@@ -81,8 +77,7 @@ fn keyword_refuses<'a, 'r>(
 {
     match keyword {
         Keyword::Nothing => Ok(false),
-        Keyword::Types(names) => Ok(!names.accept(value)),
-        Keyword::MinItems(least) => Ok(!has_items(least, value)),
+        Keyword::Assertion(assertion) => Ok(!assertion.accept(alloc, value)?),
         Keyword::Items {
             start,
             schema: part,

@@ -4,5 +4,6 @@
 mod answers;
 mod running;
 
+pub use json_schema_validator::{BuildError, DocumentError, Documents, Draft, Validator};
 pub use line_cuts::{RunError, RunReport};
 pub use running::{lines_are_ended, run};

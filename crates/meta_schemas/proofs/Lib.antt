@@ -1,3 +1,4 @@
 pub mod SameLemmas
 pub mod StageLemmas
 pub mod AwaitedLemmas
+pub mod Passed

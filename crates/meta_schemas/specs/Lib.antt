@@ -1,2 +1,3 @@
 pub mod Told
 pub mod Awaited
+pub mod Passed

@@ -4,6 +4,8 @@
 pub mod causes;
 pub mod counting;
 mod stages;
-#[cfg(test)]
-mod tests;
 pub mod told;
+
+pub use document_index::document::Document;
+pub use document_index::index::Index;
+pub use document_index::standing::{Standing, standings};

@@ -17,7 +17,7 @@ use Rattle.schema_meaning.specs.Questions.{Question, question, at, at_name, each
 use Rattle.schema_reading.specs.Sites.{Site, below, path_of_reference}
 use Rattle.schema_reading.specs.AllKeys.{spots_in, spots_of_items, spots_of_members}
 use Rattle.schema_reading.specs.Plain.{deepest}
-use Rattle.referencing.specs.Resolved.{base_of, scope_of}
+use Rattle.schema_sites.specs.Passed.{base_of, scope_of}
 use Rattle.schema_sites.specs.Seen.{documents_at, Stands}
 use Rattle.schema_sites.specs.declared.site.Site as code
 use Rattle.schema_reports.specs.Locations.{location_of}
@@ -29,7 +29,8 @@ use Rattle.schema_reports.specs.declared.roads.Roads.{Roads}
 use Rattle.schema_reports.specs.declared.observer.Observation.{Observation}
 use Rattle.schema_reports.specs.declared.observer.Observer.{Observer}
 use Rattle.plain_reader.specs.Settings.{Setting, asked_in, asked_by}
-use Rattle.plain_reader.specs.Tellings.{Fits, AreRead, Within, Tells, TellsQuestions, room, spot_at}
+use Rattle.assertion_faults.specs.Tellings.{spot_at}
+use Rattle.plain_reader.specs.Tellings.{Fits, AreRead, Within, Tells, TellsQuestions, room}
 use Rattle.plain_reader.specs.Shapes.{items_site, items_leads, items_questions, property_site, property_leads, property_questions, properties_leads, properties_questions}
 use Rattle.schema_reports.proofs.FaultLemmas.{joined-none}
 use Rattle.plain_reader.proofs.ToldLemmas.{asked_by-more, asked_by-none, asked_inside, led_to}

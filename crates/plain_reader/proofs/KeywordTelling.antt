@@ -14,9 +14,9 @@ use Rattle.schema_meaning.specs.Cut.{cut_within}
 use Rattle.schema_documents.specs.Lookup.{Target}
 use Rattle.schema_reading.specs.Sites.{Site, target_site}
 use Rattle.schema_reading.specs.Rows.{Row, Context, row_at, assertion, rows_in}
-use Rattle.schema_reading.specs.NotYet.{is_unread}
+use Rattle.unread_keywords.specs.NotYet.{is_unread}
 use Rattle.schema_reading.specs.Plain.{keywords_at}
-use Rattle.referencing.specs.Resolved.{scope_of}
+use Rattle.schema_sites.specs.Passed.{scope_of}
 use Rattle.schema_sites.specs.Seen.{documents_at, Stands}
 use Rattle.schema_sites.specs.Read.{row_of, context_at}
 use Rattle.schema_sites.specs.Refused.{Refuses}
@@ -29,8 +29,9 @@ use Rattle.schema_reports.specs.Observers.{Hears}
 use Rattle.schema_reports.specs.declared.roads.Roads.{Roads}
 use Rattle.schema_reports.specs.declared.observer.Observation.{Observation}
 use Rattle.schema_reports.specs.declared.observer.Observer.{Observer}
+use Rattle.assertion_faults.specs.Tellings.{TellsAssertion, spot_at}
 use Rattle.plain_reader.specs.Settings.{Setting, reading_in, told_in, told_by, asked_by}
-use Rattle.plain_reader.specs.Tellings.{Fits, AreRead, Tells, TellsShapes, TellsQuestions, TellsAssertion, room, spot_at}
+use Rattle.plain_reader.specs.Tellings.{Fits, AreRead, Tells, TellsShapes, TellsQuestions, room}
 use Rattle.plain_reader.specs.Shapes.{no_leads, context_in, shapes_at, shapes_among, keyword_leads, keyword_shapes, items_site, items_leads, items_questions, declared_in, properties_leads, properties_questions}
 use Rattle.plain_reader.specs.Targets.{reference_leads, reference_questions}
 use Rattle.schema_reports.proofs.FaultLemmas.{joined-none}
@@ -108,7 +109,7 @@ module _ (c : code.Site) (whole d : Data) (roads : Roads) (progress : List Key) 
 
 refused_shapes : (x : Context) (k : List ℕ) (d : Data) (row : Row) (r : Refusal) → Refuses x k d row r → (r ≡ refusal.Memory → ⊥) → is_unread x.site x.members k d ≡ false → row.shapes ≡ []
 refused_shapes x k d row (refusal.Value expected) h other read = h.alone
-refused_shapes x k d row (refusal.Subschema n) h other read = h.alone
+refused_shapes x k d row (refusal.Entry n expected) h other read = h.alone
 refused_shapes x k d row (refusal.Target target) h other read = h.alone
 refused_shapes x k d row (refusal.Reference error) h other read = h.2.alone
 refused_shapes x k d row refusal.LeftOut h other read = h.alone
@@ -187,10 +188,3 @@ module _ (c : code.Site) (whole d : Data) (roads : Roads) (progress : List Key) 
       (λ x fits. keywords-of x.documents x.makes x.site (view c.contents.now) fits.stands.contents
       ∙ asserts_nothing x.site (λ ms. record { documents = x.documents; makes = x.makes; site = x.site; members = ms }) (view c.contents.now) not_false no_object)
       (tells_nothing c whole d roads progress no_leads (λ x. []) o (λ x fits. refl))
-
--- ---- assertions
-
-pub tells_accepted : (d : Data) (roads : Roads) (a : Assertion) (o : Observer) → ((matches : List ℕ → List ℕ → Bool) → wrong matches a d ≡ []) → TellsAssertion d roads a o o
-tells_accepted d roads a o right = record {
-  tells = λ matches kept fs h. hears_none kept o fs (own_faults (spot_at d roads) (schema_in roads) (at (named a)) (wrong matches a d)) (ap (own_faults (spot_at d roads) (schema_in roads) (at (named a))) (right matches)) h;
-}

@@ -7,7 +7,7 @@ use Rattle.schema_meaning.specs.Questions.{listed_members}
 use Rattle.schema_documents.specs.Bearers.{Documents}
 use Rattle.schema_reading.specs.Sites.{Site}
 use Rattle.schema_reading.specs.Rows.{Row, Place, Context, row_at, rows_of, rows_at, rows_in}
-use Rattle.schema_reading.specs.NotYet.{unread, unread_in, unread_members, is_unread}
+use Rattle.unread_keywords.specs.NotYet.{unread, unread_in, unread_members, is_unread}
 use Rattle.schema_reading.specs.BuildCauses.{Reached, at_root, by_keyword}
 use Rattle.schema_reading.specs.Plain.{keywords_at}
 use Rattle.plain_reader.specs.Tellings.{AreRead}

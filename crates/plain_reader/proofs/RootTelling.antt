@@ -10,7 +10,7 @@ use Rattle.schema_documents.specs.Lookup.{Target}
 use Rattle.schema_reading.specs.Sites.{root_site}
 use Rattle.schema_reading.specs.Plain.{deepest}
 use Rattle.schema_reading.specs.AllKeys.{keys_of}
-use Rattle.referencing.specs.Resolved.{scope_of}
+use Rattle.schema_sites.specs.Passed.{scope_of}
 use Rattle.schema_sites.specs.Seen.{documents_at, Stands}
 use Rattle.schema_sites.specs.declared.site.Site as code
 use Rattle.schema_reports.specs.RoadPaths.{instance_in, schema_in, evaluation_in}

@@ -17,7 +17,7 @@ use Rattle.schema_reading.specs.Plain.{deepest}
 use Rattle.schema_reading.specs.AllKeys.{spots_in, places_of, keys_of}
 use Rattle.target_laws.specs.Laws.{place_of, Lies}
 use Rattle.target_laws.proofs.Listed.{in_map, in_flat_map}
-use Rattle.referencing.specs.Resolved.{base_of, scope_of}
+use Rattle.schema_sites.specs.Passed.{base_of, scope_of}
 use Rattle.schema_sites.specs.Seen.{documents_at, Stands}
 use Rattle.schema_sites.specs.declared.site.Site as code
 use Rattle.schema_reports.specs.Observers.{Hears}
@@ -27,7 +27,8 @@ use Rattle.schema_reports.specs.declared.observer.Observer.{Observer}
 use Rattle.plain_reader.specs.Keys.{key}
 use Rattle.plain_reader.specs.Settings.{Setting, told_in, asked_in, asked_by}
 use Rattle.plain_reader.specs.Targets.{reference_leads, reference_questions}
-use Rattle.plain_reader.specs.Tellings.{spot_at, Fits, Within, room, Tells, TellsQuestions}
+use Rattle.assertion_faults.specs.Tellings.{spot_at}
+use Rattle.plain_reader.specs.Tellings.{Fits, Within, room, Tells, TellsQuestions}
 use Rattle.schema_reports.proofs.FaultLemmas.{joined-none}
 use Rattle.plain_reader.proofs.ToldLemmas.{asked_by-none, asked_by-more, led_to, key_of, asked_back, asked_on}
 

@@ -5,3 +5,5 @@ pub mod Shapes
 pub mod Targets
 pub mod Roots
 pub mod Sites
+pub mod Passed
+pub mod PassedRefusals

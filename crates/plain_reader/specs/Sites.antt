@@ -9,7 +9,7 @@ use Rattle.schema_meaning.specs.Cut.{cut}
 use Rattle.schema_reading.specs.Sites.{Site}
 use Rattle.schema_reading.specs.Plain.{plain}
 use Rattle.schema_reading.specs.AllKeys.{keys_of}
-use Rattle.referencing.specs.Resolved.{scope_of}
+use Rattle.schema_sites.specs.Passed.{scope_of}
 use Rattle.schema_sites.specs.Seen.{documents_at, Stands}
 use Rattle.schema_sites.specs.declared.site.Site as code
 use Rattle.schema_reports.specs.Observers.{Hears}

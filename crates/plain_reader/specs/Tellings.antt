@@ -1,38 +1,34 @@
 -- When a setting is the code's, and what the code tells an observer.
-use Rattle.std.specs.Prelude.{◌∷◌, ◌≡◌, ◌<◌, ◌≤◌, ◌+◌, ◌*◌, ℕ, suc, List, [], Option, None, Bool}
+use Rattle.std.specs.Prelude.{◌∷◌, ◌≡◌, ◌<◌, ◌≤◌, ◌+◌, ◌*◌, ℕ, suc, List, [], Option, Bool}
 use Rattle.serde_json.specs.Data.{Data, depth}
 use Rattle.serde_json.specs.View.{view}
-use Rattle.json_paths.specs.Parts.{Part, name}
+use Rattle.json_paths.specs.Parts.{Part}
 use Rattle.schema_meaning.specs.Members.{In}
-use Rattle.schema_meaning.specs.Places.{Spot, Key}
-use Rattle.schema_meaning.specs.Faults.{Kind, Fault, fault, Faults, none, also, joined}
-use Rattle.schema_meaning.specs.Rules.{own_faults}
-use Rattle.schema_meaning.specs.Questions.{Question, at}
-use Rattle.schema_meaning.specs.Keywords.{Shape, Assertion, named, wrong}
+use Rattle.schema_meaning.specs.Places.{Key}
+use Rattle.schema_meaning.specs.Faults.{Faults, joined}
+use Rattle.schema_meaning.specs.Questions.{Question}
+use Rattle.schema_meaning.specs.Keywords.{Shape}
 use Rattle.schema_meaning.specs.Cut.{left}
 use Rattle.schema_documents.specs.Bearers.{Documents}
 use Rattle.schema_reading.specs.Sites.{Site}
 use Rattle.schema_reading.specs.BuildCauses.{Reached}
-use Rattle.schema_reading.specs.NotYet.{unread}
+use Rattle.unread_keywords.specs.NotYet.{unread}
 use Rattle.schema_reading.specs.Plain.{deepest}
 use Rattle.schema_reading.specs.AllKeys.{keys_of, spots_in}
-use Rattle.referencing.specs.Resolved.{scope_of}
+use Rattle.schema_sites.specs.Passed.{scope_of}
 use Rattle.schema_sites.specs.Seen.{documents_at, Stands}
 use Rattle.schema_sites.specs.declared.site.Site as code
-use Rattle.schema_reports.specs.RoadPaths.{instance_in, schema_in, evaluation_in}
+use Rattle.schema_reports.specs.RoadPaths.{schema_in}
 use Rattle.schema_reports.specs.Observers.{Hears}
 use Rattle.schema_reports.specs.declared.roads.Roads.{Roads}
 use Rattle.schema_reports.specs.declared.observer.Observation.{Observation}
 use Rattle.schema_reports.specs.declared.observer.Observer.{Observer}
+use Rattle.assertion_faults.specs.Tellings.{spot_at}
 use Rattle.plain_reader.specs.Settings.{Setting, told_in, told_by, asked_by}
 
 -- every schema reached from here is read
 pub record AreRead (docs : Documents) (makes : List ℕ → Bool) (s : Site) : Type 0 where
   pub each : (t : Site) → Reached docs makes s t → unread t ≡ []
-
--- the value where it stands
-abbrev pub spot_at : Data → Roads → Spot
-spot_at d roads = record { value = d; path = instance_in roads; called = None; road = evaluation_in roads }
 
 -- a setting is that of the code's site, value and roads
 pub record Fits (c : code.Site) (d : Data) (roads : Roads) (progress : List Key) (x : Setting) : Type 0 where
@@ -69,16 +65,3 @@ module _ (c : code.Site) (whole d : Data) (roads : Roads) (progress : List Key) 
     pub tells : (x : Setting) → Fits c d roads progress x → ((t : Site) → In t (leads x) → AreRead x.documents x.makes t)
         → room (documents_at c) whole progress (view c.contents.now) ≤ x.depth
         → (kept : Observation) (fs : Faults) → Hears kept old fs → Hears kept new (joined fs (asked_by x (questions x)))
-
--- a fault under a keyword's name, told of a value
-abbrev pub fault_at : Data → Roads → List ℕ → Kind → Fault
-fault_at d roads keyword kind = fault kind d (instance_in roads) (name keyword ∷ schema_in roads) (name keyword ∷ evaluation_in roads)
-
-module _ (d : Data) (roads : Roads) where
-  pub record TellsOne (keyword : List ℕ) (kind : Kind) (old new : Observer) : Type 0 where
-    pub tells : (kept : Observation) (fs : Faults) → Hears kept old fs → Hears kept new (joined fs (also (fault_at d roads keyword kind) none))
-
-  -- what an assertion finds wrong
-  pub record TellsAssertion (a : Assertion) (old new : Observer) : Type 0 where
-    pub tells : (matches : List ℕ → List ℕ → Bool) (kept : Observation) (fs : Faults) → Hears kept old fs
-        → Hears kept new (joined fs (own_faults (spot_at d roads) (schema_in roads) (at (named a)) (wrong matches a d)))

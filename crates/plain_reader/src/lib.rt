@@ -5,4 +5,9 @@ mod progress;
 mod read;
 pub mod root;
 pub mod site;
-pub mod telling;
+
+pub use schema_sites::keyword::{Keyword, Refusal};
+pub use schema_sites::reading::keyword;
+pub use schema_sites::reference_keyword::ReferenceKeyword;
+pub use schema_sites::site::{Site, at_root, at_target};
+pub use schema_sites::{Assertion, Error, Resolved};

@@ -6,7 +6,7 @@ ghost use Rattle.serde_json.specs.View.{view, members_view};
 ghost use Rattle.schema_meaning.specs.Members.{In};
 ghost use Rattle.schema_meaning.specs.Questions.{listed_members};
 ghost use Rattle.schema_reading.specs.Plain.{deepest};
-ghost use Rattle.referencing.specs.Resolved.{target_in};
+ghost use Rattle.schema_sites.specs.Passed.{target_in};
 ghost use Rattle.schema_sites.specs.Read.{Finds, FindsTarget};
 ghost use Rattle.schema_sites.specs.References.{name_of};
 ghost use Rattle.schema_sites.specs.Seen.{documents_at};
@@ -17,9 +17,9 @@ ghost use Rattle.plain_reader.specs.Shapes.{no_leads, shapes_among, shapes_at, k
 ghost use Rattle.plain_reader.specs.Targets.{reference_leads, reference_questions};
 
 use crate::progress::{Progress, is_in_progress};
-use crate::telling::{tell_min_items, tell_types};
-use referencing::Resolved;
+use assertion_faults::tell_assertion;
 use schema_reports::{LazyLocation, Observer, Reference, Roads, ValidationErrorKind};
+use schema_sites::Resolved;
 use schema_sites::keyword::{Keyword, Refusal};
 use schema_sites::reading::keyword;
 use schema_sites::reference_keyword::ReferenceKeyword;
@@ -148,8 +148,9 @@ fn read_keyword<'r, 'i>(
 {
     match keyword {
         Keyword::Nothing => Ok(()),
-        Keyword::Types(names) => tell_types(reading.alloc, names, value, roads, observer),
-        Keyword::MinItems(least) => tell_min_items(reading.alloc, least, value, roads, observer),
+        Keyword::Assertion(assertion) => {
+            tell_assertion(reading.alloc, &assertion, value, roads, observer)
+        }
         Keyword::Items { start, schema } => {
             read_items(
                 reading, site, start, schema, value, roads, progress, observer,

@@ -3,13 +3,13 @@ ghost use Rattle.std.specs.Prelude.{◌≤◌, ◌∷◌, [], OnOk};
 ghost use Rattle.serde_json.specs.Data.{depth};
 ghost use Rattle.serde_json.specs.View.{view};
 ghost use Rattle.schema_reading.specs.Plain.{deepest};
-ghost use Rattle.referencing.specs.Resolved.{documents_in, target_in};
+ghost use Rattle.schema_sites.specs.Passed.{documents_in, target_in};
 ghost use Rattle.plain_reader.specs.Roots.{TellsRoot};
 
 use crate::progress::Progress;
 use crate::read::{Reading, read_site};
-use referencing::Resolved;
 use schema_reports::{LazyLocation, Observer, Reference, Roads};
+use schema_sites::Resolved;
 use schema_sites::site::at_root;
 use serde_json::Value;
 use std::alloc::{AllocError, Global};

@@ -9,7 +9,7 @@ use Rattle.schema_documents.specs.Bearers.{Document}
 use Rattle.schema_reading.specs.BuildCauses.{at_root}
 use Rattle.schema_reading.specs.Sites.{Site}
 use Rattle.schema_reading.specs.Rows.{Row, keyword_value, rows_at, rows_in, no_schema}
-use Rattle.schema_reading.specs.NotYet.{wrong, place_of, unread_in, IsBuildCause, is_wrong}
+use Rattle.unread_keywords.specs.NotYet.{wrong, place_of, unread_in, IsBuildCause, is_wrong}
 use Rattle.schema_sites.specs.Seen.{documents_at}
 use Rattle.reached_sites.specs.Led.{Leads, leads_in, causes_in}
 use Rattle.reached_sites.specs.Members.{Rest}

@@ -9,7 +9,7 @@ use Rattle.uri_references.specs.declared.error.UriError.TheVariants.{Parse, Reso
 use Rattle.schema_reading.specs.BuildCauses.{Reached, at_root, by_keyword}
 use Rattle.schema_reading.specs.Sites.{Site}
 use Rattle.schema_reading.specs.Rows.{bad_reference}
-use Rattle.schema_reading.specs.NotYet.{Cause, wrong, IsBuildCause, is_wrong, is_not_yet}
+use Rattle.unread_keywords.specs.NotYet.{Cause, wrong, IsBuildCause, is_wrong, is_not_yet}
 use Rattle.reached_sites.specs.Causes.{NamesCause, RefusesRoot, RefusesAt}
 use Rattle.reached_sites.specs.Places.{place_in}
 use Rattle.reached_sites.specs.declared.cause.BuildCause.{BuildCause}

@@ -8,7 +8,7 @@ use Rattle.schema_documents.specs.Bearers.{Document}
 use Rattle.schema_reading.specs.BuildCauses.{Reached, at_root, by_keyword}
 use Rattle.schema_reading.specs.Sites.{Site, root_site}
 use Rattle.schema_reading.specs.Rows.{Place, Row, rows_at}
-use Rattle.schema_reading.specs.NotYet.{Cause, unread, IsBuildCause, is_wrong, is_not_yet}
+use Rattle.unread_keywords.specs.NotYet.{Cause, unread, IsBuildCause, is_wrong, is_not_yet}
 use Rattle.schema_vocabularies.specs.Dialects.{dialect_of}
 use Rattle.referencing.specs.Resolved.{base_of, scope_of, documents_in, target_in}
 use Rattle.referencing.specs.declared.scope_key.ScopeKey.{ScopeKey}

@@ -9,7 +9,7 @@ use Rattle.referencing.specs.Resolved.{documents_in}
 use Rattle.schema_reading.specs.BuildCauses.{at_root}
 use Rattle.schema_reading.specs.Sites.{Site}
 use Rattle.schema_reading.specs.Rows.{Place, Row, Context, row_at, rows_of, rows_in, rows_at}
-use Rattle.schema_reading.specs.NotYet.{Cause, place_of, is_unread, unread_members, unread_in, IsBuildCause, is_wrong, is_not_yet}
+use Rattle.unread_keywords.specs.NotYet.{Cause, place_of, is_unread, unread_members, unread_in, IsBuildCause, is_wrong, is_not_yet}
 use Rattle.schema_sites.specs.Seen.{documents_at}
 use Rattle.schema_sites.specs.Read.{row_of, leads_of}
 use Rattle.schema_sites.specs.declared.keyword.Keyword.{Keyword}

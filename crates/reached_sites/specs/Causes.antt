@@ -5,7 +5,7 @@ use Rattle.schema_documents.specs.Lookup.{LookupCause}
 use Rattle.referencing_errors.specs.Causes.{NamesLookup}
 use Rattle.schema_reading.specs.Sites.{Site}
 use Rattle.schema_reading.specs.Rows.{keyword_value, left_out, bad_reference}
-use Rattle.schema_reading.specs.NotYet.{Cause, wrong, not_yet, IsBuildCause}
+use Rattle.unread_keywords.specs.NotYet.{Cause, wrong, not_yet, IsBuildCause}
 use Rattle.reached_sites.specs.Places.{place_in}
 use Rattle.reached_sites.specs.declared.cause.BuildCause.{BuildCause}
 use Rattle.reached_sites.specs.declared.cause.BuildCause.TheVariants.{KeywordValue, Unevaluated, Reference, NotYet, Memory}

@@ -4,7 +4,7 @@ use Rattle.std.specs.List.{flat_map}
 use Rattle.schema_documents.specs.Bearers.{Document}
 use Rattle.schema_reading.specs.Sites.{Site}
 use Rattle.schema_reading.specs.Rows.{Row, BuildCause, rows_at}
-use Rattle.schema_reading.specs.NotYet.{unread}
+use Rattle.unread_keywords.specs.NotYet.{unread}
 use Rattle.reached_sites.specs.Visits.{Matches}
 use Rattle.reached_sites.specs.declared.visit.Visit.{Visit}
 

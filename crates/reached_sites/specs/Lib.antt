@@ -5,3 +5,4 @@ pub mod Led
 pub mod Filed
 pub mod Growing
 pub mod Members
+pub mod Passed

@@ -6,7 +6,7 @@ use Rattle.schema_meaning.specs.Members.{In}
 use Rattle.schema_documents.specs.Bearers.{Document}
 use Rattle.schema_reading.specs.Sites.{Site}
 use Rattle.schema_reading.specs.Rows.{BuildCause, Row, Context, rows_of}
-use Rattle.schema_reading.specs.NotYet.{Cause, wrong, not_yet, place_of, is_unread, unread_members}
+use Rattle.unread_keywords.specs.NotYet.{Cause, wrong, not_yet, place_of, is_unread, unread_members}
 use Rattle.reached_sites.specs.Visits.{Adds}
 use Rattle.reached_sites.specs.Led.{leads_in, causes_in}
 use Rattle.reached_sites.specs.declared.visit.Visit.{Visit}

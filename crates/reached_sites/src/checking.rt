@@ -3,7 +3,7 @@
 ghost use Rattle.std.specs.Prelude.{◌≡◌, ◌∷◌, [], List, ℕ, Bool, OnOk, IfErr, true};
 ghost use Rattle.std.specs.List.{list_all};
 ghost use Rattle.referencing.specs.Resolved.{documents_in, target_in};
-ghost use Rattle.schema_reading.specs.NotYet.{Cause, IsBuildCause};
+ghost use Rattle.unread_keywords.specs.NotYet.{Cause, IsBuildCause};
 ghost use Rattle.schema_reading.specs.Sites.{root_site};
 ghost use Rattle.target_laws.specs.Laws.{are_apart, contents_rise};
 ghost use Rattle.reached_sites.specs.Causes.{RefusesRoot};

@@ -74,8 +74,7 @@ fn push_leads<'r>(
 {
     match keyword {
         Keyword::Nothing => Ok(()),
-        Keyword::Types(_) => Ok(()),
-        Keyword::MinItems(_) => Ok(()),
+        Keyword::Assertion(_) => Ok(()),
         Keyword::Items { schema, .. } => push_items(alloc, visit, schema, leads),
         Keyword::Properties(map) => push_properties(alloc, visit, map, leads),
         Keyword::Reference { target, .. } => push_target(alloc, visit, target, leads),

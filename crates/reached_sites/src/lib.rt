@@ -9,3 +9,5 @@ mod reaching;
 mod refusing;
 mod targets;
 mod visit;
+
+pub use referencing::{Draft, Error, Registry, uri};

@@ -2,7 +2,7 @@
 
 ghost use Rattle.std.specs.Prelude.{◌≡◌, [], IfOk};
 ghost use Rattle.serde_json.specs.Data.{Data};
-ghost use Rattle.schema_reading.specs.NotYet.{Cause, place_of};
+ghost use Rattle.unread_keywords.specs.NotYet.{Cause, place_of};
 ghost use Rattle.schema_reading.specs.Rows as rows;
 ghost use Rattle.schema_sites.specs.Refused.{Refuses};
 ghost use Rattle.reached_sites.specs.Causes.{NamesCause};
@@ -33,9 +33,9 @@ pub(crate) fn refused(
             place: here,
             expected,
         }),
-        Refusal::Subschema { name } => Ok(BuildCause::KeywordValue {
+        Refusal::Entry { name, expected } => Ok(BuildCause::KeywordValue {
             place: here.member(alloc, name)?,
-            expected: "schema",
+            expected,
         }),
         Refusal::Target { target } => Ok(BuildCause::KeywordValue {
             place: SchemaPlace::of_target(alloc, &target)?,

@@ -4,3 +4,4 @@ pub mod ToldLemmas
 pub mod Extending
 pub mod DynamicLemmas
 pub mod KeyLemmas
+pub mod Passed

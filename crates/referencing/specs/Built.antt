@@ -1,7 +1,8 @@
 -- What a builder has, and what it is given.
-use Rattle.std.specs.Prelude.{◌≡◌, ℕ, List, [], map, Bool, IsTrue, Option, Some}
+use Rattle.std.specs.Prelude.{◌≡◌, ℕ, List, [], map, Bool, IsTrue, Option}
 use Rattle.std.specs.List.{list_all}
 use Rattle.serde_json.specs.Data.{Data}
+use Rattle.schema_drafts.specs.Drafts.{newest}
 use Rattle.schema_drafts.specs.declared.draft.Draft.{Draft}
 use Rattle.uri_references.specs.Identity.{identity_of}
 use Rattle.schema_documents.specs.Bearers.{Document}
@@ -39,10 +40,6 @@ abbrev pub Adds : {U R : Type 0} → (U → List ℕ) → (R → Data) → (R �
 Adds text contents draft old pairs new =
     IsTrue (are_document_uris text pairs) × (new ≡ with_all old (givens_by text contents draft pairs))
 
--- a document of a registry, as one that is given with its draft
-abbrev pub given_again : Document → Given
-given_again d = record { uri = d.uri; contents = d.contents; draft = Some d.default }
-
--- the documents of a registry, added in their order
-abbrev pub inherited : List Document → List Given
-inherited documents = with_all [] (map given_again documents)
+-- pairs added to no documents, those that name no draft read by the newest
+abbrev pub specified_by : {U R : Type 0} → (U → List ℕ) → (R → Data) → (R → Option Draft) → List (U × R) → List Document
+specified_by text contents draft pairs = documents_by newest (with_all [] (givens_by text contents draft pairs))

@@ -11,3 +11,4 @@ pub mod Prepared
 pub mod Compared
 pub mod Uris
 pub mod Vocabularies
+pub mod Passed

@@ -18,6 +18,7 @@ pub mod resolver;
 mod resolving;
 mod retrieval;
 pub mod scope_key;
+mod specifications;
 
 pub use builder::{Refused, RegistryBuilder};
 pub use document_retrievers::{DefaultRetriever, MapRetriever, Retrieve};
@@ -33,6 +34,8 @@ pub use resolver::{Resolved, Resolver};
 pub use schema_drafts::children::ChildIter;
 pub use schema_drafts::draft::Draft;
 pub use schema_drafts::resource::{Resource, ResourceRef};
+pub use schema_vocabularies::{Vocabulary, VocabularySet};
 pub use scope_key::ScopeKey;
 pub use shared_lists::{Iter, List};
+pub use uri_fragments::FragmentBuffer;
 pub use uri_references::uri;

@@ -1,60 +1,22 @@
 //! Registries that begin with the documents of another.
 
-ghost use Rattle.std.specs.Prelude.{◌≡◌, ◌⊎◌, [], List, map, Some, IfOk, IfErr, OnOk, IsTrue};
+ghost use Rattle.std.specs.Prelude.{◌≡◌, ◌⊎◌, List, Some, IfOk, IfErr, OnOk, IsTrue};
 ghost use Rattle.std.specs.Iterator.{IsFiniteIterable, Drains, YieldsThen};
 ghost use Rattle.schema_drafts.specs.Drafts.{newest};
-ghost use Rattle.document_index.specs.Seen.{document_of};
 ghost use Rattle.referencing_errors.specs.Causes.{IsMemory};
 ghost use Rattle.given_documents.specs.Given.{with_given};
-ghost use Rattle.given_documents.specs.Seen.{given_of};
-ghost use Rattle.given_documents.specs.Listed.{givens_of};
 ghost use Rattle.given_documents.specs.Uris.{is_document_uri, RefusesUri};
-ghost use Rattle.referencing.specs.Built.{given_in, given_by, given_again, inherited, are_document_uris, Adds};
+ghost use Rattle.document_retrieval.specs.Inherited.{inherited};
+ghost use Rattle.referencing.specs.Built.{given_in, given_by, are_document_uris, Adds};
 ghost use Rattle.referencing.specs.Seen.{documents_of};
 
 use crate::builder::RegistryBuilder;
 use crate::registry::Registry;
-use document_index::document::Document;
-use given_documents::document::Document as GivenDocument;
-use given_documents::list::DocumentList;
+use document_retrieval::given::listed_again;
 use given_documents::resource::IntoRegistryResource;
 use referencing_errors::error::Error;
 use std::alloc::{AllocError, Global};
 use std::convert::AsStr;
-
-// A document of a registry as one that is given with its draft, shared where it is not owned.
-fn again<'a>(document: &Document<'a>) -> Result<GivenDocument<'a>, AllocError>
-    ensures { IfOk result (λ g. given_of g ≡ given_again (document_of document.now)) }
-{
-    Ok(GivenDocument {
-        uri: document.uri.clone()?,
-        contents: document.contents.share()?,
-        draft: Some(document.default),
-    })
-}
-
-fn put<'a>(
-    alloc: Global,
-    list: DocumentList<'a>,
-    document: GivenDocument<'a>,
-) -> Result<DocumentList<'a>, AllocError>
-    ensures { IfOk result (λ l. givens_of l ≡ with_given (givens_of list.entry) (given_of document.entry)) }
-{
-    match list.put(alloc, document) {
-        Ok(list) => Ok(list),
-        Err(_) => Err(AllocError),
-    }
-}
-
-fn listed<'a>(alloc: Global, documents: &[Document<'a>]) -> Result<DocumentList<'a>, AllocError>
-    ensures { IfOk result (λ l. givens_of l ≡ inherited (map document_of documents.now)) }
-{
-    let mut list = DocumentList::new(alloc);
-    for document in documents {
-        list = put(alloc, list, again(document)?)?;
-    }
-    Ok(list)
-}
 
 impl<'a> Registry<'a> {
     // A builder with the documents of the registry.
@@ -63,7 +25,7 @@ impl<'a> Registry<'a> {
         ensures draft { IfOk result (λ b. b.draft ≡ newest) }
         ensures limit { IfOk result (λ b. b.limit ≡ 256) }
     {
-        let list = listed(self.alloc, &self.documents)?;
+        let list = listed_again(self.alloc, &self.documents)?;
         Ok(RegistryBuilder {
             list,
             ..RegistryBuilder::new(self.alloc)

@@ -72,6 +72,13 @@ impl<'a> Registry<'a> {
         ensures { list_all contents_rise (documents_of self.now) ≡ true }
     {}
 
+    /// The documents in their order, those that were retrieved among them.
+    pub fn documents(&self) -> &[Document<'a>]
+        ensures { map document_of result.now ≡ documents_of self.now }
+    {
+        self.documents.as_slice()
+    }
+
     /// The URIs of the documents that were retrieved, in the order in which the retriever answered them.
     pub fn retrieved(&self) -> &[Rc<Uri>]
         ensures { map (λ u. u.value) result.now ≡ retrieved_by self.now }

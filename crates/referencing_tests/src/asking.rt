@@ -89,6 +89,21 @@ fn uris_resolved(rt: HostRuntime) -> Result<(), Fail> {
 }
 
 #[test]
+fn resolvers_compared(rt: HostRuntime) -> Result<(), Fail> {
+    let alloc = rt.alloc();
+    let registry = registry(alloc)?;
+    let mine = registry.resolver(from_str(alloc, "http://a.test/m")?)?;
+    let same = registry.resolver(from_str(alloc, "HTTP://A.test/x/../m#")?)?;
+    let other = registry.resolver(from_str(alloc, "http://a.test/n")?)?;
+    let entered = other.lookup("m")?;
+    assert!(rt; mine == same);
+    assert!(rt; mine != other);
+    assert!(rt; mine != *entered.resolver());
+    assert!(rt; mine == entered.resolver().alone()?);
+    Ok(())
+}
+
+#[test]
 fn builders_printed(rt: HostRuntime) -> Result<(), Fail> {
     let alloc = rt.alloc();
     let builder = Registry::new(alloc).add("http://a.test/m", Value::Null)?;

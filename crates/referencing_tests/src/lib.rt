@@ -8,6 +8,8 @@ mod asking;
 #[cfg(test)]
 mod chains;
 #[cfg(test)]
+mod indexes;
+#[cfg(test)]
 mod lookups;
 #[cfg(test)]
 mod own_meta_schemas;
@@ -15,3 +17,7 @@ mod own_meta_schemas;
 mod refusals;
 #[cfg(test)]
 mod retrieving;
+#[cfg(test)]
+mod rounds;
+#[cfg(test)]
+mod stages;

@@ -32,6 +32,11 @@ fn dialect(
     reference: &str,
 ) -> Result<String, Fail> {
     let registry = prepared(alloc, documents)?;
+    dialect_in(&registry, base, reference)
+}
+
+fn dialect_in(registry: &Registry<'_>, base: &str, reference: &str) -> Result<String, Fail> {
+    let alloc = registry.allocator();
     let resolver = registry.resolver(from_str(alloc, base)?)?;
     let resolved = resolver.lookup(reference)?;
     let dialect = resolved.dialect();
@@ -156,6 +161,57 @@ fn causes_of_meta_schemas(rt: HostRuntime) -> Result<(), Fail> {
         ),
     ] {
         assert_eq!(rt; refusal(alloc, &documents)?.as_str(), want);
+    }
+    Ok(())
+}
+
+fn specifications<'a>(alloc: Global, pairs: &[(&str, &str)]) -> Result<Registry<'a>, Fail> {
+    let mut documents = Vec::new(alloc);
+    for (uri, text) in pairs {
+        documents.push((*uri, Value::from_str(alloc, text)?))?;
+    }
+    Ok(Registry::from_meta_schemas(alloc, documents)?)
+}
+
+// Why a text is no meta-schema under a URI.
+fn refused_under(alloc: Global, uri: &str, text: &str) -> Result<String, Fail> {
+    let pairs = vec![in alloc; (uri, Value::from_str(alloc, text)?)]?;
+    match Registry::from_meta_schemas(alloc, pairs) {
+        Ok(_) => Ok(String::from_str(alloc, "prepared")?),
+        Err(error) => Ok(format!(in alloc; "{error}")?),
+    }
+}
+
+#[test]
+fn registries_of_meta_schemas(rt: HostRuntime) -> Result<(), Fail> {
+    let alloc = rt.alloc();
+    let pairs = [
+        ("http://a.test/m", "{\"$schema\": \"http://a.test/m7\"}"),
+        ("http://a.test/m7", OF_DRAFT_7),
+    ];
+    let registry = specifications(alloc, &pairs)?;
+    assert_eq!(rt; registry.documents().len(), 2);
+    assert_eq!(rt; registry.retrieved().len(), 0);
+    let document = Value::from_str(alloc, "{\"$schema\": \"http://a.test/m\"}")?;
+    let more = registry.add("http://a.test/d", document)?.prepare()?;
+    assert_eq!(rt;
+        dialect_in(&more, "http://a.test/d", "")?.as_str(),
+        "Draft7 items type"
+    );
+    for (uri, text, want) in [
+        ("http://a.test/m#x", "{}", "Invalid URI 'http://a.test/m#x'"),
+        (
+            "http://a.test/m",
+            "{\"$ref\": \"n\"}",
+            "Resource 'http://a.test/n' is not present and retrieving it failed",
+        ),
+        (
+            "http://a.test/m",
+            "{\"$schema\": \"http://a.test/n\"}",
+            "Unknown meta-schema 'http://a.test/n'",
+        ),
+    ] {
+        assert_eq!(rt; refused_under(alloc, uri, text)?.as_str(), want);
     }
     Ok(())
 }

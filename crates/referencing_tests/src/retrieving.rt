@@ -1,13 +1,14 @@
 // Documents that are retrieved, and registries that begin with the documents of another.
 
-use document_retrievers::MapRetriever;
+use document_retrievers::{MapRetriever, Retrieve};
 use referencing::registry::Registry;
-use referencing_errors::error::Error;
+use referencing_errors::error::{Error, RetrieveError};
 use schema_drafts::draft::Draft;
 use serde_json::Value;
 use std::alloc::Global;
+use std::cell::Cell;
 use std::test::Fail;
-use uri_references::uri::from_str;
+use uri_references::uri::{Uri, from_str};
 
 const TWO_REFERENCES: &str =
     "{\"properties\":{\"x\":{\"$ref\":\"http://a.test/x\"},\"y\":{\"$ref\":\"http://a.test/y\"}}}";
@@ -20,10 +21,10 @@ fn retriever_of(alloc: Global, pairs: &[(&str, &str)]) -> Result<MapRetriever, F
     Ok(retriever)
 }
 
-fn prepared<'a>(
+fn prepared<'a, R: Retrieve + Drop>(
     alloc: Global,
     document: Value,
-    retriever: MapRetriever,
+    retriever: R,
     limit: u64,
 ) -> Result<Registry<'a>, Error> {
     let builder = Registry::new(alloc)
@@ -147,6 +148,79 @@ fn children_of_registries(rt: HostRuntime) -> Result<(), Fail> {
     assert_eq!(rt;
         document(alloc, &parent, "http://a.test/x")?.as_str(),
         "[1]"
+    );
+    Ok(())
+}
+
+// Answers each URI with a document that refers to a further one.
+#[derive(Drop)]
+struct Web;
+
+impl Retrieve for Web {
+    ghost may_answer = { λ _ uri document. Unit {0} };
+
+    ghost may_refuse = { λ _ uri. Unit {0} };
+
+    fn retrieve(&self, alloc: Global, uri: &Uri) -> Result<Value, RetrieveError> {
+        let Ok(text) = format!(in alloc; "{{\"$ref\":\"{}x\"}}", uri.as_str()) else {
+            return Err(RetrieveError::Memory);
+        };
+        match Value::from_str(alloc, text.as_str()) {
+            Ok(document) => Ok(document),
+            Err(_) => Err(RetrieveError::Refused),
+        }
+    }
+}
+
+#[test]
+fn web_beyond_the_limit(rt: HostRuntime) -> Result<(), Fail> {
+    let alloc = rt.alloc();
+    let document = Value::from_str(alloc, "{\"$ref\":\"x\"}")?;
+    match prepared(alloc, document, Web, 3) {
+        Ok(_) => assert!(rt; false),
+        Err(error) => {
+            assert_eq!(rt;
+                format!(in alloc; "{error}")?.as_str(),
+                "More than 3 documents wanted"
+            )
+        }
+    }
+    Ok(())
+}
+
+// Answers `true` once, and `false` from then on.
+#[derive(Drop)]
+struct Changing {
+    asked: Cell<bool>,
+}
+
+impl Retrieve for Changing {
+    ghost may_answer = { λ _ uri document. Unit {0} };
+
+    ghost may_refuse = { λ _ uri. Unit {0} };
+
+    fn retrieve(&self, _alloc: Global, _uri: &Uri) -> Result<Value, RetrieveError> {
+        let before = self.asked.get();
+        self.asked.set(true);
+        Ok(Value::Bool(!before))
+    }
+}
+
+#[test]
+fn asked_once_for_a_uri(rt: HostRuntime) -> Result<(), Fail> {
+    let alloc = rt.alloc();
+    let root = Value::from_str(
+        alloc,
+        "{\"properties\":{\"x\":{\"$ref\":\"x\"},\"y\":{\"$ref\":\"http://A.test/x#\"}}}",
+    )?;
+    let retriever = Changing {
+        asked: Cell::new(false),
+    };
+    let registry = prepared(alloc, root, retriever, 256)?;
+    assert_eq!(rt; registry.retrieved().len(), 1);
+    assert_eq!(rt;
+        document(alloc, &registry, "http://a.test/x")?.as_str(),
+        "true"
     );
     Ok(())
 }

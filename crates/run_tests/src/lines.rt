@@ -1,10 +1,9 @@
 // Runs over bytes in memory.
-use json_schema_validator::{Documents, Validator};
 use line_devices::{MemorySink, MemorySource};
-use line_runs::run;
 use std::alloc::Global;
 use std::str;
 use std::test::Fail;
+use validator_program::{Documents, Validator, run};
 
 fn built(alloc: Global, text: &str) -> Result<Validator, Fail> {
     let mut documents = Documents::new(alloc);

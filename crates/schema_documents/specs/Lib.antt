@@ -5,3 +5,4 @@ pub mod Bearers
 pub mod Lookup
 pub mod Scopes
 pub mod DocumentCauses
+pub mod Passed

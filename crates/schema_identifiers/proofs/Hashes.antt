@@ -1,8 +1,8 @@
 -- What stands behind a `#` at the front of a text.
 use borrow.Author.Tests.{eqb-true}
 use Rattle.std.proofs.Common.{◌≡◌, ◌≢◌, refl, sym, ap, ℕ, List, [], ◌∷◌, ◌==◌, Bool, true, false, Option, Some, None, option_map, Bor, MatchOption, if◌then◌else◌}
-use Rattle.schema_documents.specs.Words.{listed}
-use Rattle.schema_documents.specs.Identifiers.{after_hash}
+use Rattle.schema_vocabularies.specs.Passed.{listed}
+use Rattle.schema_vocabularies.specs.Passed.{after_hash}
 
 by_same : (c : Bool) (x : ℕ) (xs : List ℕ) → (x == 35) ≡ c → (x ≡ 35 → ⊥) → [] ≡ (if c then xs ∷ [] else [])
 by_same true x xs is n = absurd (n (eqb-true x 35 is))

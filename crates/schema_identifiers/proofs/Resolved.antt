@@ -3,7 +3,7 @@ use Rattle.std.proofs.Common.{◌≡◌, sym, ap, ℕ, List, true, false, Some, 
 use Rattle.uri_grammar.specs.Parts.{split}
 use Rattle.uri_grammar.specs.Grammar.{is_reference}
 use Rattle.uri_references.specs.Identity.{identity_against}
-use Rattle.schema_documents.specs.Identifiers.{resolved}
+use Rattle.schema_vocabularies.specs.Passed.{resolved}
 
 pub resolved-some : (base reference : List ℕ) → is_reference (split reference) ≡ true → Some (identity_against base reference) ≡ resolved base reference
 unfolding resolved is_reference

@@ -2,7 +2,7 @@
 use Rattle.std.specs.Prelude.{List}
 use Rattle.serde_json.specs.Data.{Data}
 use Rattle.json_paths.specs.Parts.{Part}
-use Rattle.schema_documents.specs.Places.{Named, settled, awaited, SchemaPlace}
+use Rattle.schema_vocabularies.specs.Passed.{Named, settled, awaited, SchemaPlace}
 use Rattle.schema_vocabularies.specs.Dialects.{dialect_of}
 use Rattle.schema_identifiers.specs.declared.bases.Named as code
 use Rattle.schema_identifiers.specs.declared.bases.Named.TheVariants as variants

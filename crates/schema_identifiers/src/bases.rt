@@ -5,8 +5,7 @@ ghost use Rattle.std.specs.Prelude as std;
 ghost use Rattle.serde_json.specs.View.{view};
 ghost use Rattle.json_paths.specs.Parts.{Part};
 ghost use Rattle.uri_grammar.specs.Texts.{cut_at};
-ghost use Rattle.schema_documents.specs.Identifiers as identifiers;
-ghost use Rattle.schema_documents.specs.Places as places;
+ghost use Rattle.schema_vocabularies.specs.Passed as documents;
 ghost use Rattle.schema_drafts.specs.Drafts as drafts;
 ghost use Rattle.schema_vocabularies.specs.Dialects.{dialect_of, dialects_in};
 ghost use Rattle.schema_identifiers.specs.Seen.{named_of, place_at};
@@ -46,7 +45,7 @@ pub struct Settled {
 ///
 /// Where memory was refused.
 pub fn resolved(alloc: Global, base: &Uri, reference: &str) -> Result<Option<Uri>, AllocError>
-    ensures { IfOk result (λ u. u ≡ identifiers.resolved base.now reference.now) }
+    ensures { IfOk result (λ u. u ≡ documents.resolved base.now reference.now) }
 {
     match uri::resolve_against(alloc, base, reference) {
         Ok(uri) => Ok(Some(uri)),
@@ -61,7 +60,7 @@ fn own_base(
     draft: Draft,
     contents: &Value,
 ) -> Result<Rc<Uri>, AllocError>
-    ensures { IfOk result (λ r. r.value ≡ places.own_base outer.now.value draft (view contents.now)) }
+    ensures { IfOk result (λ r. r.value ≡ documents.own_base outer.now.value draft (view contents.now)) }
 {
     let Some(text) = identifier(draft, contents) else {
         return outer.clone();
@@ -73,7 +72,7 @@ fn own_base(
 }
 
 fn meta_schema_uri(alloc: Global, text: &str) -> Result<Option<Uri>, AllocError>
-    ensures { IfOk result (λ u. u ≡ places.meta_schema_uri text.now) }
+    ensures { IfOk result (λ u. u ≡ documents.meta_schema_uri text.now) }
 {
     let base = match Uri::parse(alloc, "json-schema:///") {
         Ok(base) => base,
@@ -83,7 +82,7 @@ fn meta_schema_uri(alloc: Global, text: &str) -> Result<Option<Uri>, AllocError>
 }
 
 fn uri_named(alloc: Global, text: &str) -> Result<Option<Uri>, AllocError>
-    ensures { IfOk result (λ u. u ≡ places.uri_named text.now (drafts.draft_named text.now)) }
+    ensures { IfOk result (λ u. u ≡ documents.uri_named text.now (drafts.draft_named text.now)) }
 {
     match draft_named(text) {
         Some(_) => Ok(None),
@@ -103,7 +102,7 @@ pub fn named_meta_schema(
     is_root: bool,
     contents: &Value,
 ) -> Result<Option<Uri>, AllocError>
-    ensures { IfOk result (λ u. u ≡ places.named_meta_schema is_root (view contents.now)) }
+    ensures { IfOk result (λ u. u ≡ documents.named_meta_schema is_root (view contents.now)) }
 {
     match schema_in_force(is_root, contents) {
         Some(text) => uri_named(alloc, text),
@@ -113,7 +112,7 @@ pub fn named_meta_schema(
 
 // What the meta-schema of a URI gives, or the dialect around where there is no URI.
 fn by_meta_schema(known: &MetaSchemas, outer: Dialect, uri: Option<Uri>) -> Named
-    ensures { named_of result ≡ places.by_meta_schema (dialects_in known.now) (dialect_of outer) uri }
+    ensures { named_of result ≡ documents.by_meta_schema (dialects_in known.now) (dialect_of outer) uri }
 {
     let Some(uri) = uri else {
         return Named::Known(outer);
@@ -131,7 +130,7 @@ fn by_unknown(
     outer: Dialect,
     text: &str,
 ) -> Result<Named, AllocError>
-    ensures { IfOk result (λ n. named_of n ≡ places.by_draft (dialects_in known.now) (dialect_of outer) text.now std.None) }
+    ensures { IfOk result (λ n. named_of n ≡ documents.by_draft (dialects_in known.now) (dialect_of outer) text.now std.None) }
 {
     Ok(by_meta_schema(known, outer, meta_schema_uri(alloc, text)?))
 }
@@ -142,7 +141,7 @@ fn named_by(
     outer: Dialect,
     text: &str,
 ) -> Result<Named, AllocError>
-    ensures { IfOk result (λ n. named_of n ≡ places.by_draft (dialects_in known.now) (dialect_of outer) text.now (drafts.draft_named text.now)) }
+    ensures { IfOk result (λ n. named_of n ≡ documents.by_draft (dialects_in known.now) (dialect_of outer) text.now (drafts.draft_named text.now)) }
 {
     match draft_named(text) {
         Some(draft) => Ok(Named::Known(Dialect::standard(draft))),
@@ -156,7 +155,7 @@ fn by_schema(
     outer: Dialect,
     text: Option<&str>,
 ) -> Result<Named, AllocError>
-    ensures { IfOk result (λ n. named_of n ≡ places.by_schema (dialects_in known.now) (dialect_of outer) (option_map (λ t. t.now) text.entry)) }
+    ensures { IfOk result (λ n. named_of n ≡ documents.by_schema (dialects_in known.now) (dialect_of outer) (option_map (λ t. t.now) text.entry)) }
 {
     match text {
         Some(text) => named_by(alloc, known, outer, text),
@@ -179,7 +178,7 @@ pub fn settle(
     is_root: bool,
     contents: &Value,
 ) -> Result<Settled, AllocError>
-    ensures { IfOk result (λ s. (path : std.List Part) → place_at path (view contents.now) s ≡ places.placed outer.now.value (dialect_of dialect) path (view contents.now) (places.by_schema (dialects_in known.now) (dialect_of dialect) (places.schema_in_force is_root (view contents.now)))) }
+    ensures { IfOk result (λ s. (path : std.List Part) → place_at path (view contents.now) s ≡ documents.placed outer.now.value (dialect_of dialect) path (view contents.now) (documents.by_schema (dialects_in known.now) (dialect_of dialect) (documents.schema_in_force is_root (view contents.now)))) }
 {
     match by_schema(alloc, known, dialect, schema_in_force(is_root, contents))? {
         Named::Known(dialect) => Ok(Settled {

@@ -3,3 +3,5 @@
 
 pub mod document;
 pub mod place;
+
+pub use schema_identifiers::identifiers::{anchor, dynamic_anchor, identifier};

@@ -5,6 +5,5 @@ pub mod Plain
 pub mod BuildCauses
 pub mod CompileKeys
 pub mod AllKeys
-pub mod NotYet
 pub mod PathTexts
 pub mod Lines

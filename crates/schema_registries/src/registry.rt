@@ -5,7 +5,7 @@ ghost use Rattle.schema_documents.specs.DocumentCauses.{document_causes};
 ghost use Rattle.document_index.specs.Seen.{document_of};
 ghost use Rattle.given_documents.specs.Given.{document_by, documents_by};
 ghost use Rattle.given_documents.specs.Seen.{given_of};
-ghost use Rattle.document_causes.specs.Named.{NamesOne};
+ghost use Rattle.referencing.specs.Passed.{NamesOne};
 ghost use Rattle.referencing.specs.Seen.{documents_of};
 ghost use Rattle.target_laws.specs.Laws.{are_apart};
 

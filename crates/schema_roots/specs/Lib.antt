@@ -1,3 +1,4 @@
 pub mod Roots
 pub mod Answers
 pub mod Certified
+pub mod Passed

@@ -3,7 +3,7 @@ use Rattle.std.specs.Prelude.{◌≡◌, ℕ, List, [], ◌∷◌, Bool, true, O
 use Rattle.schema_documents.specs.Bearers.{Documents}
 use Rattle.schema_documents.specs.Lookup.{Target, lookup}
 use Rattle.schema_reading.specs.Sites.{root_site}
-use Rattle.schema_reading.specs.NotYet.{Cause, IsBuildCause}
+use Rattle.unread_keywords.specs.NotYet.{Cause, IsBuildCause}
 use Rattle.schema_registries.specs.Seen.{documents_in_registry}
 use Rattle.schema_registries.specs.declared.registry.SchemaRegistry.{SchemaRegistry}
 

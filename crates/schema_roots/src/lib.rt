@@ -1,2 +1,7 @@
 //! Where validation begins, and what is answered of a value from there on: definitions alone, in `specs/`.
 #![tactic(auto)]
+
+pub use schema_registries::documents::Documents;
+pub use schema_registries::error::DocumentError;
+pub use schema_registries::numbers::has_only_whole;
+pub use schema_registries::registry::SchemaRegistry;

@@ -9,12 +9,13 @@ use Rattle.schema_vocabularies.specs.declared.dialect.Dialect as vocabularies
 use Rattle.schema_meaning.specs.Keywords.{item_list}
 use Rattle.schema_meaning.specs.Members.{is_listed, first}
 use Rattle.referencing.specs.Resolved.{scope_of}
-use Rattle.schema_reading.specs.NotYet.{is_unread, is_item_list, read_now}
+use Rattle.unread_keywords.specs.NotYet.{is_unread, is_item_list, read_now}
 use Rattle.schema_reading.specs.Rows.{Row, nothing_read, refused, keyword_value, left_out, place_at, at, bad_value, Context, counts_here, has_reference, beside, takes_list, in_list, schema_list, row_of as row_by, each_subschema, row_at}
 use Rattle.schema_reading.specs.Sites.{Site}
-use Rattle.schema_sites.specs.Arms.{type_row, min_items_row, one_items_row, properties_row}
+use Rattle.schema_sites.specs.Arms.{one_items_row, properties_row}
 use Rattle.schema_sites.specs.Read.{row_of, context_at, Surrounds}
-use Rattle.schema_sites.specs.Refused.{IsCause, Refuses}
+use Rattle.assertions.specs.Reads.{IsCause}
+use Rattle.schema_sites.specs.Refused.{Refuses}
 use Rattle.schema_sites.specs.Seen.{documents_at, Stands, counts_at, beside_at}
 use Rattle.schema_sites.specs.declared.keyword.Keyword.{Keyword}
 use Rattle.schema_sites.specs.declared.keyword.Refusal.{Refusal}
@@ -42,12 +43,6 @@ neighbour c ms x s k =
     ∙ ap (λ (b : Bool). if b then get_member k ms else None) (counts-there c ms x.site s.stands k)
 
 -- ---- the rows of the names that are read
-
-pub type-row : (x : Context) (d : Data) → counts_here x (codes "type") ≡ true → row_at x (codes "type") d ≡ type_row x d
-type-row x d e = row-if (counts_here x (codes "type")) (type_row x d) nothing_read e
-
-pub min-items-row : (x : Context) (d : Data) → counts_here x (codes "minItems") ≡ true → row_at x (codes "minItems") d ≡ min_items_row x d
-min-items-row x d e = row-if (counts_here x (codes "minItems")) (min_items_row x d) nothing_read e
 
 pub items-row : (x : Context) (d : Data) → counts_here x (codes "items") ≡ true → row_at x (codes "items") d ≡ one_items_row x d
 items-row x d e = row-if (counts_here x (codes "items")) (one_items_row x d) nothing_read e

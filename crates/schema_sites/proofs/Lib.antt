@@ -1,6 +1,7 @@
 pub mod Standing
 pub mod ArmLemmas
 pub mod NamedLemmas
+pub mod AssertingLemmas
 pub mod MemberLemmas
 pub mod ReferredLemmas
 pub mod ResultLemmas

@@ -10,7 +10,7 @@ use Rattle.schema_reading.specs.Rows.{Row, BuildCause, keyword_value, Context, p
 use Rattle.schema_reading.specs.Sites.{Site, below}
 use Rattle.schema_sites.specs.Arms.{first_other, properties_row}
 use Rattle.schema_sites.specs.Read.{each_below}
-use Rattle.schema_sites.specs.Refused.{IsCause}
+use Rattle.assertions.specs.Reads.{IsCause}
 
 pub in-before : {A : Type 0} {x : A} (xs ys : List A) → In x xs → In x (xs ++ ys)
 in-before {x = x} [] ys i = elim i [ ]

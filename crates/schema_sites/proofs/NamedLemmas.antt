@@ -4,7 +4,7 @@ use Rattle.std.proofs.lemmas.Slice.Eq.{bytes_eq-Decides}
 use Rattle.serde_json.specs.Data.{Data, Members}
 use Rattle.serde_json.specs.Find.{as_array}
 use Rattle.schema_meaning.specs.Members.{is_listed}
-use Rattle.schema_reading.specs.NotYet.{is_unread, read_now}
+use Rattle.unread_keywords.specs.NotYet.{is_unread, read_now}
 use Rattle.schema_reading.specs.Rows.{Context, counts_here, nothing_read, takes_list, row_at}
 use Rattle.schema_reading.specs.Sites.{Site}
 use Rattle.schema_sites.specs.References.{name_of, named, reference_row}

@@ -20,7 +20,8 @@ use Rattle.schema_reading.specs.Sites.{target_site}
 use Rattle.schema_sites.specs.Errors.{IsRefusalOf}
 use Rattle.schema_sites.specs.Read.{Surrounds}
 use Rattle.schema_sites.specs.References.{kind_of, name_of, reference_row, looked_up, Says}
-use Rattle.schema_sites.specs.Refused.{IsCause, Refuses}
+use Rattle.assertions.specs.Reads.{IsCause}
+use Rattle.schema_sites.specs.Refused.{Refuses}
 use Rattle.schema_sites.specs.Seen.{documents_at}
 use Rattle.schema_sites.specs.declared.keyword.Refusal.{Refusal}
 use Rattle.schema_sites.specs.declared.reference_keyword.ReferenceKeyword.{ReferenceKeyword}

@@ -2,15 +2,8 @@
 use Rattle.std.specs.Prelude.{ℕ, List, codes, if◌then◌else◌, Option, Some, None}
 use Rattle.serde_json.specs.Data.{Data, Members, no_members, member}
 use Rattle.schema_documents.specs.Places.{is_schema}
-use Rattle.schema_meaning.specs.Keywords.{types, min_items, properties}
-use Rattle.schema_reading.specs.Rows.{Row, Context, asserted, assertion, counted, items_row, schema_map}
-use Rattle.schema_reading.specs.Values.{type_names}
-
-abbrev pub type_row : Context → Data → Row
-type_row x d = asserted x (codes "type") (codes "type name") (λ ts. assertion (types ts)) (type_names d)
-
-abbrev pub min_items_row : Context → Data → Row
-min_items_row x d = counted x (codes "minItems") min_items d
+use Rattle.schema_meaning.specs.Keywords.{properties}
+use Rattle.schema_reading.specs.Rows.{Row, Context, items_row, schema_map}
 
 abbrev pub one_items_row : Context → Data → Row
 one_items_row x d = items_row x (codes "items") d

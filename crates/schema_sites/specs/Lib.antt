@@ -4,3 +4,4 @@ pub mod Read
 pub mod Refused
 pub mod Arms
 pub mod Errors
+pub mod Passed

@@ -4,19 +4,19 @@ use Rattle.serde_json.specs.Data.{Data, object, Members, no_members, member}
 use Rattle.serde_json.specs.View.{view, members_view}
 use Rattle.json_paths.specs.Parts.{name}
 use Rattle.schema_documents.specs.Bearers.{Documents}
-use Rattle.schema_meaning.specs.Keywords.{Shape, types, min_items, items, properties, reference}
+use Rattle.schema_meaning.specs.Keywords.{Shape, items, properties, reference}
 use Rattle.schema_documents.specs.Scopes.{entered_scope}
 use Rattle.referencing.specs.Resolved.{base_of, scope_of, documents_in, target_in}
 use Rattle.referencing.specs.declared.resolver.Resolved.{Resolved}
 use Rattle.schema_reading.specs.Sites.{Site, below, target_site}
 use Rattle.schema_reading.specs.Rows.{Row, reads, at, assertion, sites_named, Context}
-use Rattle.schema_types.specs.Named.{names_in}
+use Rattle.assertions.specs.Shapes.{assertion_of}
 use Rattle.schema_sites.specs.Seen.{documents_at, Stands}
 use Rattle.schema_sites.specs.References.{kind_of, looked_up, MayBe}
 use Rattle.schema_sites.specs.declared.reference_keyword.ReferenceKeyword.{ReferenceKeyword}
 use Rattle.schema_sites.specs.declared.site.Site as code
 use Rattle.schema_sites.specs.declared.keyword.Keyword.{Keyword}
-use Rattle.schema_sites.specs.declared.keyword.Keyword.TheVariants.{Nothing, Types, MinItems, Items, Properties, Reference}
+use Rattle.schema_sites.specs.declared.keyword.Keyword.TheVariants.{Nothing, Assertion, Items, Properties, Reference}
 
 -- the sites of the members of a keyword's value, with their names
 abbrev pub each_below : Documents → Site → List ℕ → Members → List (List ℕ × Site)
@@ -25,8 +25,7 @@ each_below docs s k (member n d ms) = (n, below docs s (name n ∷ name k ∷ []
 
 abbrev pub shapes_of : Documents → Site → Keyword → List (Shape Site)
 shapes_of docs s Nothing = []
-shapes_of docs s (Types names) = assertion (types (names_in names))
-shapes_of docs s (MinItems limit) = assertion (min_items limit)
+shapes_of docs s (Assertion a) = assertion (assertion_of a)
 shapes_of docs s (Items start schema) = items start (below docs s (at (codes "items")) (view schema.now)) ∷ []
 shapes_of docs s (Properties map) = properties (each_below docs s (codes "properties") (members_view map.now.entries)) ∷ []
 shapes_of docs s (Reference keyword text target) = reference (kind_of keyword) (target_site s text.now (target_in target)) ∷ []
@@ -34,8 +33,7 @@ shapes_of docs s (Reference keyword text target) = reference (kind_of keyword) (
 -- the sites of these
 abbrev pub leads_of : Documents → Site → Keyword → List Site
 leads_of docs s Nothing = []
-leads_of docs s (Types names) = []
-leads_of docs s (MinItems limit) = []
+leads_of docs s (Assertion a) = []
 leads_of docs s (Items start schema) = below docs s (at (codes "items")) (view schema.now) ∷ []
 leads_of docs s (Properties map) = sites_named (each_below docs s (codes "properties") (members_view map.now.entries))
 leads_of docs s (Reference keyword text target) = target_site s text.now (target_in target) ∷ []
@@ -68,8 +66,7 @@ pub record FindsTarget (c : code.Site) (keyword : ReferenceKeyword) (text : List
 -- where a keyword's subschemas lie: in its value; and what its reference leads to
 abbrev pub Finds : code.Site → Data → Keyword → Type 0
 Finds c d Nothing = Unit {0}
-Finds c d (Types names) = Unit {0}
-Finds c d (MinItems limit) = Unit {0}
+Finds c d (Assertion a) = Unit {0}
 Finds c d (Items start schema) = d ≡ view schema.now
 Finds c d (Properties map) = d ≡ object (members_view map.now.entries)
 Finds c d (Reference keyword text target) = FindsTarget c keyword text.now target

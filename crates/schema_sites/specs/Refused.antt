@@ -2,26 +2,21 @@
 use Rattle.std.specs.Prelude.{◌≡◌, ℕ, List, [], ◌∷◌, true, codes}
 use Rattle.serde_json.specs.Data.{Data, Members}
 use Rattle.json_paths.specs.Parts.{name}
-use Rattle.schema_meaning.specs.Members.{In}
+use Rattle.assertions.specs.Reads.{IsCause}
 use Rattle.schema_documents.specs.Lookup.{LookupCause}
 use Rattle.referencing.specs.Resolved.{target_in}
 use Rattle.referencing_errors.specs.Causes.{NamesLookup}
-use Rattle.schema_reading.specs.Rows.{Row, BuildCause, keyword_value, left_out, bad_reference, Context, counts_here, place_at, at}
-use Rattle.schema_reading.specs.NotYet.{is_unread}
+use Rattle.schema_reading.specs.Rows.{Row, keyword_value, left_out, bad_reference, Context, counts_here, place_at, at}
+use Rattle.unread_keywords.specs.NotYet.{is_unread}
 use Rattle.schema_sites.specs.Read.{Surrounds}
 use Rattle.schema_sites.specs.declared.site.Site as code
 use Rattle.schema_sites.specs.declared.keyword.Refusal.{Refusal}
 use Rattle.schema_sites.specs.declared.keyword.Refusal.TheVariants as refusal
 
--- a cause of a row that has no shapes
-pub record IsCause (cause : BuildCause) (row : Row) : Type 0 where
-  pub stands : In cause row.causes
-  pub alone : row.shapes ≡ []
-
 -- what a refusal says of a member's row
 abbrev pub Refuses : Context → List ℕ → Data → Row → Refusal → Type 0
 Refuses x k d row (refusal.Value expected) = IsCause (keyword_value (place_at x (at k)) expected.now) row
-Refuses x k d row (refusal.Subschema n) = IsCause (keyword_value (place_at x (name n.now ∷ name k ∷ [])) (codes "schema")) row
+Refuses x k d row (refusal.Entry n expected) = IsCause (keyword_value (place_at x (name n.now ∷ name k ∷ [])) expected.now) row
 Refuses x k d row (refusal.Target target) = IsCause (keyword_value (record { document = (target_in target).document; path = (target_in target).path }) (codes "schema")) row
 Refuses x k d row (refusal.Reference error) = (cause : LookupCause) × NamesLookup cause error × IsCause (bad_reference (place_at x (at k)) cause) row
 Refuses x k d row refusal.LeftOut = IsCause (left_out (place_at x (at k))) row

@@ -7,7 +7,7 @@ use Rattle.schema_drafts.specs.Counts.{counts}
 use Rattle.schema_documents.specs.Bearers.{Documents}
 use Rattle.schema_vocabularies.specs.Dialects.{dialect_of}
 use Rattle.referencing.specs.Resolved.{base_of, documents_in}
-use Rattle.schema_reading.specs.Rows.{has_reference}
+use Rattle.schema_reading.specs.Rows.{has_reference, is_draft_4}
 use Rattle.schema_reading.specs.Sites.{Site}
 use Rattle.schema_sites.specs.declared.site.Site as code
 
@@ -28,3 +28,7 @@ counts_at c beside_ref k = counts (dialect_of c.dialect).draft (dialect_of c.dia
 -- a neighbour among the members of its schema, where it counts
 abbrev pub beside_at : code.Site → Members → List ℕ → Option Data
 beside_at c ms k = if counts_at c (has_reference ms) k then get_member k ms else None
+
+-- whether the schema is of Draft 4
+abbrev pub is_draft_4_at : code.Site → Bool
+is_draft_4_at c = is_draft_4 (dialect_of c.dialect).draft

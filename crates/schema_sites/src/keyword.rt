@@ -1,8 +1,8 @@
 //! What the members of schemas are.
 
 use crate::reference_keyword::ReferenceKeyword;
+use assertions::assertion::Assertion;
 use referencing::{Error, Resolved};
-use schema_types::TypeNames;
 use serde_json::{Map, Value};
 use std::alloc::AllocError;
 
@@ -10,8 +10,8 @@ use std::alloc::AllocError;
 #[derive(Drop)]
 pub enum Keyword<'r> {
     Nothing,
-    Types(TypeNames),
-    MinItems(u64),
+    /// A keyword that only asserts.
+    Assertion(Assertion<'r>),
     /// One schema for the items from `start` on, which is the length of the list at `prefixItems` beside.
     Items {
         start: usize,
@@ -30,11 +30,18 @@ pub enum Keyword<'r> {
 #[derive(Drop)]
 pub enum Refusal<'r> {
     /// The keyword's own value.
-    Value { expected: &'static str },
-    /// A member of the keyword's value that is no schema.
-    Subschema { name: &'r str },
+    Value {
+        expected: &'static str,
+    },
+    /// A member of the keyword's value.
+    Entry {
+        name: &'r str,
+        expected: &'static str,
+    },
     /// The target of a reference is no schema.
-    Target { target: Resolved<'r> },
+    Target {
+        target: Resolved<'r>,
+    },
     /// The reference leads nowhere, or its target's identifier is no URI reference.
     Reference(Error),
     /// The keyword is left out.

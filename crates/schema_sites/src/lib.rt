@@ -1,8 +1,13 @@
 //! Schemas met on the way from a root, and what their members are.
 #![tactic(auto)]
 
+mod asserting;
 pub mod keyword;
+mod neighbours;
 pub mod reading;
 pub mod reference_keyword;
 mod referred;
 pub mod site;
+
+pub use assertions::assertion::Assertion;
+pub use referencing::{Error, Resolved};

@@ -7,7 +7,9 @@ ghost use Rattle.serde_json.specs.View.{view, members_view};
 ghost use Rattle.schema_documents.specs.Places as places;
 ghost use Rattle.schema_vocabularies.specs.Dialects.{dialect_of};
 ghost use Rattle.referencing.specs.Resolved.{scope_of};
-ghost use Rattle.schema_reading.specs.NotYet.{is_unread};
+ghost use Rattle.schema_meaning.specs.Members.{is_listed};
+ghost use Rattle.assertions.specs.Names.{assertion_names};
+ghost use Rattle.unread_keywords.specs.NotYet.{is_unread};
 ghost use Rattle.schema_reading.specs.Rows as rows;
 ghost use Rattle.schema_reading.specs.Sites as sites;
 ghost use Rattle.schema_sites.specs.Arms as arms;
@@ -17,82 +19,18 @@ ghost use Rattle.schema_sites.specs.Refused.{Refuses, RefusedAs};
 ghost use Rattle.schema_sites.specs.Seen.{documents_at, Stands, beside_at};
 ghost use Rattle.schema_sites.specs.declared.site.Site as code;
 
+use crate::asserting::asserting;
 use crate::keyword::{Keyword, Refusal};
+use crate::neighbours::{has_reference, prefix_length, strict_limit};
 use crate::reference_keyword::ReferenceKeyword;
 use crate::referred::{led_to, look_up};
 use crate::site::Site;
+use assertions::reading::read as read_assertion;
 use schema_drafts::draft::Draft;
 use schema_places::place::is_schema;
-use schema_types::read as read_type_names;
 use schema_vocabularies::Dialect;
 use serde_json::{Map, Value};
 use std::alloc::Global;
-
-fn types<'r>(alloc: Global, value: &Value) -> Result<Keyword<'r>, Refusal<'r>>
-    ensures read { IfOk result (λ k. (x : rows.Context) → arms.type_row x (view value.now) ≡ row_of x.documents x.site k) }
-    ensures found { IfOk result (λ k. (c : code.Site) → Finds c (view value.now) k) }
-    ensures refused { IfErr result (λ e. (x : rows.Context) → Refuses x (codes "type") (view value.now) (arms.type_row x (view value.now)) e) }
-{
-    match read_type_names(alloc, value)? {
-        Some(names) => Ok(Keyword::Types(names)),
-        None => Err(Refusal::Value {
-            expected: "type name",
-        }),
-    }
-}
-
-fn least_items<'r>(value: &Value) -> Result<Keyword<'r>, Refusal<'r>>
-    ensures read { IfOk result (λ k. (x : rows.Context) → arms.min_items_row x (view value.now) ≡ row_of x.documents x.site k) }
-    ensures found { IfOk result (λ k. (c : code.Site) → Finds c (view value.now) k) }
-    ensures refused { IfErr result (λ e. (x : rows.Context) → Refuses x (codes "minItems") (view value.now) (arms.min_items_row x (view value.now)) e) }
-{
-    match value.as_u64() {
-        Some(limit) => Ok(Keyword::MinItems(limit)),
-        None => Err(Refusal::Value { expected: "count" }),
-    }
-}
-
-fn member_at<'m>(members: &'m Map<String, Value>, name: &str) -> Option<&'m Value>
-    ensures { option_map (λ v. view v.now) result ≡ get_member name.now (members_view members.now.entries) }
-{
-    members.get(name)
-}
-
-fn list_length(value: &Value) -> usize
-    ensures { result ≡ rows.length_of_list (Some (view value.now)) }
-{
-    match value.as_array() {
-        Some(items) => items.len(),
-        None => 0,
-    }
-}
-
-fn has_reference(members: &Map<String, Value>) -> bool
-    ensures { result ≡ rows.has_reference (members_view members.now.entries) }
-{
-    member_at(members, "$ref").is_some()
-}
-
-// The member of a name, where it counts.
-fn beside<'m>(site: &Site<'_>, members: &'m Map<String, Value>, name: &str) -> Option<&'m Value>
-    ensures { option_map (λ v. view v.now) result ≡ beside_at site.now (members_view members.now.entries) name.now }
-{
-    if site.counts(has_reference(members), name) {
-        member_at(members, name)
-    } else {
-        None
-    }
-}
-
-// The length of the list at `prefixItems`, where it counts.
-fn prefix_length(site: &Site<'_>, members: &Map<String, Value>) -> usize
-    ensures { result ≡ rows.length_of_list (beside_at site.now (members_view members.now.entries) (codes "prefixItems")) }
-{
-    match beside(site, members, "prefixItems") {
-        Some(value) => list_length(value),
-        None => 0,
-    }
-}
 
 // Whether `items` may be a list (2019-09, Core 9.3.1.1).
 fn takes_list(draft: Draft) -> bool
@@ -167,7 +105,10 @@ fn properties<'r>(value: &'r Value) -> Result<Keyword<'r>, Refusal<'r>>
         return Err(Refusal::Value { expected: "object" });
     };
     match first_other(map) {
-        Some(name) => Err(Refusal::Subschema { name }),
+        Some(name) => Err(Refusal::Entry {
+            name,
+            expected: "schema",
+        }),
         None => Ok(Keyword::Properties(map)),
     }
 }
@@ -215,6 +156,29 @@ fn reference<'r>(
     }
 }
 
+// What a member is whose name counts and is no reference's, nor that of a keyword that only asserts.
+fn applied<'r>(
+    site: &Site<'r>,
+    members: &'r Map<String, Value>,
+    name: &str,
+    value: &'r Value,
+) -> Result<Keyword<'r>, Refusal<'r>>
+    requires reference { references.named name.now ≡ None }
+    requires assertion { is_listed name.now assertion_names ≡ false }
+    ensures read { IfOk result (λ k. (x : rows.Context) → Surrounds site.now (members_view members.now.entries) x → rows.counts_here x name.now ≡ true → rows.row_at x name.now (view value.now) ≡ row_of x.documents x.site k) }
+    ensures counted { IfOk result (λ k. (s : sites.Site) (ms : Members) → is_unread s ms name.now (view value.now) ≡ false) }
+    ensures found { IfOk result (λ k. Finds site.now (view value.now) k) }
+    ensures refused { IfErr result (λ e. (x : rows.Context) → Surrounds site.now (members_view members.now.entries) x → rows.counts_here x name.now ≡ true → Refuses x name.now (view value.now) (rows.row_at x name.now (view value.now)) e) }
+{
+    match name {
+        "items" => items(site, members, value),
+        "properties" => properties(value),
+        "unevaluatedItems" => Err(Refusal::LeftOut),
+        "unevaluatedProperties" => Err(Refusal::LeftOut),
+        _ => Err(Refusal::NotYet),
+    }
+}
+
 // What a member is whose name counts and is no reference's.
 fn counted<'r>(
     alloc: Global,
@@ -229,21 +193,18 @@ fn counted<'r>(
     ensures found { IfOk result (λ k. Finds site.now (view value.now) k) }
     ensures refused { IfErr result (λ e. (x : rows.Context) → Surrounds site.now (members_view members.now.entries) x → rows.counts_here x name.now ≡ true → Refuses x name.now (view value.now) (rows.row_at x name.now (view value.now)) e) }
 {
-    match name {
-        "type" => types(alloc, value),
-        "minItems" => least_items(value),
-        "items" => items(site, members, value),
-        "properties" => properties(value),
-        "unevaluatedItems" => Err(Refusal::LeftOut),
-        "unevaluatedProperties" => Err(Refusal::LeftOut),
-        _ => Err(Refusal::NotYet),
+    let strict = strict_limit(site, members, name);
+    match read_assertion(alloc, site.dialect.draft, name, value, strict)? {
+        Some(reading) => asserting(reading),
+        None => applied(site, members, name, value),
     }
 }
 
 /// What a member of a site's schema is, by its dialect: a keyword that is read, or nothing where it does not count.
 ///
-/// It compares the name with those of the draft's keywords. It copies no part of the schema but the names of types; a reference is
-/// looked up, and each member of `properties` is looked at once. Of a keyword that does not count the value is not looked at.
+/// It compares the name with those of the draft's keywords. It copies no part of the schema but the names of types; the values of
+/// `enum`, and names that have to differ, are sorted; a reference is looked up, and each member of `properties` is looked at once. Of a
+/// keyword that does not count the value is not looked at.
 ///
 /// # Errors
 ///

@@ -6,9 +6,10 @@ ghost use Rattle.json_paths.specs.Parts.{Part};
 ghost use Rattle.schema_documents.specs.Scopes.{entered_scope};
 ghost use Rattle.referencing.specs.Resolved.{base_of, scope_of, documents_in, target_in};
 ghost use Rattle.schema_reading.specs.Sites as sites;
-ghost use Rattle.schema_sites.specs.Seen.{documents_at, Stands, counts_at};
+ghost use Rattle.schema_sites.specs.Seen.{documents_at, Stands, counts_at, is_draft_4_at};
 
 use referencing::{Resolved, Resolver};
+use schema_drafts::draft::Draft;
 use schema_identifiers::bases::settle;
 use schema_vocabularies::Dialect;
 use serde_json::Value;
@@ -81,6 +82,13 @@ impl<'r> Site<'r> {
             dialect: settled.dialect,
             resolver: self.resolver.at(settled.base)?,
         })
+    }
+
+    /// Whether the schema is of Draft 4.
+    pub const fn is_of_draft_4(&self) -> bool
+        ensures { result ≡ is_draft_4_at self.now }
+    {
+        matches!(self.dialect.draft, Draft::Draft4)
     }
 
     /// Whether a keyword counts here, where `$ref` stands beside it or not (Core 8.1.2).

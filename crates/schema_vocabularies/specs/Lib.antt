@@ -1,3 +1,4 @@
 pub mod Named
 pub mod Sets
 pub mod Dialects
+pub mod Passed

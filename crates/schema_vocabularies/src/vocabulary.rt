@@ -3,13 +3,13 @@
 ghost use Rattle.std.specs.Prelude.{◌≡◌, IsTrue, IfOk, IfErr, OnOk, false, map, option_map, unwrap_or};
 ghost use Rattle.uri_grammar.specs.Parts.{split};
 ghost use Rattle.uri_grammar.specs.Grammar as grammar;
-ghost use Rattle.uri_references.specs.Refusals.{Refuses};
+ghost use Rattle.schema_documents.specs.Passed.{Refuses};
 ghost use Rattle.schema_drafts.specs.Vocabularies as spec;
 ghost use Rattle.schema_vocabularies.specs.Named.{known_of, vocabulary_of};
 
+use schema_documents::{Error, UriError};
 use std::alloc::{AllocError, Global};
 use uri_grammar::grammar::is_uri;
-use uri_references::error::{Error, UriError};
 
 /// A vocabulary: one that Draft 2019-09 or 2020-12 knows, under its URI in either, or a custom one, which holds its URI as it was
 /// spelled. Vocabularies compare in the order in which they stand here, and custom ones by their texts.

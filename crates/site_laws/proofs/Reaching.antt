@@ -4,7 +4,7 @@ use Rattle.std.specs.List.{AllZip}
 use Rattle.schema_meaning.specs.Members.{In, first, later}
 use Rattle.schema_documents.specs.Bearers.{Documents}
 use Rattle.schema_reading.specs.BuildCauses.{Reached, at_root, by_keyword}
-use Rattle.schema_reading.specs.NotYet.{Cause, IsBuildCause, is_wrong, is_not_yet}
+use Rattle.unread_keywords.specs.NotYet.{Cause, IsBuildCause, is_wrong, is_not_yet}
 use Rattle.schema_reading.specs.Rows.{Place, BuildCause, rows_at}
 use Rattle.schema_reading.specs.Sites.{Site}
 use Rattle.site_laws.specs.Laws.{AreAlike, RowsAgree, AlikeReachAlike, AlikeHaveCauses}

@@ -6,7 +6,7 @@ use Rattle.serde_json.specs.Data.{Data, null, boolean, number, string, array, ob
 use Rattle.json_paths.specs.Parts.{Part, name}
 use Rattle.schema_documents.specs.Bearers.{Documents}
 use Rattle.schema_reading.specs.CompileKeys.{scope_key}
-use Rattle.schema_reading.specs.NotYet.{is_unread, place_of, unread_members, unread_in, unread}
+use Rattle.unread_keywords.specs.NotYet.{is_unread, place_of, unread_members, unread_in, unread}
 use Rattle.schema_reading.specs.Rows.{Place, rows_at}
 use Rattle.schema_reading.specs.Sites.{Site}
 use Rattle.scope_laws.proofs.Keys.{keys_decide}

@@ -5,7 +5,7 @@ use Rattle.schema_documents.specs.Bearers.{Documents}
 use Rattle.schema_reading.specs.Sites.{Site}
 use Rattle.schema_reading.specs.Rows.{Row, rows_at}
 use Rattle.schema_reading.specs.BuildCauses.{Reached}
-use Rattle.schema_reading.specs.NotYet.{Cause, unread, IsBuildCause}
+use Rattle.unread_keywords.specs.NotYet.{Cause, unread, IsBuildCause}
 use Rattle.schema_reading.specs.CompileKeys.{scope_key}
 use Rattle.scope_laws.specs.Laws.{IsPresent}
 

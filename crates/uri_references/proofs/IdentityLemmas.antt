@@ -1,9 +1,9 @@
 -- The URIs by which documents are known.
 use Rattle.std.proofs.Common.{◌≡◌, List, [], ◌∷◌, ℕ, ap, sym, refl, Bool, true, false, Option, Some, None, if◌then◌else◌}
 use Rattle.std.specs.Prelude.{not}
-use Rattle.uri_grammar.specs.Texts.{is_none, all_or_none}
-use Rattle.uri_grammar.specs.Parts.{Parts, split, recompose}
-use Rattle.uri_grammar.specs.Grammar.{is_reference, is_uri, is_fragment}
+use Rattle.uri_resolution.specs.Passed.{is_none, all_or_none}
+use Rattle.uri_resolution.specs.Passed.{Parts, split, recompose}
+use Rattle.uri_resolution.specs.Passed.{is_reference, is_uri, is_fragment}
 use Rattle.uri_resolution.specs.Resolution.{resolve}
 use Rattle.uri_resolution.specs.NormalForm.{normal_text}
 use Rattle.uri_resolution.proofs.Bools.{and_left, and_right, and_both}

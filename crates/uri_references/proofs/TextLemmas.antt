@@ -1,9 +1,9 @@
 -- Resolved and normalised texts are URIs; a second normal form changes nothing.
 use Rattle.std.proofs.Common.{◌≡◌, ◌∙◌, List, ℕ, ap, sym, refl, true, not, Bool, false, if◌then◌else◌}
-use Rattle.uri_grammar.specs.Texts.{is_none}
-use Rattle.uri_grammar.specs.Parts.{Parts, split, recompose}
-use Rattle.uri_grammar.specs.Grammar.{is_reference, is_uri}
-use Rattle.uri_grammar.proofs.Back.{back}
+use Rattle.uri_resolution.specs.Passed.{is_none}
+use Rattle.uri_resolution.specs.Passed.{Parts, split, recompose}
+use Rattle.uri_resolution.specs.Passed.{is_reference, is_uri}
+use Rattle.uri_resolution.proofs.Passed.{back}
 use Rattle.uri_resolution.specs.Resolution.{resolve, guarded, target_path, target_query, resolved_text}
 use Rattle.uri_resolution.specs.Dots.{remove_dots}
 use Rattle.uri_resolution.specs.NormalForm.{normal, normal_text}

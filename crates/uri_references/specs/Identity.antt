@@ -1,7 +1,7 @@
 -- The URIs by which documents are known: in normal form, where an empty fragment equals none.
 use Rattle.std.specs.Prelude.{ℕ, List, [], ◌∷◌, Option, Some, None, if◌then◌else◌, codes}
-use Rattle.uri_grammar.specs.Texts.{is_none}
-use Rattle.uri_grammar.specs.Parts.{Parts, split, recompose}
+use Rattle.uri_resolution.specs.Passed.{is_none}
+use Rattle.uri_resolution.specs.Passed.{Parts, split, recompose}
 use Rattle.uri_resolution.specs.Resolution.{resolve}
 use Rattle.uri_resolution.specs.NormalForm.{normal}
 

@@ -6,9 +6,8 @@ use crate::fragment::{has_fragment, is_fragment_or_none, with_fragment};
 use crate::refusal::refusal;
 use std::alloc::{AllocError, Global};
 use std::marker::Model;
-use uri_grammar::components::split_reference;
-use uri_grammar::grammar::is_uri;
 use uri_resolution::normal::normalize;
+use uri_resolution::{is_uri, split_reference};
 
 /// A URI (RFC 3986, section 3).
 #[derive(Drop)]
@@ -20,8 +19,8 @@ pub struct Uri {
 impl Model for Uri {
     ghost use Rattle.std.specs.Prelude.{ℕ, List, IsTrue, string_bytes};
     ghost use Rattle.std.specs.Coded.{codes};
-    ghost use Rattle.uri_grammar.specs.Parts.{split};
-    ghost use Rattle.uri_grammar.specs.Grammar.{is_uri};
+    ghost use Rattle.uri_resolution.specs.Passed.{split};
+    ghost use Rattle.uri_resolution.specs.Passed.{is_uri};
 
     ghost Value = { List ℕ };
 
@@ -34,10 +33,10 @@ impl Model for Uri {
 
 impl Uri {
     ghost use Rattle.std.specs.Prelude.{◌≡◌, IsTrue, IfOk, IfErr, OnOk, OnErr, option_map, unwrap_or, is_some, [], string_bytes};
-    ghost use Rattle.uri_grammar.specs.Texts.{all_or_none};
-    ghost use Rattle.uri_grammar.specs.Parts.{split};
-    ghost use Rattle.uri_grammar.specs.Grammar as grammar;
-    ghost use Rattle.uri_grammar.specs.Grammar.{is_fragment};
+    ghost use Rattle.uri_resolution.specs.Passed.{all_or_none};
+    ghost use Rattle.uri_resolution.specs.Passed.{split};
+    ghost use Rattle.uri_resolution.specs.Passed as grammar;
+    ghost use Rattle.uri_resolution.specs.Passed.{is_fragment};
     ghost use Rattle.uri_resolution.specs.Resolution.{resolved_text};
     ghost use Rattle.uri_resolution.specs.NormalForm.{normal_text};
     ghost use Rattle.uri_references.specs.Lent.{text_of};

@@ -13,3 +13,4 @@ pub mod ResolveLemmas
 pub mod AuthorityLemmas
 pub mod NormalLemmas
 pub mod LowerLemmas
+pub mod Passed

@@ -1,3 +1,4 @@
 pub mod Dots
 pub mod Resolution
 pub mod NormalForm
+pub mod Passed

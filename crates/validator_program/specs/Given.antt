@@ -9,7 +9,7 @@ use Rattle.schema_drafts.specs.declared.draft.Draft.TheVariants.{Draft4, Draft6,
 use Rattle.given_documents.specs.Given.{Given}
 use Rattle.schema_registries.specs.Seen.{AddsText}
 use Rattle.schema_roots.specs.Roots.{Root}
-use Rattle.json_schema_validator.specs.Seen.{root_under}
+use Rattle.line_runs.specs.Passed.{root_under}
 use Rattle.program_files.specs.Held.{Held, Unknown, Missing, Holds}
 use Rattle.validator_program.specs.declared.documents.Further.{Further}
 

@@ -7,8 +7,7 @@ ghost use Rattle.schema_registries.specs.Seen.{documents_given};
 ghost use Rattle.validator_program.specs.Given.{AddsFile, AddsFiles, AreCut, pair_of};
 
 use crate::fault::ProgramFault;
-use json_schema_validator::Documents;
-use line_runs::RunError;
+use line_runs::{Documents, RunError};
 use program_files::{FileError, SchemaFiles};
 use std::alloc::Global;
 use std::str;

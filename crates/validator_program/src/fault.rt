@@ -4,8 +4,7 @@ ghost use Rattle.std.specs.Prelude.{◌≡◌, ◌≤◌};
 ghost use Rattle.validator_program.specs.Status.{status_of};
 
 use clap::error::ErrorKind;
-use json_schema_validator::{BuildError, DocumentError};
-use line_runs::RunError;
+use line_runs::{BuildError, DocumentError, RunError};
 use std::alloc::{AllocError, AllocFailed, Global};
 use thiserror::Error;
 use uri_references::error::{Error as ReferenceError, UriError};

@@ -7,3 +7,4 @@ mod fault;
 mod preparing;
 
 pub use entry::{program, run_program};
+pub use line_runs::{Documents, Validator, run};

@@ -2,13 +2,13 @@
 
 ghost use Rattle.std.specs.Prelude.{◌≡◌, IfOk, Some, option_map};
 ghost use Rattle.clap.specs.Walk.{texts};
-ghost use Rattle.json_schema_validator.specs.Seen.{root_in};
+ghost use Rattle.line_runs.specs.Passed.{root_in};
 ghost use Rattle.schema_drafts.specs.Drafts.{draft_among};
 ghost use Rattle.validator_program.specs.Given.{IsBuiltOf, base_of, draft_of, draft_words};
 
 use crate::documents::{cut_words, read_documents};
 use crate::fault::ProgramFault;
-use json_schema_validator::{Draft, Validator};
+use line_runs::{Draft, Validator};
 use program_files::SchemaFiles;
 use program_words::ProgramWords;
 use std::alloc::Global;

@@ -46,8 +46,8 @@ fn by_what_is_reached(rt: HostRuntime) -> Result<(), Fail> {
             "Keyword at 'http://a.test/r#/unevaluatedItems' is left out",
         ),
         (
-            "{\"items\":{\"minimum\":1}}",
-            "Keyword at 'http://a.test/r#/items/minimum' is not there yet",
+            "{\"items\":{\"pattern\":\"a\"}}",
+            "Keyword at 'http://a.test/r#/items/pattern' is not there yet",
         ),
         (
             "{\"$dynamicRef\":5}",

@@ -5,5 +5,3 @@ pub mod distinct;
 pub mod laws;
 pub mod order;
 pub mod sorted_values;
-#[cfg(test)]
-mod tests;

@@ -21,7 +21,7 @@ use Rattle.check_laws.proofs.Parts.{path_text-append}
 use Rattle.check_laws.proofs.Steps.{first_step, from_step}
 use Rattle.walk_laws.specs.Words.{IsRest, nothing, IsOf}
 use Rattle.walk_laws.proofs.Cuts.{rest_of, rest_append}
-use Rattle.walk_laws.proofs.Listed.{in_some, in_all, in_mapped, item_question, declared_question}
+use Rattle.walk_laws.proofs.Listed.{each_in, in_some, in_all, in_mapped, item_question, declared_question}
 
 -- ---- the rule of a keyword that is read
 
@@ -70,11 +70,6 @@ module _ {S : Type 0} (matches : List ℕ → List ℕ → Bool) (d : Data) (k :
   shape_begins (negation schema s) h = absurd h
   shape_begins (condition s t e) h = absurd h
   shape_begins (reference r s) h = record { own = λ bs. ap at h; on = λ bs q i. ([], one_added (reference_name r) s h q i) }
-
-each_in : {A : Type 0} (P : A → Type 0) (xs : List A) → AllByRecursion P xs → (x : A) → In x xs → P x
-each_in P [] h x i = elim i [ ]
-each_in P (y ∷ xs) h x first = h.0
-each_in P (y ∷ xs) h x (later i) = each_in P xs h.1 x i
 
 -- ---- the text of the evaluation path begins by the keyword's name
 

@@ -1,13 +1,18 @@
 -- The questions of `items` and of `properties`, one by one.
 use Rattle.std.proofs.Common.{◌≡◌, ◌∙◌, ◌⊎◌, inl, inr, ◌++◌, ◌+◌, ℕ, zero, suc, List, [], ◌∷◌, map, Option, Some, None, refl, sym, ap, subst, arith, add-zero}
-use Rattle.std.specs.List.{flat_map}
+use Rattle.std.specs.List.{AllByRecursion, flat_map}
 use Rattle.serde_json.specs.Data.{Data, Items, no_items, item}
 use Rattle.serde_json.specs.Find.{get, get_item}
 use Rattle.schema_meaning.specs.Members.{In, first, later}
 use Rattle.schema_meaning.specs.Places.{to_item, to_member}
 use Rattle.schema_meaning.specs.Questions.{Question, question, at, at_name, each_item, items_from, if_member, each_declared}
 
--- ---- elements of lists that are put together
+-- ---- elements of lists
+
+pub each_in : {A : Type 0} (P : A → Type 0) (xs : List A) → AllByRecursion P xs → (x : A) → In x xs → P x
+each_in P [] h x i = elim i [ ]
+each_in P (y ∷ xs) h x first = h.0
+each_in P (y ∷ xs) h x (later i) = each_in P xs h.1 x i
 
 pub in_before : {A : Type 0} {x : A} (xs ys : List A) → In x xs → In x (xs ++ ys)
 in_before [] ys i = elim i [ ]

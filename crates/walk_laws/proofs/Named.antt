@@ -1,23 +1,23 @@
--- The shapes of the keywords that are read bear the name of their member.
-use Rattle.std.proofs.Common.{◌≡◌, ◌++◌, ℕ, List, [], ◌∷◌, Bool, true, false, not, ◌&&◌, ◌||◌, bytes_eq, codes, is_some, Option, Some, None, Result, Ok, Err, refl, sym, subst, true≢false}
+-- The shapes of the keywords that are read, by the names under which they refuse.
+use Rattle.std.proofs.Common.{◌≡◌, ◌++◌, ℕ, ℤ, List, [], ◌∷◌, Bool, true, false, not, ◌&&◌, ◌||◌, bytes_eq, codes, is_some, Option, Some, None, Result, Ok, Err, refl, sym, subst, true≢false}
 use Rattle.std.specs.List.{AllByRecursion}
 use Rattle.std.specs.Prelude.{if◌then◌else◌}
 use Rattle.std.proofs.lemmas.Slice.Eq.{bytes_eq-Decides}
 use Rattle.serde_json.specs.Data.{Data, null, boolean, number, string, array, object}
-use Rattle.serde_json.specs.Find.{as_str, as_array}
+use Rattle.serde_json.specs.Find.{as_str, as_array, as_bool}
 use Rattle.json_paths.specs.Pointers.{escape}
 use Rattle.schema_documents.specs.Places.{is_schema}
 use Rattle.schema_documents.specs.Lookup.{Target, LookupCause, lookup}
 use Rattle.schema_documents.specs.Scopes.{dynamic_lookup, recursive_lookup}
 use Rattle.schema_meaning.specs.Members.{In, first, later, is_listed}
-use Rattle.schema_meaning.specs.Keywords.{Shape, types, min_items, items, item_list, properties, Reference, static, dynamic, recursive, reference_name, reference}
-use Rattle.schema_reading.specs.NotYet.{is_unread, is_item_list, read_now}
+use Rattle.schema_meaning.specs.Keywords.{Assertion, named, types, constant, enumeration, multiple_of, maximum, exclusive_maximum, minimum, exclusive_minimum, maximum_of_draft_4, minimum_of_draft_4, max_length, min_length, max_items, min_items, max_properties, min_properties, dependent_required, Shape, asserts, items, item_list, properties, Reference, static, dynamic, recursive, reference_name, reference}
+use Rattle.unread_keywords.specs.NotYet.{is_unread, is_item_list, read_now}
 use Rattle.schema_reading.specs.Sites.{Site, target_site}
-use Rattle.schema_reading.specs.Values.{type_names, count_of}
-use Rattle.schema_reading.specs.Rows.{BuildCause, Row, nothing_read, reads, Context, counts_here, at, bad_value, subschema, each_named, row_of, one_schema, schema_list, sites_named, schema_map, asserted, assertion, length_of_list, beside, takes_list, items_row, with_causes, target_causes, no_schema_there, led_to, ref_row, dynamic_row, is_hash, recursive_row, readers, read_among, row_at}
-use Rattle.walk_laws.specs.Words.{IsOf}
+use Rattle.schema_reading.specs.Values.{type_names, count_of, positive_of, whole_number, unique_names}
+use Rattle.schema_reading.specs.Rows.{BuildCause, Row, nothing_read, reads, Context, counts_here, at, bad_value, subschema, each_named, row_of, one_schema, schema_list, sites_named, schema_map, asserted, assertion, length_of_list, beside, takes_list, items_row, with_causes, target_causes, no_schema_there, led_to, ref_row, dynamic_row, is_hash, recursive_row, is_draft_4, is_true, unique_row, unless_empty, required_entries, dependent_required_row, readers, read_among, row_at}
+use Rattle.walk_laws.specs.Words.{IsOf, IsUnder, member_of}
 
-abbrev pub AreOf : List ℕ → Row → Type 0
+abbrev AreOf : List ℕ → Row → Type 0
 AreOf k row = AllByRecursion (IsOf k) row.shapes
 
 -- ---- one keyword after another
@@ -59,6 +59,9 @@ of_asserted : {A : Type 0} (x : Context) (k word : List ℕ) (shapes : A → Lis
 of_asserted x k word shapes h None = tt
 of_asserted x k word shapes h (Some a) = h a
 
+of_count : (x : Context) (k : List ℕ) (a : ℕ → Assertion) → ((n : ℕ) → named (a n) ≡ k) → (o : Option ℕ) → AreOf k (asserted x k (codes "count") (λ n. assertion (a n)) o)
+of_count x k a h o = of_asserted x k (codes "count") (λ n. assertion (a n)) (λ n. (h n, tt)) o
+
 of_list : (x : Context) (d : Data) → is_some (as_array d) ≡ false → AreOf (codes "items") (schema_list x (codes "items") (codes "schema or list") item_list d)
 of_list x null e = tt
 of_list x (boolean b) e = tt
@@ -95,17 +98,100 @@ listed_in k (n ∷ names) e = by (bytes_eq k n) refl e (listed_in k names)
     by true is e rest = subst (λ m. In k (m ∷ names)) ((bytes_eq-Decides k n).0 is) first
     by false is e rest = later (rest e)
 
-of_read : (x : Context) (k : List ℕ) (d : Data) → is_item_list x.site k d ≡ false → In k read_now → AreOf k (read_among readers x k d)
-of_read x _ d e first = of_ref x (as_str d)
-of_read x _ d e (later first) = of_dynamic x (as_str d)
-of_read x _ d e (later (later first)) = of_recursive x d
-of_read x _ d e (later (later (later first))) = of_asserted x (codes "type") (codes "type name") (λ ts. assertion (types ts)) (λ ts. (refl, tt)) (type_names d)
-of_read x _ d e (later (later (later (later first)))) = of_asserted x (codes "minItems") (codes "count") (λ n. assertion (min_items n)) (λ n. (refl, tt)) (count_of d)
-of_read x _ d e (later (later (later (later (later first))))) = of_items x d e
-of_read x _ d e (later (later (later (later (later (later first)))))) = of_properties x d
-of_read x _ d e (later (later (later (later (later (later (later first))))))) = tt
-of_read x _ d e (later (later (later (later (later (later (later (later first)))))))) = tt
-of_read x k d e (later (later (later (later (later (later (later (later (later i))))))))) = elim i [ ]
+of_unique : (x : Context) (o : Option Bool) → AreOf (codes "uniqueItems") (unique_row x (codes "uniqueItems") o)
+of_unique x None = tt
+of_unique x (Some true) = (refl, tt)
+of_unique x (Some false) = tt
+
+of_required : (x : Context) (o : Option (List (List ℕ))) → AreOf (codes "required") (asserted x (codes "required") (codes "unique names") unless_empty o)
+of_required x None = tt
+of_required x (Some []) = tt
+of_required x (Some (n ∷ ns)) = (refl, tt)
+
+of_dependent : (x : Context) (d : Data) → AreOf (codes "dependentRequired") (dependent_required_row x (codes "dependentRequired") d)
+of_dependent x null = tt
+of_dependent x (boolean b) = tt
+of_dependent x (number n) = tt
+of_dependent x (string s) = tt
+of_dependent x (array ds) = tt
+of_dependent x (object ms) =
+    of_row (codes "dependentRequired") (λ ps. []) (λ ps. assertion (dependent_required ps)) (λ ps. (refl, tt)) (required_entries x (codes "dependentRequired") ms)
+
+-- ---- the limits of Draft 4 refuse under the name of the boolean that makes them strict
+
+abbrev pub AreUnder : Context → List ℕ → Row → Type 0
+AreUnder x k row = AllByRecursion (IsUnder (is_draft_4 x.site.dialect.draft) k) row.shapes
+
+under_maximum : (b strict : Bool) (z : ℤ) → IsUnder {S = Site} b (codes "maximum") (asserts (if b then maximum_of_draft_4 z strict else maximum z))
+unfolding escape
+under_maximum true true z = record { name = codes "exclusiveMaximum"; named = refl; of_member = refl; plain = refl }
+under_maximum true false z = record { name = codes "maximum"; named = refl; of_member = refl; plain = refl }
+under_maximum false strict z = record { name = codes "maximum"; named = refl; of_member = refl; plain = refl }
+
+under_minimum : (b strict : Bool) (z : ℤ) → IsUnder {S = Site} b (codes "minimum") (asserts (if b then minimum_of_draft_4 z strict else minimum z))
+unfolding escape
+under_minimum true true z = record { name = codes "exclusiveMinimum"; named = refl; of_member = refl; plain = refl }
+under_minimum true false z = record { name = codes "minimum"; named = refl; of_member = refl; plain = refl }
+under_minimum false strict z = record { name = codes "minimum"; named = refl; of_member = refl; plain = refl }
+
+of_maximum : (x : Context) (o : Option ℤ) → AreUnder x (codes "maximum")
+    (asserted x (codes "maximum") (codes "number") (λ z. assertion (if is_draft_4 x.site.dialect.draft then maximum_of_draft_4 z (is_true (beside x (codes "exclusiveMaximum"))) else maximum z)) o)
+of_maximum x None = tt
+of_maximum x (Some z) = (under_maximum (is_draft_4 x.site.dialect.draft) (is_true (beside x (codes "exclusiveMaximum"))) z, tt)
+
+of_minimum : (x : Context) (o : Option ℤ) → AreUnder x (codes "minimum")
+    (asserted x (codes "minimum") (codes "number") (λ z. assertion (if is_draft_4 x.site.dialect.draft then minimum_of_draft_4 z (is_true (beside x (codes "exclusiveMinimum"))) else minimum z)) o)
+of_minimum x None = tt
+of_minimum x (Some z) = (under_minimum (is_draft_4 x.site.dialect.draft) (is_true (beside x (codes "exclusiveMinimum"))) z, tt)
+
+-- from Draft 6 on they are keywords of their own
+of_strict : (x : Context) (k : List ℕ) (a : ℤ → Assertion) → ((z : ℤ) → IsUnder {S = Site} false k (asserts (a z))) → (o : Option ℤ) (b : Bool)
+    → AllByRecursion (IsUnder b k) (if b then nothing_read else asserted x k (codes "number") (λ z. assertion (a z)) o).shapes
+of_strict x k a h o true = tt
+of_strict x k a h None false = tt
+of_strict x k a h (Some z) false = (h z, tt)
+
+under_strict_maximum : (z : ℤ) → IsUnder {S = Site} false (codes "exclusiveMaximum") (asserts (exclusive_maximum z))
+unfolding escape
+under_strict_maximum z = record { name = codes "exclusiveMaximum"; named = refl; of_member = refl; plain = refl }
+
+under_strict_minimum : (z : ℤ) → IsUnder {S = Site} false (codes "exclusiveMinimum") (asserts (exclusive_minimum z))
+unfolding escape
+under_strict_minimum z = record { name = codes "exclusiveMinimum"; named = refl; of_member = refl; plain = refl }
+
+-- the other keywords refuse under their own name
+own : (b : Bool) (k : List ℕ) → member_of b k ≡ k → escape k ≡ k → (shapes : List (Shape Site)) → AllByRecursion (IsOf k) shapes → AllByRecursion (IsUnder b k) shapes
+own b k same plain [] h = tt
+own b k same plain (s ∷ shapes) h = (record { name = k; named = h.0; of_member = same; plain = plain }, own b k same plain shapes h.1)
+
+-- a row for each name that is read
+of_read : (x : Context) (k : List ℕ) (d : Data) → is_item_list x.site k d ≡ false → In k read_now → AreUnder x k (read_among readers x k d)
+unfolding escape
+of_read x _ d e first = own (is_draft_4 x.site.dialect.draft) (codes "$ref") refl refl _ (of_ref x (as_str d))
+of_read x _ d e (later first) = own (is_draft_4 x.site.dialect.draft) (codes "$dynamicRef") refl refl _ (of_dynamic x (as_str d))
+of_read x _ d e (later (later first)) = own (is_draft_4 x.site.dialect.draft) (codes "$recursiveRef") refl refl _ (of_recursive x d)
+of_read x _ d e (later (later (later first))) = own (is_draft_4 x.site.dialect.draft) (codes "type") refl refl _ (of_asserted x (codes "type") (codes "type name") (λ ts. assertion (types ts)) (λ ts. (refl, tt)) (type_names d))
+of_read x _ d e (later (later (later (later first)))) = own (is_draft_4 x.site.dialect.draft) (codes "enum") refl refl _ (of_asserted x (codes "enum") (codes "list") (λ ds. assertion (enumeration ds)) (λ ds. (refl, tt)) (as_array d))
+of_read x _ d e (later (later (later (later (later first))))) = own (is_draft_4 x.site.dialect.draft) (codes "const") refl refl (assertion (constant d)) (refl, tt)
+of_read x _ d e (later (later (later (later (later (later first)))))) = own (is_draft_4 x.site.dialect.draft) (codes "multipleOf") refl refl _ (of_asserted x (codes "multipleOf") (codes "positive number") (λ n. assertion (multiple_of n)) (λ n. (refl, tt)) (positive_of d))
+of_read x _ d e (later (later (later (later (later (later (later first))))))) = of_maximum x (whole_number d)
+of_read x _ d e (later (later (later (later (later (later (later (later first)))))))) = of_minimum x (whole_number d)
+of_read x _ d e (later (later (later (later (later (later (later (later (later first))))))))) = of_strict x (codes "exclusiveMaximum") exclusive_maximum under_strict_maximum (whole_number d) (is_draft_4 x.site.dialect.draft)
+of_read x _ d e (later (later (later (later (later (later (later (later (later (later first)))))))))) = of_strict x (codes "exclusiveMinimum") exclusive_minimum under_strict_minimum (whole_number d) (is_draft_4 x.site.dialect.draft)
+of_read x _ d e (later (later (later (later (later (later (later (later (later (later (later first))))))))))) = own (is_draft_4 x.site.dialect.draft) (codes "maxLength") refl refl _ (of_count x (codes "maxLength") max_length (λ n. refl) (count_of d))
+of_read x _ d e (later (later (later (later (later (later (later (later (later (later (later (later first)))))))))))) = own (is_draft_4 x.site.dialect.draft) (codes "minLength") refl refl _ (of_count x (codes "minLength") min_length (λ n. refl) (count_of d))
+of_read x _ d e (later (later (later (later (later (later (later (later (later (later (later (later (later first))))))))))))) = own (is_draft_4 x.site.dialect.draft) (codes "maxItems") refl refl _ (of_count x (codes "maxItems") max_items (λ n. refl) (count_of d))
+of_read x _ d e (later (later (later (later (later (later (later (later (later (later (later (later (later (later first)))))))))))))) = own (is_draft_4 x.site.dialect.draft) (codes "minItems") refl refl _ (of_count x (codes "minItems") min_items (λ n. refl) (count_of d))
+of_read x _ d e (later (later (later (later (later (later (later (later (later (later (later (later (later (later (later first))))))))))))))) = own (is_draft_4 x.site.dialect.draft) (codes "maxProperties") refl refl _ (of_count x (codes "maxProperties") max_properties (λ n. refl) (count_of d))
+of_read x _ d e (later (later (later (later (later (later (later (later (later (later (later (later (later (later (later (later first)))))))))))))))) = own (is_draft_4 x.site.dialect.draft) (codes "minProperties") refl refl _ (of_count x (codes "minProperties") min_properties (λ n. refl) (count_of d))
+of_read x _ d e (later (later (later (later (later (later (later (later (later (later (later (later (later (later (later (later (later first))))))))))))))))) = own (is_draft_4 x.site.dialect.draft) (codes "uniqueItems") refl refl _ (of_unique x (as_bool d))
+of_read x _ d e (later (later (later (later (later (later (later (later (later (later (later (later (later (later (later (later (later (later first)))))))))))))))))) = own (is_draft_4 x.site.dialect.draft) (codes "required") refl refl _ (of_required x (unique_names d))
+of_read x _ d e (later (later (later (later (later (later (later (later (later (later (later (later (later (later (later (later (later (later (later first))))))))))))))))))) = own (is_draft_4 x.site.dialect.draft) (codes "dependentRequired") refl refl _ (of_dependent x d)
+of_read x _ d e (later (later (later (later (later (later (later (later (later (later (later (later (later (later (later (later (later (later (later (later first)))))))))))))))))))) = own (is_draft_4 x.site.dialect.draft) (codes "items") refl refl _ (of_items x d e)
+of_read x _ d e (later (later (later (later (later (later (later (later (later (later (later (later (later (later (later (later (later (later (later (later (later first))))))))))))))))))))) = own (is_draft_4 x.site.dialect.draft) (codes "properties") refl refl _ (of_properties x d)
+of_read x _ d e (later (later (later (later (later (later (later (later (later (later (later (later (later (later (later (later (later (later (later (later (later (later first)))))))))))))))))))))) = tt
+of_read x _ d e (later (later (later (later (later (later (later (later (later (later (later (later (later (later (later (later (later (later (later (later (later (later (later first))))))))))))))))))))))) = tt
+of_read x k d e (later (later (later (later (later (later (later (later (later (later (later (later (later (later (later (later (later (later (later (later (later (later (later (later i)))))))))))))))))))))))) = elim i [ ]
 
 record IsCounted (c e : Bool) : Type 0 where
   listed : c ≡ true
@@ -117,34 +203,11 @@ counted true false e h f = absurd (true≢false f)
 counted false c e h f = absurd (true≢false (sym h))
 
 -- the shapes of a member that is read
-pub shapes_are_of : (x : Context) (k : List ℕ) (d : Data) → is_unread x.site x.members k d ≡ false → AreOf k (row_at x k d)
-shapes_are_of x k d read = by (counts_here x k) refl
+pub shapes_are_under : (x : Context) (k : List ℕ) (d : Data) → is_unread x.site x.members k d ≡ false → AreUnder x k (row_at x k d)
+shapes_are_under x k d read = by (counts_here x k) refl
   where
-    by : (b : Bool) → counts_here x k ≡ b → AreOf k (if b then read_among readers x k d else nothing_read)
+    by : (b : Bool) → counts_here x k ≡ b → AreUnder x k (if b then read_among readers x k d else nothing_read)
     by true e =
         let is = counted (counts_here x k) (is_listed k read_now) (is_item_list x.site k d) e read in
         of_read x k d is.other (listed_in k read_now is.listed)
     by false e = tt
-
--- ---- the names that are read are written as they are
-
-plain_name : (k : List ℕ) → In k read_now → escape k ≡ k
-unfolding escape
-plain_name _ first = refl
-plain_name _ (later first) = refl
-plain_name _ (later (later first)) = refl
-plain_name _ (later (later (later first))) = refl
-plain_name _ (later (later (later (later first)))) = refl
-plain_name _ (later (later (later (later (later first))))) = refl
-plain_name _ (later (later (later (later (later (later first)))))) = refl
-plain_name _ (later (later (later (later (later (later (later first))))))) = refl
-plain_name _ (later (later (later (later (later (later (later (later first)))))))) = refl
-plain_name k (later (later (later (later (later (later (later (later (later i))))))))) = elim i [ ]
-
--- a member with shapes is named by a keyword that is read
-pub shaped_plain : (x : Context) (k : List ℕ) (d : Data) → is_unread x.site x.members k d ≡ false → (s : Shape Site) → In s (row_at x k d).shapes → escape k ≡ k
-shaped_plain x k d read s i = by (counts_here x k) refl i
-  where
-    by : (b : Bool) → counts_here x k ≡ b → In s (if b then read_among readers x k d else nothing_read).shapes → escape k ≡ k
-    by true e i = plain_name k (listed_in k read_now (counted (counts_here x k) (is_listed k read_now) (is_item_list x.site k d) e read).listed)
-    by false e i = elim i [ ]

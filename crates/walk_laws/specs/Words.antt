@@ -1,6 +1,7 @@
 -- Texts of paths from some part on, and the keywords that are read.
-use Rattle.std.specs.Prelude.{◌≡◌, ◌==◌, ℕ, List, [], ◌∷◌, codes}
+use Rattle.std.specs.Prelude.{◌≡◌, ◌==◌, ℕ, List, [], ◌∷◌, Bool, ◌&&◌, bytes_eq, codes, if◌then◌else◌}
 use Rattle.std.specs.List.{slice_split}
+use Rattle.json_paths.specs.Pointers.{escape}
 use Rattle.schema_meaning.specs.Keywords.{named, reference_name, Shape, never, asserts, items, item_list, prefix_items, additional_items, no_additional_items, contains, properties, pattern_properties, additional_properties, no_additional_properties, no_properties, property_names, no_property_names, dependent_schemas, dependencies, all_of, any_of, one_of, negation, condition, reference}
 
 -- nothing is left, or a part is
@@ -41,3 +42,16 @@ IsOf k (one_of ss) = ⊥
 IsOf k (negation schema s) = ⊥
 IsOf k (condition s t e) = ⊥
 IsOf k (reference r s) = reference_name r ≡ k
+
+-- the member whose keyword may refuse under a name: of Draft 4's strict limits that of the limit itself
+abbrev pub member_of : Bool → List ℕ → List ℕ
+member_of of_draft_4 n =
+    if bytes_eq n (codes "exclusiveMaximum") && of_draft_4 then codes "maximum"
+    else (if bytes_eq n (codes "exclusiveMinimum") && of_draft_4 then codes "minimum" else n)
+
+-- a shape of the keyword of a member, by the name under which it refuses
+pub record IsUnder {S : Type 0} (of_draft_4 : Bool) (member : List ℕ) (shape : Shape S) : Type 0 where
+  pub name : List ℕ
+  pub named : IsOf name shape
+  pub of_member : member_of of_draft_4 name ≡ member
+  pub plain : escape name ≡ name

@@ -1,5 +1,5 @@
 use Rattle.std.proofs.Common.{sym, subst}
-use Rattle.document_index.specs.Seen.{standing_of}
+use Rattle.meta_schemas.specs.Passed.{standing_of}
 use Rattle.document_causes.specs.Checked.{borne_in, unknown_by, awaited_from}
 use Rattle.document_causes.specs.Named.{NamesOne}
 use Rattle.document_causes.proofs.NamedLemmas.{named-one}

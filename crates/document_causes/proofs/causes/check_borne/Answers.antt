@@ -1,6 +1,6 @@
 use Rattle.std.proofs.Common.{◌≡◌, ◌∙◌, sym, ap, subst, [], ◌∷◌, false, if◌then◌else◌, is_some}
 use Rattle.schema_documents.specs.DocumentCauses.{unretrieved}
-use Rattle.document_index.specs.Indexes.{bearer_of}
+use Rattle.meta_schemas.specs.Passed.{bearer_of}
 use Rattle.document_causes.specs.Named.{NamesOne}
 use Rattle.document_causes.specs.Checked.{borne_in}
 use Rattle.document_causes.proofs.NamedLemmas.{named-one, is_some-map}

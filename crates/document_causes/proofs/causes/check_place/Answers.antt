@@ -3,7 +3,7 @@ use Rattle.std.proofs.lemmas.Result.{on_ok_weaker}
 use Rattle.schema_documents.specs.Places.{schema_in_force}
 use Rattle.schema_documents.specs.Bearers.{is_root}
 use Rattle.schema_documents.specs.DocumentCauses.{unless_reference}
-use Rattle.document_index.specs.Seen.{standing_of}
+use Rattle.meta_schemas.specs.Passed.{standing_of}
 use Rattle.document_causes.specs.Checked.{borne_in, unknown_by, of_text, awaited_causes}
 use Rattle.document_causes.specs.Named.{NamesOne}
 use Rattle.document_causes.proofs.NamedLemmas.{kept, named-before, named-behind, nothing-before, if-err, root-length}

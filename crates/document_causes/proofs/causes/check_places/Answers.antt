@@ -1,7 +1,7 @@
 use Rattle.std.proofs.Common.{◌≡◌, ◌∙◌, sym, ap, subst, map, drop, ◌+◌, [], ◌++◌}
 use Rattle.std.proofs.lemmas.List.{at_drop_more, drop_all}
 use Rattle.std.specs.List.{flat_map}
-use Rattle.document_index.specs.Seen.{standing_of}
+use Rattle.meta_schemas.specs.Passed.{standing_of}
 use Rattle.document_causes.specs.Checked.{borne_in, unknown_by, causes_at}
 use Rattle.document_causes.specs.Named.{NamesOne}
 use Rattle.document_causes.proofs.NamedLemmas.{kept, named-before}

@@ -1,7 +1,7 @@
 use Rattle.std.proofs.Common.{◌≡◌, List, map, drop}
 use Rattle.std.specs.List.{flat_map}
 use Rattle.schema_documents.specs.Bearers.{Document}
-use Rattle.document_index.specs.Seen.{standing_of}
+use Rattle.meta_schemas.specs.Passed.{standing_of}
 use Rattle.meta_schemas.specs.Awaited.{AwaitedIn}
 use Rattle.document_causes.specs.Checked.{borne_in, unknown_by, causes_at}
 use Rattle.document_causes.proofs.causes.check_places.Given as goal

@@ -2,7 +2,7 @@ use Rattle.std.proofs.Common.{codes, subst}
 use Rattle.schema_documents.specs.Words.{text_at}
 use Rattle.schema_documents.specs.Identifiers.{identifier_text}
 use Rattle.schema_documents.specs.DocumentCauses.{unless_reference}
-use Rattle.document_index.specs.Seen.{standing_of}
+use Rattle.meta_schemas.specs.Passed.{standing_of}
 use Rattle.document_causes.specs.Checked.{of_text, wanted_at}
 use Rattle.document_causes.specs.Named.{NamesOne}
 use Rattle.document_causes.specs.Checked.{borne_in}

@@ -2,9 +2,9 @@ use Rattle.std.proofs.Common.{◌≡◌, ◌∙◌, sym, ap, subst, map}
 use Rattle.std.specs.List.{flat_map}
 use Rattle.schema_documents.specs.Bearers.{standings}
 use Rattle.schema_vocabularies.specs.Dialects.{dialects_in}
-use Rattle.document_index.specs.Seen.{document_of, standing_of, located_of}
-use Rattle.document_index.specs.Located.{located_standings}
-use Rattle.document_index.specs.Indexes.{Indexes}
+use Rattle.meta_schemas.specs.Passed.{document_of, standing_of, located_of}
+use Rattle.meta_schemas.specs.Passed.{located_standings}
+use Rattle.meta_schemas.specs.Passed.{Indexes}
 use Rattle.document_causes.specs.Checked.{borne_in, unknown_by, causes_at}
 use Rattle.document_causes.specs.Named.{NamesOne}
 use Rattle.document_causes.proofs.NamedLemmas.{kept}

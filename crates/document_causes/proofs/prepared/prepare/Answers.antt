@@ -2,7 +2,7 @@ use Rattle.std.proofs.Common.{◌∷◌, [], map}
 use Rattle.std.specs.List.{flat_map}
 use Rattle.schema_documents.specs.Bearers.{standings, meta}
 use Rattle.schema_documents.specs.DocumentCauses.{told_anew, place_causes}
-use Rattle.document_index.specs.Seen.{document_of}
+use Rattle.meta_schemas.specs.Passed.{document_of}
 use Rattle.document_causes.proofs.NamedLemmas.{kept, named-before}
 use Rattle.document_causes.proofs.prepared.prepare.Goals as goal
 

@@ -1,6 +1,6 @@
 use Rattle.std.proofs.Common.{◌≡◌, ◌∙◌, ◌∷◌, [], sym, ap, subst, map, Some, option_map, slice_get}
 use Rattle.schema_documents.specs.DocumentCauses.{circular_metaschema, told_anew}
-use Rattle.document_index.specs.Seen.{document_of}
+use Rattle.meta_schemas.specs.Passed.{document_of}
 use Rattle.document_causes.specs.Named.{NamesCause}
 use Rattle.document_causes.proofs.NamedLemmas.{named-in, first-in}
 use Rattle.document_causes.proofs.prepared.told_once.Goals as goal

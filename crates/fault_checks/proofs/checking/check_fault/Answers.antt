@@ -3,8 +3,8 @@ use Rattle.serde_json.specs.Data.{depth}
 use Rattle.serde_json.specs.View.{view}
 use Rattle.schema_documents.specs.Lookup.{lookup}
 use Rattle.schema_reading.specs.Plain.{deepest}
-use Rattle.referencing.specs.Resolved.{documents_in, base_of, target_in}
-use Rattle.schema_registries.specs.Seen.{documents_in_registry}
+use Rattle.fault_steps.specs.Passed.{documents_in, base_of, target_in}
+use Rattle.schema_roots.specs.Passed.{documents_in_registry}
 use Rattle.target_laws.proofs.Looked.{lookups_lie}
 use Rattle.schema_roots.specs.Roots.{Root, Finds, root_on}
 use Rattle.fault_checks.specs.Checked.{DecidesRoot}

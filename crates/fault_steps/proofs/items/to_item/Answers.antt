@@ -4,7 +4,7 @@ use Rattle.serde_json.specs.declared.value.Value.{Value}
 use Rattle.json_paths.specs.Parts.{Part}
 use Rattle.schema_reading.specs.Sites.{path_of_reference}
 use Rattle.schema_reports.specs.References.{text_of}
-use Rattle.plain_reader.proofs.ItemTelling.{Child, child_shallow}
+use Rattle.keyword_refusals.proofs.Passed.{Child, child_shallow}
 use Rattle.keyword_refusals.specs.Scenes.{behind}
 use Rattle.fault_steps.proofs.Going.{behind_more}
 use Rattle.fault_steps.proofs.ItemSteps.{items_no_item, items_on}

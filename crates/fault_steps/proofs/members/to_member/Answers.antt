@@ -5,8 +5,8 @@ use Rattle.serde_json.specs.declared.value.Value.{Value}
 use Rattle.json_paths.specs.Parts.{Part}
 use Rattle.schema_reading.specs.Sites.{path_of_reference}
 use Rattle.schema_reports.specs.References.{text_of}
-use Rattle.plain_reader.proofs.ItemTelling.{Child, child_shallow}
-use Rattle.plain_reader.proofs.Reading.{member_inside}
+use Rattle.keyword_refusals.proofs.Passed.{Child, child_shallow}
+use Rattle.keyword_refusals.proofs.Passed.{member_inside}
 use Rattle.std.specs.Cow.{cow_str_bytes}
 use Rattle.path_parts.specs.Found.{FindsMember}
 use Rattle.fault_steps.proofs.Going.{behind_twice, shorter_part}

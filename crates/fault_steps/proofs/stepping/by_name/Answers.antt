@@ -3,7 +3,7 @@ use Rattle.std.proofs.lemmas.Result.{IfOk-weaker}
 use Rattle.serde_json.specs.View.{view, members_view}
 use Rattle.serde_json.proofs.Views.{view-Object}
 use Rattle.serde_json.specs.declared.value.Value.{the_lemmas}
-use Rattle.plain_reader.proofs.Reading.{member_inside}
+use Rattle.keyword_refusals.proofs.Passed.{member_inside}
 use Rattle.keyword_refusals.proofs.Names.{found_listed}
 use Rattle.fault_steps.proofs.Going.{shorter_by, lies_in}
 use Rattle.fault_steps.proofs.WalkSteps.{no_members, no_such_member, by_member, refused_member}
@@ -15,30 +15,30 @@ returns-in_default-clause-passes c = no_members c.args.walk c.args.text.now c.re
 pub returns-in_default-member_named-clause-passes : goal.returns-in_default-member_named-clause-passes
 returns-in_default-member_named-clause-passes c =
     let contents = ap view c.in-Object.is ∙ view-Object c.in-Object.members in
-    no_such_member c.args.walk c.args.text.now c.requires.text (members_view c.in-Object.members.entries) c.first_part.result.0.now c.first_part.result.1 contents c.names_rise.ensures c.first_part.ensures
+    no_such_member c.args.walk c.args.text.now c.requires.text (members_view c.in-Object.members.entries) c.first_part.result.0.now c.member_of-member.result.now c.first_part.result.1 contents c.names_rise.ensures c.member_of-member.ensures c.first_part.ensures
     (sym c.in_default-member_named.ensures)
 
-pub by_keyword-requires : goal.by_keyword-requires
-by_keyword-requires c =
+pub by_own_name-requires : goal.by_own_name-requires
+by_own_name-requires c =
     let contents = ap view c.in-Object.is ∙ view-Object c.in-Object.members in
     let ms = members_view c.in-Object.members.entries in
-    let listed = found_listed c.first_part.result.0.now (view c.in-Some.part.now) ms (sym c.in-Some.ensures) in
+    let listed = found_listed c.member_of-member.result.now (view c.in-Some.part.now) ms (sym c.in-Some.ensures) in
     record { lies = lies_in c.args.walk.site (view c.in-Some.part.now) c.in-Ok.keyword c.in-Ok.ensures.found (member_inside (view c.args.walk.site.contents.now) ms _ _ contents listed) }
 
 pub returns-in-Ok-clause-passes : goal.returns-in-Ok-clause-passes
 returns-in-Ok-clause-passes c =
     let contents = ap view c.in-Object.is ∙ view-Object c.in-Object.members in
-    IfOk-weaker c.by_keyword.result _ _
-    (λ st h. by_member c.args.walk c.args.text.now c.requires.text (members_view c.in-Object.members.entries) c.first_part.result.0.now c.first_part.result.1 contents c.names_rise.ensures c.first_part.ensures
-    (view c.in-Some.part.now) c.in-Ok.keyword st (sym c.in-Some.ensures) c.in-Ok.ensures.read h)
-    c.by_keyword.ensures.passes
+    IfOk-weaker c.by_own_name.result _ _
+    (λ st h. by_member c.args.walk c.args.text.now c.requires.text (members_view c.in-Object.members.entries) c.first_part.result.0.now c.member_of-member.result.now c.first_part.result.1 contents c.names_rise.ensures c.member_of-member.ensures c.first_part.ensures
+    (view c.in-Some.part.now) c.in-Ok.keyword (sym c.in-Some.ensures) c.in-Ok.ensures.read st h)
+    c.by_own_name.ensures.passes
 
 pub returns-in-Ok-clause-shorter : goal.returns-in-Ok-clause-shorter
 returns-in-Ok-clause-shorter c =
-    IfOk-weaker c.by_keyword.result _ _ (λ st h. shorter_by st c.args.text.now c.first_part.result.0.now c.first_part.result.1 c.first_part.ensures h) c.by_keyword.ensures.shorter
+    IfOk-weaker c.by_own_name.result _ _ (λ st h. shorter_by st c.args.text.now c.first_part.result.0.now c.first_part.result.1 c.first_part.ensures h) c.by_own_name.ensures.shorter
 
 pub returns-clause-passes : goal.returns-clause-passes
 returns-clause-passes c =
     let contents = ap view c.in-Object.is ∙ view-Object c.in-Object.members in
-    refused_member c.args.walk c.args.text.now c.requires.text (members_view c.in-Object.members.entries) c.first_part.result.0.now c.first_part.result.1 contents c.names_rise.ensures c.first_part.ensures
+    refused_member c.args.walk c.args.text.now c.requires.text (members_view c.in-Object.members.entries) c.first_part.result.0.now c.member_of-member.result.now c.first_part.result.1 contents c.names_rise.ensures c.member_of-member.ensures c.first_part.ensures
     (view c.in-Some.part.now) c.in-Err.refusal (sym c.in-Some.ensures) c.in_default-refusal.not-Memory c.in-Err.ensures.refused

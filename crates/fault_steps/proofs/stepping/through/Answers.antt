@@ -1,10 +1,8 @@
 use Rattle.std.proofs.Common.{ap, subst}
 use Rattle.std.proofs.lemmas.Result.{IfOk-weaker}
 use Rattle.serde_json.specs.View.{view, members_view}
-use Rattle.schema_meaning.specs.Keywords.{types, min_items}
-use Rattle.referencing.specs.Resolved.{target_in}
-use Rattle.schema_types.specs.Named.{names_in}
-use Rattle.schema_sites.specs.Read.{row_of}
+use Rattle.keyword_refusals.specs.Passed.{assertion_of, target_in}
+use Rattle.keyword_refusals.specs.Passed.{row_of}
 use Rattle.keyword_refusals.specs.Rows.{items_row, properties_row, reference_row}
 use Rattle.keyword_refusals.specs.Verdicts.{LiesIn}
 use Rattle.fault_steps.proofs.ReferenceSteps.{asserted_passes, nothing_passes, by_row}
@@ -40,10 +38,6 @@ returns-in-Reference-clause-passes c =
 pub returns-in-Nothing-clause-passes : goal.returns-in-Nothing-clause-passes
 returns-in-Nothing-clause-passes c = nothing_passes c.args.walk c.args.keyword c.args.after (λ x s. ap (λ k. (row_of x.documents s k).shapes) c.in-Nothing.is)
 
-pub returns-in-Types-clause-passes : goal.returns-in-Types-clause-passes
-returns-in-Types-clause-passes c =
-    asserted_passes c.args.walk c.args.keyword (types (names_in c.in-Types._names)) c.args.after c.requires.more (λ x s. ap (λ k. (row_of x.documents s k).shapes) c.in-Types.is)
-
 pub returns-clause-passes : goal.returns-clause-passes
 returns-clause-passes c =
-    asserted_passes c.args.walk c.args.keyword (min_items c.in-MinItems._least) c.args.after c.requires.more (λ x s. ap (λ k. (row_of x.documents s k).shapes) c.in-MinItems.is)
+    asserted_passes c.args.walk c.args.keyword (assertion_of c.in-Assertion._assertion) c.args.after c.requires.more (λ x s. ap (λ k. (row_of x.documents s k).shapes) c.in-Assertion.is)

@@ -1,8 +1,8 @@
 use Rattle.std.proofs.Common.{◌++◌, ap₂, refl, List, ℕ, []}
 use Rattle.schema_reading.specs.Sites.{path_of_reference}
-use Rattle.referencing.specs.Resolved.{base_of, scope_of, target_in}
-use Rattle.schema_sites.specs.Seen.{documents_at}
-use Rattle.plain_reader.proofs.LookedLemmas.{looked_up_reads}
+use Rattle.keyword_refusals.specs.Passed.{base_of, scope_of, target_in}
+use Rattle.keyword_refusals.specs.Passed.{documents_at}
+use Rattle.keyword_refusals.proofs.Passed.{looked_up_reads}
 use Rattle.keyword_refusals.specs.Scenes.{behind}
 use Rattle.keyword_refusals.proofs.Children.{AtTarget, target_shallow}
 use Rattle.fault_steps.proofs.ReferenceSteps.{reference_on}

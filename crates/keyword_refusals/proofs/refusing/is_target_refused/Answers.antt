@@ -3,8 +3,8 @@ use Rattle.std.proofs.lemmas.Result.{IfOk-weaker}
 use Rattle.serde_json.specs.View.{view}
 use Rattle.json_paths.specs.Parts.{Part}
 use Rattle.schema_reading.specs.Sites.{path_of_reference}
-use Rattle.referencing.specs.Resolved.{base_of, scope_of, target_in}
-use Rattle.schema_sites.specs.Seen.{documents_at}
+use Rattle.plain_reader.specs.Passed.{base_of, scope_of, target_in}
+use Rattle.plain_reader.specs.Passed.{documents_at}
 use Rattle.schema_reports.specs.Locations.{location_of}
 use Rattle.schema_reports.specs.References.{text_of}
 use Rattle.plain_reader.proofs.LookedLemmas.{looked_up_reads}

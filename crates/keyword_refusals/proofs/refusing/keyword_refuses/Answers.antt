@@ -1,16 +1,11 @@
-use Rattle.std.proofs.Common.{◌++◌, ap, refl, subst, codes, nat_le}
+use Rattle.std.proofs.Common.{◌++◌, ap, refl, subst, codes}
 use Rattle.std.proofs.lemmas.Result.{IfOk-weaker}
 use Rattle.serde_json.specs.View.{view, members_view}
-use Rattle.schema_values.specs.Kinds.{has_some_type}
-use Rattle.schema_values.specs.Texts.{count_items}
-use Rattle.schema_meaning.specs.Faults.{Types, MinItems}
-use Rattle.schema_meaning.specs.Keywords.{list_is}
 use Rattle.schema_meaning.specs.Questions as asking
 use Rattle.schema_reading.specs.Sites.{path_of_reference}
-use Rattle.referencing.specs.Resolved.{target_in}
-use Rattle.schema_types.specs.Named.{names_in}
-use Rattle.schema_sites.specs.Read.{row_of}
-use Rattle.schema_sites.specs.References.{name_of}
+use Rattle.plain_reader.specs.Passed.{assertion_of, target_in}
+use Rattle.plain_reader.specs.Passed.{row_of}
+use Rattle.plain_reader.specs.Passed.{name_of}
 use Rattle.schema_reports.specs.Locations.{location_of}
 use Rattle.schema_reports.specs.References.{text_of}
 use Rattle.keyword_refusals.specs.Rows.{items_row, items_questions, properties_row, properties_questions, reference_row, reference_questions}
@@ -23,19 +18,12 @@ returns-in-Nothing c =
     by_nothing c.args.site.now (location_of c.args.schema.now ++ path_of_reference (text_of c.args.reference)) (view c.args.value.now) c.args.keyword
     (λ x s. ap (λ k. rules_by x s (view c.args.value.now) k) c.in-Nothing.is)
 
-pub returns-in-Types : goal.returns-in-Types
-returns-in-Types c =
-    let ts = names_in c.in-Types.names in
+pub returns-in_ok-accept-in-Assertion : goal.returns-in_ok-accept-in-Assertion
+returns-in_ok-accept-in-Assertion c =
+    let a = assertion_of c.in-Assertion.assertion in
     let d = view c.args.value.now in
-    by_assertion c.args.site.now (location_of c.args.schema.now ++ path_of_reference (text_of c.args.reference)) d c.args.keyword (asking.at (codes "type")) (Types ts) c.accept.result (has_some_type ts d) c.accept.ensures
-    (λ x s. ap (λ k. rules_by x s d k) c.in-Types.is)
-
-pub returns-in-MinItems : goal.returns-in-MinItems
-returns-in-MinItems c =
-    let d = view c.args.value.now in
-    by_assertion c.args.site.now (location_of c.args.schema.now ++ path_of_reference (text_of c.args.reference)) d c.args.keyword (asking.at (codes "minItems")) (MinItems c.in-MinItems.least) c.has_items.result
-    (list_is (λ ds. nat_le c.in-MinItems.least (count_items ds)) d) c.has_items.ensures
-    (λ x s. ap (λ k. rules_by x s d k) c.in-MinItems.is)
+    by_assertion c.args.site.now (location_of c.args.schema.now ++ path_of_reference (text_of c.args.reference)) d c.args.keyword a c.in_ok-accept-in-Assertion.field-0 c.in_ok-accept-in-Assertion.ensures
+    (λ x s. ap (λ k. rules_by x s d k) c.in-Assertion.is)
 
 pub some_item_refused-requires : goal.some_item_refused-requires
 some_item_refused-requires c = record { shallow = c.requires.shallow; inside = subst (LiesIn c.args.site.now) c.in-Items.is c.requires.lies }

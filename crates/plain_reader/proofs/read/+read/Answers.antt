@@ -5,7 +5,7 @@ use Rattle.json_paths.specs.Parts.{Part, name}
 use Rattle.schema_meaning.specs.Cut.{is_in_progress}
 use Rattle.schema_documents.specs.Scopes.{entered_scope}
 use Rattle.schema_reading.specs.Sites.{path_of_reference}
-use Rattle.referencing.specs.Resolved.{base_of, scope_of, target_in}
+use Rattle.schema_sites.specs.Passed.{base_of, scope_of, target_in}
 use Rattle.schema_sites.specs.References.{kind_of, name_of}
 use Rattle.schema_sites.specs.Seen.{documents_at}
 use Rattle.schema_reports.specs.RoadPaths.{instance_in, evaluation_in}
@@ -24,8 +24,7 @@ use Rattle.serde_json.specs.declared.value.Value.{Value, the_lemmas}
 use Rattle.schema_reading.specs.AllKeys.{spots_of_items}
 use Rattle.plain_reader.proofs.ItemTelling.{Child, Where, child_falls, child_shallow, item_within, member_within, drop-items, no_items_told, items_init, items_settled, items_step, items_done, item_asked, member_asked, property_told, declared_init, declared_settled, declared_absent, declared_step, declared_done}
 use Rattle.std.proofs.lemmas.Result.{on_ok_weaker}
-use Rattle.schema_meaning.specs.Keywords.{types, min_items}
-use Rattle.schema_types.specs.Named.{names_in}
+use Rattle.schema_sites.specs.Passed.{assertion_of}
 use Rattle.plain_reader.proofs.Reading.{member_inside}
 use Rattle.plain_reader.proofs.KeywordTelling.{tells_nothing, tells_assertion, tells_items, tells_properties, tells_reference, tells_member, tells_refused, tells_object, tells_false, tells_no_object}
 use Rattle.plain_reader.proofs.read.+read.Goals.{read_member-in-Memory, read_member-in_default}
@@ -97,19 +96,12 @@ read_keyword-returns-in-Nothing t c =
     let keys = keys_in c.args.progress.now in
     tells_nothing c.args.site.now whole d c.args.roads keys (keyword_leads c.args.keyword) (keyword_shapes c.args.keyword) c.args.observer.now λ x fits. ap (λ k. keyword_shapes k x) c.in-Nothing.is
 
-pub read_keyword-returns-in-Types : goal.read_keyword-returns-in-Types
-read_keyword-returns-in-Types t c =
+pub read_keyword-returns-in-Assertion : goal.read_keyword-returns-in-Assertion
+read_keyword-returns-in-Assertion t c =
     let whole = view c.args.reading.now.whole.now in
     let d = view c.args.value.now in
     let keys = keys_in c.args.progress.now in
-    on_ok_weaker c.tell_types.result (tells_assertion c.args.site.now whole d c.args.roads keys c.args.keyword (types (names_in c.in-Types.names)) c.args.observer.now c.tell_types.new.observer (λ x. ap (λ k. keyword_shapes k x) c.in-Types.is)) c.tell_types.ensures
-
-pub read_keyword-returns-in-MinItems : goal.read_keyword-returns-in-MinItems
-read_keyword-returns-in-MinItems t c =
-    let whole = view c.args.reading.now.whole.now in
-    let d = view c.args.value.now in
-    let keys = keys_in c.args.progress.now in
-    on_ok_weaker c.tell_min_items.result (tells_assertion c.args.site.now whole d c.args.roads keys c.args.keyword (min_items c.in-MinItems.least) c.args.observer.now c.tell_min_items.new.observer (λ x. ap (λ k. keyword_shapes k x) c.in-MinItems.is)) c.tell_min_items.ensures
+    on_ok_weaker c.tell_assertion.result (tells_assertion c.args.site.now whole d c.args.roads keys c.args.keyword (assertion_of c.in-Assertion.assertion) c.args.observer.now c.tell_assertion.new.observer (λ x. ap (λ k. keyword_shapes k x) c.in-Assertion.is)) c.tell_assertion.ensures
 
 pub read_keyword-returns-in-Items : goal.read_keyword-returns-in-Items
 read_keyword-returns-in-Items t c =

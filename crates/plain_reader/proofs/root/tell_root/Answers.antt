@@ -1,7 +1,7 @@
 use Rattle.std.proofs.Common.{ap₂, List, ℕ, ◌++◌}
 use Rattle.json_paths.specs.Parts.{Part}
 use Rattle.serde_json.specs.View.{view}
-use Rattle.referencing.specs.Resolved.{target_in}
+use Rattle.schema_sites.specs.Passed.{target_in}
 use Rattle.schema_reading.specs.Sites.{path_of_reference}
 use Rattle.plain_reader.proofs.RootTelling.{root_told}
 use Rattle.std.proofs.lemmas.Result.{on_ok_weaker}

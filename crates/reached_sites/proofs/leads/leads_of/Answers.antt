@@ -2,7 +2,7 @@ use Rattle.std.proofs.Common.{◌≡◌, [], Some, None, option_map, sym, ap, �
 use Rattle.std.proofs.lemmas.Result.{IfOk-weaker, IfErr-weaker}
 use Rattle.serde_json.specs.Find.{as_object}
 use Rattle.serde_json.specs.View.{view, members_view}
-use Rattle.schema_reading.specs.NotYet.{wrong, place_of}
+use Rattle.unread_keywords.specs.NotYet.{wrong, place_of}
 use Rattle.schema_reading.specs.Rows.{Place, keyword_value}
 use Rattle.schema_sites.specs.Seen.{documents_at}
 use Rattle.site_laws.proofs.Alike.{turned}

@@ -1,6 +1,6 @@
 use Rattle.std.proofs.Common.{◌≡◌, refl, subst, List, ℕ, false, string_bytes}
 use Rattle.serde_json.specs.View.{view, members_view}
-use Rattle.schema_reading.specs.NotYet.{Cause, is_unread}
+use Rattle.unread_keywords.specs.NotYet.{Cause, is_unread}
 use Rattle.schema_sites.specs.Read.{row_of}
 use Rattle.schema_sites.specs.Seen.{documents_at}
 use Rattle.reached_sites.specs.Causes.{NamesCause}

@@ -18,11 +18,8 @@ as_keyword v old new k l e h = subst (λ (m : Keyword). AddsFor v old new m) (sy
 pub returns-in-Nothing : goal.returns-in-Nothing
 returns-in-Nothing c = λ d f. as_keyword c.args.visit.now _ _ _ _ c.in-Nothing.is (adds-none _ c.args.leads.now.items)
 
-pub returns-in-Types : goal.returns-in-Types
-returns-in-Types c = λ d f. as_keyword c.args.visit.now _ _ _ _ c.in-Types.is (adds-none _ c.args.leads.now.items)
-
-pub returns-in-MinItems : goal.returns-in-MinItems
-returns-in-MinItems c = λ d f. as_keyword c.args.visit.now _ _ _ _ c.in-MinItems.is (adds-none _ c.args.leads.now.items)
+pub returns-in-Assertion : goal.returns-in-Assertion
+returns-in-Assertion c = λ d f. as_keyword c.args.visit.now _ _ _ _ c.in-Assertion.is (adds-none _ c.args.leads.now.items)
 
 pub returns-in-Items : goal.returns-in-Items
 returns-in-Items c = on_ok_weaker c.push_items.result (λ h d f. as_keyword c.args.visit.now _ _ _ _ c.in-Items.is (h c.in-Items.start)) c.push_items.ensures

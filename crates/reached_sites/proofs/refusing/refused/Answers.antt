@@ -1,7 +1,7 @@
 use Rattle.std.proofs.Common.{subst, ap, ◌∷◌, codes}
 use Rattle.json_paths.specs.Parts.{name}
 use Rattle.referencing.specs.Resolved.{target_in}
-use Rattle.schema_reading.specs.NotYet.{wrong, not_yet}
+use Rattle.unread_keywords.specs.NotYet.{wrong, not_yet}
 use Rattle.schema_reading.specs.Rows.{Place, keyword_value, bad_reference, left_out}
 use Rattle.schema_sites.specs.Refused.{Refuses}
 use Rattle.schema_sites.specs.declared.keyword.Refusal.{Refusal}
@@ -16,15 +16,15 @@ returns-in-Value c = λ x d row at h.
     let r = subst (λ (q : Refusal). Refuses x k d row q) c.in-Value.is h in
     (wrong (keyword_value (placed x.site.document (name k ∷ x.site.path)) c.in-Value.expected.now), ap (λ (p : Place). wrong (keyword_value p c.in-Value.expected.now)) here, of_row r.stands)
 
-pub returns-in_ok-member-in-Subschema : goal.returns-in_ok-member-in-Subschema
-returns-in_ok-member-in-Subschema c = λ x d row at h.
+pub returns-in_ok-member-in-Entry : goal.returns-in_ok-member-in-Entry
+returns-in_ok-member-in-Entry c = λ x d row at h.
     let k = c.args.name.now in
-    let n = c.in-Subschema.name.now in
+    let n = c.in-Entry.name.now in
+    let word = c.in-Entry.expected.now in
     let here = member-in x.site.document x.site.path k c.args.place.now c.in_ok-here.here at c.in_ok-here.ensures.document c.in_ok-here.ensures.path in
-    let there = member-in x.site.document (name k ∷ x.site.path) n c.in_ok-here.here c.in_ok-member-in-Subschema.field-0 here
-    c.in_ok-member-in-Subschema.ensures.document c.in_ok-member-in-Subschema.ensures.path in
-    let r = subst (λ (q : Refusal). Refuses x k d row q) c.in-Subschema.is h in
-    (wrong (keyword_value (placed x.site.document (name n ∷ name k ∷ x.site.path)) (codes "schema")), ap (λ (p : Place). wrong (keyword_value p (codes "schema"))) there, of_row r.stands)
+    let there = member-in x.site.document (name k ∷ x.site.path) n c.in_ok-here.here c.in_ok-member-in-Entry.field-0 here c.in_ok-member-in-Entry.ensures.document c.in_ok-member-in-Entry.ensures.path in
+    let r = subst (λ (q : Refusal). Refuses x k d row q) c.in-Entry.is h in
+    (wrong (keyword_value (placed x.site.document (name n ∷ name k ∷ x.site.path)) word), ap (λ (p : Place). wrong (keyword_value p word)) there, of_row r.stands)
 
 pub returns-in_ok-of_target-in-Target : goal.returns-in_ok-of_target-in-Target
 returns-in_ok-of_target-in-Target c = λ x d row at h.

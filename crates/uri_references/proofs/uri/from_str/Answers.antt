@@ -1,6 +1,6 @@
 use Rattle.std.proofs.Common.{◌≡◌, ◌∙◌, sym, subst, true}
-use Rattle.uri_grammar.specs.Parts.{split}
-use Rattle.uri_grammar.specs.Grammar.{is_uri}
+use Rattle.uri_resolution.specs.Passed.{split}
+use Rattle.uri_resolution.specs.Passed.{is_uri}
 use Rattle.uri_resolution.specs.NormalForm.{normal_text}
 use Rattle.uri_references.specs.Identity.{absolute}
 use Rattle.uri_references.proofs.IdentityLemmas.{identity-uri, identity-again, absolute-uri}

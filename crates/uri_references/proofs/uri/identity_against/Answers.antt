@@ -1,6 +1,6 @@
 use Rattle.std.proofs.Common.{◌≡◌, ◌∙◌, ap, subst, string_bytes, IfOk}
-use Rattle.uri_grammar.specs.Parts.{split, recompose}
-use Rattle.uri_grammar.specs.Lent.{parts_of}
+use Rattle.uri_resolution.specs.Passed.{split, recompose}
+use Rattle.uri_resolution.specs.Passed.{parts_of}
 use Rattle.uri_resolution.specs.Resolution.{resolve}
 use Rattle.uri_references.specs.Identity.{identity}
 use Rattle.uri_references.proofs.IdentityLemmas.{against-parts}

@@ -1,6 +1,6 @@
 use Rattle.std.proofs.Common.{◌≡◌, ◌∙◌, ap, sym, subst, true}
-use Rattle.uri_grammar.specs.Parts.{split}
-use Rattle.uri_grammar.specs.Grammar.{is_uri}
+use Rattle.uri_resolution.specs.Passed.{split}
+use Rattle.uri_resolution.specs.Passed.{is_uri}
 use Rattle.uri_resolution.specs.Resolution.{resolve}
 use Rattle.uri_resolution.specs.NormalForm.{normal_text}
 use Rattle.uri_references.specs.Identity.{identity_against}

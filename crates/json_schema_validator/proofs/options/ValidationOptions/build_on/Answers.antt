@@ -2,8 +2,8 @@ use Rattle.std.proofs.Common.{◌≡◌, ◌∙◌, [], ◌∷◌, subst}
 use Rattle.schema_documents.specs.Lookup.{lookup}
 use Rattle.schema_reading.specs.Sites.{root_site}
 use Rattle.referencing_errors.specs.Causes.{RefusesLookup}
-use Rattle.referencing.specs.Resolved.{documents_in, base_of, target_in}
-use Rattle.schema_registries.specs.Seen.{documents_in_registry}
+use Rattle.reached_sites.specs.Passed.{documents_in, base_of, target_in}
+use Rattle.schema_roots.specs.Passed.{documents_in_registry}
 use Rattle.reached_sites.specs.Causes.{RefusesRoot}
 use Rattle.schema_roots.specs.Roots.{root_on}
 use Rattle.json_schema_validator.proofs.options.ValidationOptions.build_on.Goals as goal

@@ -1,5 +1,5 @@
 use Rattle.given_documents.specs.Given.{documents_by}
-use Rattle.schema_registries.specs.Seen.{documents_given}
+use Rattle.schema_roots.specs.Passed.{documents_given}
 use Rattle.json_schema_validator.proofs.options.ValidationOptions.prepare.Goals as goal
 
 pub returns-in-Err-clause-refused : goal.returns-in-Err-clause-refused

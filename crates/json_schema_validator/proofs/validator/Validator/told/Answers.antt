@@ -2,8 +2,8 @@ use Rattle.std.proofs.Common.{◌≡◌, ◌≤◌, ◌∙◌, [], ◌∷◌, ap
 use Rattle.serde_json.specs.Data.{depth}
 use Rattle.serde_json.specs.View.{view}
 use Rattle.schema_reading.specs.Plain.{deepest}
-use Rattle.referencing.specs.Seen.{documents_of}
-use Rattle.referencing.specs.Resolved.{documents_in, base_of, target_in}
+use Rattle.reached_sites.specs.Passed.{documents_of}
+use Rattle.reached_sites.specs.Passed.{documents_in, base_of, target_in}
 use Rattle.target_laws.proofs.Looked.{lookups_lie}
 use Rattle.schema_roots.specs.Roots.{Root, Finds}
 use Rattle.json_schema_validator.specs.Seen.{root_in}

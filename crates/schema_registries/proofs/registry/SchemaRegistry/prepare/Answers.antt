@@ -2,9 +2,9 @@ use Rattle.std.proofs.Common.{◌≡◌, ◌∙◌, ◌∷◌, [], ap, map, subs
 use Rattle.document_index.specs.Seen.{document_of}
 use Rattle.given_documents.specs.Given.{documents_by}
 use Rattle.schema_documents.specs.DocumentCauses.{document_causes}
-use Rattle.document_causes.specs.Named.{NamesOne}
+use Rattle.referencing.specs.Passed.{NamesOne}
 use Rattle.referencing.specs.Seen.{documents_of}
-use Rattle.document_causes.proofs.NamedLemmas.{kept}
+use Rattle.referencing.proofs.Passed.{kept}
 use Rattle.target_laws.specs.Laws.{are_apart}
 use Rattle.schema_registries.specs.Seen.{documents_given}
 use Rattle.schema_registries.proofs.Apart.{apart_by}

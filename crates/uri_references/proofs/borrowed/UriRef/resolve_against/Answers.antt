@@ -1,7 +1,7 @@
 use Rattle.std.proofs.Common.{◌≡◌, ◌∙◌, ap, subst, sym, true}
-use Rattle.uri_grammar.specs.Parts.{split, recompose}
-use Rattle.uri_grammar.specs.Grammar.{is_uri}
-use Rattle.uri_grammar.specs.Lent.{parts_of}
+use Rattle.uri_resolution.specs.Passed.{split, recompose}
+use Rattle.uri_resolution.specs.Passed.{is_uri}
+use Rattle.uri_resolution.specs.Passed.{parts_of}
 use Rattle.uri_resolution.specs.Resolution.{resolve}
 use Rattle.uri_references.specs.Fragments.{fragment_of}
 use Rattle.uri_references.proofs.TextLemmas.{resolved-text-uri, resolved-fragment}

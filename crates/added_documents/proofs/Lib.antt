@@ -1,0 +1,9 @@
+pub mod Drafts
+pub mod Lists
+pub mod Named
+pub mod Children
+pub mod Bases
+pub mod Joining
+pub mod Walking
+pub mod Targets
+pub mod Stages

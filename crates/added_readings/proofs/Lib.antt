@@ -1,0 +1,4 @@
+pub mod Rows
+pub mod Sites
+pub mod Readings
+pub mod Computed

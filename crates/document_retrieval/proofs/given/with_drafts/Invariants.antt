@@ -1,0 +1,11 @@
+use Rattle.std.proofs.Common.{◌≡◌, ◌++◌, map}
+use Rattle.std.specs.Vec.Iter.{into_iter_items}
+use Rattle.document_index.specs.Seen.{document_of}
+use Rattle.given_documents.specs.Given.{document_by}
+use Rattle.given_documents.specs.Seen.{given_of}
+use Rattle.document_retrieval.proofs.given.with_drafts.Given as goal
+
+abbrev pub invariant-loop-document : goal.invariant-loop-document
+invariant-loop-document l =
+    map document_of l.documents.items ++ map (λ g. document_by l.default (given_of g)) (into_iter_items l.document-iterator)
+    ≡ map document_of l.initial.documents.items ++ map (λ g. document_by l.default (given_of g)) (into_iter_items l.initial.document-iterator)

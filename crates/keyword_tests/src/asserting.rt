@@ -1,0 +1,219 @@
+// Keywords that only assert (Validation 6): values that no keyword may have, and what is told of values.
+use crate::subject::{built, refused_otherwise, told, told_otherwise};
+use serde_json::Value;
+use std::alloc::Global;
+use std::test::Fail;
+
+const BAD_VALUES: [(&str, &str, &str); 16] = [
+    ("{\"type\":[\"string\",5]}", "type", "type name"),
+    ("{\"enum\":1}", "enum", "list"),
+    ("{\"multipleOf\":0}", "multipleOf", "positive number"),
+    ("{\"multipleOf\":-3}", "multipleOf", "positive number"),
+    ("{\"maximum\":\"3\"}", "maximum", "number"),
+    ("{\"exclusiveMinimum\":true}", "exclusiveMinimum", "number"),
+    ("{\"maxLength\":-1}", "maxLength", "count"),
+    ("{\"minProperties\":null}", "minProperties", "count"),
+    ("{\"uniqueItems\":1}", "uniqueItems", "boolean"),
+    (
+        "{\"required\":[\"a\",\"b\",\"a\"]}",
+        "required",
+        "unique names",
+    ),
+    ("{\"required\":[\"a\",1]}", "required", "unique names"),
+    ("{\"required\":\"a\"}", "required", "unique names"),
+    ("{\"dependentRequired\":[]}", "dependentRequired", "object"),
+    (
+        "{\"dependentRequired\":{\"x/y\":5}}",
+        "dependentRequired/x~1y",
+        "list",
+    ),
+    (
+        "{\"dependentRequired\":{\"x\":[\"a\",\"a\"]}}",
+        "dependentRequired/x",
+        "unique names",
+    ),
+    (
+        "{\"dependentRequired\":{\"x\":[\"a\",1]}}",
+        "dependentRequired",
+        "unique names",
+    ),
+];
+
+#[test]
+fn values_that_no_keyword_may_have(rt: HostRuntime) -> Result<(), Fail> {
+    assert_eq!(rt; refused_otherwise(rt.alloc(), &BAD_VALUES)?.as_str(), "");
+    Ok(())
+}
+
+#[test]
+fn values_that_assert_nothing(rt: HostRuntime) -> Result<(), Fail> {
+    let alloc = rt.alloc();
+    for schema in [
+        "{\"required\":[]}",
+        "{\"uniqueItems\":false}",
+        "{\"dependentRequired\":{}}",
+        "{\"$schema\":\"http://json-schema.org/draft-04/schema#\",\"const\":1,\"exclusiveMaximum\":5,\"dependentRequired\":1}",
+        "{\"$schema\":\"http://json-schema.org/draft-07/schema#\",\"dependentRequired\":1}",
+    ] {
+        let subject = built(alloc, schema)?;
+        for value in ["[1,1]", "{}", "9"] {
+            assert_eq!(rt; told(alloc, &subject, value)?.as_str(), "");
+        }
+    }
+    Ok(())
+}
+
+const FAULTS: [(&str, &str, &str); 12] = [
+    (
+        "{\"uniqueItems\":true}",
+        "[1,{\"a\":1,\"b\":2},{\"b\":2,\"a\":1}]",
+        " /uniqueItems\n",
+    ),
+    (
+        "{\"uniqueItems\":true}",
+        "[[1],[2],1,true,\"1\",null,0,false]",
+        "",
+    ),
+    ("{\"multipleOf\":3}", "-9", ""),
+    ("{\"multipleOf\":3}", "4", " /multipleOf\n"),
+    ("{\"enum\":[]}", "null", " /enum\n"),
+    ("{\"enum\":[{\"a\":[1,2]}]}", "{\"a\":[2,1]}", " /enum\n"),
+    ("{\"const\":{\"a\":1,\"b\":[]}}", "{\"b\":[],\"a\":1}", ""),
+    (
+        "{\"required\":[\"a\",\"b\",\"c\"]}",
+        "{\"b\":1}",
+        " /required\n /required\n",
+    ),
+    (
+        "{\"dependentRequired\":{\"a\":[\"b\",\"c\"],\"d\":[\"a\"]}}",
+        "{\"a\":1}",
+        " /dependentRequired\n /dependentRequired\n",
+    ),
+    (
+        "{\"minProperties\":1,\"maxProperties\":1}",
+        "{}",
+        " /minProperties\n",
+    ),
+    ("{\"minItems\":1,\"maxItems\":1}", "[1,2]", " /maxItems\n"),
+    (
+        "{\"maximum\":3,\"exclusiveMaximum\":3,\"minimum\":9}",
+        "3",
+        " /exclusiveMaximum\n /minimum\n",
+    ),
+];
+
+#[test]
+fn faults_of_each_keyword(rt: HostRuntime) -> Result<(), Fail> {
+    assert_eq!(rt; told_otherwise(rt.alloc(), &FAULTS)?.as_str(), "");
+    Ok(())
+}
+
+const DRAFT_4: [(&str, &str, &str); 6] = [
+    (
+        "{\"$schema\":\"http://json-schema.org/draft-04/schema#\",\"minimum\":5,\"exclusiveMinimum\":true}",
+        "5",
+        " /exclusiveMinimum\n",
+    ),
+    (
+        "{\"$schema\":\"http://json-schema.org/draft-04/schema#\",\"minimum\":5,\"exclusiveMinimum\":true}",
+        "6",
+        "",
+    ),
+    (
+        "{\"$schema\":\"http://json-schema.org/draft-04/schema#\",\"minimum\":5,\"exclusiveMinimum\":false}",
+        "5",
+        "",
+    ),
+    (
+        "{\"$schema\":\"http://json-schema.org/draft-04/schema#\",\"minimum\":5,\"exclusiveMinimum\":\"x\"}",
+        "4",
+        " /minimum\n",
+    ),
+    (
+        "{\"$schema\":\"http://json-schema.org/draft-04/schema#\",\"maximum\":5,\"exclusiveMaximum\":true}",
+        "5",
+        " /exclusiveMaximum\n",
+    ),
+    (
+        "{\"$schema\":\"http://json-schema.org/draft-04/schema#\",\"exclusiveMaximum\":true}",
+        "5",
+        "",
+    ),
+];
+
+#[test]
+fn strict_limits_of_draft_4(rt: HostRuntime) -> Result<(), Fail> {
+    assert_eq!(rt; told_otherwise(rt.alloc(), &DRAFT_4)?.as_str(), "");
+    Ok(())
+}
+
+const NUMBERS_AND_TEXTS: [(&str, &str, &str); 8] = [
+    (
+        "{\"minimum\":-9223372036854775808}",
+        "-9223372036854775808",
+        "",
+    ),
+    (
+        "{\"maximum\":18446744073709551614}",
+        "18446744073709551615",
+        " /maximum\n",
+    ),
+    (
+        "{\"exclusiveMinimum\":18446744073709551614}",
+        "18446744073709551615",
+        "",
+    ),
+    (
+        "{\"multipleOf\":18446744073709551615}",
+        "18446744073709551615",
+        "",
+    ),
+    ("{\"maxLength\":1}", "\"\\u00e9\"", ""),
+    ("{\"maxLength\":1}", "\"\\ud83d\\ude00\"", ""),
+    ("{\"minLength\":2}", "\"\\ud83d\\ude00\"", " /minLength\n"),
+    ("{\"maxLength\":1}", "\"e\\u0301\"", " /maxLength\n"),
+];
+
+#[test]
+fn numbers_and_texts(rt: HostRuntime) -> Result<(), Fail> {
+    assert_eq!(rt;
+        told_otherwise(rt.alloc(), &NUMBERS_AND_TEXTS)?.as_str(),
+        ""
+    );
+    Ok(())
+}
+
+// The kinds of the faults, one after another.
+fn kinds(alloc: Global, schema: &str, value: &str) -> Result<String, Fail> {
+    let subject = built(alloc, schema)?;
+    let value = Value::from_str(alloc, value)?;
+    let mut text = String::new(alloc);
+    for error in subject.validator.iter_errors(&value)? {
+        write!(text, "{:?};", error.kind())?;
+    }
+    Ok(text)
+}
+
+#[test]
+fn kinds_name_what_the_keyword_has(rt: HostRuntime) -> Result<(), Fail> {
+    let alloc = rt.alloc();
+    assert_eq!(rt;
+        kinds(
+            alloc,
+            "{\"enum\":[1,\"a\"],\"required\":[\"k\"],\"minProperties\":2}",
+            "{}"
+        )?
+        .as_str(),
+        "Enumeration { options: Array [Number(1), String(\"a\")] };MinProperties { limit: 2 };Required { property: \"k\" };"
+    );
+    assert_eq!(rt;
+        kinds(
+            alloc,
+            "{\"type\":[\"null\",\"array\"],\"maximum\":-1,\"const\":0}",
+            "7"
+        )?
+        .as_str(),
+        "Constant { expected_value: Number(0) };Maximum { limit: Number(-1) };Types { names: Several([Null, Array]) };"
+    );
+    Ok(())
+}

@@ -1,0 +1,7 @@
+//! Tests of keywords: what they refuse in a build, and what they tell of values.
+#![tactic(auto)]
+
+#[cfg(test)]
+mod asserting;
+#[cfg(test)]
+mod subject;

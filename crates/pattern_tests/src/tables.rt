@@ -1,0 +1,57 @@
+// A table asks its maker once for a text, and not at all for a literal form.
+
+ghost use Rattle.regex_patterns.specs.Searches.{is_regex, searched};
+
+use regex_patterns::{RegexMaker, RegexMatcher};
+use schema_patterns::{MatchAnswer, PatternError, PatternMaker, PatternMatcher, PatternTable};
+use std::alloc::Global;
+use std::cell::Cell;
+use std::test::Fail;
+
+// Counts how often it is asked.
+#[derive(Drop)]
+struct CountingMaker {
+    asked: Cell<u32>,
+}
+
+impl PatternMaker for CountingMaker {
+    type Matcher = RegexMatcher;
+
+    ghost makes = { λ _ pattern. is_regex pattern };
+
+    ghost finished = { λ _ pattern text. searched pattern text };
+
+    fn make(&self, alloc: Global, pattern: &str) -> Result<RegexMatcher, PatternError> {
+        self.asked.set(self.asked.get().wrapping_add(1));
+        RegexMaker.make(alloc, pattern)
+    }
+}
+
+#[test]
+fn makes_each_text_once(rt: HostRuntime) -> Result<(), Fail> {
+    let alloc = rt.alloc();
+    let maker = CountingMaker {
+        asked: Cell::new(0),
+    };
+    let mut table = PatternTable::new(alloc);
+    for (pattern, number, asked) in [
+        ("a.c", Ok(0), 1),
+        ("a.c", Ok(0), 1),
+        ("^x-", Ok(1), 1),
+        ("a(", Err(PatternError::BadPattern), 2),
+        ("b.c", Ok(2), 3),
+        ("a.c", Ok(0), 3),
+    ] {
+        assert_eq!(rt; table.add(alloc, &maker, pattern), number, "{pattern}");
+        assert_eq!(rt; maker.asked.get(), asked, "{pattern}");
+    }
+    let found = table.get("a.c").map(|pattern| pattern.is_match("abc"));
+    assert_eq!(rt; found, Some(MatchAnswer::Yes));
+    assert!(rt; table.get("a(").is_none());
+    let Some((text, pattern)) = table.at(1) else {
+        return Err(Fail::new("no pattern"));
+    };
+    assert_eq!(rt; (text, pattern.is_match("x-id")), ("^x-", MatchAnswer::Yes));
+    assert!(rt; table.at(3).is_none());
+    Ok(())
+}

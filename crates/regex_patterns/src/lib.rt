@@ -1,0 +1,56 @@
+//! The patterns of schemas over `regex`.
+#![tactic(auto)]
+
+ghost use Rattle.regex_patterns.specs.Searches.{is_regex, searched, MeansItsText};
+
+use regex::{Error, Regex};
+use schema_patterns::{MatchAnswer, PatternError, PatternMaker, PatternMatcher};
+use std::alloc::Global;
+
+/// Makes the patterns that the crate `regex` reads.
+///
+/// A pattern whose compiled form would take more than 10 MiB counts as want of memory.
+#[derive(Clone, Copy, Debug, Default, PartialEq, Eq)]
+pub struct RegexMaker;
+
+/// A pattern that `regex` reads. It finishes each match that memory is there for.
+#[derive(Drop)]
+pub struct RegexMatcher {
+    alloc: Global,
+    regex: Regex,
+    ghost means: { MeansItsText regex },
+}
+
+impl PatternMaker for RegexMaker {
+    type Matcher = RegexMatcher;
+
+    ghost makes = { λ _ pattern. is_regex pattern };
+
+    ghost finished = { λ _ pattern text. searched pattern text };
+
+    fn make(&self, alloc: Global, pattern: &str) -> Result<RegexMatcher, PatternError> {
+        match Regex::new(alloc, pattern) {
+            Ok(regex) => Ok(RegexMatcher { alloc, regex }),
+            Err(Error::Syntax(_)) => Err(PatternError::BadPattern),
+            Err(_) => Err(PatternError::Memory),
+        }
+    }
+}
+
+impl PatternMatcher for RegexMatcher {
+    ghost use Rattle.regex_patterns.specs.Matchers.{finds_by_regex};
+
+    ghost finds = { finds_by_regex };
+
+    // What a search writes to is made anew each time, since a matcher is only lent.
+    fn is_match(&self, text: &str) -> MatchAnswer {
+        let Ok(mut matcher) = self.regex.matcher(self.alloc) else {
+            return MatchAnswer::NoMemory;
+        };
+        if matcher.is_match(text) {
+            MatchAnswer::Yes
+        } else {
+            MatchAnswer::No
+        }
+    }
+}

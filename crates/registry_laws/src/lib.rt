@@ -1,0 +1,6 @@
+//! Laws on registries.
+#![tactic(auto)]
+
+pub mod chains;
+#[cfg(test)]
+mod tests;

@@ -1,0 +1,2 @@
+-- What crates above need of those below, passed on to them.
+pub use Rattle.uri_references.specs.Refusals.{Refuses}

@@ -1,0 +1,4 @@
+pub mod Answers
+pub mod Compiled
+pub mod Scripts
+pub mod Tables

@@ -1,0 +1,100 @@
+-- Keywords that only assert, where their names count.
+use Rattle.std.proofs.Common.{◌≡◌, ◌∙◌, refl, sym, ap, subst, ℕ, List, [], ◌∷◌, ◌++◌, Bool, true, false, true≢false, not, ◌&&◌, ◌||◌, bytes_eq, codes, is_some, Option, Some, None, IfSome}
+use Rattle.std.proofs.lemmas.Slice.Eq.{bytes_eq-Decides}
+use Rattle.serde_json.specs.Data.{Data, Members}
+use Rattle.serde_json.specs.Find.{as_array}
+use Rattle.schema_documents.specs.Places.{Dialect}
+use Rattle.schema_meaning.specs.Members.{is_listed}
+use Rattle.unread_keywords.specs.NotYet.{is_unread, read_now}
+use Rattle.schema_reading.specs.Rows.{Row, Context, counts_here, nothing_read, takes_list, readers, read_among, row_at}
+use Rattle.schema_reading.specs.Sites.{Site}
+use Rattle.assertions.specs.Names.{assertion_names}
+use Rattle.assertions.specs.Reads.{ReadsAs}
+use Rattle.assertions.specs.Reads as asserting
+use Rattle.assertions.specs.declared.reading.Reading.{Reading}
+use Rattle.schema_sites.specs.Read.{row_of, Surrounds}
+use Rattle.schema_sites.specs.Refused.{Refuses}
+use Rattle.schema_sites.specs.Seen.{beside_at}
+use Rattle.schema_sites.specs.References.{named}
+use Rattle.schema_sites.specs.declared.keyword.Keyword.{Keyword}
+use Rattle.schema_sites.specs.declared.keyword.Refusal.{Refusal}
+use Rattle.schema_sites.specs.declared.site.Site as code
+use Rattle.schema_sites.proofs.ArmLemmas.{row-if, neighbour, is-read}
+use Rattle.schema_sites.proofs.NamedLemmas.{named-none}
+
+pub some-of : {A : Type 0} (P : A → Type 0) (o : Option A) (x : A) → o ≡ Some x → IfSome o P → P x
+some-of P o x e h = subst (λ p. IfSome p P) e h
+
+-- ---- by its reading
+
+module _ (c : code.Site) (ms : Members) (k : List ℕ) (d : Data) (strict : Option Data) (r : Reading)
+    (maximum : k ≡ codes "maximum" → strict ≡ beside_at c ms (codes "exclusiveMaximum")) (minimum : k ≡ codes "minimum" → strict ≡ beside_at c ms (codes "exclusiveMinimum"))
+    (reads : (x : Context) → asserting.Surrounds c.dialect.draft strict k x → ReadsAs x k (read_among readers x k d) r) where
+  surrounded : (x : Context) → Surrounds c ms x → asserting.Surrounds c.dialect.draft strict k x
+  surrounded x s = record {
+    draft = ap (λ (y : Dialect). y.draft) s.stands.dialect;
+    maximum = λ is. neighbour c ms x s (codes "exclusiveMaximum") ∙ sym (maximum is);
+    minimum = λ is. neighbour c ms x s (codes "exclusiveMinimum") ∙ sym (minimum is);
+  }
+
+  reads-here : (x : Context) → Surrounds c ms x → counts_here x k ≡ true → ReadsAs x k (row_at x k d) r
+  reads-here x s counted =
+      subst (λ (row : Row). ReadsAs x k row r) (sym (row-if (counts_here x k) (read_among readers x k d) nothing_read counted)) (reads x (surrounded x s))
+
+  pub asserted-read : (w : Keyword) → ((x : Context) (n : List ℕ) (row : Row) → ReadsAs x n row r → row ≡ row_of x.documents x.site w)
+      → (x : Context) → Surrounds c ms x → counts_here x k ≡ true → row_at x k d ≡ row_of x.documents x.site w
+  asserted-read w h x s counted = h x k (row_at x k d) (reads-here x s counted)
+
+  pub asserted-refused : (e : Refusal) → ((x : Context) (n : List ℕ) (d : Data) (row : Row) → ReadsAs x n row r → Refuses x n d row e)
+      → (x : Context) → Surrounds c ms x → counts_here x k ≡ true → Refuses x k d (row_at x k d) e
+  asserted-refused e h x s counted = h x k d (row_at x k d) (reads-here x s counted)
+
+-- ---- its name is read
+
+abbrev every : (List ℕ → Bool) → List (List ℕ) → Bool
+every p [] = true
+every p (n ∷ ns) = p n && every p ns
+
+every-listed : (p : List ℕ → Bool) (k : List ℕ) (names : List (List ℕ)) → every p names ≡ true → is_listed k names ≡ true → p k ≡ true
+every-listed p k [] all e = absurd (true≢false (sym e))
+every-listed p k (n ∷ ns) all e = by (bytes_eq k n) (p n) refl refl all e (every-listed p k ns)
+  where
+    by : (b c : Bool) → bytes_eq k n ≡ b → p n ≡ c → (c && every p ns) ≡ true → (b || is_listed k ns) ≡ true → (every p ns ≡ true → is_listed k ns ≡ true → p k ≡ true) → p k ≡ true
+    by true true is holds all e rest = ap p ((bytes_eq-Decides k n).0 is) ∙ holds
+    by false true is holds all e rest = rest all e
+    by b false is holds all e rest = absurd (true≢false (sym all))
+
+negated : (b : Bool) → not b ≡ true → b ≡ false
+negated true e = absurd (true≢false (sym e))
+negated false e = refl
+
+pub assertion-read : (k : List ℕ) (d : Data) → is_listed k assertion_names ≡ true → (s : Site) (ms : Members) → is_unread s ms k d ≡ false
+assertion-read k d listed =
+    let read = every-listed (λ n. is_listed n read_now) k assertion_names refl listed in
+    let other = negated (bytes_eq k (codes "items")) (every-listed (λ n. not (bytes_eq n (codes "items"))) k assertion_names refl listed) in
+    is-read k k d refl read (λ s. ap (λ (b : Bool). b && takes_list s.dialect.draft && is_some (as_array d)) other)
+
+-- ---- a name that is not read
+
+unlisted-both : (k : List ℕ) (xs ys : List (List ℕ)) → is_listed k xs ≡ false → is_listed k ys ≡ false → is_listed k (xs ++ ys) ≡ false
+unlisted-both k [] ys e f = f
+unlisted-both k (n ∷ ns) ys e f = by (bytes_eq k n) e (λ g. unlisted-both k ns ys g f)
+  where
+    by : (b : Bool) → (b || is_listed k ns) ≡ false → (is_listed k ns ≡ false → is_listed k (ns ++ ys) ≡ false) → (b || is_listed k (ns ++ ys)) ≡ false
+    by true e rest = absurd (true≢false e)
+    by false e rest = rest e
+
+no-reference : (k : List ℕ) → named k ≡ None → is_listed k (codes "$ref" ∷ codes "$dynamicRef" ∷ codes "$recursiveRef" ∷ []) ≡ false
+no-reference k e =
+    let n = named-none k e in
+    ap (λ (b : Bool). b || (bytes_eq k (codes "$dynamicRef") || (bytes_eq k (codes "$recursiveRef") || false))) n.plain
+    ∙ ap (λ (b : Bool). b || (bytes_eq k (codes "$recursiveRef") || false)) n.dynamic ∙ ap (λ (b : Bool). b || false) n.recursive
+
+-- the names that are read and are neither a reference's nor an assertion's
+abbrev pub applied_names : List (List ℕ)
+applied_names = codes "items" ∷ codes "properties" ∷ codes "unevaluatedItems" ∷ codes "unevaluatedProperties" ∷ []
+
+pub none-read : (k : List ℕ) → named k ≡ None → is_listed k assertion_names ≡ false → is_listed k applied_names ≡ false → is_listed k read_now ≡ false
+none-read k reference assertion other =
+    unlisted-both k (codes "$ref" ∷ codes "$dynamicRef" ∷ codes "$recursiveRef" ∷ []) (assertion_names ++ applied_names) (no-reference k reference)
+    (unlisted-both k assertion_names applied_names assertion other)

@@ -1,0 +1,26 @@
+use Rattle.std.proofs.Common.{refl, codes}
+use Rattle.serde_json.specs.View.{view, members_view}
+use Rattle.schema_meaning.specs.Members.{first}
+use Rattle.schema_sites.specs.Arms.{one_items_row, properties_row}
+use Rattle.schema_sites.specs.declared.keyword.Refusal.TheVariants.{LeftOut}
+use Rattle.schema_sites.proofs.ArmLemmas.{items-row, properties-row, left_row, left-items-row, left-properties-row, refused-here}
+use Rattle.schema_sites.proofs.ResultLemmas.{if-err}
+use Rattle.schema_sites.proofs.reading.applied.Goals as goal
+
+pub returns-in-items-clause-refused : goal.returns-in-items-clause-refused
+returns-in-items-clause-refused c =
+    if-err _ _ c.items.result (λ e h. refused-here c.args.site.now (members_view c.args.members.now.entries) c.args.name.now (codes "items") (view c.args.value.now) one_items_row c.in-items.is items-row e h) c.items.ensures.refused
+
+pub returns-in-properties-clause-refused : goal.returns-in-properties-clause-refused
+returns-in-properties-clause-refused c =
+    if-err _ _ c.properties.result (λ e h. refused-here c.args.site.now (members_view c.args.members.now.entries) c.args.name.now (codes "properties") (view c.args.value.now) properties_row c.in-properties.is properties-row e (λ x s there. h x)) c.properties.ensures.refused
+
+pub returns-in-unevaluatedItems-clause-refused : goal.returns-in-unevaluatedItems-clause-refused
+returns-in-unevaluatedItems-clause-refused c =
+    refused-here c.args.site.now (members_view c.args.members.now.entries) c.args.name.now (codes "unevaluatedItems") (view c.args.value.now) (left_row (codes "unevaluatedItems")) c.in-unevaluatedItems.is left-items-row LeftOut
+    (λ x s there. record { stands = first; alone = refl })
+
+pub returns-in-unevaluatedProperties-clause-refused : goal.returns-in-unevaluatedProperties-clause-refused
+returns-in-unevaluatedProperties-clause-refused c =
+    refused-here c.args.site.now (members_view c.args.members.now.entries) c.args.name.now (codes "unevaluatedProperties") (view c.args.value.now) (left_row (codes "unevaluatedProperties")) c.in-unevaluatedProperties.is left-properties-row LeftOut
+    (λ x s there. record { stands = first; alone = refl })
