@@ -1,5 +1,6 @@
 // Keywords that only assert (Validation 6): values that no keyword may have, and what is told of values.
 use crate::subject::{built, refused_otherwise, told, told_otherwise};
+use json_schema_validator::ErrorIterator;
 use serde_json::Value;
 use std::alloc::Global;
 use std::test::Fail;
@@ -183,15 +184,19 @@ fn numbers_and_texts(rt: HostRuntime) -> Result<(), Fail> {
     Ok(())
 }
 
+fn kinds_of(alloc: Global, errors: ErrorIterator<'_>) -> Result<String, Fail> {
+    let mut text = String::new(alloc);
+    for error in errors {
+        write!(text, "{:?};", error.kind())?;
+    }
+    Ok(text)
+}
+
 // The kinds of the faults, one after another.
 fn kinds(alloc: Global, schema: &str, value: &str) -> Result<String, Fail> {
     let subject = built(alloc, schema)?;
     let value = Value::from_str(alloc, value)?;
-    let mut text = String::new(alloc);
-    for error in subject.validator.iter_errors(&value)? {
-        write!(text, "{:?};", error.kind())?;
-    }
-    Ok(text)
+    kinds_of(alloc, subject.validator.iter_errors(&value)?)
 }
 
 #[test]
