@@ -1,0 +1,4 @@
+pub mod ItemLemmas
+pub mod ContainsLemmas
+pub mod ConsequentLemmas
+pub mod CombinedLemmas

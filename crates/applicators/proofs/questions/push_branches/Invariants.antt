@@ -1,0 +1,13 @@
+use Rattle.std.proofs.Common.{◌≡◌, ◌++◌, List, drop}
+use Rattle.serde_json.specs.Data.{Data}
+use Rattle.serde_json.specs.View.{items_view}
+use Rattle.json_paths.specs.Parts.{Part}
+use Rattle.schema_reading.specs.Sites.{Site}
+use Rattle.schema_meaning.specs.Questions.{each_branch}
+use Rattle.applicators.specs.Shapes.{sites_of_list}
+use Rattle.applicators.specs.Questions.{questions_of}
+use Rattle.applicators.proofs.questions.push_branches.Given as goal
+
+abbrev pub invariant-loop-index : goal.invariant-loop-index
+invariant-loop-index l = (site : List Part → Data → Site) → questions_of site l.fn.questions.items ++ each_branch l.keyword 0 (sites_of_list site l.keyword 0 (items_view l.schemas))
+    ≡ questions_of site l.questions.items ++ each_branch l.keyword l.index (sites_of_list site l.keyword l.index (items_view (drop l.index l.schemas)))

@@ -1,0 +1,12 @@
+use Rattle.std.proofs.Common.{◌≡◌, ◌++◌, List, map}
+use Rattle.serde_json.specs.Data.{Data}
+use Rattle.serde_json.specs.View.{members_view}
+use Rattle.json_paths.specs.Parts.{Part}
+use Rattle.schema_reading.specs.Sites.{Site}
+use Rattle.schema_reading.specs.Rows.{sites_named}
+use Rattle.applicators.specs.Shapes.{place_of, sites_of_map}
+use Rattle.applicators.proofs.subschemas.push_map.Given as goal
+
+abbrev pub invariant-loop-name : goal.invariant-loop-name
+invariant-loop-name l = (site : List Part → Data → Site) → map (place_of site) l.fn.found.items ++ sites_named (sites_of_map site l.keyword (members_view l.schemas.entries))
+    ≡ map (place_of site) l.found.items ++ sites_named (sites_of_map site l.keyword (members_view l.name-iterator))

@@ -1,0 +1,75 @@
+-- The shapes that applicators stand for, over the sites of their subschemas.
+use Rattle.std.specs.Prelude.{ℕ, suc, List, [], ◌∷◌, option_map, codes}
+use Rattle.serde_json.specs.Data.{Data, Items, no_items, item, Members, no_members, member}
+use Rattle.serde_json.specs.View.{view, items_view, members_view}
+use Rattle.json_paths.specs.Parts.{Part}
+use Rattle.schema_reading.specs.Sites.{Site}
+use Rattle.schema_reading.specs.Rows.{sites_named}
+use Rattle.schema_meaning.specs.Questions.{at, at_name, at_index}
+use Rattle.schema_meaning.specs.Keywords.{Shape, items, item_list, prefix_items, additional_items, no_additional_items, contains, properties, no_properties, property_names, no_property_names, dependent_schemas, all_of, any_of, one_of, negation, condition}
+use Rattle.applicators.specs.declared.applicator.Applicator.{Applicator}
+use Rattle.applicators.specs.declared.applicator.Applicator.TheVariants as code
+use Rattle.applicators.specs.declared.subschema.Entry.{Entry}
+use Rattle.applicators.specs.declared.subschema.Entry.TheVariants as entry
+use Rattle.applicators.specs.declared.subschema.Subschema.{Subschema}
+
+-- the parts from a schema to a subschema at a keyword, last part first
+abbrev pub added_at : List ℕ → Entry → List Part
+added_at k entry.Whole = at k
+added_at k (entry.Name n) = at_name k n.now
+added_at k (entry.Index i) = at_index k i
+
+-- the site of a subschema, where `site` gives that of a schema below by the parts to it and the schema
+abbrev pub place_of : (List Part → Data → Site) → Subschema → Site
+place_of site b = site (added_at b.keyword.now b.entry) (view b.schema.now)
+
+-- those of a list of schemas, the first of which has index i
+abbrev pub sites_of_list : (List Part → Data → Site) → List ℕ → ℕ → Items → List Site
+sites_of_list site k i no_items = []
+sites_of_list site k i (item d ds) = site (at_index k i) d ∷ sites_of_list site k (suc i) ds
+
+-- those of an object of schemas, with their names
+abbrev pub sites_of_map : (List Part → Data → Site) → List ℕ → Members → List (List ℕ × Site)
+sites_of_map site k no_members = []
+sites_of_map site k (member n d ms) = (n, site (at_name k n) d) ∷ sites_of_map site k ms
+
+abbrev pub site_of : (List Part → Data → Site) → List ℕ → Data → Site
+site_of site k d = site (at k) d
+
+abbrev pub shape_of : (List Part → Data → Site) → Applicator → Shape Site
+shape_of site (code.Items start schema) = items start (site_of site (codes "items") (view schema.now))
+shape_of site (code.ItemList schemas) = item_list (sites_of_list site (codes "items") 0 (items_view schemas.now))
+shape_of site (code.PrefixItems schemas) = prefix_items (sites_of_list site (codes "prefixItems") 0 (items_view schemas.now))
+shape_of site (code.AdditionalItems start schema) = additional_items start (site_of site (codes "additionalItems") (view schema.now))
+shape_of site (code.NoAdditionalItems start schema) = no_additional_items start (site_of site (codes "additionalItems") (view schema.now))
+shape_of site (code.Contains schema least most) = contains (site_of site (codes "contains") (view schema.now)) least most
+shape_of site (code.Properties schemas) = properties (sites_of_map site (codes "properties") (members_view schemas.now.entries))
+shape_of site (code.NoProperties schema) = no_properties (site_of site (codes "additionalProperties") (view schema.now))
+shape_of site (code.PropertyNames schema) = property_names (site_of site (codes "propertyNames") (view schema.now))
+shape_of site (code.NoPropertyNames schema) = no_property_names (site_of site (codes "propertyNames") (view schema.now))
+shape_of site (code.DependentSchemas schemas) = dependent_schemas (sites_of_map site (codes "dependentSchemas") (members_view schemas.now.entries))
+shape_of site (code.AllOf schemas) = all_of (sites_of_list site (codes "allOf") 0 (items_view schemas.now))
+shape_of site (code.AnyOf schemas) = any_of (sites_of_list site (codes "anyOf") 0 (items_view schemas.now))
+shape_of site (code.OneOf schemas) = one_of (sites_of_list site (codes "oneOf") 0 (items_view schemas.now))
+shape_of site (code.Not schema) = negation (view schema.now) (site_of site (codes "not") (view schema.now))
+shape_of site (code.If condition_schema then_schema else_schema) =
+    condition (site_of site (codes "if") (view condition_schema.now)) (option_map (λ x. site_of site (codes "then") (view x.now)) then_schema) (option_map (λ x. site_of site (codes "else") (view x.now)) else_schema)
+
+-- the sites of the schemas in the keyword's own value: those of `then` and `else` are led to by these
+abbrev pub leads_of : (List Part → Data → Site) → Applicator → List Site
+leads_of site (code.Items start schema) = site_of site (codes "items") (view schema.now) ∷ []
+leads_of site (code.ItemList schemas) = sites_of_list site (codes "items") 0 (items_view schemas.now)
+leads_of site (code.PrefixItems schemas) = sites_of_list site (codes "prefixItems") 0 (items_view schemas.now)
+leads_of site (code.AdditionalItems start schema) = site_of site (codes "additionalItems") (view schema.now) ∷ []
+leads_of site (code.NoAdditionalItems start schema) = site_of site (codes "additionalItems") (view schema.now) ∷ []
+leads_of site (code.Contains schema least most) = site_of site (codes "contains") (view schema.now) ∷ []
+leads_of site (code.Properties schemas) = sites_named (sites_of_map site (codes "properties") (members_view schemas.now.entries))
+leads_of site (code.NoProperties schema) = site_of site (codes "additionalProperties") (view schema.now) ∷ []
+leads_of site (code.PropertyNames schema) = site_of site (codes "propertyNames") (view schema.now) ∷ []
+leads_of site (code.NoPropertyNames schema) = site_of site (codes "propertyNames") (view schema.now) ∷ []
+leads_of site (code.DependentSchemas schemas) = sites_named (sites_of_map site (codes "dependentSchemas") (members_view schemas.now.entries))
+leads_of site (code.AllOf schemas) = sites_of_list site (codes "allOf") 0 (items_view schemas.now)
+leads_of site (code.AnyOf schemas) = sites_of_list site (codes "anyOf") 0 (items_view schemas.now)
+leads_of site (code.OneOf schemas) = sites_of_list site (codes "oneOf") 0 (items_view schemas.now)
+leads_of site (code.Not schema) = site_of site (codes "not") (view schema.now) ∷ []
+leads_of site (code.If condition_schema then_schema else_schema) = site_of site (codes "if") (view condition_schema.now) ∷ []

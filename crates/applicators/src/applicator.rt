@@ -1,0 +1,49 @@
+//! Keywords that apply subschemas, read from their values.
+
+use serde_json::{Map, Value};
+
+/// A keyword that applies subschemas, with what its value and its neighbours say. What a schema lends is not copied.
+#[derive(Clone, Copy, Debug)]
+pub enum Applicator<'r> {
+    /// One schema for the items from `start` on.
+    Items {
+        start: usize,
+        schema: &'r Value,
+    },
+    /// `items` as a list: a schema for each index.
+    ItemList(&'r [Value]),
+    PrefixItems(&'r [Value]),
+    /// One schema for the items from `start` on, which is the length of the list at `items` beside.
+    AdditionalItems {
+        start: usize,
+        schema: &'r Value,
+    },
+    /// The same where the schema is `false`.
+    NoAdditionalItems {
+        start: usize,
+        schema: &'r Value,
+    },
+    /// With `minContains` and `maxContains` where they stand beside.
+    Contains {
+        schema: &'r Value,
+        least: Option<u64>,
+        most: Option<u64>,
+    },
+    Properties(&'r Map<String, Value>),
+    /// `additionalProperties` as `false`, where neither `properties` nor `patternProperties` stands beside.
+    NoProperties(&'r Value),
+    PropertyNames(&'r Value),
+    /// The same where the schema is `false`.
+    NoPropertyNames(&'r Value),
+    DependentSchemas(&'r Map<String, Value>),
+    AllOf(&'r [Value]),
+    AnyOf(&'r [Value]),
+    OneOf(&'r [Value]),
+    Not(&'r Value),
+    /// `if` with `then` and `else` where they stand beside.
+    If {
+        condition: &'r Value,
+        then_schema: Option<&'r Value>,
+        else_schema: Option<&'r Value>,
+    },
+}

@@ -1,0 +1,9 @@
+//! Keywords that apply subschemas: where their subschemas stand, and the questions that they ask of a value.
+#![tactic(auto)]
+
+pub mod applicator;
+pub mod combined;
+pub mod question;
+pub mod questions;
+pub mod subschema;
+pub mod subschemas;

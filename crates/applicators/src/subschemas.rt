@@ -1,0 +1,114 @@
+//! The subschemas in the values of applicators.
+ghost use Rattle.std.specs.Prelude.{◌≡◌, ◌++◌, List, [], ◌∷◌, IfOk, OnOk, map};
+ghost use Rattle.serde_json.specs.Data.{Data};
+ghost use Rattle.serde_json.specs.View.{view, items_view, members_view};
+ghost use Rattle.json_paths.specs.Parts.{Part};
+ghost use Rattle.schema_reading.specs.Sites.{Site};
+ghost use Rattle.schema_reading.specs.Rows.{sites_named};
+ghost use Rattle.applicators.specs.Shapes.{place_of, site_of, sites_of_list, sites_of_map, leads_of};
+
+use crate::applicator::Applicator;
+use crate::subschema::{Entry, Subschema};
+use serde_json::{Map, Value};
+use std::alloc::{AllocError, Global};
+
+fn push_whole<'r>(
+    found: &mut Vec<Subschema<'r>>,
+    keyword: &'static str,
+    schema: &'r Value,
+) -> Result<(), AllocError>
+    ensures { OnOk result ((site : List Part → Data → Site) → map (place_of site) found.new.items
+        ≡ map (place_of site) found.old.items ++ site_of site keyword.now (view schema.now) ∷ []) }
+{
+    found.push(Subschema {
+        keyword,
+        entry: Entry::Whole,
+        schema,
+    })?;
+    Ok(())
+}
+
+fn push_list<'r>(
+    found: &mut Vec<Subschema<'r>>,
+    keyword: &'static str,
+    schemas: &'r [Value],
+) -> Result<(), AllocError>
+    ensures { OnOk result ((site : List Part → Data → Site) → map (place_of site) found.new.items
+        ≡ map (place_of site) found.old.items ++ sites_of_list site keyword.now 0 (items_view schemas.now)) }
+{
+    for (index, schema) in schemas.iter().enumerate() {
+        found.push(Subschema {
+            keyword,
+            entry: Entry::Index(index),
+            schema,
+        })?;
+    }
+    Ok(())
+}
+
+fn push_map<'r>(
+    found: &mut Vec<Subschema<'r>>,
+    keyword: &'static str,
+    schemas: &'r Map<String, Value>,
+) -> Result<(), AllocError>
+    ensures { OnOk result ((site : List Part → Data → Site) → map (place_of site) found.new.items
+        ≡ map (place_of site) found.old.items ++ sites_named (sites_of_map site keyword.now (members_view schemas.now.entries))) }
+{
+    for (name, schema) in schemas.iter() {
+        found.push(Subschema {
+            keyword,
+            entry: Entry::Name(name.as_str()),
+            schema,
+        })?;
+    }
+    Ok(())
+}
+
+fn push_subschemas<'r>(
+    found: &mut Vec<Subschema<'r>>,
+    applicator: &Applicator<'r>,
+) -> Result<(), AllocError>
+    ensures { OnOk result ((site : List Part → Data → Site) → map (place_of site) found.new.items
+        ≡ map (place_of site) found.old.items ++ leads_of site applicator.now) }
+{
+    match *applicator {
+        Applicator::Items { schema, .. } => push_whole(found, "items", schema),
+        Applicator::ItemList(schemas) => push_list(found, "items", schemas),
+        Applicator::PrefixItems(schemas) => push_list(found, "prefixItems", schemas),
+        Applicator::AdditionalItems { schema, .. } => {
+            push_whole(found, "additionalItems", schema)
+        }
+        Applicator::NoAdditionalItems { schema, .. } => {
+            push_whole(found, "additionalItems", schema)
+        }
+        Applicator::Contains { schema, .. } => push_whole(found, "contains", schema),
+        Applicator::Properties(schemas) => push_map(found, "properties", schemas),
+        Applicator::NoProperties(schema) => { push_whole(found, "additionalProperties", schema) }
+        Applicator::PropertyNames(schema) => push_whole(found, "propertyNames", schema),
+        Applicator::NoPropertyNames(schema) => push_whole(found, "propertyNames", schema),
+        Applicator::DependentSchemas(schemas) => { push_map(found, "dependentSchemas", schemas) }
+        Applicator::AllOf(schemas) => push_list(found, "allOf", schemas),
+        Applicator::AnyOf(schemas) => push_list(found, "anyOf", schemas),
+        Applicator::OneOf(schemas) => push_list(found, "oneOf", schemas),
+        Applicator::Not(schema) => push_whole(found, "not", schema),
+        Applicator::If { condition, .. } => push_whole(found, "if", condition),
+    }
+}
+
+/// The subschemas in an applicator's own value, in order: those of `then` and `else` are theirs.
+///
+/// It takes memory for the list alone.
+///
+/// # Errors
+///
+/// Where memory is refused.
+pub fn subschemas<'r>(
+    alloc: Global,
+    applicator: &Applicator<'r>,
+) -> Result<Vec<Subschema<'r>>, AllocError>
+    ensures { IfOk result (λ bs. (site : List Part → Data → Site) → map (place_of site) bs.items ≡ leads_of site applicator.now) }
+{
+    let mut found = Vec::new(alloc);
+    push_subschemas(&mut found, applicator)?;
+    Ok(found)
+}
