@@ -1,3 +1,6 @@
 mod Hearing
 mod Certifying
+mod Asking
+mod BuiltLemmas
+pub mod Preparing
 pub mod Joining

@@ -1,23 +1,55 @@
 -- Which error comes when. Each but want of memory names a cause.
-use Rattle.std.specs.Prelude.{◌≡◌, ℕ, List, [], ◌∷◌, Bool, Err}
-use Rattle.schema_meaning.specs.Members.{In}
+use Rattle.std.specs.Prelude.{◌≡◌, ◌⊎◌, ℕ, List, [], ◌∷◌, Bool, Option, Some, None, Err, string_bytes}
+use Rattle.serde_json.specs.Data.{Data}
+use Rattle.schema_drafts.specs.declared.draft.Draft.{Draft}
+use Rattle.schema_meaning.specs.Faults.{Fault, instance_path, evaluation_path}
 use Rattle.schema_documents.specs.Bearers.{Document}
-use Rattle.schema_documents.specs.DocumentCauses.{DocumentCause, document_causes}
 use Rattle.schema_documents.specs.Lookup.{Target, LookupCause, lookup}
+use Rattle.schema_reading.specs.PathTexts.{path_text}
 use Rattle.schema_reading.specs.Sites.{root_site}
 use Rattle.unread_keywords.specs.NotYet.{Cause, IsBuildCause}
-use Rattle.referencing_errors.specs.Causes.{NamesLookup, NamesDocument}
+use Rattle.given_documents.specs.Given.{Given, documents_by}
+use Rattle.referencing_errors.specs.Causes.{IsMemory, NamesLookup}
+use Rattle.referencing_errors.specs.declared.error.Error as reference
 use Rattle.reached_sites.specs.Causes.{NamesCause}
-use Rattle.schema_roots.specs.Roots.{Root, Finds}
+use Rattle.schema_roots.specs.Passed.{Asking, IsGathered, Stops, HasCause, SharedRegistry, SchemaRegistry, beside}
+use Rattle.schema_roots.specs.Roots.{Root, Finds, IsSound}
+use Rattle.schema_roots.specs.Answers.{IsFault}
+use Rattle.json_schema_validator.specs.Asked.{IsAsked, meta_root}
+use Rattle.json_schema_validator.specs.Prepared.{asking_by, meta_schemas_given}
+use Rattle.json_schema_validator.specs.declared.options.ValidationOptions.{ValidationOptions}
 use Rattle.json_schema_validator.specs.declared.error.BuildError.{BuildError}
 use Rattle.json_schema_validator.specs.declared.error.BuildError.TheVariants as error
 
--- documents are refused for one of their causes
-abbrev pub RefusesDocuments : List Document → BuildError → Type 0
-RefusesDocuments documents (error.Registry e) = (cause : DocumentCause) × In cause (document_causes (documents ∷ [])) × NamesDocument cause e
-RefusesDocuments documents (error.Root e) = ⊥
-RefusesDocuments documents (error.Schema e) = ⊥
-RefusesDocuments documents error.Memory = Unit {0}
+-- ---- documents
+
+-- they could not be retrieved, or have a cause to be refused
+abbrev pub RefusesDocuments : Asking → ℕ → List Document → reference.Error → Type 0
+RefusesDocuments a limit own e = Stops a limit own e ⊎ HasCause a limit own e
+
+-- those of the meta-schemas were prepared, and the documents beside them are refused
+pub record RefusesBeside (a : Asking) (limit : ℕ) (draft : Draft) (metas given : List Given) (e : reference.Error) : Type 0 where
+  pub parent : List Document
+  pub uris : List (List ℕ)
+  pub gathered : IsGathered a limit (documents_by draft metas) parent uris
+  pub refused : RefusesDocuments a limit (beside parent draft given) e
+
+abbrev pub RefusesGiven : Asking → ℕ → Draft → Option (List Given) → List Given → reference.Error → Type 0
+RefusesGiven a limit draft None given e = RefusesDocuments a limit (documents_by draft given) e
+RefusesGiven a limit draft (Some metas) given e = RefusesDocuments a limit (documents_by draft metas) e ⊎ RefusesBeside a limit draft metas given e
+
+abbrev pub RefusesPreparing : {R : Type 0} → (R → List ℕ → Data → Type 0) → (R → List ℕ → Type 0) → ValidationOptions R → List Given → BuildError → Type 0
+RefusesPreparing may_answer may_refuse o given (error.Registry e) = RefusesGiven (asking_by may_answer may_refuse o) o.limit o.draft (meta_schemas_given o) given e
+RefusesPreparing may_answer may_refuse o given (error.Root e) = ⊥
+RefusesPreparing may_answer may_refuse o given (error.Schema e) = ⊥
+RefusesPreparing may_answer may_refuse o given (error.MetaSchema i e) = ⊥
+RefusesPreparing may_answer may_refuse o given error.Memory = Unit {0}
+
+-- the error that one of a registry becomes
+abbrev pub IsOfRegistry : reference.Error → BuildError → Type 0
+IsOfRegistry e b = (IsMemory e × (b ≡ error.Memory)) ⊎ ((IsMemory e → ⊥) × (b ≡ error.Registry e))
+
+-- ---- roots
 
 -- a root is refused because its reference leads nowhere, or for a cause at what is reached from it
 abbrev pub RefusesBuild : Root → BuildError → Type 0
@@ -25,4 +57,46 @@ RefusesBuild r (error.Registry e) = ⊥
 RefusesBuild r (error.Root e) = (cause : LookupCause) × (lookup r.documents r.base r.reference ≡ Err cause) × NamesLookup cause e
 RefusesBuild r (error.Schema e) =
     (target : Target) × Finds r target × (cause : Cause) × NamesCause cause e × ((makes : List ℕ → Bool) → IsBuildCause r.documents makes (root_site target) cause)
+RefusesBuild r (error.MetaSchema i e) = ⊥
 RefusesBuild r error.Memory = Unit {0}
+
+-- ---- meta-schemas
+
+-- the paths of a fault
+pub record SpellsFault (f : Fault) (i e : List ℕ) : Type 0 where
+  pub instance : i ≡ path_text (instance_path f)
+  pub evaluation : e ≡ path_text (evaluation_path f)
+
+abbrev pub TellsFault : Fault → BuildError → Type 0
+TellsFault f (error.Registry x) = ⊥
+TellsFault f (error.Root x) = ⊥
+TellsFault f (error.Schema x) = ⊥
+TellsFault f (error.MetaSchema i e) = SpellsFault f (string_bytes i) (string_bytes e)
+TellsFault f error.Memory = ⊥
+
+-- a meta-schema that may be read refuses the value, with this fault
+pub record RefusesValue (r : Root) (d : Data) (e : BuildError) : Type 0 where
+  pub sound : IsSound r
+  pub fault : Fault
+  pub is_fault : IsFault r d fault
+  pub told : TellsFault fault e
+
+-- one that is asked may not be read, or refuses the value
+pub record RefusesAsked (p : SharedRegistry) (t : Target) (e : BuildError) : Type 0 where
+  pub uri : List ℕ
+  pub asked : IsAsked p t uri
+  pub why : RefusesBuild (meta_root p uri) e ⊎ RefusesValue (meta_root p uri) t.contents e
+
+abbrev pub RefusesByMeta : SharedRegistry → Target → BuildError → Type 0
+RefusesByMeta p t e = (e ≡ error.Memory) ⊎ RefusesAsked p t e
+
+pub record RefusesMeta (r : SchemaRegistry) (root : Root) (e : BuildError) : Type 0 where
+  pub parent : SharedRegistry
+  pub is_parent : r.parent ≡ Some parent
+  pub target : Target
+  pub found : Finds root target
+  pub refused : RefusesByMeta parent target e
+
+-- a root is refused for its own sake, or by its meta-schema
+abbrev pub RefusesRoot : SchemaRegistry → Root → BuildError → Type 0
+RefusesRoot r root e = RefusesBuild root e ⊎ RefusesMeta r root e

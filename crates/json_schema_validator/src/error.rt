@@ -1,25 +1,24 @@
 //! Why there is no validator.
 
-ghost use Rattle.std.specs.Prelude.{◌≡◌, List, [], ◌∷◌};
-ghost use Rattle.schema_documents.specs.Bearers.{Document};
-ghost use Rattle.schema_documents.specs.DocumentCauses.{document_causes};
+ghost use Rattle.std.specs.Prelude.{◌≡◌, IfOk};
 ghost use Rattle.schema_documents.specs.Lookup.{Target, lookup};
 ghost use Rattle.schema_reading.specs.Sites.{root_site};
+ghost use Rattle.schema_reports.specs.Told.{fault_of};
 ghost use Rattle.referencing_errors.specs.Causes.{RefusesLookup};
-ghost use Rattle.document_causes.specs.Named.{NamesOne};
-ghost use Rattle.reached_sites.specs.Causes.{RefusesRoot};
+ghost use Rattle.reached_sites.specs.Causes as reached;
 ghost use Rattle.schema_roots.specs.Roots.{Root, Finds};
-ghost use Rattle.json_schema_validator.specs.Refused.{RefusesDocuments, RefusesBuild};
+ghost use Rattle.json_schema_validator.specs.Refused.{IsOfRegistry, RefusesBuild, TellsFault};
 
 use reached_sites::Error as ReferenceError;
 use reached_sites::cause::BuildCause;
-use std::alloc::AllocError;
+use schema_reports::ValidationError;
+use std::alloc::{AllocError, Global};
 use thiserror::Error;
 
 /// Why no validator is built.
 #[derive(Debug, Drop, Error)]
 pub enum BuildError {
-    /// The documents are no registry.
+    /// The documents, or the meta-schemas handed in, are no registry.
     #[error(transparent)]
     Registry(ReferenceError),
     /// The reference to the root leads nowhere.
@@ -28,6 +27,12 @@ pub enum BuildError {
     /// Something is wrong, or not there yet, at a schema that the root leads to.
     #[error(transparent)]
     Schema(BuildCause),
+    /// The meta-schema of the root, which was handed in, refuses the root's value: the paths of one of its faults, as JSON Pointers.
+    #[error("Schema refused by its meta-schema at '{instance_path}', '{evaluation_path}'")]
+    MetaSchema {
+        instance_path: String,
+        evaluation_path: String,
+    },
     /// Memory was refused.
     #[error("No memory")]
     Memory,
@@ -46,7 +51,7 @@ impl From<AllocError> for BuildError {
 impl BuildError {
     /// The error of documents that are refused.
     pub(crate) fn of_registry(error: ReferenceError) -> BuildError
-        ensures { (documents : List Document) → NamesOne (document_causes (documents ∷ [])) error → RefusesDocuments documents result }
+        ensures { IsOfRegistry error result }
     {
         match error {
             ReferenceError::Memory => BuildError::Memory,
@@ -66,11 +71,24 @@ impl BuildError {
 
     /// The error of a root that leads to a cause.
     pub(crate) fn of_schema(cause: BuildCause) -> BuildError
-        ensures { (root : Root) (target : Target) → Finds root target → RefusesRoot root.documents (root_site target) cause → RefusesBuild root result }
+        ensures { (root : Root) (target : Target) → Finds root target → reached.RefusesRoot root.documents (root_site target) cause → RefusesBuild root result }
     {
         match cause {
             BuildCause::Memory => BuildError::Memory,
             cause => BuildError::Schema(cause),
         }
+    }
+
+    /// The error of a root whose value has this fault by its meta-schema.
+    pub(crate) fn of_fault(
+        alloc: Global,
+        error: &ValidationError<'_>,
+    ) -> Result<BuildError, AllocError>
+        ensures { IfOk result (TellsFault (fault_of error.now)) }
+    {
+        Ok(BuildError::MetaSchema {
+            instance_path: error.instance_path().to_pointer(alloc)?,
+            evaluation_path: error.evaluation_path().to_pointer(alloc)?,
+        })
     }
 }

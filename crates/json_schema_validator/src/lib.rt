@@ -5,8 +5,10 @@
 //! to a refusal.
 #![tactic(auto)]
 
+mod building;
 mod checking;
 mod error;
+mod meta_schema;
 mod options;
 mod validator;
 
@@ -18,6 +20,9 @@ pub use reached_sites::cause::BuildCause;
 pub use reached_sites::place::SchemaPlace;
 pub use reached_sites::{Draft, Error, uri};
 pub use schema_reports::{ErrorIterator, ValidationError, ValidationErrorKind};
-pub use schema_roots::{DocumentError, Documents, SchemaRegistry, has_only_whole};
+pub use schema_roots::{
+    DefaultRetriever, DocumentError, Documents, MapRetriever, Retrieve, SchemaRegistry,
+    SharedRegistry, WholeNumbers, has_only_whole,
+};
 pub use uri_references::uri::Uri;
 pub use validator::Validator;

@@ -1,38 +1,47 @@
 //! How validators are built.
 
-ghost use Rattle.std.specs.Prelude.{◌≡◌, ◌⊎◌, ◌∷◌, [], IfOk, IfErr, OnOk, codes};
+ghost use Rattle.std.specs.Prelude.{◌≡◌, ◌⊎◌, IfOk, IfErr, OnOk, codes, None, Some};
 ghost use Rattle.schema_drafts.specs.Drafts as drafts;
-ghost use Rattle.schema_documents.specs.DocumentCauses.{document_causes};
 ghost use Rattle.schema_documents.specs.Lookup.{Target};
-ghost use Rattle.given_documents.specs.Given.{documents_by};
-ghost use Rattle.schema_roots.specs.Passed.{documents_given, documents_in_registry};
-ghost use Rattle.schema_roots.specs.Roots.{IsSound, Finds};
-ghost use Rattle.json_schema_validator.specs.Refused.{RefusesDocuments, RefusesBuild};
+ghost use Rattle.referencing_errors.specs.Causes.{IsMemory};
+ghost use Rattle.schema_roots.specs.Passed.{documents_given};
+ghost use Rattle.schema_roots.specs.Roots.{IsSound, Finds, root_on};
+ghost use Rattle.json_schema_validator.specs.Asked.{IsMet};
+ghost use Rattle.json_schema_validator.specs.Prepared.{asking_by, meta_schemas_given, AreDocuments, IsRegistry};
+ghost use Rattle.json_schema_validator.specs.Refused.{RefusesGiven, RefusesPreparing, RefusesRoot};
+ghost use Rattle.json_schema_validator.specs.Built.{IsBuilt, RefusesBuilding};
+ghost use Rattle.json_schema_validator.specs.Seen.{root_in};
 
 use crate::error::BuildError;
+use crate::meta_schema::ask_meta_schema;
 use crate::validator::Validator;
-use reached_sites::checking::check_reached;
+use reached_sites::Error;
 use schema_drafts::draft::Draft;
-use schema_roots::{Documents, SchemaRegistry};
+use schema_roots::{
+    DefaultRetriever, Documents, Retrieve, SchemaRegistry, SharedRegistry, WholeNumbers,
+};
 use std::alloc::{AllocError, Global};
 use uri_references::uri::Uri;
 
 /// The base URI until another is given.
 const DEFAULT_BASE: &str = "json-schema:///";
 
+/// How many documents are retrieved at most until another limit is set.
+const DEFAULT_LIMIT: u64 = 256;
+
 /// How validators are built.
 #[derive(Drop)]
-pub struct ValidationOptions {
+pub struct ValidationOptions<R = DefaultRetriever> {
     alloc: Global,
     draft: Draft,
     base: Uri,
+    retriever: WholeNumbers<R>,
+    limit: u64,
+    meta_schemas: Option<Documents>,
 }
 
 impl ValidationOptions {
-    ghost use Rattle.schema_roots.specs.Roots.{root_on};
-    ghost use Rattle.json_schema_validator.specs.Seen.{root_in, root_under};
-
-    /// The newest draft and the base URI `json-schema:///`.
+    /// The newest draft, the base URI `json-schema:///`, nobody who is asked, at most 256 documents retrieved, and no meta-schemas.
     ///
     /// # Errors
     ///
@@ -40,83 +49,150 @@ impl ValidationOptions {
     pub(crate) fn new(alloc: Global) -> Result<ValidationOptions, AllocError>
         ensures draft { IfOk result (λ o. o.draft ≡ drafts.newest) }
         ensures base { IfOk result (λ o. o.base ≡ codes "json-schema:///") }
+        ensures limit { IfOk result (λ o. o.limit ≡ 256) }
+        ensures meta_schemas { IfOk result (λ o. o.meta_schemas ≡ None) }
     {
         match Uri::parse(alloc, DEFAULT_BASE) {
             Ok(base) => Ok(ValidationOptions {
                 alloc,
                 draft: Draft::default(),
                 base,
+                retriever: WholeNumbers::new(DefaultRetriever),
+                limit: DEFAULT_LIMIT,
+                meta_schemas: None,
             }),
             Err(_) => Err(AllocError),
         }
     }
+}
 
-    /// Sets the draft of the documents that name none.
-    pub fn with_draft(self, draft: Draft) -> ValidationOptions
-        ensures draft { result.draft ≡ draft }
-        ensures base { result.base ≡ self.base }
+// Asks the meta-schema of the root that a reference leads to, where meta-schemas were handed in.
+fn meet(alloc: Global, registry: &SchemaRegistry, root: &str) -> Result<(), BuildError>
+    ensures met { OnOk result ((target : Target) → Finds (root_on registry.now root.now) target → IsMet registry.now.parent target) }
+    ensures refused { IfErr result (RefusesRoot registry.now (root_on registry.now root.now)) }
+{
+    let Some(parent) = registry.parent() else {
+        return Ok(());
+    };
+    let resolver = registry.registry().resolver(registry.base().clone()?)?;
+    match resolver.lookup(root) {
+        Ok(found) => ask_meta_schema(alloc, parent, &found),
+        Err(error) => Err(BuildError::of_root(error)),
+    }
+}
+
+impl<R: Drop> ValidationOptions<R> {
+    /// Sets the draft of the documents that name none, the meta-schemas among them.
+    pub fn with_draft(self, draft: Draft) -> ValidationOptions<R>
+        ensures { result ≡ record self { draft = draft } }
     {
         ValidationOptions { draft, ..self }
     }
 
     /// Sets the URI that references to roots are resolved against.
-    pub fn with_base(self, base: Uri) -> ValidationOptions
-        ensures draft { result.draft ≡ self.draft }
-        ensures base { result.base ≡ base }
+    pub fn with_base(self, base: Uri) -> ValidationOptions<R>
+        ensures { result ≡ record self { base = base } }
     {
         ValidationOptions { base, ..self }
     }
 
-    /// A registry of documents, for any number of validators.
-    ///
-    /// It costs what `SchemaRegistry::prepare` costs.
-    ///
-    /// # Errors
-    ///
-    /// A cause that the documents have to be refused, or want of memory.
-    pub fn prepare(&self, documents: &Documents) -> Result<SchemaRegistry, BuildError>
-        ensures documents { IfOk result (λ r. documents_in_registry r ≡ documents_by self.now.draft (documents_given documents.now)) }
-        ensures base { IfOk result (λ r. r.base ≡ self.now.base) }
-        ensures no_cause { OnOk result (document_causes (documents_by self.now.draft (documents_given documents.now) ∷ []) ≡ []) }
-        ensures refused { IfErr result (RefusesDocuments (documents_by self.now.draft (documents_given documents.now))) }
+    /// Sets the meta-schemas: a root is then refused where its own is among them and refuses its value. They are at hand for each
+    /// document's `$schema` and `$ref` besides.
+    pub fn with_meta_schemas(self, documents: Documents) -> ValidationOptions<R>
+        ensures { result ≡ record self { meta_schemas = Some documents } }
     {
-        let base = self.base.clone()?;
-        match SchemaRegistry::prepare(self.alloc, documents, self.draft, base) {
-            Ok(registry) => Ok(registry),
-            Err(error) => Err(BuildError::of_registry(error)),
+        ValidationOptions {
+            meta_schemas: Some(documents),
+            ..self
         }
     }
 
-    /// A validator by the schema that a reference leads to, against the registry's base.
+    /// Sets how many documents are retrieved at most, for the meta-schemas and then anew for the documents.
+    pub fn with_retrieval_limit(self, limit: u64) -> ValidationOptions<R>
+        ensures { result ≡ record self { limit = limit } }
+    {
+        ValidationOptions { limit, ..self }
+    }
+
+    /// Sets whom the documents that are wanted are asked of. An answer with a number that is no whole number of 64 bits counts as refused.
+    pub fn with_retriever<T: Retrieve>(self, retriever: T) -> ValidationOptions<T>
+        ensures draft { result.draft ≡ self.draft }
+        ensures base { result.base ≡ self.base }
+        ensures retriever { result.retriever.retriever ≡ retriever }
+        ensures limit { result.limit ≡ self.limit }
+        ensures meta_schemas { result.meta_schemas ≡ self.meta_schemas }
+    {
+        ValidationOptions {
+            alloc: self.alloc,
+            draft: self.draft,
+            base: self.base,
+            retriever: WholeNumbers::new(retriever),
+            limit: self.limit,
+            meta_schemas: self.meta_schemas,
+        }
+    }
+
+    /// A validator by the schema that a reference leads to, against the registry's base. Where meta-schemas were handed in, that of the
+    /// root is asked. No document is retrieved.
     ///
     /// It walks what is reached from there once. The registry is shared.
     ///
     /// # Errors
     ///
-    /// Where the reference leads nowhere, where something is wrong at a schema reached from there or is not read yet, or want of memory.
+    /// Where the reference leads nowhere, where something is wrong at a schema reached from there or is not read yet, where the root's
+    /// meta-schema refuses its value or is not read for such a reason, or want of memory.
     pub fn build_on(&self, registry: &SchemaRegistry, root: &str) -> Result<Validator, BuildError>
         ensures root { IfOk result (λ v. root_in v ≡ root_on registry.now root.now) }
         ensures sound { IfOk result (λ v. IsSound (root_in v)) }
         ensures draft { IfOk result (λ v. (target : Target) → Finds (root_in v) target → v.draft ≡ target.dialect.draft) }
-        ensures refused { IfErr result (RefusesBuild (root_on registry.now root.now)) }
+        ensures met { IfOk result (λ v. (target : Target) → Finds (root_in v) target → IsMet registry.now.parent target) }
+        ensures refused { IfErr result (RefusesRoot registry.now (root_on registry.now root.now)) }
     {
-        let resolver = registry.registry().resolver(registry.base().clone()?)?;
-        let found = match resolver.lookup(root) {
-            Ok(found) => found,
-            Err(error) => return Err(BuildError::of_root(error)),
-        };
-        registry.documents_are_apart();
-        registry.registry().names_rise();
-        if let Err(cause) = check_reached(self.alloc, &found) {
-            return Err(BuildError::of_schema(cause));
+        let validator = Validator::at(self.alloc, registry.own(), registry.base(), root)?;
+        meet(self.alloc, registry, root)?;
+        Ok(validator)
+    }
+}
+
+impl<R: Retrieve + Drop> ValidationOptions<R> {
+    // The documents with what they want, beside those of the meta-schemas with what these want.
+    fn gather(&self, documents: &Documents, base: Uri) -> Result<SchemaRegistry, Error>
+        ensures documents { IfOk result (AreDocuments (asking_by R.may_answer R.may_refuse self.now) self.now.limit self.now.draft (meta_schemas_given self.now) (documents_given documents.now)) }
+        ensures base { IfOk result (λ r. r.base ≡ base) }
+        ensures refused { IfErr result (λ e. IsMemory e ⊎ RefusesGiven (asking_by R.may_answer R.may_refuse self.now) self.now.limit self.now.draft (meta_schemas_given self.now) (documents_given documents.now) e) }
+    {
+        let (alloc, draft, limit) = (self.alloc, self.draft, self.limit);
+        match &self.meta_schemas {
+            None => {
+                let own = SharedRegistry::prepare(alloc, documents, draft, &self.retriever, limit)?;
+                Ok(SchemaRegistry::new(own, base, None))
+            }
+            Some(given) => {
+                let parent = SharedRegistry::prepare(alloc, given, draft, &self.retriever, limit)?;
+                let own = parent.prepare_beside(alloc, documents, draft, &self.retriever, limit)?;
+                Ok(SchemaRegistry::new(own, base, Some(parent)))
+            }
         }
-        Ok(Validator {
-            alloc: self.alloc,
-            registry: registry.share()?,
-            base: registry.base().clone()?,
-            root: String::from_str(self.alloc, root)?,
-            draft: found.draft(),
-        })
+    }
+
+    /// A registry of documents, for any number of validators: the meta-schemas and what they want are gathered first, by themselves, and
+    /// then the documents and what they want and is not there yet.
+    ///
+    /// It costs what `SharedRegistry::prepare` costs for each of the two. No value is copied.
+    ///
+    /// # Errors
+    ///
+    /// Where the retriever refuses what is wanted, where more is wanted than may be retrieved, a cause that the documents or the
+    /// meta-schemas have to be refused, or want of memory.
+    pub fn prepare(&self, documents: &Documents) -> Result<SchemaRegistry, BuildError>
+        ensures prepared { IfOk result (IsRegistry R.may_answer R.may_refuse self.now (documents_given documents.now)) }
+        ensures refused { IfErr result (RefusesPreparing R.may_answer R.may_refuse self.now (documents_given documents.now)) }
+    {
+        let base = self.base.clone()?;
+        match self.gather(documents, base) {
+            Ok(registry) => Ok(registry),
+            Err(error) => Err(BuildError::of_registry(error)),
+        }
     }
 
     /// A validator by the schema that a reference leads to in documents, prepared for it alone.
@@ -125,11 +201,10 @@ impl ValidationOptions {
     ///
     /// Those of `prepare` and of `build_on`.
     pub fn build(&self, documents: &Documents, root: &str) -> Result<Validator, BuildError>
-        ensures root { IfOk result (λ v. root_in v ≡ root_under self.now.draft self.now.base (documents_given documents.now) root.now) }
+        ensures built { IfOk result (IsBuilt R.may_answer R.may_refuse self.now (documents_given documents.now) root.now) }
         ensures sound { IfOk result (λ v. IsSound (root_in v)) }
         ensures draft { IfOk result (λ v. (target : Target) → Finds (root_in v) target → v.draft ≡ target.dialect.draft) }
-        ensures no_cause { OnOk result (document_causes (documents_by self.now.draft (documents_given documents.now) ∷ []) ≡ []) }
-        ensures refused { IfErr result (λ e. RefusesDocuments (documents_by self.now.draft (documents_given documents.now)) e ⊎ RefusesBuild (root_under self.now.draft self.now.base (documents_given documents.now) root.now) e) }
+        ensures refused { IfErr result (λ e. RefusesPreparing R.may_answer R.may_refuse self.now (documents_given documents.now) e ⊎ RefusesBuilding R.may_answer R.may_refuse self.now (documents_given documents.now) root.now e) }
     {
         let registry = self.prepare(documents)?;
         self.build_on(&registry, root)

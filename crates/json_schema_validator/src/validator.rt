@@ -1,6 +1,6 @@
 //! Validators.
 
-ghost use Rattle.std.specs.Prelude.{◌≡◌, ◌∷◌, [], IfOk, IfErr, OnOk, is_ok, codes, string_bytes};
+ghost use Rattle.std.specs.Prelude.{◌≡◌, ◌∷◌, [], IfOk, IfErr, is_ok, codes, string_bytes, None};
 ghost use Rattle.serde_json.specs.View.{view};
 ghost use Rattle.schema_drafts.specs.Drafts as drafts;
 ghost use Rattle.schema_meaning.specs.Faults.{Faults};
@@ -41,7 +41,8 @@ impl Validator {
     ghost use Rattle.json_schema_validator.specs.Seen.{root_in};
     ghost use Rattle.json_schema_validator.specs.Heard.{HearsCut};
 
-    /// How validators are built: by the draft 2020-12 and the base URI `json-schema:///`, until it is said otherwise.
+    /// How validators are built: by the draft 2020-12 and the base URI `json-schema:///`, with nobody asked for documents, at most 256
+    /// of them, and no meta-schemas, until it is said otherwise.
     ///
     /// # Errors
     ///
@@ -49,6 +50,8 @@ impl Validator {
     pub fn options(alloc: Global) -> Result<ValidationOptions, AllocError>
         ensures draft { IfOk result (λ o. o.draft ≡ drafts.newest) }
         ensures base { IfOk result (λ o. o.base ≡ codes "json-schema:///") }
+        ensures limit { IfOk result (λ o. o.limit ≡ 256) }
+        ensures meta_schemas { IfOk result (λ o. o.meta_schemas ≡ None) }
     {
         ValidationOptions::new(alloc)
     }

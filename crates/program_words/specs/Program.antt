@@ -28,10 +28,14 @@ base_rule = record (new_rule (codes "base")) { long = Some (codes "base"); value
 abbrev pub draft_rule : Rule
 draft_rule = record (new_rule (codes "draft")) { long = Some (codes "draft"); value_names = 1; action = Some Set }
 
--- no name of the program among the words, a version, and the four arguments
+-- `--meta FILE`
+abbrev pub meta_rule : Rule
+meta_rule = record (new_rule (codes "meta")) { long = Some (codes "meta"); value_names = 1; action = Some Set }
+
+-- no name of the program among the words, a version, and the five arguments
 abbrev pub program_app : App
-program_app = with_rule (with_rule (with_rule (with_rule (on_top (λ s. record s { no_binary_name = true; has_version = true })
-    (new_app (codes "cribhemlock"))) schema_rule) files_rule) base_rule) draft_rule
+program_app = with_rule (with_rule (with_rule (with_rule (with_rule (on_top (λ s. record s { no_binary_name = true; has_version = true })
+    (new_app (codes "cribhemlock"))) schema_rule) files_rule) base_rule) draft_rule) meta_rule
 
 -- each parse of the command that succeeds has a schema
 abbrev pub HasSchema : Command → Type 0

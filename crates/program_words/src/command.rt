@@ -3,7 +3,7 @@
 ghost use Rattle.std.specs.Prelude.{◌≡◌, IfOk};
 ghost use Rattle.clap.specs.Built.{FitsChain, TakesValue};
 ghost use Rattle.clap.specs.Words.{app_of, rule_of};
-ghost use Rattle.program_words.specs.Program.{program_app, schema_rule, files_rule, base_rule, draft_rule, HasSchema};
+ghost use Rattle.program_words.specs.Program.{program_app, schema_rule, files_rule, base_rule, draft_rule, meta_rule, HasSchema};
 
 use clap::{Arg, ArgAction, Command};
 use std::alloc::{AllocError, Global};
@@ -73,6 +73,18 @@ fn draft<'a>(alloc: Global) -> Arg<'a>
         )
 }
 
+/// `--meta FILE`
+fn meta<'a>(alloc: Global) -> Arg<'a>
+    ensures rule { rule_of result ≡ meta_rule }
+    ensures fits { FitsChain result }
+{
+    Arg::new(alloc, "meta")
+        .long("meta")
+        .value_name("FILE")
+        .action(ArgAction::Set)
+        .help("A file with a list of meta-schemas, each under its own identifier")
+}
+
 /// The command line. Each parse of it that succeeds has a schema.
 pub(crate) fn program_command<'a>(alloc: Global) -> Result<Command<'a>, AllocError>
     ensures app { IfOk result (λ c. app_of c ≡ program_app) }
@@ -86,5 +98,6 @@ pub(crate) fn program_command<'a>(alloc: Global) -> Result<Command<'a>, AllocErr
         .arg(schema(alloc))?
         .arg(files(alloc))?
         .arg(base(alloc))?
-        .arg(draft(alloc))
+        .arg(draft(alloc))?
+        .arg(meta(alloc))
 }

@@ -1,4 +1,4 @@
-//! The words of the program, as `cribhemlock SCHEMA [URI=FILE]... [--base URI] [--draft DRAFT]`.
+//! The words of the program, as `cribhemlock SCHEMA [URI=FILE]... [--base URI] [--draft DRAFT] [--meta FILE]`.
 #![tactic(auto)]
 
 mod command;

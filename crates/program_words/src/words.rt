@@ -22,6 +22,8 @@ pub struct ProgramWords<'a> {
     pub base: Option<&'a str>,
     /// The draft of the documents that name none, where one was given. It may be a word that names no draft.
     pub draft: Option<&'a str>,
+    /// The file of the meta-schemas, where one was given.
+    pub meta: Option<&'a str>,
 }
 
 impl<'a> ProgramWords<'a> {
@@ -48,6 +50,7 @@ impl<'a> ProgramWords<'a> {
             files: Vec::from_slice(alloc, matches.get_strs("files").unwrap_or(&[]))?,
             base: matches.get_str("base"),
             draft: matches.get_str("draft"),
+            meta: matches.get_str("meta"),
         })
     }
 }

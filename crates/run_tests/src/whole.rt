@@ -14,6 +14,9 @@ const LEAF: &str = "{\"$id\":\"http://a.test/leaf.json\",\"type\":\"string\"}";
 const BESIDE: &str =
     "{\"properties\":{\"x\":{\"$ref\":\"#/definitions/s\",\"minItems\":3}},\"definitions\":{\"s\":{\"type\":\"array\"}}}";
 
+const META: &str =
+    "[{\"$schema\":\"https://json-schema.org/draft/2020-12/schema\",\"$id\":\"http://a.test/m2\",\"properties\":{\"type\":{\"type\":\"string\"}}},{\"$schema\":\"http://json-schema.org/draft-04/schema#\",\"id\":\"http://a.test/m4\",\"type\":\"object\"}]";
+
 fn files(alloc: Global) -> Result<MapFiles, Fail> {
     let mut files = MapFiles::new(alloc);
     files.add(alloc, "root.json", ROOT.as_bytes())?;
@@ -24,6 +27,18 @@ fn files(alloc: Global) -> Result<MapFiles, Fail> {
     files.add(alloc, "half", b"1.5")?;
     files.add(alloc, "wrong.json", b"{\"type\":5}")?;
     files.add(alloc, "beside.json", BESIDE.as_bytes())?;
+    files.add(alloc, "meta.json", META.as_bytes())?;
+    files.add(alloc, "nameless.json", b"[{\"type\":\"object\"}]")?;
+    files.add(
+        alloc,
+        "own.json",
+        b"{\"$schema\":\"http://a.test/m2\",\"type\":\"string\"}",
+    )?;
+    files.add(
+        alloc,
+        "refused.json",
+        b"{\"$schema\":\"http://a.test/m2\",\"type\":[\"string\"]}",
+    )?;
     Ok(files)
 }
 
@@ -85,6 +100,39 @@ fn by_draft(rt: HostRuntime) -> Result<(), Fail> {
     ];
     for (words, want) in cases {
         assert_eq!(rt; outcome(alloc, words, "{\"x\":[]}\n")?.as_str(), want);
+    }
+    Ok(())
+}
+
+#[test]
+fn by_meta_schemas(rt: HostRuntime) -> Result<(), Fail> {
+    let alloc = rt.alloc();
+    let cases: [(&[&str], &str); 7] = [
+        (&["own.json", "--meta", "meta.json"], "0 []\n "),
+        (&["--meta=meta.json", "plain.json"], "0 []\n "),
+        (
+            &["refused.json", "--meta", "meta.json"],
+            "2  build refused: Schema refused by its meta-schema at '/type', '/properties/type/type'\n",
+        ),
+        (
+            &["own.json"],
+            "2  build refused: Unknown meta-schema 'http://a.test/m2'\n",
+        ),
+        (
+            &["own.json", "--meta", "own.json"],
+            "2  file refused: own.json\n",
+        ),
+        (
+            &["own.json", "--meta", "nameless.json"],
+            "2  file refused: nameless.json\n",
+        ),
+        (
+            &["none", "--meta", "absent"],
+            "2  build refused: Document 'json-schema:///' is no JSON text\n",
+        ),
+    ];
+    for (words, want) in cases {
+        assert_eq!(rt; outcome(alloc, words, "\"a\"\n")?.as_str(), want);
     }
     Ok(())
 }

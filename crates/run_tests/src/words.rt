@@ -28,13 +28,17 @@ fn in_any_order(rt: HostRuntime) -> Result<(), Fail> {
     assert_eq!(rt; read.schema, "a");
     assert_eq!(rt; read.files.as_slice(), ["b=c", "--d"].as_slice());
     assert_eq!(rt; read.base, Some("u:/"));
-    let words = ["a", "b=c", "--base", "u:/", "d=e", "--draft", "none"];
+    let words = [
+        "a", "b=c", "--base", "u:/", "--meta", "m", "d=e", "--draft", "none",
+    ];
     let read = ProgramWords::read(rt.alloc(), &words)?;
     assert_eq!(rt; read.files.as_slice(), ["b=c", "d=e"].as_slice());
     assert_eq!(rt; read.draft, Some("none"));
+    assert_eq!(rt; read.meta, Some("m"));
     let words = ["a"];
     let read = ProgramWords::read(rt.alloc(), &words)?;
-    assert!(rt; read.files.is_empty() && read.base.is_none() && read.draft.is_none());
+    assert!(rt; read.files.is_empty() && read.base.is_none());
+    assert!(rt; read.draft.is_none() && read.meta.is_none());
     Ok(())
 }
 
@@ -73,6 +77,7 @@ fn help(rt: HostRuntime) -> Result<(), Fail> {
         "Usage: cribhemlock [OPTIONS] <SCHEMA> [URI=FILE]...",
         "--base <URI>",
         "--draft <DRAFT>",
+        "--meta <FILE>",
     ] {
         assert!(rt; text.contains(part), "{text}");
     }

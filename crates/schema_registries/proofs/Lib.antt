@@ -1,4 +1,5 @@
 mod Trees
 mod Nearer
 mod Apart
+mod Gathered
 mod Texts

@@ -1,3 +1,4 @@
 pub mod Whole
+pub mod Retrieval
 pub mod Seen
 pub mod Refused

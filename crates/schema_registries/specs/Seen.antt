@@ -5,10 +5,11 @@ use Rattle.uri_references.specs.Identity.{identity_of}
 use Rattle.schema_documents.specs.Bearers.{Document}
 use Rattle.given_documents.specs.Given.{Given, with_given}
 use Rattle.given_documents.specs.Listed.{givens_of}
-use Rattle.referencing.specs.Seen.{documents_of}
+use Rattle.referencing.specs.Seen.{documents_of, retrieved_by}
 use Rattle.schema_registries.specs.Whole.{only_whole}
 use Rattle.schema_registries.specs.Refused.{text_value}
 use Rattle.schema_registries.specs.declared.documents.Documents.{Documents}
+use Rattle.schema_registries.specs.declared.registry.SharedRegistry.{SharedRegistry}
 use Rattle.schema_registries.specs.declared.registry.SchemaRegistry.{SchemaRegistry}
 
 abbrev pub documents_given : Documents → List Given
@@ -18,8 +19,15 @@ documents_given documents = givens_of documents.list
 abbrev pub given_under : List ℕ → Data → Given
 given_under text d = record { uri = identity_of text; contents = d; draft = None }
 
+abbrev pub documents_shared : SharedRegistry → List Document
+documents_shared r = documents_of r.registry.value
+
+-- the URIs of those that were retrieved
+abbrev pub retrieved_shared : SharedRegistry → List (List ℕ)
+retrieved_shared r = retrieved_by r.registry.value
+
 abbrev pub documents_in_registry : SchemaRegistry → List Document
-documents_in_registry r = documents_of r.registry.value
+documents_in_registry r = documents_shared r.own
 
 -- a JSON text that was added: its value has whole numbers alone, and is the document's contents
 pub record AddsText (uri text : List ℕ) (old new : List Given) : Type 0 where

@@ -6,3 +6,5 @@ pub mod error;
 pub mod numbers;
 pub mod registry;
 mod search;
+mod sharing;
+pub mod whole_numbers;

@@ -1,9 +1,11 @@
 // Documents handed in, refused and prepared. Normal forms of URIs are those of RFC 3986, section 6.2.2.
+use document_retrievers::{DefaultRetriever, MapRetriever, Retrieve};
 use schema_drafts::draft::Draft;
 use schema_registries::documents::Documents;
 use schema_registries::error::DocumentError;
 use schema_registries::numbers::has_only_whole;
-use schema_registries::registry::SchemaRegistry;
+use schema_registries::registry::{SchemaRegistry, SharedRegistry};
+use schema_registries::whole_numbers::WholeNumbers;
 use serde_json::Value;
 use std::alloc::Global;
 use std::process::Abort;
@@ -117,18 +119,33 @@ fn whole_numbers(rt: HostRuntime) -> Result<(), Fail> {
     Ok(())
 }
 
-// The contents that a registry has under a URI, by the URI of its base.
-fn prepared(rt: &impl Abort, alloc: Global, documents: &Documents) -> Result<String, Fail> {
+// The base of a registry of documents, with what they want.
+fn prepared<R: Retrieve>(
+    rt: &impl Abort,
+    alloc: Global,
+    documents: &Documents,
+    retriever: &R,
+) -> Result<String, Fail> {
     let base = from_str(alloc, "http://a.test/main")?;
-    match SchemaRegistry::prepare(alloc, documents, Draft::Draft7, base) {
-        Ok(registry) => {
-            let other = registry.share()?;
+    match SharedRegistry::prepare(alloc, documents, Draft::Draft7, retriever, 1) {
+        Ok(own) => {
+            let registry = SchemaRegistry::new(own, base, None);
+            let other = registry.own().share()?;
             assert!(rt; other.contains_resource("http://a.test/main"));
+            assert!(rt; registry.registry().contains_resource("http://a.test/part"));
             assert!(rt; !registry.registry().contains_resource("http://a.test/other"));
+            assert!(rt; registry.parent().is_none());
             Ok(format!(in alloc; "{}", registry.base().as_str())?)
         }
         Err(error) => Ok(format!(in alloc; "{error}")?),
     }
+}
+
+// A retriever of one document.
+fn retriever_of(alloc: Global, uri: &str, text: &str) -> Result<WholeNumbers<MapRetriever>, Fail> {
+    let mut retriever = MapRetriever::new(alloc);
+    retriever.add(alloc, uri, json(alloc, text)?)?;
+    Ok(WholeNumbers::new(retriever))
 }
 
 #[test]
@@ -141,14 +158,68 @@ fn registries(rt: HostRuntime) -> Result<(), Fail> {
         json(alloc, "{\"items\":{\"$ref\":\"part\"}}")?,
     )?;
     assert_eq!(rt;
-        prepared(&rt, alloc, &documents)?.as_str(),
+        prepared(&rt, alloc, &documents, &DefaultRetriever)?.as_str(),
         "Resource 'http://a.test/part' is not present and retrieving it failed"
     );
     add(&mut documents, "http://a.test/part", json(alloc, "true")?)?;
     assert_eq!(rt;
-        prepared(&rt, alloc, &documents)?.as_str(),
+        prepared(&rt, alloc, &documents, &DefaultRetriever)?.as_str(),
         "http://a.test/main"
     );
     assert_eq!(rt; documents.list().documents().len(), 2);
+    Ok(())
+}
+
+#[test]
+fn retrieved_documents(rt: HostRuntime) -> Result<(), Fail> {
+    let alloc = rt.alloc();
+    let mut documents = Documents::new(alloc);
+    add(
+        &mut documents,
+        "http://a.test/main",
+        json(alloc, "{\"items\":{\"$ref\":\"part\"}}")?,
+    )?;
+    for (text, want) in [
+        ("{\"minItems\":1}", "http://a.test/main"),
+        (
+            "{\"minItems\":1.5}",
+            "Resource 'http://a.test/part' is not present and retrieving it failed",
+        ),
+        ("{\"$ref\":\"more\"}", "More than 1 documents wanted"),
+    ] {
+        let retriever = retriever_of(alloc, "http://a.test/part", text)?;
+        assert_eq!(rt;
+            prepared(&rt, alloc, &documents, &retriever)?.as_str(),
+            want
+        );
+    }
+    Ok(())
+}
+
+#[test]
+fn documents_beside_others(rt: HostRuntime) -> Result<(), Fail> {
+    let alloc = rt.alloc();
+    let mut first = Documents::new(alloc);
+    add(&mut first, "http://a.test/part", json(alloc, "1")?)?;
+    add(&mut first, "http://a.test/old", json(alloc, "2")?)?;
+    let first = SharedRegistry::prepare(alloc, &first, Draft::Draft7, &DefaultRetriever, 0)?;
+    let mut second = Documents::new(alloc);
+    add(
+        &mut second,
+        "http://a.test/main",
+        json(alloc, "{\"$ref\":\"old\"}")?,
+    )?;
+    add(&mut second, "http://a.test/part", json(alloc, "3")?)?;
+    let both = first.prepare_beside(alloc, &second, Draft::Draft7, &DefaultRetriever, 0)?;
+    let mut shown = String::new(alloc);
+    for document in both.registry().documents() {
+        let contents = document.contents.value().to_string(alloc)?;
+        write!(shown, "{} {contents};", document.uri.as_str())?;
+    }
+    assert_eq!(rt;
+        shown.as_str(),
+        "http://a.test/part 3;http://a.test/old 2;http://a.test/main {\"$ref\":\"old\"};"
+    );
+    assert_eq!(rt; first.registry().documents().len(), 2);
     Ok(())
 }

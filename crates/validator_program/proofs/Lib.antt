@@ -1,3 +1,4 @@
 mod Cut
 mod Added
 mod Small
+mod Alone

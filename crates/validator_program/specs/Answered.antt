@@ -13,7 +13,7 @@ use Rattle.validator_program.specs.Given.{IsBuiltOf}
 pub record IsNamed (rows : List Row) (held : List ℕ → Held) (root : Root) : Type 0 where
   pub schema : List ℕ
   pub is_schema : Some schema ≡ first_of (codes "schema") rows
-  pub built : IsBuiltOf held schema (unwrap_or (all_of (codes "files") rows) []) (first_of (codes "base") rows) (first_of (codes "draft") rows) root
+  pub built : IsBuiltOf held schema (unwrap_or (all_of (codes "files") rows) []) (first_of (codes "base") rows) (first_of (codes "draft") rows) (first_of (codes "meta") rows) root
 
 -- all that the reader had was read, each of its lines was answered by the root that the words name, and the status says whether some answer
 -- was no empty list

@@ -1,15 +1,22 @@
 -- The documents that the program is given, and the root that it builds.
-use Rattle.std.specs.Prelude.{◌≡◌, ℕ, List, [], ◌∷◌, ⊤, Option, Some, None, codes, unwrap_or}
+use Rattle.std.specs.Prelude.{◌≡◌, ℕ, List, [], ◌∷◌, true, ⊤, Option, Some, None, option_and_then, codes, unwrap_or}
 use Rattle.std.specs.List.{AllZip}
+use Rattle.serde_json.specs.Data.{Data, array}
+use Rattle.serde_json.specs.Find.{get, as_str}
+use Rattle.serde_json.specs.View.{items_of}
 use Rattle.uri_grammar.specs.Texts.{cut_at_last}
 use Rattle.uri_references.specs.Identity.{identity_of}
-use Rattle.schema_drafts.specs.Drafts.{newest, draft_among}
+use Rattle.schema_drafts.specs.Drafts.{newest, detected, draft_among}
+use Rattle.schema_drafts.specs.Identifiers.{identifier}
 use Rattle.schema_drafts.specs.declared.draft.Draft.{Draft}
 use Rattle.schema_drafts.specs.declared.draft.Draft.TheVariants.{Draft4, Draft6, Draft7, Draft201909, Draft202012}
-use Rattle.given_documents.specs.Given.{Given}
-use Rattle.schema_registries.specs.Seen.{AddsText}
+use Rattle.given_documents.specs.Given.{Given, with_given}
+use Rattle.schema_registries.specs.Refused.{text_value}
+use Rattle.schema_registries.specs.Seen.{AddsText, given_under}
+use Rattle.schema_registries.specs.Whole.{only_whole}
 use Rattle.schema_roots.specs.Roots.{Root}
-use Rattle.line_runs.specs.Passed.{root_under}
+use Rattle.json_schema_validator.specs.Seen.{root_of}
+use Rattle.json_schema_validator.specs.Prepared.{documents_alone}
 use Rattle.program_files.specs.Held.{Held, Unknown, Missing, Holds}
 use Rattle.validator_program.specs.declared.documents.Further.{Further}
 
@@ -63,13 +70,50 @@ abbrev pub draft_of : Option (List ℕ) → Option Draft
 draft_of None = Some newest
 draft_of (Some word) = draft_among draft_words word
 
--- the schema is added under the base and each further document under its URI; the root is what the base leads to, and documents
--- that name no draft have the one that is given
-pub record IsBuiltOf (held : List ℕ → Held) (schema : List ℕ) (words : List (List ℕ)) (base draft : Option (List ℕ)) (root : Root) : Type 0 where
+-- ---- meta-schemas
+
+-- the identifier of a meta-schema: by the draft that its `$schema` names, or else by the one given
+abbrev pub own_identifier : Draft → Data → Option (List ℕ)
+own_identifier draft d = identifier (detected draft (option_and_then as_str (get (codes "$schema") d))) d
+
+-- it is added under that
+pub record AddsOwn (draft : Draft) (d : Data) (old new : List Given) : Type 0 where
+  pub uri : List ℕ
+  pub is_identifier : own_identifier draft d ≡ Some uri
+  pub whole : only_whole d ≡ true
+  pub added : new ≡ with_given old (given_under uri d)
+
+-- each in its turn
+abbrev pub AddsEach : Draft → List Data → List Given → List Given → Type 0
+AddsEach draft [] old new = new ≡ old
+AddsEach draft (d ∷ ds) old new = (middle : List Given) × AddsOwn draft d old middle × AddsEach draft ds middle new
+
+-- the file holds a JSON list of them
+pub record AreMetaSchemas (held : List ℕ → Held) (draft : Draft) (file : List ℕ) (given : List Given) : Type 0 where
+  pub text : List ℕ
+  pub holds : MayHold (held file) text
+  pub items : List Data
+  pub is_list : text_value text ≡ Some (array (items_of items))
+  pub added : AddsEach draft items [] given
+
+-- where a file was given
+abbrev pub MayBeMetaSchemas : (List ℕ → Held) → Draft → Option (List ℕ) → Option (List Given) → Type 0
+MayBeMetaSchemas held draft None None = Unit {0}
+MayBeMetaSchemas held draft None (Some given) = ⊥
+MayBeMetaSchemas held draft (Some file) None = ⊥
+MayBeMetaSchemas held draft (Some file) (Some given) = AreMetaSchemas held draft file given
+
+-- ---- all together
+
+-- The schema is added under the base and each further document under its URI, and meta-schemas, where some are given, are prepared first
+-- and by themselves; nothing is retrieved. The root is what the base leads to, and documents that name no draft have the one that is given.
+pub record IsBuiltOf (held : List ℕ → Held) (schema : List ℕ) (words : List (List ℕ)) (base draft meta : Option (List ℕ)) (root : Root) : Type 0 where
   pub pairs : List Pair
   pub given : List Given
   pub else_draft : Draft
+  pub meta_schemas : Option (List Given)
   pub cut : AreCut words pairs
   pub is_draft : draft_of draft ≡ Some else_draft
   pub added : AddsFiles held ((base_of base, schema) ∷ pairs) [] given
-  pub is_root : root ≡ root_under else_draft (base_of base) given []
+  pub are_meta_schemas : MayBeMetaSchemas held else_draft meta meta_schemas
+  pub is_root : root ≡ root_of (documents_alone meta_schemas else_draft given) (base_of base) []

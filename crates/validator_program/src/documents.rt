@@ -4,7 +4,7 @@ ghost use Rattle.std.specs.Prelude.{◌≡◌, [], ◌∷◌, OnOk, IfOk, MatchO
 ghost use Rattle.clap.specs.Walk.{texts};
 ghost use Rattle.uri_grammar.specs.Texts.{cut_at_last};
 ghost use Rattle.schema_registries.specs.Seen.{documents_given};
-ghost use Rattle.validator_program.specs.Given.{AddsFile, AddsFiles, AreCut, pair_of};
+ghost use Rattle.validator_program.specs.Given.{AddsFile, AddsFiles, AreCut, MayHold, pair_of};
 
 use crate::fault::ProgramFault;
 use line_runs::{Documents, RunError};
@@ -48,19 +48,17 @@ pub(crate) fn cut_words<'a>(
     Ok(cuts)
 }
 
-/// Adds the document that a file holds, under a URI.
+/// The bytes of a file, which are UTF-8.
 ///
 /// # Errors
 ///
-/// A file that is not read or no UTF-8, a document that is refused, or want of memory. The documents are then as they were.
-fn add_file<'a, F: SchemaFiles>(
+/// A file that is not read or is no UTF-8, or want of memory.
+pub(crate) fn read_file<'a, F: SchemaFiles>(
     alloc: Global,
     files: &F,
-    documents: &mut Documents,
-    uri: &str,
     name: &'a str,
-) -> Result<(), ProgramFault<'a>>
-    ensures { OnOk result (AddsFile (F.held files.now) (uri.now, name.entry.now) (documents_given documents.old) (documents_given documents.new)) }
+) -> Result<Vec<u8>, ProgramFault<'a>>
+    ensures { IfOk result (λ v. MayHold (F.held files.now name.entry.now) v.items) }
 {
     let bytes = match files.read(alloc, name) {
         Ok(bytes) => bytes,
@@ -70,6 +68,20 @@ fn add_file<'a, F: SchemaFiles>(
     if str::from_utf8(bytes.as_slice()).is_err() {
         return Err(ProgramFault::File { name });
     }
+    Ok(bytes)
+}
+
+// Adds the document that a file holds, under a URI. The documents are as they were where an error comes.
+fn add_file<'a, F: SchemaFiles>(
+    alloc: Global,
+    files: &F,
+    documents: &mut Documents,
+    uri: &str,
+    name: &'a str,
+) -> Result<(), ProgramFault<'a>>
+    ensures { OnOk result (AddsFile (F.held files.now) (uri.now, name.entry.now) (documents_given documents.old) (documents_given documents.new)) }
+{
+    let bytes = read_file(alloc, files, name)?;
     documents.add_text(uri, bytes.as_slice())?;
     Ok(())
 }

@@ -4,6 +4,7 @@
 mod documents;
 mod entry;
 mod fault;
+mod meta_files;
 mod preparing;
 
 pub use entry::{program, run_program};

@@ -2,16 +2,20 @@
 
 ghost use Rattle.std.specs.Prelude.{◌≡◌, IfOk, Some, option_map};
 ghost use Rattle.clap.specs.Walk.{texts};
+ghost use Rattle.json_schema_validator.specs.Prepared.{meta_schemas_given};
 ghost use Rattle.line_runs.specs.Passed.{root_in};
 ghost use Rattle.schema_drafts.specs.Drafts.{draft_among};
-ghost use Rattle.validator_program.specs.Given.{IsBuiltOf, base_of, draft_of, draft_words};
+ghost use Rattle.schema_registries.specs.Seen.{documents_given};
+ghost use Rattle.validator_program.specs.Given.{IsBuiltOf, MayBeMetaSchemas, base_of, draft_of, draft_words};
 
 use crate::documents::{cut_words, read_documents};
 use crate::fault::ProgramFault;
-use line_runs::{Draft, Validator};
+use crate::meta_files::read_meta_schemas;
+use json_schema_validator::ValidationOptions;
+use line_runs::{Documents, Draft, Validator};
 use program_files::SchemaFiles;
 use program_words::ProgramWords;
-use std::alloc::Global;
+use std::alloc::{AllocError, Global};
 use uri_references::uri::{Uri, from_str};
 
 /// The base where none is given.
@@ -50,17 +54,51 @@ fn read_draft<'a>(draft: Option<&'a str>) -> Result<Draft, ProgramFault<'a>>
     }
 }
 
+// The meta-schemas of a file, where one was given.
+fn read_meta<'a, F: SchemaFiles>(
+    alloc: Global,
+    files: &F,
+    draft: Draft,
+    meta: Option<&'a str>,
+) -> Result<Option<Documents>, ProgramFault<'a>>
+    ensures { IfOk result (λ d. MayBeMetaSchemas (F.held files.now) draft (option_map (λ s. s.now) meta.entry) (option_map documents_given d)) }
+{
+    match meta {
+        Some(name) => Ok(Some(read_meta_schemas(alloc, files, draft, name)?)),
+        None => Ok(None),
+    }
+}
+
+// How the validator is built.
+fn options_of(
+    alloc: Global,
+    draft: Draft,
+    base: Uri,
+    meta_schemas: Option<Documents>,
+) -> Result<ValidationOptions, AllocError>
+    ensures draft { IfOk result (λ o. o.draft ≡ draft) }
+    ensures base { IfOk result (λ o. o.base ≡ base) }
+    ensures meta_schemas { IfOk result (λ o. meta_schemas_given o ≡ option_map documents_given meta_schemas) }
+{
+    let options = Validator::options(alloc)?.with_draft(draft).with_base(base);
+    match meta_schemas {
+        Some(documents) => Ok(options.with_meta_schemas(documents)),
+        None => Ok(options),
+    }
+}
+
 /// Builds the validator that the words name.
 ///
 /// # Errors
 ///
-/// The first that is met: a further word without `=`, the draft, the base, the files and documents in their order, the build; or want of memory.
+/// The first that is met: a further word without `=`, the draft, the base, the files and documents in their order, the meta-schemas, the
+/// build; or want of memory.
 pub(crate) fn prepare<'a, F: SchemaFiles>(
     alloc: Global,
     words: &ProgramWords<'a>,
     files: &F,
 ) -> Result<Validator, ProgramFault<'a>>
-    ensures { IfOk result (λ v. IsBuiltOf (F.held files.now) words.now.schema.now (texts words.now.files.items) (option_map (λ s. s.now) words.now.base) (option_map (λ s. s.now) words.now.draft) (root_in v)) }
+    ensures { IfOk result (λ v. IsBuiltOf (F.held files.now) words.now.schema.now (texts words.now.files.items) (option_map (λ s. s.now) words.now.base) (option_map (λ s. s.now) words.now.draft) (option_map (λ s. s.now) words.now.meta) (root_in v)) }
 {
     let further = cut_words(alloc, words.files.as_slice())?;
     let draft = read_draft(words.draft)?;
@@ -72,10 +110,7 @@ pub(crate) fn prepare<'a, F: SchemaFiles>(
         words.schema,
         further.as_slice(),
     )?;
-    Ok(
-        Validator::options(alloc)?
-            .with_draft(draft)
-            .with_base(base)
-            .build(&documents, "")?,
-    )
+    let meta_schemas = read_meta(alloc, files, draft, words.meta)?;
+    let options = options_of(alloc, draft, base, meta_schemas)?;
+    Ok(options.build(&documents, "")?)
 }

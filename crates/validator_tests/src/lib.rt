@@ -12,6 +12,8 @@ mod drafts;
 #[cfg(test)]
 mod faults;
 #[cfg(test)]
+mod options;
+#[cfg(test)]
 mod references;
 #[cfg(test)]
 mod subject;

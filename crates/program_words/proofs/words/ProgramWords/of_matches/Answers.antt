@@ -15,4 +15,5 @@ returns c =
           ∙ ap (λ o. unwrap_or o []) (c.get_strs.ensures ∙ raw_values-rows f (codes "files"));
       base = c.get_str-2.ensures ∙ first_value-rows f (codes "base");
       draft = c.get_str-3.ensures ∙ first_value-rows f (codes "draft");
+      meta = c.get_str-4.ensures ∙ first_value-rows f (codes "meta");
     }

@@ -1,0 +1,53 @@
+-- Meta-schemas that are asked: the one that a root's `$schema` names, or that of its draft, where it was handed in (Core 8.1.1).
+use Rattle.std.specs.Prelude.{◌≡◌, ℕ, List, [], ◌∷◌, true, false, codes, Option, Some, None, option_and_then}
+use Rattle.serde_json.specs.Data.{Data}
+use Rattle.schema_drafts.specs.declared.draft.Draft.{Draft}
+use Rattle.schema_drafts.specs.declared.draft.Draft.TheVariants.{Draft4, Draft6, Draft7, Draft201909, Draft202012, Unknown}
+use Rattle.schema_documents.specs.Words.{or_else, has_text}
+use Rattle.schema_documents.specs.Bearers.{is_root}
+use Rattle.schema_documents.specs.Lookup.{Target}
+use Rattle.schema_documents.specs.Places.{schema_in_force, meta_schema_uri}
+use Rattle.schema_meaning.specs.Readings.{verdicts}
+use Rattle.schema_roots.specs.Passed.{SharedRegistry, documents_shared, retrieved_shared}
+use Rattle.schema_roots.specs.Roots.{Root, Finds, IsSound}
+use Rattle.schema_roots.specs.Answers.{IsAnswer}
+use Rattle.json_schema_validator.specs.Seen.{root_of}
+
+-- the URI of a draft's own meta-schema
+abbrev pub schema_of_draft : Draft → Option (List ℕ)
+schema_of_draft Draft4 = Some (codes "http://json-schema.org/draft-04/schema")
+schema_of_draft Draft6 = Some (codes "http://json-schema.org/draft-06/schema")
+schema_of_draft Draft7 = Some (codes "http://json-schema.org/draft-07/schema")
+schema_of_draft Draft201909 = Some (codes "https://json-schema.org/draft/2019-09/schema")
+schema_of_draft Draft202012 = Some (codes "https://json-schema.org/draft/2020-12/schema")
+schema_of_draft Unknown = None
+
+-- the text of the `$schema` that counts at a root, or else the URI by its draft
+abbrev pub schema_text : Target → Option (List ℕ)
+schema_text t = or_else (schema_in_force (is_root t.path) t.contents) (schema_of_draft t.dialect.draft)
+
+abbrev pub meta_schema_of : Target → Option (List ℕ)
+meta_schema_of t = option_and_then meta_schema_uri (schema_text t)
+
+-- a meta-schema as a root, in the registry of those handed in alone
+abbrev pub meta_root : SharedRegistry → List ℕ → Root
+meta_root p uri = root_of (documents_shared p) (codes "json-schema:///") uri
+
+-- its URI leads there to a document that was not retrieved
+pub record IsHandedIn (p : SharedRegistry) (uri : List ℕ) : Type 0 where
+  pub target : Target
+  pub found : Finds (meta_root p uri) target
+  pub not_retrieved : has_text target.document (retrieved_shared p) ≡ false
+
+pub record IsAsked (p : SharedRegistry) (t : Target) (uri : List ℕ) : Type 0 where
+  pub named : meta_schema_of t ≡ Some uri
+  pub handed_in : IsHandedIn p uri
+
+-- the meta-schema of a root, where it is asked, may be read and accepts the root's value
+abbrev pub IsMetIn : SharedRegistry → Target → Type 0
+IsMetIn p t = (uri : List ℕ) → IsAsked p t uri → IsSound (meta_root p uri) × IsAnswer verdicts (meta_root p uri) t.contents true
+
+-- the same where meta-schemas were handed in
+abbrev pub IsMet : Option SharedRegistry → Target → Type 0
+IsMet None t = Unit {0}
+IsMet (Some p) t = IsMetIn p t

@@ -1,0 +1,122 @@
+//! Meta-schemas that are asked.
+
+ghost use Rattle.std.specs.Prelude.{◌≡◌, IfOk, IfErr, OnOk, codes, option_map, false, true};
+ghost use Rattle.schema_documents.specs.Places as places;
+ghost use Rattle.schema_documents.specs.Words.{has_text};
+ghost use Rattle.reached_sites.specs.Passed.{target_in};
+ghost use Rattle.schema_roots.specs.Passed.{retrieved_by};
+ghost use Rattle.json_schema_validator.specs.Asked.{schema_of_draft, schema_text, meta_schema_of, IsHandedIn, IsMetIn};
+ghost use Rattle.json_schema_validator.specs.Refused.{RefusesByMeta};
+
+use crate::error::BuildError;
+use crate::validator::Validator;
+use referencing::{Error, Registry, Resolved};
+use schema_drafts::draft::Draft;
+use schema_identifiers::bases::resolved;
+use schema_identifiers::identifiers::schema_in_force;
+use schema_roots::SharedRegistry;
+use std::alloc::{AllocError, Global};
+use uri_grammar::components::split_fragment;
+use uri_references::uri::Uri;
+
+/// The base URI of meta-schemas that name themselves by a relative reference.
+const BASE: &str = "json-schema:///";
+
+// The URI of a draft's own meta-schema.
+fn schema_of(draft: Draft) -> Option<&'static str>
+    ensures { option_map (λ t. t.now) result ≡ schema_of_draft draft }
+{
+    match draft {
+        Draft::Draft4 => Some("http://json-schema.org/draft-04/schema"),
+        Draft::Draft6 => Some("http://json-schema.org/draft-06/schema"),
+        Draft::Draft7 => Some("http://json-schema.org/draft-07/schema"),
+        Draft::Draft201909 => Some("https://json-schema.org/draft/2019-09/schema"),
+        Draft::Draft202012 => Some("https://json-schema.org/draft/2020-12/schema"),
+        Draft::Unknown => None,
+    }
+}
+
+// The text of the `$schema` that counts at a root, or else the URI by its draft.
+fn text_of<'r>(root: &Resolved<'r>) -> Option<&'r str>
+    ensures { option_map (λ t. t.now) result ≡ schema_text (target_in root.now) }
+{
+    match schema_in_force(root.path().is_root(), root.contents()) {
+        Some(text) => Some(text),
+        None => schema_of(root.draft()),
+    }
+}
+
+fn base(alloc: Global) -> Result<Uri, AllocError>
+    ensures { IfOk result (λ u. u ≡ codes "json-schema:///") }
+{
+    match Uri::parse(alloc, BASE) {
+        Ok(base) => Ok(base),
+        Err(_) => Err(AllocError),
+    }
+}
+
+// The URI of the meta-schema of a root.
+fn uri_of(alloc: Global, base: &Uri, root: &Resolved<'_>) -> Result<Option<Uri>, AllocError>
+    requires base { base.now ≡ codes "json-schema:///" }
+    ensures { IfOk result (λ u. u ≡ meta_schema_of (target_in root.now)) }
+{
+    match text_of(root) {
+        Some(text) => resolved(alloc, base, split_fragment(text).0),
+        None => Ok(None),
+    }
+}
+
+fn is_retrieved(registry: &Registry<'_>, document: &Uri) -> bool
+    ensures { result ≡ has_text document.now (retrieved_by registry.now) }
+{
+    for uri in registry.retrieved() {
+        if document.as_str() == uri.as_str() {
+            return true;
+        }
+    }
+    false
+}
+
+// Whether a URI leads to a meta-schema that was handed in.
+fn is_handed_in(parent: &SharedRegistry, base: &Uri, uri: &str) -> Result<bool, AllocError>
+    requires base { base.now ≡ codes "json-schema:///" }
+    ensures there { IfOk result (λ b. b ≡ true → IsHandedIn parent.now uri.now) }
+    ensures absent { IfOk result (λ b. b ≡ false → IsHandedIn parent.now uri.now → ⊥) }
+{
+    let resolver = parent.registry().resolver(base.clone()?)?;
+    match resolver.lookup(uri) {
+        Ok(found) => Ok(!is_retrieved(parent.registry(), found.document())),
+        Err(error) => match error {
+            Error::Memory => Err(AllocError),
+            _ => Ok(false),
+        },
+    }
+}
+
+/// Asks the meta-schema of a root whether it accepts the root's value: the one that its `$schema` names, or without one that of its
+/// draft, where it was handed in. It is read as a root of the meta-schemas alone, and is not asked about in turn.
+///
+/// # Errors
+///
+/// Why the meta-schema is not read, one of its faults, or want of memory.
+pub(crate) fn ask_meta_schema(
+    alloc: Global,
+    parent: &SharedRegistry,
+    root: &Resolved<'_>,
+) -> Result<(), BuildError>
+    ensures accepted { OnOk result (IsMetIn parent.now (target_in root.now)) }
+    ensures refused { IfErr result (RefusesByMeta parent.now (target_in root.now)) }
+{
+    let base = base(alloc)?;
+    let Some(uri) = uri_of(alloc, &base, root)? else {
+        return Ok(());
+    };
+    if !is_handed_in(parent, &base, uri.as_str())? {
+        return Ok(());
+    }
+    let meta_schema = Validator::at(alloc, parent, &base, uri.as_str())?;
+    match meta_schema.validate(root.contents())? {
+        Ok(()) => Ok(()),
+        Err(error) => Err(BuildError::of_fault(alloc, &error)?),
+    }
+}

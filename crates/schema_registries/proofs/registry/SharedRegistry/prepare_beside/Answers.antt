@@ -1,0 +1,14 @@
+use Rattle.std.proofs.Common.{◌≡◌, ◌∙◌, map, ap}
+use Rattle.document_index.specs.Seen.{document_of}
+use Rattle.given_documents.specs.Given.{documents_by}
+use Rattle.given_documents.specs.Listed.{givens_of}
+use Rattle.target_laws.specs.Laws.{are_apart}
+use Rattle.schema_registries.proofs.Apart.{apart_by}
+use Rattle.schema_registries.proofs.registry.SharedRegistry.prepare_beside.Goals as goal
+
+pub gathered-requires : goal.gathered-requires
+gathered-requires g c =
+    let draft = c.args.draft in
+    let given = givens_of c.in_ok-list-2.list in
+    let same : map document_of c.in_ok-all.all.items ≡ documents_by draft given = c.in_ok-all.ensures ∙ ap (documents_by draft) c.into_documents.ensures in
+    record { apart = ap are_apart same ∙ apart_by draft given ∙ c.uris_are_apart.ensures }
