@@ -1,0 +1,4 @@
+pub mod RowLemmas
+pub mod ListLemmas
+pub mod ArmLemmas
+pub mod NamedLemmas

@@ -1,0 +1,34 @@
+-- Members by their names.
+use Rattle.std.proofs.Common.{◌≡◌, ℕ, List, Bool, true, false, ◌&&◌, ◌||◌, bytes_eq, codes, Option, Some, None, sym, ap, ◌∙◌, subst}
+use Rattle.std.specs.Prelude.{IfSome, IfNone}
+use Rattle.serde_json.specs.Data.{Data}
+use Rattle.schema_meaning.specs.Members.{is_listed}
+use Rattle.schema_reading.specs.Rows.{Context, readers, read_among, additional_properties_row}
+use Rattle.applicator_reading.specs.Beside.{Surrounds}
+use Rattle.applicator_reading.specs.Names.{applicator_names, is_read, needs_no_names}
+use Rattle.applicator_reading.specs.Reads.{ReadsAs}
+use Rattle.applicator_reading.specs.declared.neighbours.Neighbours.{Neighbours}
+use Rattle.applicator_reading.specs.declared.reading.Reading.{Reading}
+
+pub read-at : (k known : List ℕ) (n : Neighbours) (d : Data) (r : Reading) → k ≡ known → ((x : Context) → Surrounds n x → ReadsAs x known (read_among readers x known d) r)
+    → (x : Context) → Surrounds n x → ReadsAs x k (read_among readers x k d) r
+read-at k known n d r is h = subst (λ (w : List ℕ). (x : Context) → Surrounds n x → ReadsAs x w (read_among readers x w d) r) (sym is) h
+
+pub named-at : (k known : List ℕ) (x : Context) (d : Data) → k ≡ known → is_listed known applicator_names ≡ true → is_read x k d ≡ true
+named-at k known x d is listed =
+    ap (λ (b : Bool). b || (bytes_eq k (codes "additionalProperties") && needs_no_names x d)) (ap (λ (w : List ℕ). is_listed w applicator_names) is ∙ listed)
+
+module _ (k : List ℕ) (n : Neighbours) (d : Data) (is : k ≡ codes "additionalProperties") where
+  pub additional-read : (o : Option Reading)
+      → IfSome o (λ r. (x : Context) → Surrounds n x → ReadsAs x (codes "additionalProperties") (additional_properties_row x (codes "additionalProperties") d) r)
+      → IfSome o (λ r. (x : Context) → Surrounds n x → ReadsAs x k (read_among readers x k d) r)
+  additional-read None h = tt
+  additional-read (Some r) h = read-at k (codes "additionalProperties") n d r is h
+
+  pub additional-named : (o : Option Reading) → IfSome o (λ r. (x : Context) → Surrounds n x → needs_no_names x d ≡ true) → IfSome o (λ r. (x : Context) → Surrounds n x → is_read x k d ≡ true)
+  additional-named None h = tt
+  additional-named (Some r) h = subst (λ (w : List ℕ). (x : Context) → Surrounds n x → is_read x w d ≡ true) (sym is) h
+
+  pub additional-unread : (o : Option Reading) → IfNone o ((x : Context) → Surrounds n x → needs_no_names x d ≡ false) → IfNone o ((x : Context) → Surrounds n x → is_read x k d ≡ false)
+  additional-unread None h = subst (λ (w : List ℕ). (x : Context) → Surrounds n x → is_read x w d ≡ false) (sym is) h
+  additional-unread (Some r) h = tt

@@ -1,0 +1,29 @@
+use Rattle.std.proofs.Common.{◌≡◌, [], ◌∷◌, ◌∙◌, ◌||◌, codes, sym, ap, ap₂, subst}
+use Rattle.std.specs.Prelude.{is_some}
+use Rattle.serde_json.specs.View.{view}
+use Rattle.schema_meaning.specs.Keywords.{condition}
+use Rattle.schema_reading.specs.Rows.{Row, Context, reads, at, beside}
+use Rattle.applicator_reading.specs.Beside.{Surrounds, schema_in, beside_in}
+use Rattle.applicator_reading.specs.Reads.{ReadsAs, site_in}
+use Rattle.applicator_reading.specs.declared.neighbours.Neighbours.{Neighbours}
+use Rattle.applicator_reading.proofs.RowLemmas.{neighbour}
+use Rattle.applicator_reading.proofs.ArmLemmas.{condition-there, condition-alone, condition_shape, schema-there}
+use Rattle.applicator_reading.proofs.reading.condition.Goals as goal
+
+either-beside : (n : Neighbours) (x : Context) → Surrounds n x
+    → (is_some (beside x (codes "then")) || is_some (beside x (codes "else"))) ≡ (is_some (beside_in n (codes "then")) || is_some (beside_in n (codes "else")))
+either-beside n x s = ap₂ (λ a b. is_some a || is_some b) (neighbour n x s (codes "then")) (neighbour n x s (codes "else"))
+
+pub returns-then-has_consequent : goal.returns-then-has_consequent
+returns-then-has_consequent c = λ x s.
+    let n = c.args.neighbours in
+    let d = view c.args.value.now in
+    let t = site_in x (at (codes "if")) d in
+    subst (λ (row : Row). ReadsAs x (codes "if") row c.if_schema.result) (sym (condition-there x (codes "if") d (either-beside n x s ∙ sym c.has_consequent.ensures ∙ c.if-has_consequent.true)))
+    (c.if_schema.ensures x (codes "if") (condition_shape x (codes "if") d)
+    (ap₂ (λ a b. reads (t ∷ []) (condition t a b ∷ []))
+    (schema-there x (codes "then") c.schema_beside-then_schema.result (c.schema_beside-then_schema.ensures ∙ sym (ap schema_in (neighbour n x s (codes "then")))))
+    (schema-there x (codes "else") c.schema_beside-else_schema.result (c.schema_beside-else_schema.ensures ∙ sym (ap schema_in (neighbour n x s (codes "else")))))))
+
+pub returns-else-has_consequent : goal.returns-else-has_consequent
+returns-else-has_consequent c = λ x s. condition-alone x (codes "if") (view c.args.value.now) (either-beside c.args.neighbours x s ∙ sym c.has_consequent.ensures ∙ c.if-has_consequent.false)

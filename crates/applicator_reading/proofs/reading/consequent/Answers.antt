@@ -1,0 +1,18 @@
+use Rattle.std.proofs.Common.{[], ◌∙◌, codes, refl, sym, ap, subst}
+use Rattle.std.specs.Prelude.{is_some}
+use Rattle.serde_json.specs.View.{view}
+use Rattle.schema_reading.specs.Rows.{Row}
+use Rattle.applicator_reading.specs.Reads.{ReadsAs}
+use Rattle.applicator_reading.proofs.RowLemmas.{neighbour}
+use Rattle.applicator_reading.proofs.ArmLemmas.{consequent-there, consequent-alone}
+use Rattle.applicator_reading.proofs.reading.consequent.Goals as goal
+
+pub returns-then-is_beside : goal.returns-then-is_beside
+returns-then-is_beside c = λ x k s.
+    let d = view c.args.value.now in
+    subst (λ (row : Row). ReadsAs x k row c.if_schema.result)
+    (sym (consequent-there x k d (ap is_some (neighbour c.args.neighbours x s (codes "if")) ∙ sym c.is_beside.ensures ∙ c.if-is_beside.true))) (c.if_schema.ensures x k (λ s. []) refl)
+
+pub returns-else-is_beside : goal.returns-else-is_beside
+returns-else-is_beside c = λ x k s.
+    consequent-alone x k (view c.args.value.now) (ap is_some (neighbour c.args.neighbours x s (codes "if")) ∙ sym c.is_beside.ensures ∙ c.if-is_beside.false)

@@ -1,0 +1,7 @@
+use Rattle.std.proofs.Common.{[], ◌∷◌, codes, refl}
+use Rattle.serde_json.specs.View.{view}
+use Rattle.schema_meaning.specs.Keywords.{negation}
+use Rattle.applicator_reading.proofs.reading.negation.Goals as goal
+
+pub returns : goal.returns
+returns c = λ x. c.if_schema.ensures x (codes "not") (λ s. negation (view c.args.value.now) s ∷ []) refl

@@ -1,0 +1,6 @@
+pub mod Passed
+pub mod Beside
+pub mod Others
+pub mod Arms
+pub mod Names
+pub mod Reads

@@ -1,0 +1,34 @@
+-- What a reading says of a member of a schema.
+use Rattle.std.specs.Prelude.{◌≡◌, ℕ, List, [], ◌∷◌, Result, Ok, Err}
+use Rattle.serde_json.specs.Data.{Data}
+use Rattle.serde_json.specs.View.{view}
+use Rattle.json_paths.specs.Parts.{Part, name, index}
+use Rattle.schema_meaning.specs.Members.{In}
+use Rattle.schema_reading.specs.Sites.{Site, below}
+use Rattle.schema_reading.specs.Rows.{Row, BuildCause, keyword_value, Context, place_at, at, reads}
+use Rattle.applicators.specs.Shapes.{shape_of, leads_of}
+use Rattle.applicator_reading.specs.declared.reading.Reading.{Reading}
+use Rattle.applicator_reading.specs.declared.reading.Reading.TheVariants as reading
+
+-- the site of a subschema
+abbrev pub site_in : Context → List Part → Data → Site
+site_in x added d = below x.documents x.site added d
+
+-- a cause of a row that has no shapes
+pub record IsCause (cause : BuildCause) (row : Row) : Type 0 where
+  pub stands : In cause row.causes
+  pub alone : row.shapes ≡ []
+
+-- what a reading says of the row of a keyword
+abbrev pub ReadsAs : Context → List ℕ → Row → Reading → Type 0
+ReadsAs x k row (reading.Applied a) = row ≡ reads (leads_of (site_in x) a) (shape_of (site_in x) a ∷ [])
+ReadsAs x k row reading.Nothing = row ≡ reads [] []
+ReadsAs x k row (reading.Consequent schema) = row ≡ reads (site_in x (at k) (view schema.now) ∷ []) []
+ReadsAs x k row (reading.Value expected) = IsCause (keyword_value (place_at x (at k)) expected.now) row
+ReadsAs x k row (reading.Entry n expected) = IsCause (keyword_value (place_at x (name n.now ∷ name k ∷ [])) expected.now) row
+ReadsAs x k row (reading.Element i expected) = IsCause (keyword_value (place_at x (index i ∷ name k ∷ [])) expected.now) row
+
+-- schemas refused for that cause among others
+abbrev pub IsRefusedFor : {A : Type 0} → BuildCause → Result A (List BuildCause) → Type 0
+IsRefusedFor cause (Ok x) = ⊥
+IsRefusedFor cause (Err causes) = In cause causes
