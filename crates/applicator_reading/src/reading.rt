@@ -1,7 +1,6 @@
 //! Keywords that apply subschemas, read from the members of a schema.
 ghost use Rattle.std.specs.Prelude.{◌≡◌, ℕ, List, [], ◌∷◌, IfSome, IfNone, codes, false, true, Some};
 ghost use Rattle.serde_json.specs.View.{view};
-ghost use Rattle.schema_documents.specs.Places as places;
 ghost use Rattle.schema_meaning.specs.Keywords.{Shape};
 ghost use Rattle.schema_reading.specs.Sites.{Site};
 ghost use Rattle.schema_reading.specs.Rows as rows;

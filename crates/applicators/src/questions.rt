@@ -1,11 +1,11 @@
 //! The questions that applicators ask of a value.
-ghost use Rattle.std.specs.Prelude.{◌≡◌, ◌++◌, ℕ, List, [], ◌∷◌, IfOk, OnOk, Bool, true, false, codes, map, option_map, is_some};
+ghost use Rattle.std.specs.Prelude.{◌≡◌, ◌++◌, ℕ, List, [], ◌∷◌, IfOk, OnOk, Bool, true, false, codes, map, option_map};
 ghost use Rattle.serde_json.specs.Data.{Data};
 ghost use Rattle.serde_json.specs.View.{view, items_view, members_view};
 ghost use Rattle.serde_json.specs.Find.{get, get_member};
 ghost use Rattle.json_paths.specs.Parts.{Part};
 ghost use Rattle.schema_reading.specs.Sites.{Site};
-ghost use Rattle.schema_meaning.specs.Places.{Step, to_member};
+ghost use Rattle.schema_meaning.specs.Places.{to_member};
 ghost use Rattle.schema_meaning.specs.Questions.{question, at, here, each_branch, items_of, items_from, each_item, item_by_item, listed_members, members_of, names_of, each_declared, each_member, each_name, each_triggered};
 ghost use Rattle.schema_meaning.specs.Rules.{asks, consequents};
 ghost use Rattle.schema_meaning.specs.Keywords.{rule, consequent};
