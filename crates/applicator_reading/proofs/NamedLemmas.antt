@@ -1,12 +1,12 @@
 -- Members by their names.
-use Rattle.std.proofs.Common.{◌≡◌, ℕ, List, Bool, true, false, ◌&&◌, ◌||◌, bytes_eq, codes, Option, Some, None, sym, ap, ◌∙◌, subst}
+use Rattle.std.proofs.Common.{◌≡◌, ℕ, List, Bool, true, false, true≢false, ◌&&◌, ◌||◌, bytes_eq, codes, Option, Some, None, sym, ap, ◌∙◌, subst}
 use Rattle.std.specs.Prelude.{IfSome, IfNone}
 use Rattle.serde_json.specs.Data.{Data}
 use Rattle.schema_meaning.specs.Members.{is_listed}
 use Rattle.schema_reading.specs.Rows.{Context, readers, read_among, additional_properties_row}
 use Rattle.applicator_reading.specs.Beside.{Surrounds}
-use Rattle.applicator_reading.specs.Names.{applicator_names, is_read, needs_no_names}
-use Rattle.applicator_reading.specs.Reads.{ReadsAs}
+use Rattle.applicator_reading.specs.Names.{applicator_names, every_names, is_read, needs_no_names}
+use Rattle.applicator_reading.specs.Reads.{ReadsAs, AppliesEvery}
 use Rattle.applicator_reading.specs.declared.neighbours.Neighbours.{Neighbours}
 use Rattle.applicator_reading.specs.declared.reading.Reading.{Reading}
 
@@ -17,6 +17,13 @@ read-at k known n d r is h = subst (λ (w : List ℕ). (x : Context) → Surroun
 pub named-at : (k known : List ℕ) (x : Context) (d : Data) → k ≡ known → is_listed known applicator_names ≡ true → is_read x k d ≡ true
 named-at k known x d is listed =
     ap (λ (b : Bool). b || (bytes_eq k (codes "additionalProperties") && needs_no_names x d)) (ap (λ (w : List ℕ). is_listed w applicator_names) is ∙ listed)
+
+pub not-every : (k known : List ℕ) → k ≡ known → is_listed known every_names ≡ false → is_listed k every_names ≡ true → ⊥
+not-every k known is unlisted listed = true≢false (sym listed ∙ ap (λ (w : List ℕ). is_listed w every_names) is ∙ unlisted)
+
+pub some-every : {A : Type 0} (o : Option Reading) → (A → ⊥) → IfSome o (λ r. A → AppliesEvery r)
+some-every None h = tt
+some-every (Some r) h = λ a. absurd (h a)
 
 module _ (k : List ℕ) (n : Neighbours) (d : Data) (is : k ≡ codes "additionalProperties") where
   pub additional-read : (o : Option Reading)

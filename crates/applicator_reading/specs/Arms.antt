@@ -1,5 +1,5 @@
 -- The rows of keywords whose values are lists or objects of schemas.
-use Rattle.std.specs.Prelude.{ℕ, List, codes}
+use Rattle.std.specs.Prelude.{ℕ, List, Bool, true, false, codes}
 use Rattle.serde_json.specs.Data.{Data}
 use Rattle.schema_meaning.specs.Keywords.{Shape, item_list, prefix_items, properties, dependent_schemas, all_of, any_of, one_of}
 use Rattle.schema_reading.specs.Sites.{Site}
@@ -30,6 +30,14 @@ list_shape PrefixItems ss = prefix_items ss
 list_shape AllOf ss = all_of ss
 list_shape AnyOf ss = any_of ss
 list_shape OneOf ss = one_of ss
+
+-- whether it accepts a value just where every answer is yes
+abbrev pub list_is_every : ListKeyword → Bool
+list_is_every ItemList = true
+list_is_every PrefixItems = true
+list_is_every AllOf = true
+list_is_every AnyOf = false
+list_is_every OneOf = false
 
 abbrev pub list_row : ListKeyword → Context → Data → Row
 list_row w x d = schema_list x (list_name w) (list_word w) (list_shape w) d

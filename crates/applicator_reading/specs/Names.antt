@@ -19,5 +19,9 @@ needs_no_names x (string s) = true
 needs_no_names x (array ds) = true
 needs_no_names x (object ms) = false
 
+-- the names of those that accept a value just where every answer is yes
+abbrev pub every_names : List (List ℕ)
+every_names = codes "items" ∷ codes "prefixItems" ∷ codes "properties" ∷ codes "dependentSchemas" ∷ codes "allOf" ∷ []
+
 abbrev pub is_read : Context → List ℕ → Data → Bool
 is_read x k d = is_listed k applicator_names || (bytes_eq k (codes "additionalProperties") && needs_no_names x d)

@@ -2,12 +2,13 @@
 ghost use Rattle.std.specs.Prelude.{◌≡◌, ℕ, List, [], ◌∷◌, IfSome, IfNone, codes, false, true, Some};
 ghost use Rattle.serde_json.specs.View.{view};
 ghost use Rattle.schema_meaning.specs.Keywords.{Shape};
+ghost use Rattle.schema_meaning.specs.Members.{is_listed};
 ghost use Rattle.schema_reading.specs.Sites.{Site};
 ghost use Rattle.schema_reading.specs.Rows as rows;
 ghost use Rattle.applicator_reading.specs.Beside.{Surrounds};
-ghost use Rattle.applicator_reading.specs.Names.{is_read, needs_no_names};
-ghost use Rattle.applicator_reading.specs.Arms.{list_name, list_row, map_name, map_row};
-ghost use Rattle.applicator_reading.specs.Reads.{ReadsAs, site_in};
+ghost use Rattle.applicator_reading.specs.Names.{is_read, needs_no_names, every_names};
+ghost use Rattle.applicator_reading.specs.Arms.{list_name, list_row, list_is_every, map_name, map_row};
+ghost use Rattle.applicator_reading.specs.Reads.{ReadsAs, AppliesEvery, site_in};
 
 use crate::entries::{other_item, other_member};
 use crate::keyword::{ListKeyword, MapKeyword};
@@ -77,7 +78,8 @@ fn if_schema<'r>(schema: &Value, reading: Reading<'r>) -> Reading<'r>
 }
 
 fn list<'r>(keyword: ListKeyword, value: &'r Value) -> Reading<'r>
-    ensures { (x : rows.Context) → ReadsAs x (list_name keyword) (list_row keyword x (view value.now)) result }
+    ensures read { (x : rows.Context) → ReadsAs x (list_name keyword) (list_row keyword x (view value.now)) result }
+    ensures every { list_is_every keyword ≡ true → AppliesEvery result }
 {
     let Some(items) = value.as_array() else {
         return Reading::Value {
@@ -95,7 +97,8 @@ fn list<'r>(keyword: ListKeyword, value: &'r Value) -> Reading<'r>
 }
 
 fn map<'r>(keyword: MapKeyword, value: &'r Value) -> Reading<'r>
-    ensures { (x : rows.Context) → ReadsAs x (map_name keyword) (map_row keyword x (view value.now)) result }
+    ensures read { (x : rows.Context) → ReadsAs x (map_name keyword) (map_row keyword x (view value.now)) result }
+    ensures every { AppliesEvery result }
 {
     let Some(schemas) = value.as_object() else {
         return Reading::Value { expected: "object" };
@@ -110,7 +113,8 @@ fn map<'r>(keyword: MapKeyword, value: &'r Value) -> Reading<'r>
 }
 
 fn items<'r>(neighbours: Neighbours<'r>, value: &'r Value) -> Reading<'r>
-    ensures { (x : rows.Context) → Surrounds neighbours.entry x → ReadsAs x (codes "items") (rows.items_row x (codes "items") (view value.now)) result }
+    ensures read { (x : rows.Context) → Surrounds neighbours.entry x → ReadsAs x (codes "items") (rows.items_row x (codes "items") (view value.now)) result }
+    ensures every { AppliesEvery result }
 {
     if is_schema(value) {
         return Reading::Applied(Applicator::Items {
@@ -256,6 +260,7 @@ pub fn read<'r>(neighbours: Neighbours<'r>, name: &str, value: &'r Value) -> Opt
     ensures read { IfSome result (λ r. (x : rows.Context) → Surrounds neighbours.entry x → ReadsAs x name.now (rows.read_among rows.readers x name.now (view value.now)) r) }
     ensures named { IfSome result (λ r. (x : rows.Context) → Surrounds neighbours.entry x → is_read x name.now (view value.now) ≡ true) }
     ensures other { IfNone result ((x : rows.Context) → Surrounds neighbours.entry x → is_read x name.now (view value.now) ≡ false) }
+    ensures every { IfSome result (λ r. is_listed name.now every_names ≡ true → AppliesEvery r) }
 {
     match name {
         "items" => Some(items(neighbours, value)),

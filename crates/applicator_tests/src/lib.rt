@@ -1,7 +1,10 @@
-//! Tests of keywords that apply subschemas: how they are read, what they ask of values, and where their subschemas stand.
+//! Tests of keywords that apply subschemas: how they are read, what they ask of values, where their subschemas stand, and which paths
+//! lead to their questions.
 #![tactic(auto)]
 
 #[cfg(test)]
 mod applying;
+#[cfg(test)]
+mod paths;
 #[cfg(test)]
 mod reading;

@@ -1,16 +1,16 @@
 use Rattle.std.proofs.Common.{codes, refl}
 use Rattle.serde_json.specs.View.{view}
-use Rattle.applicator_reading.proofs.NamedLemmas.{read-at, named-at, additional-read, additional-named, additional-unread}
+use Rattle.applicator_reading.proofs.NamedLemmas.{read-at, named-at, not-every, some-every, additional-read, additional-named, additional-unread}
 use Rattle.applicator_reading.proofs.reading.read.Goals as goal
 
 pub returns-in-items-clause-read : goal.returns-in-items-clause-read
-returns-in-items-clause-read c = read-at c.args.name.now (codes "items") c.args.neighbours (view c.args.value.now) c.items.result c.in-items.is (λ x s. c.items.ensures x s)
+returns-in-items-clause-read c = read-at c.args.name.now (codes "items") c.args.neighbours (view c.args.value.now) c.items.result c.in-items.is (λ x s. c.items.ensures.read x s)
 
 pub returns-in-items-clause-named : goal.returns-in-items-clause-named
 returns-in-items-clause-named c = λ x s. named-at c.args.name.now (codes "items") x (view c.args.value.now) c.in-items.is refl
 
 pub returns-in-prefixItems-clause-read : goal.returns-in-prefixItems-clause-read
-returns-in-prefixItems-clause-read c = read-at c.args.name.now (codes "prefixItems") c.args.neighbours (view c.args.value.now) c.list.result c.in-prefixItems.is (λ x s. c.list.ensures x)
+returns-in-prefixItems-clause-read c = read-at c.args.name.now (codes "prefixItems") c.args.neighbours (view c.args.value.now) c.list.result c.in-prefixItems.is (λ x s. c.list.ensures.read x)
 
 pub returns-in-prefixItems-clause-named : goal.returns-in-prefixItems-clause-named
 returns-in-prefixItems-clause-named c = λ x s. named-at c.args.name.now (codes "prefixItems") x (view c.args.value.now) c.in-prefixItems.is refl
@@ -40,7 +40,7 @@ pub returns-in-maxContains-clause-named : goal.returns-in-maxContains-clause-nam
 returns-in-maxContains-clause-named c = λ x s. named-at c.args.name.now (codes "maxContains") x (view c.args.value.now) c.in-maxContains.is refl
 
 pub returns-in-properties-clause-read : goal.returns-in-properties-clause-read
-returns-in-properties-clause-read c = read-at c.args.name.now (codes "properties") c.args.neighbours (view c.args.value.now) c.map.result c.in-properties.is (λ x s. c.map.ensures x)
+returns-in-properties-clause-read c = read-at c.args.name.now (codes "properties") c.args.neighbours (view c.args.value.now) c.map.result c.in-properties.is (λ x s. c.map.ensures.read x)
 
 pub returns-in-properties-clause-named : goal.returns-in-properties-clause-named
 returns-in-properties-clause-named c = λ x s. named-at c.args.name.now (codes "properties") x (view c.args.value.now) c.in-properties.is refl
@@ -52,25 +52,25 @@ pub returns-in-propertyNames-clause-named : goal.returns-in-propertyNames-clause
 returns-in-propertyNames-clause-named c = λ x s. named-at c.args.name.now (codes "propertyNames") x (view c.args.value.now) c.in-propertyNames.is refl
 
 pub returns-in-dependentSchemas-clause-read : goal.returns-in-dependentSchemas-clause-read
-returns-in-dependentSchemas-clause-read c = read-at c.args.name.now (codes "dependentSchemas") c.args.neighbours (view c.args.value.now) c.map-in-dependentSchemas.result c.in-dependentSchemas.is (λ x s. c.map-in-dependentSchemas.ensures x)
+returns-in-dependentSchemas-clause-read c = read-at c.args.name.now (codes "dependentSchemas") c.args.neighbours (view c.args.value.now) c.map-in-dependentSchemas.result c.in-dependentSchemas.is (λ x s. c.map-in-dependentSchemas.ensures.read x)
 
 pub returns-in-dependentSchemas-clause-named : goal.returns-in-dependentSchemas-clause-named
 returns-in-dependentSchemas-clause-named c = λ x s. named-at c.args.name.now (codes "dependentSchemas") x (view c.args.value.now) c.in-dependentSchemas.is refl
 
 pub returns-in-allOf-clause-read : goal.returns-in-allOf-clause-read
-returns-in-allOf-clause-read c = read-at c.args.name.now (codes "allOf") c.args.neighbours (view c.args.value.now) c.list-in-allOf.result c.in-allOf.is (λ x s. c.list-in-allOf.ensures x)
+returns-in-allOf-clause-read c = read-at c.args.name.now (codes "allOf") c.args.neighbours (view c.args.value.now) c.list-in-allOf.result c.in-allOf.is (λ x s. c.list-in-allOf.ensures.read x)
 
 pub returns-in-allOf-clause-named : goal.returns-in-allOf-clause-named
 returns-in-allOf-clause-named c = λ x s. named-at c.args.name.now (codes "allOf") x (view c.args.value.now) c.in-allOf.is refl
 
 pub returns-in-anyOf-clause-read : goal.returns-in-anyOf-clause-read
-returns-in-anyOf-clause-read c = read-at c.args.name.now (codes "anyOf") c.args.neighbours (view c.args.value.now) c.list-in-anyOf.result c.in-anyOf.is (λ x s. c.list-in-anyOf.ensures x)
+returns-in-anyOf-clause-read c = read-at c.args.name.now (codes "anyOf") c.args.neighbours (view c.args.value.now) c.list-in-anyOf.result c.in-anyOf.is (λ x s. c.list-in-anyOf.ensures.read x)
 
 pub returns-in-anyOf-clause-named : goal.returns-in-anyOf-clause-named
 returns-in-anyOf-clause-named c = λ x s. named-at c.args.name.now (codes "anyOf") x (view c.args.value.now) c.in-anyOf.is refl
 
 pub returns-in-oneOf-clause-read : goal.returns-in-oneOf-clause-read
-returns-in-oneOf-clause-read c = read-at c.args.name.now (codes "oneOf") c.args.neighbours (view c.args.value.now) c.list-in-oneOf.result c.in-oneOf.is (λ x s. c.list-in-oneOf.ensures x)
+returns-in-oneOf-clause-read c = read-at c.args.name.now (codes "oneOf") c.args.neighbours (view c.args.value.now) c.list-in-oneOf.result c.in-oneOf.is (λ x s. c.list-in-oneOf.ensures.read x)
 
 pub returns-in-oneOf-clause-named : goal.returns-in-oneOf-clause-named
 returns-in-oneOf-clause-named c = λ x s. named-at c.args.name.now (codes "oneOf") x (view c.args.value.now) c.in-oneOf.is refl
@@ -110,3 +110,55 @@ returns-in-additionalProperties-clause-named c =
 pub returns-in-additionalProperties-clause-other : goal.returns-in-additionalProperties-clause-other
 returns-in-additionalProperties-clause-other c =
     additional-unread c.args.name.now c.args.neighbours (view c.args.value.now) c.in-additionalProperties.is c.additional_properties.result c.additional_properties.ensures.other
+
+pub returns-in-items-clause-every : goal.returns-in-items-clause-every
+returns-in-items-clause-every c = λ l. c.items.ensures.every
+
+pub returns-in-prefixItems-clause-every : goal.returns-in-prefixItems-clause-every
+returns-in-prefixItems-clause-every c = λ l. c.list.ensures.every refl
+
+pub returns-in-additionalItems-clause-every : goal.returns-in-additionalItems-clause-every
+returns-in-additionalItems-clause-every c = λ l. absurd (not-every c.args.name.now (codes "additionalItems") c.in-additionalItems.is refl l)
+
+pub returns-in-contains-clause-every : goal.returns-in-contains-clause-every
+returns-in-contains-clause-every c = λ l. absurd (not-every c.args.name.now (codes "contains") c.in-contains.is refl l)
+
+pub returns-in-minContains-clause-every : goal.returns-in-minContains-clause-every
+returns-in-minContains-clause-every c = λ l. absurd (not-every c.args.name.now (codes "minContains") c.in-minContains.is refl l)
+
+pub returns-in-maxContains-clause-every : goal.returns-in-maxContains-clause-every
+returns-in-maxContains-clause-every c = λ l. absurd (not-every c.args.name.now (codes "maxContains") c.in-maxContains.is refl l)
+
+pub returns-in-properties-clause-every : goal.returns-in-properties-clause-every
+returns-in-properties-clause-every c = λ l. c.map.ensures.every
+
+pub returns-in-propertyNames-clause-every : goal.returns-in-propertyNames-clause-every
+returns-in-propertyNames-clause-every c = λ l. absurd (not-every c.args.name.now (codes "propertyNames") c.in-propertyNames.is refl l)
+
+pub returns-in-dependentSchemas-clause-every : goal.returns-in-dependentSchemas-clause-every
+returns-in-dependentSchemas-clause-every c = λ l. c.map-in-dependentSchemas.ensures.every
+
+pub returns-in-allOf-clause-every : goal.returns-in-allOf-clause-every
+returns-in-allOf-clause-every c = λ l. c.list-in-allOf.ensures.every refl
+
+pub returns-in-anyOf-clause-every : goal.returns-in-anyOf-clause-every
+returns-in-anyOf-clause-every c = λ l. absurd (not-every c.args.name.now (codes "anyOf") c.in-anyOf.is refl l)
+
+pub returns-in-oneOf-clause-every : goal.returns-in-oneOf-clause-every
+returns-in-oneOf-clause-every c = λ l. absurd (not-every c.args.name.now (codes "oneOf") c.in-oneOf.is refl l)
+
+pub returns-in-not-clause-every : goal.returns-in-not-clause-every
+returns-in-not-clause-every c = λ l. absurd (not-every c.args.name.now (codes "not") c.in-not.is refl l)
+
+pub returns-in-if-clause-every : goal.returns-in-if-clause-every
+returns-in-if-clause-every c = λ l. absurd (not-every c.args.name.now (codes "if") c.in-if.is refl l)
+
+pub returns-in-then-clause-every : goal.returns-in-then-clause-every
+returns-in-then-clause-every c = λ l. absurd (not-every c.args.name.now (codes "then") c.in-then.is refl l)
+
+pub returns-in-else-clause-every : goal.returns-in-else-clause-every
+returns-in-else-clause-every c = λ l. absurd (not-every c.args.name.now (codes "else") c.in-else.is refl l)
+
+pub returns-in-additionalProperties-clause-every : goal.returns-in-additionalProperties-clause-every
+returns-in-additionalProperties-clause-every c =
+    some-every c.additional_properties.result (λ l. not-every c.args.name.now (codes "additionalProperties") c.in-additionalProperties.is refl l)

@@ -1,0 +1,113 @@
+-- Each question of a keyword whose rule is `every`.
+use Rattle.std.proofs.Common.{◌≡◌, ℕ, suc, List, [], ◌∷◌, Bool, true, false, codes, Option, None, Some, refl}
+use Rattle.std.specs.List.{AllByRecursion}
+use Rattle.std.specs.Prelude.{⊤}
+use Rattle.serde_json.specs.Data.{Data, Items, no_items, item}
+use Rattle.serde_json.specs.Find.{get}
+use Rattle.serde_json.specs.View.{view, items_view, members_view}
+use Rattle.json_paths.specs.Parts.{Part}
+use Rattle.schema_meaning.specs.Members.{In, first, later}
+use Rattle.schema_meaning.specs.Places.{stay, to_member, called_after}
+use Rattle.schema_meaning.specs.Questions.{Question, question, at_name, each_branch, items_of, items_from, each_item, item_by_item, if_member, each_declared, each_triggered}
+use Rattle.schema_meaning.specs.Rules.{asks}
+use Rattle.schema_meaning.specs.Keywords.{rule}
+use Rattle.schema_reading.specs.Sites.{Site}
+use Rattle.plain_laws.proofs.Elements.{each_in, each_laid_flat, in_mapped}
+use Rattle.plain_laws.proofs.Asked.{Holds, Sound, all_sound}
+use Rattle.applicators.specs.Shapes.{shape_of, leads_of, site_of, sites_of_list, sites_of_map}
+use Rattle.applicators.specs.Combined.{is_every}
+use Rattle.applicators.specs.declared.applicator.Applicator.{Applicator}
+use Rattle.applicators.specs.declared.applicator.Applicator.TheVariants as code
+use Rattle.applied_laws.specs.Laws.{IsSound, QuestionsAreSound}
+
+-- ---- where subschemas stand
+
+each_among : {A B : Type 0} (f : A → B) (xs : List A) (P : B → Type 0) → ((x : A) → In x xs → P (f x)) → AllByRecursion (λ x. P (f x)) xs
+each_among f [] P h = tt
+each_among f (x ∷ xs) P h = (h x first, each_among f xs P (λ y i. h y (later i)))
+
+abbrev Led : (List Part → Data → Site) → Applicator → Site → Type 0
+Led site a s = In s (leads_of site a)
+
+all_led : (site : List Part → Data → Site) (a : Applicator) → is_every a ≡ true → Holds (Led site a) (λ s. ⊤) (shape_of site a)
+all_led site (code.Items start schema) h = first
+all_led site (code.ItemList schemas) h = each_among (λ s. s) (sites_of_list site (codes "items") 0 (items_view schemas.now)) (Led site (code.ItemList schemas)) (λ s i. i)
+all_led site (code.PrefixItems schemas) h = each_among (λ s. s) (sites_of_list site (codes "prefixItems") 0 (items_view schemas.now)) (Led site (code.PrefixItems schemas)) (λ s i. i)
+all_led site (code.AdditionalItems start schema) h = first
+all_led site (code.NoAdditionalItems start schema) h = absurd (cc)
+all_led site (code.Contains schema least most) h = absurd (cc)
+all_led site (code.Properties schemas) h =
+    let ps = sites_of_map site (codes "properties") (members_view schemas.now.entries) in each_among (λ p. p.1) ps (Led site (code.Properties schemas)) (λ p i. in_mapped (λ q. q.1) p ps i)
+all_led site (code.NoProperties schema) h = absurd (cc)
+all_led site (code.PropertyNames schema) h = absurd (cc)
+all_led site (code.NoPropertyNames schema) h = absurd (cc)
+all_led site (code.DependentSchemas schemas) h =
+    let ps = sites_of_map site (codes "dependentSchemas") (members_view schemas.now.entries) in each_among (λ p. p.1) ps (Led site (code.DependentSchemas schemas)) (λ p i. in_mapped (λ q. q.1) p ps i)
+all_led site (code.AllOf schemas) h = each_among (λ s. s) (sites_of_list site (codes "allOf") 0 (items_view schemas.now)) (Led site (code.AllOf schemas)) (λ s i. i)
+all_led site (code.AnyOf schemas) h = absurd (cc)
+all_led site (code.OneOf schemas) h = absurd (cc)
+all_led site (code.Not schema) h = absurd (cc)
+all_led site (code.If condition then_schema else_schema) h = absurd (cc)
+
+-- ---- of what they are asked: not of names; and no reference is followed
+
+abbrev IsCalm : Question Site → Type 0
+IsCalm q = (called_after None q.step ≡ None) × (q.follows ≡ false)
+
+calm_items : (keyword : List ℕ) (s : Site) (i : ℕ) (ds : Items) → AllByRecursion IsCalm (each_item keyword s i ds)
+calm_items keyword s i no_items = tt
+calm_items keyword s i (item d ds) = ((refl, refl), calm_items keyword s (suc i) ds)
+
+calm_by_item : (keyword : List ℕ) (ss : List Site) (i : ℕ) (ds : Items) → AllByRecursion IsCalm (item_by_item keyword ss i ds)
+calm_by_item keyword [] i ds = tt
+calm_by_item keyword (s ∷ ss) i no_items = tt
+calm_by_item keyword (s ∷ ss) i (item d ds) = ((refl, refl), calm_by_item keyword ss (suc i) ds)
+
+calm_branches : (keyword : List ℕ) (i : ℕ) (ss : List Site) → AllByRecursion IsCalm (each_branch keyword i ss)
+calm_branches keyword i [] = tt
+calm_branches keyword i (s ∷ ss) = ((refl, refl), calm_branches keyword (suc i) ss)
+
+any_pair : (ps : List (List ℕ × Site)) → AllByRecursion (λ p. ⊤) ps
+any_pair [] = tt
+any_pair (p ∷ ps) = (tt, any_pair ps)
+
+calm_member : (keyword k : List ℕ) (s : Site) (o : Option Data) → AllByRecursion IsCalm (if_member o (λ e. question s (to_member k e) (at_name keyword k) ∷ []))
+calm_member keyword k s None = tt
+calm_member keyword k s (Some e) = ((refl, refl), tt)
+
+calm_declared : (keyword : List ℕ) (d : Data) (ps : List (List ℕ × Site)) → AllByRecursion IsCalm (each_declared keyword d ps)
+calm_declared keyword d ps =
+    each_laid_flat (λ p. ⊤) IsCalm (λ p. if_member (get p.0 d) (λ e. question p.1 (to_member p.0 e) (at_name keyword p.0) ∷ [])) (λ p u. calm_member keyword p.0 p.1 (get p.0 d)) ps (any_pair ps)
+
+calm_trigger : (keyword k : List ℕ) (s : Site) (o : Option Data) → AllByRecursion IsCalm (if_member o (λ e. question s stay (at_name keyword k) ∷ []))
+calm_trigger keyword k s None = tt
+calm_trigger keyword k s (Some e) = ((refl, refl), tt)
+
+calm_triggered : (keyword : List ℕ) (d : Data) (ps : List (List ℕ × Site)) → AllByRecursion IsCalm (each_triggered keyword d ps)
+calm_triggered keyword d ps =
+    each_laid_flat (λ p. ⊤) IsCalm (λ p. if_member (get p.0 d) (λ e. question p.1 stay (at_name keyword p.0) ∷ [])) (λ p u. calm_trigger keyword p.0 p.1 (get p.0 d)) ps (any_pair ps)
+
+all_calm : (site : List Part → Data → Site) (matches : List ℕ → List ℕ → Bool) (d : Data) (a : Applicator) → is_every a ≡ true → AllByRecursion IsCalm (asks (rule matches d (shape_of site a)))
+all_calm site matches d (code.Items start schema) h = calm_items (codes "items") (site_of site (codes "items") (view schema.now)) start (items_from start (items_of d))
+all_calm site matches d (code.ItemList schemas) h = calm_by_item (codes "items") (sites_of_list site (codes "items") 0 (items_view schemas.now)) 0 (items_of d)
+all_calm site matches d (code.PrefixItems schemas) h = calm_by_item (codes "prefixItems") (sites_of_list site (codes "prefixItems") 0 (items_view schemas.now)) 0 (items_of d)
+all_calm site matches d (code.AdditionalItems start schema) h =
+    calm_items (codes "additionalItems") (site_of site (codes "additionalItems") (view schema.now)) start (items_from start (items_of d))
+all_calm site matches d (code.NoAdditionalItems start schema) h = absurd (cc)
+all_calm site matches d (code.Contains schema least most) h = absurd (cc)
+all_calm site matches d (code.Properties schemas) h = calm_declared (codes "properties") d (sites_of_map site (codes "properties") (members_view schemas.now.entries))
+all_calm site matches d (code.NoProperties schema) h = absurd (cc)
+all_calm site matches d (code.PropertyNames schema) h = absurd (cc)
+all_calm site matches d (code.NoPropertyNames schema) h = absurd (cc)
+all_calm site matches d (code.DependentSchemas schemas) h = calm_triggered (codes "dependentSchemas") d (sites_of_map site (codes "dependentSchemas") (members_view schemas.now.entries))
+all_calm site matches d (code.AllOf schemas) h = calm_branches (codes "allOf") 0 (sites_of_list site (codes "allOf") 0 (items_view schemas.now))
+all_calm site matches d (code.AnyOf schemas) h = absurd (cc)
+all_calm site matches d (code.OneOf schemas) h = absurd (cc)
+all_calm site matches d (code.Not schema) h = absurd (cc)
+all_calm site matches d (code.If condition then_schema else_schema) h = absurd (cc)
+
+pub questions_are_sound : QuestionsAreSound
+questions_are_sound site matches d a every q i =
+    let known = each_in (Sound (Led site a) (λ s. ⊤) d) (asks (rule matches d (shape_of site a))) (all_sound (Led site a) (λ s. ⊤) matches d (shape_of site a) (all_led site a every)) q i in
+    let calm = each_in IsCalm (asks (rule matches d (shape_of site a))) (all_calm site matches d a every) q i in
+    record { led = known.within calm.1; within = calm.1; uncalled = calm.0; spots = λ path w h. known.step.inside path w h }

@@ -1,0 +1,2 @@
+//! Laws of the questions that keywords with subschemas ask.
+#![tactic(auto)]

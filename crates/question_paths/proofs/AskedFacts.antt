@@ -1,0 +1,84 @@
+-- The questions of applicators, one by one.
+use Rattle.std.proofs.Common.{◌≡◌, ◌∙◌, ◌+◌, ◌<◌, ℕ, zero, suc, List, [], ◌∷◌, Option, Some, None, length, true, refl, sym, ap, arith, add-zero}
+use Rattle.serde_json.specs.Data.{Data, Items, no_items, item, Members, no_members, member}
+use Rattle.serde_json.specs.Find.{get, get_item, get_member}
+use Rattle.serde_json.specs.View.{items_view}
+use Rattle.serde_json.specs.declared.value.Value.{Value}
+use Rattle.json_paths.specs.Parts.{Part}
+use Rattle.schema_values.specs.Equality.{rises_from}
+use Rattle.schema_values.proofs.Names.{get_same, get_other}
+use Rattle.schema_values.proofs.Kept.{first_rise, behind_none}
+use Rattle.schema_meaning.specs.Members.{In, first, later}
+use Rattle.schema_meaning.specs.Places.{stay, to_item}
+use Rattle.schema_meaning.specs.Questions.{Question, question, at_name, at_index, each_branch, item_by_item, if_member, each_triggered}
+use Rattle.schema_reading.specs.Sites.{Site}
+use Rattle.place_laws.specs.Rising.{are_rising}
+use Rattle.walk_laws.proofs.Listed.{in_some}
+use Rattle.applicators.specs.Shapes.{sites_of_list, sites_of_map}
+
+-- ---- lists of schemas
+
+abbrev pub nth : {A : Type 0} → ℕ → List A → Option A
+nth n [] = None
+nth zero (x ∷ xs) = Some x
+nth (suc n) (x ∷ xs) = nth n xs
+
+pub nth_short : {A : Type 0} (n : ℕ) (xs : List A) (x : A) → nth n xs ≡ Some x → n < length xs
+nth_short n [] x e = (let no : None ≡ Some x = e in cc)
+nth_short zero (y ∷ xs) x e = omega arith
+nth_short (suc n) (y ∷ xs) x e = let short = nth_short n xs x e in omega (arith, short)
+
+pub sites_counted : (site : List Part → Data → Site) (k : List ℕ) (i : ℕ) (vs : List Value) → length (sites_of_list site k i (items_view vs)) ≡ length vs
+sites_counted site k i [] = refl
+sites_counted site k i (v ∷ vs) = ap suc (sites_counted site k (suc i) vs)
+
+module _ {S : Type 0} (k : List ℕ) where
+  pub branch_question : (i : ℕ) (ss : List S) (q : Question S) → In q (each_branch k i ss)
+      → (n : ℕ) × (s : S) × (nth n ss ≡ Some s) × (q ≡ question s stay (at_index k (i + n)))
+  branch_question i [] q h = elim h [ ]
+  branch_question i (s ∷ ss) q first = (0, s, refl, ap (λ j. question s stay (at_index k j)) (sym (add-zero i)))
+  branch_question i (s ∷ ss) q (later h) =
+      let w = branch_question (suc i) ss q h in
+      let same : suc i + w.0 ≡ i + suc w.0 = omega arith in
+      (suc w.0, w.1, w.2, w.3 ∙ ap (λ j. question w.1 stay (at_index k j)) same)
+
+  pub listed_question : (ss : List S) (i : ℕ) (ds : Items) (q : Question S) → In q (item_by_item k ss i ds)
+      → (n : ℕ) × (s : S) × (e : Data) × (nth n ss ≡ Some s) × (get_item n ds ≡ Some e) × (q ≡ question s (to_item (i + n) e) (at_index k (i + n)))
+  listed_question [] i ds q h = elim h [ ]
+  listed_question (s ∷ ss) i no_items q h = elim h [ ]
+  listed_question (s ∷ ss) i (item d ds) q first = (0, s, d, refl, refl, ap (λ j. question s (to_item j d) (at_index k j)) (sym (add-zero i)))
+  listed_question (s ∷ ss) i (item d ds) q (later h) =
+      let w = listed_question ss (suc i) ds q h in
+      let same : suc i + w.0 ≡ i + suc w.0 = omega arith in
+      (suc w.0, w.1, w.2, w.3, w.4, w.5 ∙ ap (λ j. question w.1 (to_item j w.2) (at_index k j)) same)
+
+-- ---- objects of schemas
+
+module _ {S : Type 0} (k : List ℕ) (d : Data) where
+  abbrev asks_there : List ℕ × S → List (Question S)
+  asks_there p = if_member (get p.0 d) (λ e. question p.1 stay (at_name k p.0) ∷ [])
+
+  one_there : (p : List ℕ × S) (o : Option Data) (q : Question S) → In q (if_member o (λ e. question p.1 stay (at_name k p.0) ∷ [])) → q ≡ question p.1 stay (at_name k p.0)
+  one_there p None q i = elim i [ ]
+  one_there p (Some e) q first = refl
+  one_there p (Some e) q (later i) = elim i [ ]
+
+  pub triggered_question : (ps : List (List ℕ × S)) (q : Question S) → In q (each_triggered k d ps) → (p : List ℕ × S) × In p ps × (q ≡ question p.1 stay (at_name k p.0))
+  triggered_question ps q i = let w = in_some asks_there ps i in (w.0, w.1, one_there w.0 (get w.0.0 d) q w.2)
+
+rising_rest : (k : List ℕ) (ms : Members) → rises_from k ms ≡ true → are_rising ms ≡ true
+rising_rest k no_members h = refl
+rising_rest k (member l e ms) h = (first_rise k l e ms h).1
+
+apart : (k l : List ℕ) (ms : Members) (e : Data) → rises_from l ms ≡ true → get_member k ms ≡ Some e → k ≡ l → ⊥
+apart k l ms e r h same =
+    let none : get_member k ms ≡ None = ap (λ (n : List ℕ). get_member n ms) same ∙ behind_none l ms r in
+    let no : None ≡ Some e = sym none ∙ h in cc
+
+-- the site of a name is that of the schema which the name finds
+pub site_found : (site : List Part → Data → Site) (k : List ℕ) (ms : Members) (p : List ℕ × Site) → are_rising ms ≡ true → In p (sites_of_map site k ms)
+    → (c : Data) × (get_member p.0 ms ≡ Some c) × (p ≡ (p.0, site (at_name k p.0) c))
+site_found site k no_members p r i = elim i [ ]
+site_found site k (member n c ms) p r first = (c, get_same n n c ms refl, refl)
+site_found site k (member n c ms) p r (later i) =
+    let w = site_found site k ms p (rising_rest n ms r) i in (w.0, get_other p.0 n c ms (apart p.0 n ms w.0 r w.1) ∙ w.1, w.2)

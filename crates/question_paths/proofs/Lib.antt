@@ -1,0 +1,6 @@
+pub mod AheadFacts
+pub mod BehindFacts
+pub mod AddedFacts
+pub mod AskedFacts
+pub mod AlikeFacts
+pub mod OnceFacts

@@ -1,0 +1,6 @@
+//! The questions of applicators, by the paths that lead to them.
+#![tactic(auto)]
+
+pub mod ahead;
+pub mod behind;
+pub mod once;

@@ -1,0 +1,42 @@
+//! Of the questions of an applicator, paths lead to one at most.
+ghost use Rattle.std.specs.Prelude.{◌≡◌, ◌<◌, ◌^◌, length, true};
+ghost use Rattle.serde_json.specs.View.{view, members_view};
+ghost use Rattle.place_laws.specs.Rising.{are_rising};
+ghost use Rattle.question_paths.specs.Laws.{NamesRise, BranchesFit, OneAhead};
+
+use applicators::applicator::Applicator;
+use path_parts::items::indexes_fit;
+use serde_json::{Map, Value};
+
+fn names_rise(members: &Map<String, Value>)
+    ensures { are_rising (members_view members.now.entries) ≡ true }
+{
+    let _count = members.len();
+}
+
+fn list_fits(schemas: &[Value])
+    ensures { length schemas.now < 2 ^ 64 }
+{
+    let _count = schemas.len();
+}
+
+// The schemas of an applicator are in memory.
+fn schemas_stand(applicator: &Applicator<'_>)
+    ensures names { NamesRise applicator.now }
+    ensures branches { BranchesFit applicator.now }
+{
+    match *applicator {
+        Applicator::Properties(schemas) => names_rise(schemas),
+        Applicator::DependentSchemas(schemas) => names_rise(schemas),
+        Applicator::AllOf(schemas) => list_fits(schemas),
+        _ => {}
+    }
+}
+
+/// Two paths lead to one question of an applicator at most, where every answer has to be yes. It does nothing.
+pub fn one_ahead(applicator: &Applicator<'_>, value: &Value)
+    ensures { OneAhead applicator.now (view value.now) }
+{
+    schemas_stand(applicator);
+    indexes_fit(value);
+}
