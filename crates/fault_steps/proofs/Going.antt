@@ -12,10 +12,11 @@ use Rattle.schema_meaning.specs.Certificates.{AreAnswers}
 use Rattle.schema_reading.specs.Sites.{Site}
 use Rattle.schema_reading.specs.PathTexts.{path_text}
 use Rattle.check_laws.specs.Spelled.{AreSpelled, AreSpelledBy, refuses, goes}
-use Rattle.std.specs.Cow.{cow_str_bytes}
-use Rattle.std.specs.declared.borrow.CowStr.{CowStr}
+use Rattle.keyword_refusals.specs.Roads.{part_of}
+use Rattle.keyword_refusals.specs.declared.road.RoadPart.{RoadPart}
 use Rattle.serde_json.specs.View.{view}
 use Rattle.keyword_refusals.specs.Passed.{Finds}
+use Rattle.keyword_refusals.specs.Passed.{AsksInside}
 use Rattle.keyword_refusals.specs.Passed as code
 use Rattle.keyword_refusals.specs.Passed.{Keyword}
 use Rattle.walk_laws.specs.Words.{cuts, cuts_behind}
@@ -90,9 +91,9 @@ pub not_false_here : (d : Data) (instance : Option (Bor (List ℕ))) → (d ≡ 
 not_false_here d instance other = record { ends = λ e. absurd (true≢false (sym e)); only = λ e none. absurd (other e) }
 
 -- a part at the end of a path
-pub behind_more : {Z : Type 0} (ps : List (CowStr Z)) (p : CowStr Z) (path : List Part) → behind (ps ++ p ∷ []) path ≡ name (cow_str_bytes p) ∷ behind ps path
+pub behind_more : (ps : List RoadPart) (p : RoadPart) (path : List Part) → behind (ps ++ p ∷ []) path ≡ part_of p ∷ behind ps path
 behind_more [] p path = refl
-behind_more (q ∷ ps) p path = behind_more ps p (name (cow_str_bytes q) ∷ path)
+behind_more (q ∷ ps) p path = behind_more ps p (part_of q ∷ path)
 
 -- ---- less is left
 
@@ -105,12 +106,13 @@ shorter_by (On w) text token after cut h =
 pub shorter_at : (step : Step) (t u : List ℕ) → t ≡ u → IsShorter u step → IsShorter t step
 shorter_at step t u e h = subst (λ x. IsShorter x step) (sym e) h
 
-pub lies_in : (c : code.Site) (d : Data) (k : Keyword) → Finds c d k → depth d < depth (view c.contents.now) → LiesIn c k
-lies_in c d code.Nothing f h = tt
-lies_in c d (code.Assertion a) f h = tt
-lies_in c d (code.Items start schema) f h = subst (λ e. depth e < depth (view c.contents.now)) f h
-lies_in c d (code.Properties map) f h = subst (λ e. depth e < depth (view c.contents.now)) f h
-lies_in c d (code.Reference by text target) f h = f
+pub lies_in : (c : code.Site) (d : Data) (k : Keyword) → Finds c d k → depth d < depth (view c.contents.now) → AsksInside c k → LiesIn c k
+lies_in c d code.Nothing f h i = tt
+lies_in c d (code.Assertion a) f h i = tt
+lies_in c d (code.Items start schema) f h i = subst (λ e. depth e < depth (view c.contents.now)) f h
+lies_in c d (code.Properties map) f h i = subst (λ e. depth e < depth (view c.contents.now)) f h
+lies_in c d (code.Applicator a) f h i = record { every = f; inside = i }
+lies_in c d (code.Reference by text target) f h i = f
 
 pub shorter_part : (after : Option (Bor (List ℕ))) (text token : List ℕ) (left : Option (Bor (List ℕ))) → text_left after ≡ 47 ∷ text → cuts text ≡ token ∷ cuts_behind (text_left left)
     → length (text_left left) ≤ length (text_left after)
@@ -120,8 +122,7 @@ shorter_part after text token left is cut =
     omega (arith, whole, joined)
 
 -- two parts at the end of a path
-pub behind_twice : {Z : Type 0} (ps qs rs : List (CowStr Z)) (p q : CowStr Z) → qs ≡ ps ++ p ∷ [] → rs ≡ qs ++ q ∷ []
-    → behind rs [] ≡ name (cow_str_bytes q) ∷ name (cow_str_bytes p) ∷ behind ps []
+pub behind_twice : (ps qs rs : List RoadPart) (p q : RoadPart) → qs ≡ ps ++ p ∷ [] → rs ≡ qs ++ q ∷ [] → behind rs [] ≡ part_of q ∷ part_of p ∷ behind ps []
 behind_twice ps qs rs p q e f =
-    ap (λ (x : List (CowStr _)). behind x []) f ∙ behind_more qs q [] ∙ ap (λ (x : List (CowStr _)). name (cow_str_bytes q) ∷ behind x []) e
-    ∙ ap (λ (x : List Part). name (cow_str_bytes q) ∷ x) (behind_more ps p [])
+    ap (λ (x : List RoadPart). behind x []) f ∙ behind_more qs q [] ∙ ap (λ (x : List RoadPart). part_of q ∷ behind x []) e
+    ∙ ap (λ (x : List Part). part_of q ∷ x) (behind_more ps p [])

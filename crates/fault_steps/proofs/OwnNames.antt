@@ -5,11 +5,16 @@ use Rattle.json_paths.specs.Pointers.{escape}
 use Rattle.schema_documents.specs.Bearers.{Documents}
 use Rattle.schema_meaning.specs.Keywords.{Shape, static, dynamic, recursive, reference_name}
 use Rattle.schema_meaning.specs.Keywords as told
-use Rattle.schema_reading.specs.Sites.{Site}
+use Rattle.schema_reading.specs.Sites.{Site, below}
+use Rattle.applicators.specs.Shapes.{shape_of}
+use Rattle.applicators.specs.Combined.{name_of}
+use Rattle.applicators.specs.declared.applicator.Applicator as code
+use Rattle.applicators.specs.declared.applicator.Applicator.TheVariants as applied
 use Rattle.walk_laws.specs.Words.{IsOf, IsUnder, member_of}
 use Rattle.keyword_refusals.specs.Passed.{Keyword, kind_of, row_of}
-use Rattle.keyword_refusals.specs.Passed.{Nothing, Assertion, Items, Properties, Reference}
+use Rattle.keyword_refusals.specs.Passed.{Nothing, Assertion, Items, Properties, Applicator, Reference}
 use Rattle.fault_steps.specs.Names.{own_name}
+use Rattle.fault_steps.proofs.AppliedSteps.{named_as}
 
 -- a shape that refuses under a name, which is written as it is
 pub record IsOwn (n : List ℕ) (shape : Shape Site) : Type 0 where
@@ -35,6 +40,24 @@ reference_member old static = refl
 reference_member old dynamic = refl
 reference_member old recursive = refl
 
+applied_member : (old : Bool) (a : code.Applicator) → member_of old (name_of a) ≡ name_of a
+applied_member old (applied.Items start schema) = refl
+applied_member old (applied.ItemList schemas) = refl
+applied_member old (applied.PrefixItems schemas) = refl
+applied_member old (applied.AdditionalItems start schema) = refl
+applied_member old (applied.NoAdditionalItems start schema) = refl
+applied_member old (applied.Contains schema least most) = refl
+applied_member old (applied.Properties schemas) = refl
+applied_member old (applied.NoProperties schema) = refl
+applied_member old (applied.PropertyNames schema) = refl
+applied_member old (applied.NoPropertyNames schema) = refl
+applied_member old (applied.DependentSchemas schemas) = refl
+applied_member old (applied.AllOf schemas) = refl
+applied_member old (applied.AnyOf schemas) = refl
+applied_member old (applied.OneOf schemas) = refl
+applied_member old (applied.Not schema) = refl
+applied_member old (applied.If condition then_schema else_schema) = refl
+
 pub own_named : (old : Bool) (k : Keyword) (member : List ℕ) (docs : Documents) (s : Site) → AllByRecursion (IsUnder old member) (row_of docs s k).shapes
     → AllByRecursion (IsOwn (own_name k member)) (row_of docs s k).shapes
 own_named old Nothing member docs s h = tt
@@ -45,6 +68,11 @@ own_named old (Items start schema) member docs s h =
 own_named old (Properties map) member docs s h =
     let m = same_member old (codes "properties") member h.0.name refl h.0.named h.0.of_member h.0.plain in
     (record { named = m.same; plain = m.plain }, tt)
+own_named old (Applicator a) member docs s h =
+    let name = name_of a in
+    let named = named_as (below docs s) a h.0.name h.0.named in
+    let m = same_member old name member h.0.name (applied_member old a) named h.0.of_member h.0.plain in
+    (record { named = subst (λ n. IsOf n (shape_of (below docs s) a)) (sym named ∙ m.same) h.0.named; plain = m.plain }, tt)
 own_named old (Reference by text target) member docs s h =
     let m = same_member old (reference_name (kind_of by)) member h.0.name (reference_member old (kind_of by)) h.0.named h.0.of_member h.0.plain in
     (record { named = m.same; plain = m.plain }, tt)

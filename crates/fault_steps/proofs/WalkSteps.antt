@@ -268,6 +268,7 @@ module _ (w : Walk) (text : List ℕ) (is : text_left w.evaluation ≡ 47 ∷ te
         → Refuses (context x.documents x.makes x.matches s ms) member v (row_at (context x.documents x.makes x.matches s ms) member v) e → ⊥
     refused_not x s v (refusal.Value expected) right there found other r = no_cause x s _ _ right (stands_there x s v there found) r.stands
     refused_not x s v (refusal.Entry n expected) right there found other r = no_cause x s _ _ right (stands_there x s v there found) r.stands
+    refused_not x s v (refusal.Element i expected) right there found other r = no_cause x s _ _ right (stands_there x s v there found) r.stands
     refused_not x s v (refusal.Target target) right there found other r = no_cause x s _ _ right (stands_there x s v there found) r.stands
     refused_not x s v (refusal.Reference error) right there found other r = no_cause x s _ _ right (stands_there x s v there found) r.2.stands
     refused_not x s v refusal.LeftOut right there found other r = no_cause x s _ _ right (stands_there x s v there found) r.stands

@@ -4,13 +4,17 @@ use Rattle.std.specs.Borrow.{Bor}
 use Rattle.serde_json.specs.Data.{Data, boolean}
 use Rattle.serde_json.specs.View.{view}
 use Rattle.json_paths.specs.Parts.{Part}
-use Rattle.schema_meaning.specs.Places.{whole}
+use Rattle.schema_meaning.specs.Places.{whole, value_after}
 use Rattle.schema_meaning.specs.Circular.{IsCircular}
 use Rattle.schema_meaning.specs.Keywords.{rule}
-use Rattle.schema_reading.specs.Sites.{Site, path_of_reference}
+use Rattle.schema_documents.specs.Scopes.{entered_scope}
+use Rattle.schema_reading.specs.Sites.{Site, below, path_of_reference}
+use Rattle.applicators.specs.Shapes.{added_at}
+use Rattle.applicators.specs.Questions.{step_of}
+use Rattle.question_paths.specs.declared.ahead.Ahead.{Ahead}
 use Rattle.schema_reading.specs.Rows.{Row}
 use Rattle.schema_reports.specs.References.{text_of}
-use Rattle.keyword_refusals.specs.Passed.{row_of}
+use Rattle.keyword_refusals.specs.Passed.{row_of, documents_at, Stands, base_of, scope_of}
 use Rattle.keyword_refusals.specs.Passed.{Keyword}
 use Rattle.check_laws.specs.Spelled.{AreSpelled, AreSpelledBy}
 use Rattle.fault_steps.specs.Names.{own_name}
@@ -59,6 +63,21 @@ pub record PassesAs (w : Walk) (k : Keyword) (n member : List ℕ) (after : Opti
 pub record PassesThrough (w : Walk) (row : Scene → Site → Row) (after : Option (Bor (List ℕ))) (step : Step) : Type 0 where
   pub outcome : (x : Scene) (s : Site) (name : List ℕ) → Stage w.site (path_at w) (view w.value.now) name (row x s) x s
       → Outcome x s (view w.value.now) (AreSpelledBy (reading_of x) (view w.value.now) (map (rule x.matches (view w.value.now)) (row x s).shapes) (text_left w.instance) (47 ∷ (name ++ text_left after))) step
+
+-- the walk goes on at a question's subschema and at what it asks of
+pub record GoesInto (w : Walk) (a : Ahead) (v : Walk) : Type 0 where
+  pub contents : view v.site.contents.now ≡ view a.question.subschema.schema.now
+  pub documents : documents_at v.site ≡ documents_at w.site
+  pub scope : scope_of v.site.resolver ≡ entered_scope (base_of v.site.resolver) (base_of w.site.resolver) (scope_of w.site.resolver)
+  pub stands : (s : Site) (added : List Part) → Stands w.site s → Stands v.site (below (documents_at w.site) s added (view a.question.subschema.schema.now))
+  pub path : path_at v ≡ added_at a.question.subschema.keyword.now a.question.subschema.entry ++ path_at w
+  pub value : view v.value.now ≡ value_after (view w.value.now) (step_of a.question.asked)
+  pub instance : v.instance ≡ a.instance
+  pub evaluation : v.evaluation ≡ a.evaluation
+
+abbrev pub LeadsInto : Walk → Ahead → Step → Type 0
+LeadsInto w a (Answered b) = ⊥
+LeadsInto w a (On v) = GoesInto w a v
 
 -- no more than this is left of the evaluation path
 abbrev pub IsNotLonger : Option (Bor (List ℕ)) → Step → Type 0

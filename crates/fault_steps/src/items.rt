@@ -7,11 +7,11 @@ ghost use Rattle.keyword_refusals.specs.Rows.{items_row};
 ghost use Rattle.fault_steps.specs.Steps.{PassesThrough, IsMore, IsNotLonger};
 
 use crate::walk::{Step, Walk};
+use keyword_refusals::road::RoadPart;
 use path_parts::items::{indexes_fit, item_at};
 use path_parts::parts::first_part;
 use serde_json::Value;
 use std::alloc::{AllocError, Global};
-use std::borrow::CowStr;
 
 // The step to the item that the path of the instance goes on with.
 fn to_item<'r, 'i, 'p>(
@@ -35,7 +35,7 @@ fn to_item<'r, 'i, 'p>(
         Some(item) => {
             let site = walk.site.below(alloc, part)?;
             let mut parts = walk.parts;
-            parts.push(CowStr::Borrowed("items"))?;
+            parts.push(RoadPart::Name("items"))?;
             Ok(Step::On(Walk {
                 site,
                 parts,

@@ -1,6 +1,7 @@
 //! Walks by the two paths of a fault, one step after another.
 #![tactic(auto)]
 
+mod applied;
 mod items;
 mod members;
 mod names;

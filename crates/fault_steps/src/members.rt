@@ -8,11 +8,11 @@ ghost use Rattle.fault_steps.specs.Steps.{PassesThrough, IsMore, IsNotLonger};
 
 use crate::walk::{Step, Walk};
 use keyword_refusals::members::names_rise;
+use keyword_refusals::road::RoadPart;
 use path_parts::members::member_at;
 use path_parts::parts::first_part;
 use serde_json::{Map, Value};
 use std::alloc::{AllocError, Global};
-use std::borrow::CowStr;
 
 // The step to the member that both paths go on with.
 fn to_member<'r, 'i, 'p>(
@@ -41,8 +41,8 @@ fn to_member<'r, 'i, 'p>(
         Some((name, part, member)) => {
             let site = walk.site.below(alloc, part)?;
             let mut parts = walk.parts;
-            parts.push(CowStr::Borrowed("properties"))?;
-            parts.push(name)?;
+            parts.push(RoadPart::Name("properties"))?;
+            parts.push(RoadPart::Written(name))?;
             Ok(Step::On(Walk {
                 site,
                 parts,

@@ -9,6 +9,7 @@ ghost use Rattle.path_parts.specs.Texts.{text_left};
 ghost use Rattle.keyword_refusals.specs.Verdicts.{LiesIn};
 ghost use Rattle.fault_steps.specs.Steps.{Passes, PassesAs, PassesBy, PassesThrough, IsMore, Ends, IsNotLonger, IsShorter};
 
+use crate::applied::through_applicator;
 use crate::items::through_items;
 use crate::members::through_properties;
 use crate::names::{member_of, own_name};
@@ -64,6 +65,7 @@ fn through<'r, 'i, 'p>(
     match keyword {
         Keyword::Items { start, schema } => through_items(alloc, walk, start, schema, after),
         Keyword::Properties(schemas) => through_properties(alloc, walk, schemas, after),
+        Keyword::Applicator(applicator) => through_applicator(alloc, walk, applicator, after),
         Keyword::Reference {
             keyword: by,
             text,

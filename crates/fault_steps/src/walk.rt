@@ -6,16 +6,16 @@ ghost use Rattle.schema_reading.specs.Plain.{deepest};
 ghost use Rattle.keyword_refusals.specs.Passed.{documents_at};
 
 use keyword_refusals::Site;
+use keyword_refusals::road::RoadPart;
 use schema_reports::Reference;
 use serde_json::Value;
-use std::borrow::CowStr;
 
 /// A schema on the way with its path from the reference that was followed last, a value, and what is left of the two paths: the text
 /// behind the next `/`, and none where nothing is left.
 #[derive(Drop)]
 pub struct Walk<'r, 'i, 'p> {
     pub site: Site<'r>,
-    pub parts: Vec<CowStr<'p>>,
+    pub parts: Vec<RoadPart<'r, 'p>>,
     pub reference: Reference<'r>,
     pub value: &'i Value,
     pub instance: Option<&'p str>,

@@ -5,4 +5,5 @@ pub mod ItemQuestions
 pub mod MemberQuestions
 pub mod Refusals
 pub mod Gathered
+pub mod AppliedQuestions
 pub mod Passed

@@ -1,3 +1,4 @@
+pub mod Roads
 pub mod Scenes
 pub mod Rows
 pub mod Verdicts

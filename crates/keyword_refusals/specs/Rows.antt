@@ -4,7 +4,10 @@ use Rattle.serde_json.specs.Data.{Data, Members}
 use Rattle.json_paths.specs.Parts.{name}
 use Rattle.schema_meaning.specs.Places.{stay}
 use Rattle.schema_meaning.specs.Questions.{Question, at, each_item, items_from, items_of, each_declared}
-use Rattle.schema_meaning.specs.Keywords.{items, properties, reference}
+use Rattle.schema_meaning.specs.Rules.{asks}
+use Rattle.schema_meaning.specs.Keywords.{items, properties, reference, rule}
+use Rattle.applicators.specs.Shapes.{shape_of, leads_of}
+use Rattle.applicators.specs.declared.applicator.Applicator.{Applicator}
 use Rattle.schema_documents.specs.Lookup.{Target}
 use Rattle.schema_reading.specs.Sites.{Site, below, target_site}
 use Rattle.schema_reading.specs.Rows.{Row, reads, sites_named}
@@ -39,3 +42,9 @@ reference_row w text t x s = reads (target_site s text t ∷ []) (reference (kin
 
 abbrev pub reference_questions : ReferenceKeyword → List ℕ → Target → Scene → Site → List (Question Site)
 reference_questions w text t x s = record { site = target_site s text t; step = stay; added = at (name_of w); follows = true } ∷ []
+
+abbrev pub applied_row : Applicator → Scene → Site → Row
+applied_row a x s = reads (leads_of (below x.documents s) a) (shape_of (below x.documents s) a ∷ [])
+
+abbrev pub applied_questions : Applicator → Data → Scene → Site → List (Question Site)
+applied_questions a d x s = asks (rule x.matches d (shape_of (below x.documents s) a))

@@ -1,11 +1,11 @@
 -- The sites of the plain reading that the code's stand for.
 use Rattle.std.specs.Prelude.{◌≡◌, ℕ, List, [], ◌∷◌, Bool}
 use Rattle.serde_json.specs.Data.{Data}
-use Rattle.json_paths.specs.Parts.{Part, name}
+use Rattle.json_paths.specs.Parts.{Part}
 use Rattle.json_paths.specs.Pointers.{escape}
-use Rattle.std.specs.Cow.{cow_str_bytes}
 use Rattle.std.specs.List.{AllByRecursion}
-use Rattle.std.specs.declared.borrow.CowStr.{CowStr}
+use Rattle.keyword_refusals.specs.Roads.{part_of}
+use Rattle.keyword_refusals.specs.declared.road.RoadPart.{RoadPart}
 use Rattle.schema_meaning.specs.Members.{In}
 use Rattle.schema_meaning.specs.Places.{whole}
 use Rattle.schema_meaning.specs.Keywords.{Shape}
@@ -54,7 +54,7 @@ pub record Stage (c : code.Site) (path : List Part) (d : Data) (keyword : List �
   pub named : AllByRecursion (IsOf keyword) row.shapes
   pub plain : (shape : Shape Site) → In shape row.shapes → escape keyword ≡ keyword
 
--- the path by these names, the first of them first
-abbrev pub behind : {Z : Type 0} → List (CowStr Z) → List Part → List Part
+-- the path by these parts, the first of them first
+abbrev pub behind : List RoadPart → List Part → List Part
 behind [] path = path
-behind (p ∷ parts) path = behind parts (name (cow_str_bytes p) ∷ path)
+behind (p ∷ parts) path = behind parts (part_of p ∷ path)

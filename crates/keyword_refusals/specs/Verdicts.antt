@@ -7,18 +7,24 @@ use Rattle.json_paths.specs.Parts.{Part}
 use Rattle.schema_meaning.specs.Members.{In}
 use Rattle.schema_meaning.specs.Places.{whole, value_after}
 use Rattle.schema_meaning.specs.Questions.{Question, listed_members}
-use Rattle.schema_meaning.specs.Rules.{Rule, accepts}
+use Rattle.schema_meaning.specs.Rules.{Rule, accepts, asks}
 use Rattle.schema_meaning.specs.Keywords.{rule}
 use Rattle.schema_meaning.specs.Readings.{Reading, verdicts, IsTold}
 use Rattle.schema_meaning.specs.Certificates.{AreAnswers}
-use Rattle.schema_reading.specs.Sites.{Site}
+use Rattle.schema_reading.specs.Sites.{Site, below}
 use Rattle.schema_reading.specs.Rows.{Row}
 use Rattle.place_laws.specs.Rising.{are_rising}
 use Rattle.plain_reader.specs.Passed.{shapes_of, row_of, FindsTarget}
 use Rattle.plain_reader.specs.Passed as code
 use Rattle.plain_reader.specs.Passed.{Keyword}
-use Rattle.plain_reader.specs.Passed.{Nothing, Assertion, Items, Properties, Reference}
-use Rattle.keyword_refusals.specs.Rows.{property_site, properties_row}
+use Rattle.plain_reader.specs.Passed.{Nothing, Assertion, Items, Properties, Applicator, Reference}
+use Rattle.plain_reader.specs.Applied.{EachInside}
+use Rattle.applicators.specs.Shapes.{shape_of, place_of}
+use Rattle.applicators.specs.Combined.{is_every}
+use Rattle.applicators.specs.Questions.{step_of, question_of}
+use Rattle.applicators.specs.declared.applicator.Applicator as applied
+use Rattle.applicators.specs.declared.question.Question as asking
+use Rattle.keyword_refusals.specs.Rows.{property_site, properties_row, applied_row}
 use Rattle.keyword_refusals.specs.Scenes.{Scene, reading_of, Meets, IsStraight, Stage}
 
 abbrev pub IsDecided : Bool → Type 0 → Type 0
@@ -56,15 +62,27 @@ rules_by x s d k = map (rule x.matches d) (shapes_of x.documents s k)
 pub record IsRefusal (c : code.Site) (path : List Part) (d : Data) (k : Keyword) (b : Bool) : Type 0 where
   pub decides : (x : Scene) (s : Site) (name : List ℕ) → Stage c path d name (row_of x.documents s k) x s → IsDecided b (SomeRefuses (reading_of x) d (rules_by x s d k))
 
+-- its rule is `every`, and the schemas that it asks lie in the schema
+pub record AppliesIn (c : code.Site) (a : applied.Applicator) : Type 0 where
+  pub every : is_every a ≡ true
+  pub inside : EachInside c a
+
 -- the keyword's schemas lie in the schema, and its target is found
 abbrev pub LiesIn : code.Site → Keyword → Type 0
 LiesIn c Nothing = Unit {0}
 LiesIn c (Assertion a) = Unit {0}
 LiesIn c (Items start schema) = depth (view schema.now) < depth (view c.contents.now)
 LiesIn c (Properties map) = depth (object (members_view map.now.entries)) < depth (view c.contents.now)
+LiesIn c (Applicator a) = AppliesIn c a
 LiesIn c (Reference keyword text target) = FindsTarget c keyword text.now target
 
 -- whether a member is refused by the schema of its name in `properties`
 pub record IsMemberRefused (c : code.Site) (path : List Part) (n : List ℕ) (schema e : Data) (b : Bool) : Type 0 where
   pub told : (ms : Members) → are_rising ms ≡ true → In (n, schema) (listed_members ms) → (d : Data) → get n d ≡ Some e → (x : Scene) (s : Site) (k : List ℕ) → Stage c path d k (properties_row ms x s) x s
       → IsTold verdicts (reading_of x) (property_site n schema x s) (whole e) (not b)
+
+-- the answer to a question, where an applicator asks it
+pub record IsAnswered (c : code.Site) (path : List Part) (d : Data) (q : asking.Question) (b : Bool) : Type 0 where
+  pub told : (a : applied.Applicator) → is_every a ≡ true → (x : Scene) (s : Site) (k : List ℕ)
+      → In (question_of (below x.documents s) q) (asks (rule x.matches d (shape_of (below x.documents s) a))) → Stage c path d k (applied_row a x s) x s
+      → IsTold verdicts (reading_of x) (place_of (below x.documents s) q.subschema) (whole (value_after d (step_of q.asked))) b

@@ -13,14 +13,15 @@ ghost use Rattle.keyword_refusals.specs.Scenes.{behind};
 ghost use Rattle.keyword_refusals.specs.Rows.{reference_row, reference_questions};
 ghost use Rattle.keyword_refusals.specs.Verdicts.{IsVerdict, IsRefusal, AreRefused, LiesIn};
 
+use crate::applied::some_question_refused;
 use crate::items::some_item_refused;
 use crate::members::some_member_refused;
+use crate::road::RoadPart;
 use plain_reader::site::tell_site;
 use plain_reader::{Keyword, ReferenceKeyword, Resolved, Site, at_target};
 use schema_reports::{LazyLocation, Observer, Reference, Verdict};
 use serde_json::Value;
 use std::alloc::{AllocError, Global};
-use std::borrow::CowStr;
 
 /// Whether a schema refuses a value.
 pub fn is_refused<'a, 'r>(
@@ -85,6 +86,9 @@ fn keyword_refuses<'a, 'r>(
         Keyword::Properties(schemas) => {
             some_member_refused(alloc, site, &*schema, reference, schemas, value)
         }
+        Keyword::Applicator(applicator) => {
+            some_question_refused(alloc, site, &*schema, reference, applicator, value)
+        }
         Keyword::Reference {
             keyword: by,
             text,
@@ -97,7 +101,7 @@ fn keyword_refuses<'a, 'r>(
 pub fn refuses<'a, 'r, 'p>(
     alloc: Global,
     site: &Site<'r>,
-    parts: &'a [CowStr<'p>],
+    parts: &'a [RoadPart<'r, 'p>],
     schema: &'a LazyLocation<'a, 'a>,
     reference: Reference<'a>,
     keyword: Keyword<'r>,
@@ -109,7 +113,7 @@ pub fn refuses<'a, 'r, 'p>(
 {
     match parts.split_first() {
         Some((part, rest)) => {
-            let below = schema.push_name(part.as_str());
+            let below = part.below(schema);
             refuses(alloc, site, rest, &below, reference, keyword, value)
         }
         None => keyword_refuses(alloc, site, &*schema, reference, keyword, value),

@@ -37,7 +37,7 @@ use Rattle.plain_reader.proofs.ToldLemmas.{asked_by-more, asked_by-none, asked_i
 use Rattle.plain_reader.proofs.Left.{LeftOf, ItemsLeft, DeclaredLeft}
 use Rattle.plain_reader.proofs.LeftLemmas.{all_left, none_left, settled_left, told_one}
 
-asked_by-one : (x : Setting) (q : Question Site) → asked_by x (q ∷ []) ≡ asked_in x q
+pub asked_by-one : (x : Setting) (q : Question Site) → asked_by x (q ∷ []) ≡ asked_in x q
 asked_by-one x q = asked_by-more x q [] ∙ ap (joined (asked_in x q)) (asked_by-none x) ∙ joined-none (asked_in x q)
 
 -- ---- a child of a site
@@ -114,7 +114,7 @@ module _ (c b : code.Site) (d whole value v : Data) (roads at_roads : Roads) (ke
         read = read;
       }
 
-  child_told : (old new : Observer) → Child c b d → Asked added step value v roads at_roads → depth d < depth (view c.contents.now) → Tells b whole v at_roads keys old new
+  pub child_told : (old new : Observer) → Child c b d → Asked added step value v roads at_roads → depth d < depth (view c.contents.now) → Tells b whole v at_roads keys old new
       → (x : Setting) → Fits c value roads keys x → AreRead x.documents x.makes (below x.documents x.site added d) → room (documents_at c) whole keys (view c.contents.now) ≤ x.depth
       → (kept : Observation) (fs : Faults) → Hears kept old fs → Hears kept new (joined fs (asked_in x (asks d added step x)))
   child_told old new child asked inside told x fits read enough kept fs h =

@@ -12,7 +12,12 @@ use Rattle.schema_meaning.specs.Keywords.{Shape, Reference, Assertion, items, pr
 use Rattle.schema_meaning.specs.Readings.{bags}
 use Rattle.schema_meaning.specs.Cut.{cut_within}
 use Rattle.schema_documents.specs.Lookup.{Target}
-use Rattle.schema_reading.specs.Sites.{Site, target_site}
+use Rattle.schema_reading.specs.Sites.{Site, below, target_site}
+use Rattle.applicators.specs.Shapes.{shape_of}
+use Rattle.applicators.specs.Combined.{is_every, name_of as applicator_name}
+use Rattle.applicators.specs.declared.applicator.Applicator.{Applicator}
+use Rattle.applicators.proofs.CombinedLemmas.{every_rule}
+use Rattle.plain_reader.specs.Applied.{applied_leads, applied_questions}
 use Rattle.schema_reading.specs.Rows.{Row, Context, row_at, assertion, rows_in}
 use Rattle.unread_keywords.specs.NotYet.{is_unread}
 use Rattle.schema_reading.specs.Plain.{keywords_at}
@@ -35,7 +40,7 @@ use Rattle.plain_reader.specs.Tellings.{Fits, AreRead, Tells, TellsShapes, Tells
 use Rattle.plain_reader.specs.Shapes.{no_leads, context_in, shapes_at, shapes_among, keyword_leads, keyword_shapes, items_site, items_leads, items_questions, declared_in, properties_leads, properties_questions}
 use Rattle.plain_reader.specs.Targets.{reference_leads, reference_questions}
 use Rattle.schema_reports.proofs.FaultLemmas.{joined-none}
-use Rattle.plain_reader.proofs.ToldLemmas.{told_by-none, told_by-asserts, told_by-never, told_by-items, told_by-properties, told_by-reference, asked_by-none, asked_by-more, told_deeper}
+use Rattle.plain_reader.proofs.ToldLemmas.{told_by-none, told_by-asserts, told_by-never, told_by-items, told_by-properties, told_by-every, told_by-reference, asked_by-none, asked_by-more, told_deeper}
 use Rattle.plain_reader.proofs.Reading.{read_here, read_on, read_each, row_here, keywords-of}
 
 -- ---- nothing more is told
@@ -82,6 +87,16 @@ module _ (c : code.Site) (whole d : Data) (roads : Roads) (progress : List Key) 
   tells_properties k ms old new led shaped told = tells_questions k (properties_leads ms) (properties_questions ms d) old new led
       (λ x is. ap (told_by x) (shaped x) ∙ told_by-properties x (declared_in ms x) ∙ ap (λ v. asked_by x (properties_questions ms v x)) is) told
 
+  pub tells_applicator : (k : Keyword) (a : Applicator) (old new : Observer) → is_every a ≡ true → ((x : Setting) → keyword_leads k x ≡ applied_leads a x)
+      → ((x : Setting) → keyword_shapes k x ≡ shape_of (below x.documents x.site) a ∷ []) → TellsQuestions c whole d roads progress (applied_leads a) (applied_questions a d) old new
+      → TellsShapes c whole d roads progress (keyword_leads k) (keyword_shapes k) old new
+  tells_applicator k a old new every led shaped told = tells_questions k (applied_leads a) (applied_questions a d) old new led
+      (λ x is.
+      ap (told_by x) (shaped x)
+      ∙ told_by-every x (shape_of (below x.documents x.site) a) (at (applicator_name a)) (every_rule a every (below x.documents x.site) x.matches x.spot.value)
+      ∙ ap (λ v. asked_by x (applied_questions a v x)) is)
+      told
+
   pub tells_reference : (k : Keyword) (kind : Reference) (text : List ℕ) (target : Target) (old new : Observer) → ((x : Setting) → keyword_leads k x ≡ reference_leads text target x)
       → ((x : Setting) → keyword_shapes k x ≡ reference kind (target_site x.site text target) ∷ [])
       → TellsQuestions c whole d roads progress (reference_leads text target) (reference_questions (reference_name kind) text target) old new
@@ -110,6 +125,7 @@ module _ (c : code.Site) (whole d : Data) (roads : Roads) (progress : List Key) 
 refused_shapes : (x : Context) (k : List ℕ) (d : Data) (row : Row) (r : Refusal) → Refuses x k d row r → (r ≡ refusal.Memory → ⊥) → is_unread x.site x.members k d ≡ false → row.shapes ≡ []
 refused_shapes x k d row (refusal.Value expected) h other read = h.alone
 refused_shapes x k d row (refusal.Entry n expected) h other read = h.alone
+refused_shapes x k d row (refusal.Element i expected) h other read = h.alone
 refused_shapes x k d row (refusal.Target target) h other read = h.alone
 refused_shapes x k d row (refusal.Reference error) h other read = h.2.alone
 refused_shapes x k d row refusal.LeftOut h other read = h.alone
@@ -141,16 +157,16 @@ record Below (k r : ℕ) : Type 0 where
   is : k ≡ suc before
   enough : r ≤ before
 
-below : (k r : ℕ) → r < k → Below k r
-below zero r h = absurd (omega arith)
-below (suc n) r h = record { before = n; is = refl; enough = omega arith }
+depth_below : (k r : ℕ) → r < k → Below k r
+depth_below zero r h = absurd (omega arith)
+depth_below (suc n) r h = record { before = n; is = refl; enough = omega arith }
 
 module _ (c : code.Site) (whole d : Data) (roads : Roads) (progress : List Key) where
   pub tells_site : (shapes : Setting → List (Shape Site)) (old new : Observer) → ((x : Setting) → Fits c d roads progress x → keywords_at x.documents x.makes x.site ≡ shapes x)
       → TellsShapes c whole d roads progress no_leads shapes old new → Tells c whole d roads progress old new
   tells_site shapes old new same told = record {
     tells = λ x fits deep kept fs h.
-        let b = below x.depth (room (documents_at c) whole progress (view c.contents.now)) deep in
+        let b = depth_below x.depth (room (documents_at c) whole progress (view c.contents.now)) deep in
         let y = down_to x b.before in
         let fits_too : Fits c d roads progress y =
         record { documents = fits.documents; stands = fits.stands; scope = fits.scope; schema_path = fits.schema_path; spot = fits.spot; keys = fits.keys; read = fits.read } in

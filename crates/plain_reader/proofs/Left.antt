@@ -7,7 +7,10 @@ use Rattle.schema_meaning.specs.Members.{In}
 use Rattle.schema_meaning.specs.Places.{Key}
 use Rattle.schema_meaning.specs.Faults.{Faults, joined}
 use Rattle.schema_meaning.specs.Questions.{each_item, listed_members}
-use Rattle.schema_reading.specs.Sites.{Site}
+use Rattle.schema_reading.specs.Sites.{Site, below}
+use Rattle.applicators.specs.Questions.{questions_of}
+use Rattle.applicators.specs.declared.applicator.Applicator.{Applicator}
+use Rattle.applicators.specs.declared.question.Question.{Question}
 use Rattle.schema_reading.specs.AllKeys.{spots_of_items}
 use Rattle.schema_sites.specs.Seen.{documents_at}
 use Rattle.schema_sites.specs.declared.site.Site as code
@@ -18,6 +21,7 @@ use Rattle.schema_reports.specs.declared.observer.Observer.{Observer}
 use Rattle.schema_reports.specs.RoadPaths.{instance_in}
 use Rattle.plain_reader.specs.Settings.{Setting, told_by, asked_by}
 use Rattle.plain_reader.specs.Tellings.{Fits, AreRead, room}
+use Rattle.plain_reader.specs.Applied.{applied_leads, applied_questions}
 use Rattle.plain_reader.specs.Shapes.{shapes_among, items_site, items_questions, properties_questions, properties_leads}
 
 -- of all that is told, what is left to tell
@@ -38,6 +42,13 @@ module _ (c : code.Site) (whole d : Data) (roads : Roads) (progress : List Key) 
         → room (documents_at c) whole progress (view c.contents.now) ≤ x.depth
         → (kept : Observation) (fs : Faults) → Hears kept old fs
         → LeftOf (asked_by x (items_questions start schema d x)) (asked_by x (each_item (codes "items") (items_site schema x) index rest)) kept fs now
+
+  pub record QuestionsLeft (a : Applicator) (all rest : List Question) (old now : Observer) : Type 0 where
+    pub among : (q : Question) → In q rest → In q all
+    pub left : (x : Setting) → Fits c d roads progress x → ((t : Site) → In t (applied_leads a x) → AreRead x.documents x.makes t)
+        → room (documents_at c) whole progress (view c.contents.now) ≤ x.depth
+        → (kept : Observation) (fs : Faults) → Hears kept old fs
+        → LeftOf (asked_by x (applied_questions a d x)) (asked_by x (questions_of (below x.documents x.site) rest)) kept fs now
 
   pub record DeclaredLeft (all rest : Members) (old now : Observer) : Type 0 where
     pub shallow : depth (object rest) ≤ depth (object all)

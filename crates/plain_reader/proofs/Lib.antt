@@ -6,5 +6,6 @@ pub mod LookedLemmas
 pub mod TargetTelling
 pub mod RootTelling
 pub mod ItemTelling
+pub mod AppliedTelling
 pub mod Reading
 pub mod KeywordTelling

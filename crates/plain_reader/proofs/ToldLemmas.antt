@@ -1,9 +1,10 @@
 -- What is told of keywords, by what is told of their questions.
 use Rattle.std.proofs.Common.{◌≡◌, ◌++◌, ℕ, suc, List, [], ◌∷◌, Bool, true, false, map, codes, refl, sym, ap, ◌∙◌}
+use Rattle.json_paths.specs.Parts.{Part}
 use Rattle.schema_meaning.specs.Places.{Spot, Key}
 use Rattle.schema_meaning.specs.Faults.{Fault, Faults, none, also, joined, join}
 use Rattle.schema_meaning.specs.Questions.{Question, at, asked_at, each_item, items_from, items_of, each_declared}
-use Rattle.schema_meaning.specs.Rules.{Rule, own_faults}
+use Rattle.schema_meaning.specs.Rules.{Rule, every, asks, own_faults}
 use Rattle.schema_meaning.specs.Keywords.{Shape, Assertion, asserts, never, items, properties, reference, Reference, reference_name, rule, named, wrong}
 use Rattle.schema_meaning.specs.Readings.{bags}
 use Rattle.schema_meaning.specs.Circular.{key_at}
@@ -51,6 +52,12 @@ told_by-items x start t = joined-none _
 pub told_by-properties : (x : Setting) (ps : List (List ℕ × Site)) → told_by x (properties ps ∷ []) ≡ asked_by x (each_declared (codes "properties") x.spot.value ps)
 unfolding told_by asked_by
 told_by-properties x ps = joined-none _
+
+-- a keyword by whose value nothing is wrong, and all whose answers have to be yes
+pub told_by-every : (x : Setting) (shape : Shape Site) (p : List Part) → rule x.matches x.spot.value shape ≡ every p [] (asks (rule x.matches x.spot.value shape))
+    → told_by x (shape ∷ []) ≡ asked_by x (asks (rule x.matches x.spot.value shape))
+unfolding told_by asked_by
+told_by-every x shape p e = ap (λ r. join (cut_one bags x.spot x.site.schema_path (asked_in x) r ∷ [])) e ∙ joined-none _
 
 -- ---- questions
 

@@ -2,6 +2,7 @@ pub mod Settings
 pub mod Keys
 pub mod Tellings
 pub mod Shapes
+pub mod Applied
 pub mod Targets
 pub mod Roots
 pub mod Sites

@@ -4,7 +4,7 @@ pub use Rattle.schema_sites.specs.Read.{FindsTarget, each_below, row_of, shapes_
 pub use Rattle.schema_sites.specs.References.{kind_of, name_of}
 pub use Rattle.schema_sites.specs.Seen.{Stands, documents_at, is_draft_4_at}
 pub use Rattle.schema_sites.specs.declared.keyword.Keyword.{Keyword}
-pub use Rattle.schema_sites.specs.declared.keyword.Keyword.TheVariants.{Assertion, Items, Nothing, Properties, Reference}
+pub use Rattle.schema_sites.specs.declared.keyword.Keyword.TheVariants.{Applicator, Assertion, Items, Nothing, Properties, Reference}
 pub use Rattle.schema_sites.specs.declared.reference_keyword.ReferenceKeyword.{ReferenceKeyword}
 pub use Rattle.schema_sites.specs.declared.site.Site.{Site}
 pub use Rattle.schema_sites.specs.Refused.{Refuses}

@@ -10,4 +10,4 @@ pub use schema_sites::keyword::{Keyword, Refusal};
 pub use schema_sites::reading::keyword;
 pub use schema_sites::reference_keyword::ReferenceKeyword;
 pub use schema_sites::site::{Site, at_root, at_target};
-pub use schema_sites::{Assertion, Error, Resolved};
+pub use schema_sites::{Applicator, Assertion, Error, Resolved};

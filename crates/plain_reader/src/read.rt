@@ -1,5 +1,5 @@
 //! The reading of a schema.
-ghost use Rattle.std.specs.Prelude.{◌≡◌, ◌≤◌, ◌<◌, OnOk, Some};
+ghost use Rattle.std.specs.Prelude.{◌≡◌, ◌≤◌, ◌<◌, [], OnOk, Some, true};
 ghost use Rattle.serde_json.specs.Find.{get};
 ghost use Rattle.serde_json.specs.Data.{depth, object};
 ghost use Rattle.serde_json.specs.View.{view, members_view};
@@ -14,9 +14,15 @@ ghost use Rattle.schema_reports.specs.RoadPaths.{instance_in};
 ghost use Rattle.plain_reader.specs.Keys.{keys_in};
 ghost use Rattle.plain_reader.specs.Tellings.{Within, Tells, TellsShapes, TellsQuestions};
 ghost use Rattle.plain_reader.specs.Shapes.{no_leads, shapes_among, shapes_at, keyword_leads, keyword_shapes, items_leads, items_questions, properties_leads, properties_questions, property_leads, property_questions};
+ghost use Rattle.applicators.specs.Combined.{is_every};
+ghost use Rattle.plain_reader.specs.Applied.{AsksInside, EachInside, AreAsked, IsPart, TellsAsked, entry_parts, applied_leads, applied_questions, question_leads, one_question};
 ghost use Rattle.plain_reader.specs.Targets.{reference_leads, reference_questions};
 
 use crate::progress::{Progress, is_in_progress};
+use applicators::applicator::Applicator;
+use applicators::question::{Asked, Question};
+use applicators::questions::questions;
+use applicators::subschema::Entry;
 use assertion_faults::tell_assertion;
 use schema_reports::{LazyLocation, Observer, Reference, Roads, ValidationErrorKind};
 use schema_sites::Resolved;
@@ -144,6 +150,7 @@ fn read_keyword<'r, 'i>(
     requires within { Within (view value.now) (instance_in roads) (view reading.now.whole.now) }
     requires inside { depth (view part.now) < depth (view site.now.contents.now) }
     requires found { Finds site.now (view part.now) keyword }
+    requires asks { AsksInside site.now keyword }
     ensures { OnOk result (TellsShapes site.now (view reading.now.whole.now) (view value.now) roads.entry (keys_in progress.now) (keyword_leads keyword.entry) (keyword_shapes keyword.entry) observer.old observer.new) }
 {
     match keyword {
@@ -158,6 +165,13 @@ fn read_keyword<'r, 'i>(
         }
         Keyword::Properties(schemas) => {
             read_properties(reading, site, schemas, value, roads, progress, observer)
+        }
+        Keyword::Applicator(applicator) => {
+            let asked = questions(reading.alloc, &applicator, value)?;
+            let asked = asked.as_slice();
+            read_questions(
+                reading, site, applicator, asked, value, roads, progress, observer,
+            )
         }
         Keyword::Reference {
             keyword,
@@ -279,6 +293,174 @@ fn read_property<'a, 'r, 'i>(
         evaluation: &evaluation,
     };
     read_site(reading, &inner, member, at, progress, observer)
+}
+
+// What the questions of an applicator tell.
+#[cycle(read)]
+fn read_questions<'r, 'i>(
+    reading: &Reading<'i>,
+    site: &Site<'r>,
+    applicator: Applicator<'r>,
+    asked: &[Question<'r, 'i>],
+    value: &'i Value,
+    roads: Roads<'_>,
+    progress: &Progress<'_>,
+    observer: &mut Observer<'i>,
+) -> Result<(), AllocError>
+    requires shallow { depth (view site.now.contents.now) ≤ deepest (documents_at site.now) }
+    requires within { Within (view value.now) (instance_in roads) (view reading.now.whole.now) }
+    requires every { is_every applicator ≡ true }
+    requires inside { EachInside site.now applicator }
+    requires asked { AreAsked applicator (view value.now) asked.now }
+    ensures { OnOk result (TellsQuestions site.now (view reading.now.whole.now) (view value.now) roads.entry (keys_in progress.now) (applied_leads applicator.entry) (applied_questions applicator.entry (view value.now)) observer.old observer.new) }
+{
+    for question in asked {
+        if observer.is_settled() {
+            return Ok(());
+        }
+        read_question(reading, site, *question, value, roads, progress, observer)?;
+    }
+    Ok(())
+}
+
+// What a question tells: what its subschema does of what it asks of.
+#[cycle(read)]
+fn read_question<'a, 'r, 'i>(
+    reading: &Reading<'i>,
+    site: &Site<'r>,
+    question: Question<'r, 'i>,
+    value: &'i Value,
+    roads: Roads<'a>,
+    progress: &Progress<'_>,
+    observer: &mut Observer<'i>,
+) -> Result<(), AllocError>
+    requires shallow { depth (view site.now.contents.now) ≤ deepest (documents_at site.now) }
+    requires within { Within (view value.now) (instance_in roads) (view reading.now.whole.now) }
+    requires inside { depth (view question.subschema.schema.now) < depth (view site.now.contents.now) }
+    requires part { IsPart (view value.now) question.asked }
+    ensures { OnOk result (TellsQuestions site.now (view reading.now.whole.now) (view value.now) roads.entry (keys_in progress.now) (question_leads question.entry) (one_question question.entry) observer.old observer.new) }
+{
+    let inner = site.below(reading.alloc, question.subschema.schema)?;
+    let schema = roads.schema.push_name(question.subschema.keyword);
+    let evaluation = roads.evaluation.push_name(question.subschema.keyword);
+    let at = Roads {
+        instance: roads.instance,
+        schema: &schema,
+        reference: roads.reference,
+        evaluation: &evaluation,
+    };
+    read_entry(reading, &inner, question, value, at, progress, observer)
+}
+
+// What the entry of a keyword tells that a question asks.
+#[cycle(read)]
+fn read_entry<'a, 'r, 'i>(
+    reading: &Reading<'i>,
+    inner: &Site<'r>,
+    question: Question<'r, 'i>,
+    value: &'i Value,
+    roads: Roads<'a>,
+    progress: &Progress<'_>,
+    observer: &mut Observer<'i>,
+) -> Result<(), AllocError>
+    requires shallow { depth (view inner.now.contents.now) ≤ deepest (documents_at inner.now) }
+    requires within { Within (view value.now) (instance_in roads) (view reading.now.whole.now) }
+    requires part { IsPart (view value.now) question.asked }
+    ensures { OnOk result (TellsAsked inner.now (view reading.now.whole.now) (view value.now) roads.entry (keys_in progress.now) question.entry.asked (entry_parts question.entry.subschema.entry) observer.old observer.new) }
+{
+    match question.subschema.entry {
+        Entry::Whole => {
+            read_asked(
+                reading,
+                inner,
+                question.asked,
+                value,
+                roads,
+                progress,
+                observer,
+            )
+        }
+        Entry::Name(name) => {
+            let schema = roads.schema.push_name(name);
+            let evaluation = roads.evaluation.push_name(name);
+            let at = Roads {
+                instance: roads.instance,
+                schema: &schema,
+                reference: roads.reference,
+                evaluation: &evaluation,
+            };
+            read_asked(
+                reading,
+                inner,
+                question.asked,
+                value,
+                at,
+                progress,
+                observer,
+            )
+        }
+        Entry::Index(index) => {
+            let schema = roads.schema.push_index(index);
+            let evaluation = roads.evaluation.push_index(index);
+            let at = Roads {
+                instance: roads.instance,
+                schema: &schema,
+                reference: roads.reference,
+                evaluation: &evaluation,
+            };
+            read_asked(
+                reading,
+                inner,
+                question.asked,
+                value,
+                at,
+                progress,
+                observer,
+            )
+        }
+    }
+}
+
+// What a subschema tells of what is asked of.
+#[cycle(read)]
+fn read_asked<'a, 'r, 'i>(
+    reading: &Reading<'i>,
+    inner: &Site<'r>,
+    asked: Asked<'i>,
+    value: &'i Value,
+    roads: Roads<'a>,
+    progress: &Progress<'_>,
+    observer: &mut Observer<'i>,
+) -> Result<(), AllocError>
+    requires shallow { depth (view inner.now.contents.now) ≤ deepest (documents_at inner.now) }
+    requires within { Within (view value.now) (instance_in roads) (view reading.now.whole.now) }
+    requires part { IsPart (view value.now) asked }
+    ensures { OnOk result (TellsAsked inner.now (view reading.now.whole.now) (view value.now) roads.entry (keys_in progress.now) asked.entry [] observer.old observer.new) }
+{
+    match asked {
+        Asked::Value => read_site(reading, inner, value, roads, progress, observer),
+        Asked::Item { index, item } => {
+            let instance = roads.instance.push_index(index);
+            let at = Roads {
+                instance: &instance,
+                schema: roads.schema,
+                reference: roads.reference,
+                evaluation: roads.evaluation,
+            };
+            read_site(reading, inner, item, at, progress, observer)
+        }
+        Asked::Member { name, member } => {
+            let instance = roads.instance.push_name(name);
+            let at = Roads {
+                instance: &instance,
+                schema: roads.schema,
+                reference: roads.reference,
+                evaluation: roads.evaluation,
+            };
+            read_site(reading, inner, member, at, progress, observer)
+        }
+        Asked::Name(_) => Ok(()),
+    }
 }
 
 // What a reference tells: what its target does, unless it is in progress.

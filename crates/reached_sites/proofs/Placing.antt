@@ -1,6 +1,6 @@
 -- Places below places.
 use Rattle.std.proofs.Common.{◌≡◌, ◌∙◌, ℕ, List, ◌∷◌, sym, ap, ap₂}
-use Rattle.json_paths.specs.Parts.{Part, name}
+use Rattle.json_paths.specs.Parts.{Part, name, index}
 use Rattle.schema_reading.specs.Rows.{Place}
 use Rattle.reached_sites.specs.Places.{place_in}
 use Rattle.reached_sites.specs.declared.place.SchemaPlace.{SchemaPlace}
@@ -15,3 +15,8 @@ pub member-in : (document : List ℕ) (path : List Part) (n : List ℕ) (outer i
     → inner.path ≡ name n ∷ outer.path → placed document (name n ∷ path) ≡ place_in inner
 member-in document path n outer inner at d e =
     ap₂ placed (ap (λ (p : Place). p.document) at ∙ sym d) (ap (λ (p : Place). name n ∷ p.path) at ∙ sym e)
+
+pub item-in : (document : List ℕ) (path : List Part) (i : ℕ) (outer inner : SchemaPlace) → placed document path ≡ place_in outer → inner.document.value ≡ outer.document.value
+    → inner.path ≡ index i ∷ outer.path → placed document (index i ∷ path) ≡ place_in inner
+item-in document path i outer inner at d e =
+    ap₂ placed (ap (λ (p : Place). p.document) at ∙ sym d) (ap (λ (p : Place). index i ∷ p.path) at ∙ sym e)

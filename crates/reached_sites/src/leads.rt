@@ -1,11 +1,12 @@
 //! Where the keywords of a schema lead.
 
-ghost use Rattle.std.specs.Prelude.{◌≡◌, [], List, ℕ, Bool, IfOk, IfErr, OnOk};
+ghost use Rattle.std.specs.Prelude.{◌≡◌, ◌++◌, [], List, map, ℕ, Bool, IfOk, IfErr, OnOk};
 ghost use Rattle.std.specs.Borrow.{Bor};
 ghost use Rattle.serde_json.specs.Data.{Data, object};
 ghost use Rattle.serde_json.specs.View.{view, members_view};
 ghost use Rattle.referencing.specs.Resolved.{documents_in};
 ghost use Rattle.schema_reading.specs.Sites as sites;
+ghost use Rattle.applicators.specs.Shapes as applied;
 ghost use Rattle.schema_sites.specs.Read as read;
 ghost use Rattle.schema_sites.specs.Seen.{documents_at};
 ghost use Rattle.schema_sites.specs.declared.reference_keyword.ReferenceKeyword.{ReferenceKeyword};
@@ -15,8 +16,12 @@ ghost use Rattle.reached_sites.specs.Members.{Rest};
 ghost use Rattle.reached_sites.specs.Visits.{site_of, Met, Adds};
 
 use crate::cause::BuildCause;
+use crate::place::SchemaPlace;
 use crate::refusing::refused;
 use crate::visit::Visit;
+use applicators::applicator::Applicator;
+use applicators::subschema::{Entry, Subschema};
+use applicators::subschemas::subschemas;
 use referencing::Resolved;
 use schema_sites::keyword::Keyword;
 use schema_sites::reading::keyword;
@@ -52,6 +57,50 @@ fn push_properties<'r>(
     Ok(())
 }
 
+// The place of a subschema.
+fn place_of(
+    alloc: Global,
+    visit: &Visit<'_>,
+    subschema: &Subschema<'_>,
+) -> Result<SchemaPlace, AllocError>
+    ensures document { IfOk result (λ p. p.document.value ≡ visit.now.place.document.value) }
+    ensures path { IfOk result (λ p. p.path ≡ applied.added_at subschema.now.keyword.now subschema.now.entry ++ visit.now.place.path) }
+{
+    let place = visit.place.member(alloc, subschema.keyword)?;
+    match subschema.entry {
+        Entry::Whole => Ok(place),
+        Entry::Name(name) => place.member(alloc, name),
+        Entry::Index(index) => place.item(alloc, index),
+    }
+}
+
+fn push_subschemas<'r>(
+    alloc: Global,
+    visit: &Visit<'r>,
+    found: &[Subschema<'r>],
+    leads: &mut Vec<Visit<'r>>,
+) -> Result<(), AllocError>
+    ensures { OnOk result (Adds (documents_in visit.now.site.resolver) leads.old.items leads.new.items (map (applied.place_of (sites.below (documents_at visit.now.site) (site_of visit.now))) found.now)) }
+{
+    for subschema in found {
+        let place = place_of(alloc, visit, subschema)?;
+        leads.push(visit.below(alloc, place, subschema.schema)?)?;
+    }
+    Ok(())
+}
+
+fn push_applied<'r>(
+    alloc: Global,
+    visit: &Visit<'r>,
+    applicator: Applicator<'r>,
+    leads: &mut Vec<Visit<'r>>,
+) -> Result<(), AllocError>
+    ensures { OnOk result (Adds (documents_in visit.now.site.resolver) leads.old.items leads.new.items (read.leads_of (documents_at visit.now.site) (site_of visit.now) (Keyword.Applicator applicator.entry))) }
+{
+    let found = subschemas(alloc, &applicator)?;
+    push_subschemas(alloc, visit, found.as_slice(), leads)
+}
+
 fn push_target<'r>(
     alloc: Global,
     visit: &Visit<'r>,
@@ -77,6 +126,7 @@ fn push_leads<'r>(
         Keyword::Assertion(_) => Ok(()),
         Keyword::Items { schema, .. } => push_items(alloc, visit, schema, leads),
         Keyword::Properties(map) => push_properties(alloc, visit, map, leads),
+        Keyword::Applicator(applicator) => push_applied(alloc, visit, applicator, leads),
         Keyword::Reference { target, .. } => push_target(alloc, visit, target, leads),
     }
 }

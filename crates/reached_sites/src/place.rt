@@ -2,7 +2,7 @@
 
 ghost use Rattle.std.specs.Prelude.{◌≡◌, ◌∷◌, IfOk, string_bytes};
 ghost use Rattle.std.specs.Bool.{Decides};
-ghost use Rattle.json_paths.specs.Parts.{name as name_part};
+ghost use Rattle.json_paths.specs.Parts.{name as name_part, index as index_part};
 ghost use Rattle.referencing.specs.Resolved.{target_in};
 ghost use Rattle.reached_sites.specs.Filed.{place_text};
 ghost use Rattle.reached_sites.specs.Places.{place_in};
@@ -84,6 +84,21 @@ impl SchemaPlace {
         Ok(SchemaPlace {
             document: self.document.clone()?,
             path: self.path.push_name(alloc, name)?,
+        })
+    }
+
+    /// The place of an item.
+    ///
+    /// # Errors
+    ///
+    /// Where memory was refused or a count of owners is full.
+    pub(crate) fn item(&self, alloc: Global, index: usize) -> Result<SchemaPlace, AllocError>
+        ensures document { IfOk result (λ p. p.document.value ≡ self.now.document.value) }
+        ensures path { IfOk result (λ p. p.path ≡ index_part index ∷ self.now.path) }
+    {
+        Ok(SchemaPlace {
+            document: self.document.clone()?,
+            path: self.path.push_item(alloc, index)?,
         })
     }
 }

@@ -37,6 +37,10 @@ pub(crate) fn refused(
             place: here.member(alloc, name)?,
             expected,
         }),
+        Refusal::Element { index, expected } => Ok(BuildCause::KeywordValue {
+            place: here.item(alloc, index)?,
+            expected,
+        }),
         Refusal::Target { target } => Ok(BuildCause::KeywordValue {
             place: SchemaPlace::of_target(alloc, &target)?,
             expected: "schema",

@@ -9,7 +9,7 @@ use Rattle.schema_vocabularies.specs.declared.dialect.Dialect as vocabularies
 use Rattle.schema_meaning.specs.Keywords.{item_list}
 use Rattle.schema_meaning.specs.Members.{is_listed, first}
 use Rattle.referencing.specs.Resolved.{scope_of}
-use Rattle.unread_keywords.specs.NotYet.{is_unread, is_item_list, read_now}
+use Rattle.unread_keywords.specs.NotYet.{is_unread, read_now}
 use Rattle.schema_reading.specs.Rows.{Row, nothing_read, refused, keyword_value, left_out, place_at, at, bad_value, Context, counts_here, has_reference, beside, takes_list, in_list, schema_list, row_of as row_by, each_subschema, row_at}
 use Rattle.schema_reading.specs.Sites.{Site}
 use Rattle.schema_sites.specs.Arms.{one_items_row, properties_row}
@@ -92,40 +92,19 @@ module _ (c : code.Site) (ms : Members) (k : List ℕ) (d : Data) (counted : cou
 
 -- ---- what is read, and what is not yet
 
-never-unread : (a b c : Bool) → b ≡ true → c ≡ false → (a && (not b || c)) ≡ false
-never-unread true b c e f = ap (λ (x : Bool). not x || c) e ∙ f
-never-unread false b c e f = refl
+never-unread : (a b : Bool) → b ≡ true → (a && not b) ≡ false
+never-unread true b e = ap not e
+never-unread false b e = refl
 
-third-false : (a b c : Bool) → c ≡ false → (a && b && c) ≡ false
-third-false true true c e = e
-third-false true false c e = refl
-third-false false b c e = refl
+-- a name that is read
+pub is-read : (k known : List ℕ) (d : Data) → k ≡ known → is_listed known read_now ≡ true → (s : Site) (ms : Members) → is_unread s ms k d ≡ false
+is-read k known d is listed s ms =
+    never-unread (counts s.dialect.draft s.dialect.vocabularies (has_reference ms) k) (is_listed k read_now) (ap (λ (n : List ℕ). is_listed n read_now) is ∙ listed)
 
--- a name that is read, with a value that is none of `items` as a list
-pub is-read : (k known : List ℕ) (d : Data) → k ≡ known → is_listed known read_now ≡ true → ((s : Site) → is_item_list s known d ≡ false) → (s : Site) (ms : Members) → is_unread s ms k d ≡ false
-is-read k known d is listed other s ms =
-    never-unread (counts s.dialect.draft s.dialect.vocabularies (has_reference ms) k) (is_listed k read_now) (is_item_list s k d)
-    (ap (λ (n : List ℕ). is_listed n read_now) is ∙ listed) (ap (λ (n : List ℕ). is_item_list s n d) is ∙ other s)
-
-if-read : {E : Type 0} (r : Result Keyword E) (k known : List ℕ) (d : Data) → k ≡ known → is_listed known read_now ≡ true → ((s : Site) → is_item_list s known d ≡ false)
+pub if-read : {E : Type 0} (r : Result Keyword E) (k known : List ℕ) (d : Data) → k ≡ known → is_listed known read_now ≡ true
     → IfOk r (λ (w : Keyword). (s : Site) (ms : Members) → is_unread s ms k d ≡ false)
-if-read (Ok w) k known d is listed other = is-read k known d is listed other
-if-read (Err e) k known d is listed other = tt
-
-pub if-other-read : {E : Type 0} (r : Result Keyword E) (k known : List ℕ) (d : Data) → k ≡ known → is_listed known read_now ≡ true → bytes_eq known (codes "items") ≡ false
-    → IfOk r (λ (w : Keyword). (s : Site) (ms : Members) → is_unread s ms k d ≡ false)
-if-other-read r k known d is listed other = if-read r k known d is listed (λ s. ap (λ (b : Bool). b && takes_list s.dialect.draft && is_some (as_array d)) other)
-
-no-list : (d : Data) → is_schema d ≡ true → is_some (as_array d) ≡ false
-no-list null e = refl
-no-list (boolean b) e = refl
-no-list (number n) e = refl
-no-list (string t) e = refl
-no-list (array ds) e = absurd (true≢false (sym e))
-no-list (object ms) e = refl
-
-pub items-read : (k : List ℕ) (d : Data) → k ≡ codes "items" → is_schema d ≡ true → (s : Site) (ms : Members) → is_unread s ms k d ≡ false
-items-read k d is schema = is-read k (codes "items") d is refl (λ s. third-false (bytes_eq (codes "items") (codes "items")) (takes_list s.dialect.draft) (is_some (as_array d)) (no-list d schema))
+if-read (Ok w) k known d is listed = is-read k known d is listed
+if-read (Err e) k known d is listed = tt
 
 -- a name that does not count
 pub nothing-there : (c : code.Site) (ms : Members) (k : List ℕ) (d : Data) → counts_at c (has_reference ms) k ≡ false → (makes : List ℕ → Bool) (s : Site) → Stands c s
@@ -134,12 +113,11 @@ nothing-there c ms k d none makes s stands =
     let x = context_at c ms makes s in row-else (counts_here x k) _ nothing_read (counts-there c ms s stands k ∙ none)
 
 pub uncounted : (c : code.Site) (ms : Members) (k : List ℕ) (d : Data) → counts_at c (has_reference ms) k ≡ false → (s : Site) → Stands c s → is_unread s ms k d ≡ false
-uncounted c ms k d none s stands = ap (λ (b : Bool). b && (not (is_listed k read_now) || is_item_list s k d)) (counts-there c ms s stands k ∙ none)
+uncounted c ms k d none s stands = ap (λ (b : Bool). b && not (is_listed k read_now)) (counts-there c ms s stands k ∙ none)
 
 -- a keyword that is none of those that are read
 pub not-yet : (x : Context) (k : List ℕ) (d : Data) → counts_here x k ≡ true → is_listed k read_now ≡ false → is_unread x.site x.members k d ≡ true
-not-yet x k d counted unlisted =
-    ap (λ (b : Bool). b && (not (is_listed k read_now) || is_item_list x.site k d)) counted ∙ ap (λ (b : Bool). not b || is_item_list x.site k d) unlisted
+not-yet x k d counted unlisted = ap (λ (b : Bool). b && not (is_listed k read_now)) counted ∙ ap not unlisted
 
 -- a name that is none of the list
 abbrev pub IsNone : List ℕ → List (List ℕ) → Type 0
@@ -154,35 +132,3 @@ unlisted k (n ∷ ns) none = ap (λ (b : Bool). b || is_listed k ns) none.0 ∙ 
 
 pub value-refused : (x : Context) (k word : List ℕ) (row : Row) → row ≡ bad_value x k word → IsCause (keyword_value (place_at x (at k)) word) row
 value-refused x k word row e = subst (λ (r : Row). IsCause (keyword_value (place_at x (at k)) word) r) (sym e) (record { stands = first; alone = refl })
-
-module _ (x : Context) (d : Data) (of : vocabularies.Dialect) (dialect : x.site.dialect ≡ dialect_of of) (other : is_schema d ≡ false) where
-  takes : (b : Bool) → takes_list of.draft ≡ b → takes_list x.site.dialect.draft ≡ b
-  takes b e = ap (λ (y : Dialect). takes_list y.draft) dialect ∙ e
-
-  abbrev listed_row : Row
-  listed_row = schema_list x (codes "items") (codes "schema or list") item_list d
-
-  abbrev other_row : Row
-  other_row = if takes_list x.site.dialect.draft then listed_row else bad_value x (codes "items") (codes "schema")
-
-  pub no-schema-row : takes_list of.draft ≡ false → one_items_row x d ≡ bad_value x (codes "items") (codes "schema")
-  no-schema-row e = row-else (is_schema d) _ other_row other ∙ row-else (takes_list x.site.dialect.draft) listed_row (bad_value x (codes "items") (codes "schema")) (takes false e)
-
-  no-array : {A : Type 0} (f : Items → A) (a : A) (e : Data) → is_some (as_array e) ≡ false → in_list f a e ≡ a
-  no-array f a null h = refl
-  no-array f a (boolean b) h = refl
-  no-array f a (number n) h = refl
-  no-array f a (string t) h = refl
-  no-array f a (array ds) h = absurd (true≢false h)
-  no-array f a (object ms) h = refl
-
-  pub no-list-row : takes_list of.draft ≡ true → is_some (as_array d) ≡ false → one_items_row x d ≡ bad_value x (codes "items") (codes "schema or list")
-  no-list-row e none =
-      row-else (is_schema d) _ other_row other ∙ row-if (takes_list x.site.dialect.draft) listed_row (bad_value x (codes "items") (codes "schema")) (takes true e)
-      ∙ no-array (λ ds. row_by (λ ss. ss) (λ ss. item_list ss ∷ []) (each_subschema x (codes "items") 0 ds)) (bad_value x (codes "items") (codes "schema or list")) d none
-
-  pub listed-not-yet : counts_here x (codes "items") ≡ true → takes_list of.draft ≡ true → is_some (as_array d) ≡ true → is_unread x.site x.members (codes "items") d ≡ true
-  listed-not-yet counted e list =
-      ap (λ (b : Bool). b && (not (is_listed (codes "items") read_now) || is_item_list x.site (codes "items") d)) counted
-      ∙ ap (λ (b : Bool). not (is_listed (codes "items") read_now) || (bytes_eq (codes "items") (codes "items") && b && is_some (as_array d))) (takes true e)
-      ∙ list

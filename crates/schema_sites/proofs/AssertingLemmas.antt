@@ -55,7 +55,7 @@ abbrev every : (List ℕ → Bool) → List (List ℕ) → Bool
 every p [] = true
 every p (n ∷ ns) = p n && every p ns
 
-every-listed : (p : List ℕ → Bool) (k : List ℕ) (names : List (List ℕ)) → every p names ≡ true → is_listed k names ≡ true → p k ≡ true
+pub every-listed : (p : List ℕ → Bool) (k : List ℕ) (names : List (List ℕ)) → every p names ≡ true → is_listed k names ≡ true → p k ≡ true
 every-listed p k [] all e = absurd (true≢false (sym e))
 every-listed p k (n ∷ ns) all e = by (bytes_eq k n) (p n) refl refl all e (every-listed p k ns)
   where
@@ -64,15 +64,8 @@ every-listed p k (n ∷ ns) all e = by (bytes_eq k n) (p n) refl refl all e (eve
     by false true is holds all e rest = rest all e
     by b false is holds all e rest = absurd (true≢false (sym all))
 
-negated : (b : Bool) → not b ≡ true → b ≡ false
-negated true e = absurd (true≢false (sym e))
-negated false e = refl
-
 pub assertion-read : (k : List ℕ) (d : Data) → is_listed k assertion_names ≡ true → (s : Site) (ms : Members) → is_unread s ms k d ≡ false
-assertion-read k d listed =
-    let read = every-listed (λ n. is_listed n read_now) k assertion_names refl listed in
-    let other = negated (bytes_eq k (codes "items")) (every-listed (λ n. not (bytes_eq n (codes "items"))) k assertion_names refl listed) in
-    is-read k k d refl read (λ s. ap (λ (b : Bool). b && takes_list s.dialect.draft && is_some (as_array d)) other)
+assertion-read k d listed = is-read k k d refl (every-listed (λ n. is_listed n read_now) k assertion_names refl listed)
 
 -- ---- a name that is not read
 
@@ -92,7 +85,7 @@ no-reference k e =
 
 -- the names that are read and are neither a reference's nor an assertion's
 abbrev pub applied_names : List (List ℕ)
-applied_names = codes "items" ∷ codes "properties" ∷ codes "unevaluatedItems" ∷ codes "unevaluatedProperties" ∷ []
+applied_names = codes "items" ∷ codes "properties" ∷ codes "unevaluatedItems" ∷ codes "unevaluatedProperties" ∷ codes "prefixItems" ∷ codes "dependentSchemas" ∷ codes "allOf" ∷ []
 
 pub none-read : (k : List ℕ) → named k ≡ None → is_listed k assertion_names ≡ false → is_listed k applied_names ≡ false → is_listed k read_now ≡ false
 none-read k reference assertion other =

@@ -56,12 +56,5 @@ listed-reference Ref = refl
 listed-reference DynamicRef = refl
 listed-reference RecursiveRef = refl
 
-no-items : (r : ReferenceKeyword) → bytes_eq (name_of r) (codes "items") ≡ false
-no-items Ref = refl
-no-items DynamicRef = refl
-no-items RecursiveRef = refl
-
 pub reference-read : (k : List ℕ) (r : ReferenceKeyword) (d : Data) → k ≡ name_of r → (s : Site) (ms : Members) → is_unread s ms k d ≡ false
-reference-read k r d is =
-    is-read k (name_of r) d is (listed-reference r)
-    (λ s. ap (λ (b : Bool). b && takes_list s.dialect.draft && is_some (as_array d)) (no-items r))
+reference-read k r d is = is-read k (name_of r) d is (listed-reference r)

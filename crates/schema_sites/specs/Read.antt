@@ -1,5 +1,5 @@
 -- What the code's keywords stand for at a site.
-use Rattle.std.specs.Prelude.{◌≡◌, ℕ, List, [], ◌∷◌, Bool, codes, Ok}
+use Rattle.std.specs.Prelude.{◌≡◌, ℕ, List, [], ◌∷◌, Bool, true, codes, Ok}
 use Rattle.serde_json.specs.Data.{Data, object, Members, no_members, member}
 use Rattle.serde_json.specs.View.{view, members_view}
 use Rattle.json_paths.specs.Parts.{name}
@@ -11,12 +11,14 @@ use Rattle.referencing.specs.declared.resolver.Resolved.{Resolved}
 use Rattle.schema_reading.specs.Sites.{Site, below, target_site}
 use Rattle.schema_reading.specs.Rows.{Row, reads, at, assertion, sites_named, Context}
 use Rattle.assertions.specs.Shapes.{assertion_of}
+use Rattle.applicators.specs.Shapes as applied
+use Rattle.applicators.specs.Combined.{is_every}
 use Rattle.schema_sites.specs.Seen.{documents_at, Stands}
 use Rattle.schema_sites.specs.References.{kind_of, looked_up, MayBe}
 use Rattle.schema_sites.specs.declared.reference_keyword.ReferenceKeyword.{ReferenceKeyword}
 use Rattle.schema_sites.specs.declared.site.Site as code
 use Rattle.schema_sites.specs.declared.keyword.Keyword.{Keyword}
-use Rattle.schema_sites.specs.declared.keyword.Keyword.TheVariants.{Nothing, Assertion, Items, Properties, Reference}
+use Rattle.schema_sites.specs.declared.keyword.Keyword.TheVariants.{Nothing, Assertion, Items, Properties, Applicator, Reference}
 
 -- the sites of the members of a keyword's value, with their names
 abbrev pub each_below : Documents → Site → List ℕ → Members → List (List ℕ × Site)
@@ -28,6 +30,7 @@ shapes_of docs s Nothing = []
 shapes_of docs s (Assertion a) = assertion (assertion_of a)
 shapes_of docs s (Items start schema) = items start (below docs s (at (codes "items")) (view schema.now)) ∷ []
 shapes_of docs s (Properties map) = properties (each_below docs s (codes "properties") (members_view map.now.entries)) ∷ []
+shapes_of docs s (Applicator a) = applied.shape_of (below docs s) a ∷ []
 shapes_of docs s (Reference keyword text target) = reference (kind_of keyword) (target_site s text.now (target_in target)) ∷ []
 
 -- the sites of these
@@ -36,6 +39,7 @@ leads_of docs s Nothing = []
 leads_of docs s (Assertion a) = []
 leads_of docs s (Items start schema) = below docs s (at (codes "items")) (view schema.now) ∷ []
 leads_of docs s (Properties map) = sites_named (each_below docs s (codes "properties") (members_view map.now.entries))
+leads_of docs s (Applicator a) = applied.leads_of (below docs s) a
 leads_of docs s (Reference keyword text target) = target_site s text.now (target_in target) ∷ []
 
 abbrev pub row_of : Documents → Site → Keyword → Row
@@ -63,10 +67,11 @@ pub record FindsTarget (c : code.Site) (keyword : ReferenceKeyword) (text : List
   pub documents : documents_in target.resolver ≡ documents_in c.resolver
   pub scope : scope_of target.resolver ≡ entered_scope (base_of target.resolver) (base_of c.resolver) (scope_of c.resolver)
 
--- where a keyword's subschemas lie: in its value; and what its reference leads to
+-- where a keyword's subschemas lie: in its value; which rule it follows; and what its reference leads to
 abbrev pub Finds : code.Site → Data → Keyword → Type 0
 Finds c d Nothing = Unit {0}
 Finds c d (Assertion a) = Unit {0}
 Finds c d (Items start schema) = d ≡ view schema.now
 Finds c d (Properties map) = d ≡ object (members_view map.now.entries)
+Finds c d (Applicator a) = is_every a ≡ true
 Finds c d (Reference keyword text target) = FindsTarget c keyword text.now target

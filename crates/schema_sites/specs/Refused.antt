@@ -1,7 +1,7 @@
 -- When a member of a schema is refused.
 use Rattle.std.specs.Prelude.{◌≡◌, ℕ, List, [], ◌∷◌, true, codes}
 use Rattle.serde_json.specs.Data.{Data, Members}
-use Rattle.json_paths.specs.Parts.{name}
+use Rattle.json_paths.specs.Parts.{name, index}
 use Rattle.assertions.specs.Reads.{IsCause}
 use Rattle.schema_documents.specs.Lookup.{LookupCause}
 use Rattle.referencing.specs.Resolved.{target_in}
@@ -17,6 +17,7 @@ use Rattle.schema_sites.specs.declared.keyword.Refusal.TheVariants as refusal
 abbrev pub Refuses : Context → List ℕ → Data → Row → Refusal → Type 0
 Refuses x k d row (refusal.Value expected) = IsCause (keyword_value (place_at x (at k)) expected.now) row
 Refuses x k d row (refusal.Entry n expected) = IsCause (keyword_value (place_at x (name n.now ∷ name k ∷ [])) expected.now) row
+Refuses x k d row (refusal.Element i expected) = IsCause (keyword_value (place_at x (index i ∷ name k ∷ [])) expected.now) row
 Refuses x k d row (refusal.Target target) = IsCause (keyword_value (record { document = (target_in target).document; path = (target_in target).path }) (codes "schema")) row
 Refuses x k d row (refusal.Reference error) = (cause : LookupCause) × NamesLookup cause error × IsCause (bad_reference (place_at x (at k)) cause) row
 Refuses x k d row refusal.LeftOut = IsCause (left_out (place_at x (at k))) row

@@ -1,6 +1,7 @@
 //! What the members of schemas are.
 
 use crate::reference_keyword::ReferenceKeyword;
+use applicators::applicator::Applicator;
 use assertions::assertion::Assertion;
 use referencing::{Error, Resolved};
 use serde_json::{Map, Value};
@@ -18,6 +19,8 @@ pub enum Keyword<'r> {
         schema: &'r Value,
     },
     Properties(&'r Map<String, Value>),
+    /// Another keyword that applies the schemas in its value, and accepts what all of them accept.
+    Applicator(Applicator<'r>),
     /// A reference with what it leads to, which for those by the dynamic scope depends on the site's.
     Reference {
         keyword: ReferenceKeyword,
@@ -38,6 +41,11 @@ pub enum Refusal<'r> {
         name: &'r str,
         expected: &'static str,
     },
+    /// An item of the keyword's value.
+    Element {
+        index: usize,
+        expected: &'static str,
+    },
     /// The target of a reference is no schema.
     Target {
         target: Resolved<'r>,
@@ -46,7 +54,7 @@ pub enum Refusal<'r> {
     Reference(Error),
     /// The keyword is left out.
     LeftOut,
-    /// The keyword is not read yet, or not with such a value.
+    /// The keyword is not read yet.
     NotYet,
     /// Memory was refused, or a count of owners is full.
     Memory,

@@ -1,6 +1,7 @@
 //! Schemas met on the way from a root, and what their members are.
 #![tactic(auto)]
 
+mod applying;
 mod asserting;
 pub mod keyword;
 mod neighbours;
@@ -9,5 +10,6 @@ pub mod reference_keyword;
 mod referred;
 pub mod site;
 
+pub use applicators::applicator::Applicator;
 pub use assertions::assertion::Assertion;
 pub use referencing::{Error, Resolved};

@@ -1,13 +1,11 @@
 //! What a member of a schema is, read from its value and its neighbours.
 
-ghost use Rattle.std.specs.Prelude.{◌≡◌, List, ℕ, Bool, IfOk, IfErr, OnOk, codes, false, true, Some, None, is_some, option_map};
+ghost use Rattle.std.specs.Prelude.{◌≡◌, List, ℕ, Bool, IfOk, IfErr, codes, false, true, None, option_map};
 ghost use Rattle.serde_json.specs.Data.{Data, Members};
-ghost use Rattle.serde_json.specs.Find.{get_member, as_array};
 ghost use Rattle.serde_json.specs.View.{view, members_view};
-ghost use Rattle.schema_documents.specs.Places as places;
-ghost use Rattle.schema_vocabularies.specs.Dialects.{dialect_of};
 ghost use Rattle.referencing.specs.Resolved.{scope_of};
 ghost use Rattle.schema_meaning.specs.Members.{is_listed};
+ghost use Rattle.applicator_reading.specs.Names.{every_names};
 ghost use Rattle.assertions.specs.Names.{assertion_names};
 ghost use Rattle.unread_keywords.specs.NotYet.{is_unread};
 ghost use Rattle.schema_reading.specs.Rows as rows;
@@ -19,58 +17,48 @@ ghost use Rattle.schema_sites.specs.Refused.{Refuses, RefusedAs};
 ghost use Rattle.schema_sites.specs.Seen.{documents_at, Stands, beside_at};
 ghost use Rattle.schema_sites.specs.declared.site.Site as code;
 
+use crate::applying::applying;
 use crate::asserting::asserting;
 use crate::keyword::{Keyword, Refusal};
 use crate::neighbours::{has_reference, prefix_length, strict_limit};
 use crate::reference_keyword::ReferenceKeyword;
 use crate::referred::{led_to, look_up};
 use crate::site::Site;
+use applicator_reading::neighbours::Neighbours;
+use applicator_reading::reading::read as read_applicator;
 use assertions::reading::read as read_assertion;
-use schema_drafts::draft::Draft;
 use schema_places::place::is_schema;
-use schema_vocabularies::Dialect;
 use serde_json::{Map, Value};
 use std::alloc::Global;
 
-// Whether `items` may be a list (2019-09, Core 9.3.1.1).
-fn takes_list(draft: Draft) -> bool
-    ensures { result ≡ rows.takes_list draft }
+// What a member is whose keyword applies every schema in its value.
+fn applying_every<'r>(
+    site: &Site<'r>,
+    members: &'r Map<String, Value>,
+    name: &str,
+    value: &'r Value,
+) -> Result<Keyword<'r>, Refusal<'r>>
+    requires every { is_listed name.now every_names ≡ true }
+    ensures read { IfOk result (λ k. (x : rows.Context) → Surrounds site.now (members_view members.now.entries) x → rows.read_among rows.readers x name.now (view value.now) ≡ row_of x.documents x.site k) }
+    ensures found { IfOk result (λ k. Finds site.now (view value.now) k) }
+    ensures refused { IfErr result (λ e. (x : rows.Context) → Surrounds site.now (members_view members.now.entries) x → Refuses x name.now (view value.now) (rows.read_among rows.readers x name.now (view value.now)) e) }
 {
-    match draft {
-        Draft::Draft4 | Draft::Draft6 | Draft::Draft7 | Draft::Draft201909 => true,
-        Draft::Draft202012 | Draft::Unknown => false,
-    }
-}
-
-fn is_list(value: &Value) -> bool
-    ensures { result ≡ is_some (as_array (view value.now)) }
-{
-    value.as_array().is_some()
-}
-
-// Why `items` that is no schema is refused.
-fn other_items<'r>(dialect: Dialect, value: &Value) -> Refusal<'r>
-    requires other { places.is_schema (view value.now) ≡ false }
-    ensures { (x : rows.Context) → x.site.dialect ≡ dialect_of dialect → rows.counts_here x (codes "items") ≡ true → Refuses x (codes "items") (view value.now) (arms.one_items_row x (view value.now)) result }
-{
-    if !takes_list(dialect.draft) {
-        return Refusal::Value { expected: "schema" };
-    }
-    if is_list(value) {
-        return Refusal::NotYet;
-    }
-    Refusal::Value {
-        expected: "schema or list",
+    let neighbours = Neighbours {
+        dialect: site.dialect,
+        members,
+    };
+    match read_applicator(neighbours, name, value) {
+        Some(reading) => applying(reading),
+        None => Err(Refusal::NotYet),
     }
 }
 
 fn items<'r>(
     site: &Site<'r>,
-    members: &Map<String, Value>,
+    members: &'r Map<String, Value>,
     value: &'r Value,
 ) -> Result<Keyword<'r>, Refusal<'r>>
     ensures read { IfOk result (ReadAs site.now (members_view members.now.entries) (λ x. arms.one_items_row x (view value.now))) }
-    ensures schema { IfOk result (λ k. places.is_schema (view value.now) ≡ true) }
     ensures found { IfOk result (λ k. Finds site.now (view value.now) k) }
     ensures refused { IfErr result (RefusedAs site.now (members_view members.now.entries) (codes "items") (view value.now) (λ x. arms.one_items_row x (view value.now))) }
 {
@@ -80,7 +68,7 @@ fn items<'r>(
             schema: value,
         })
     } else {
-        Err(other_items(site.dialect, value))
+        applying_every(site, members, "items", value)
     }
 }
 
@@ -175,6 +163,9 @@ fn applied<'r>(
         "properties" => properties(value),
         "unevaluatedItems" => Err(Refusal::LeftOut),
         "unevaluatedProperties" => Err(Refusal::LeftOut),
+        "prefixItems" => applying_every(site, members, name, value),
+        "dependentSchemas" => applying_every(site, members, name, value),
+        "allOf" => applying_every(site, members, name, value),
         _ => Err(Refusal::NotYet),
     }
 }

@@ -81,8 +81,8 @@ fn causes(rt: HostRuntime) -> Result<(), Fail> {
             "accepted",
         ),
         (
-            "{\"$schema\":\"http://json-schema.org/draft-07/schema#\",\"items\":[true]}",
-            "Keyword at 'http://a.test/r#/items' is not there yet",
+            "{\"$schema\":\"http://json-schema.org/draft-07/schema#\",\"items\":[true,{\"not\":{}}]}",
+            "Keyword at 'http://a.test/r#/items/1/not' is not there yet",
         ),
         (
             "{\"$schema\":\"http://json-schema.org/draft-07/schema#\",\"$ref\":\"#/x\",\"type\":5,\"x\":true}",

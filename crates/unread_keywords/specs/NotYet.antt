@@ -1,13 +1,12 @@
 -- What is not read yet: a scaffold, for as long as keywords are missing. A build that meets any of it refuses it.
-use Rattle.std.specs.Prelude.{ℕ, List, [], ◌∷◌, ◌++◌, Bool, not, ◌&&◌, ◌||◌, bytes_eq, codes, if◌then◌else◌, is_some}
-use Rattle.serde_json.specs.Find.{as_array}
+use Rattle.std.specs.Prelude.{ℕ, List, [], ◌∷◌, ◌++◌, Bool, not, ◌&&◌, codes, if◌then◌else◌}
 use Rattle.serde_json.specs.Data.{Data, null, boolean, number, string, array, object, Members, no_members, member}
 use Rattle.schema_drafts.specs.Counts.{counts}
 use Rattle.json_paths.specs.Parts.{Part, name}
 use Rattle.schema_meaning.specs.Members.{In, is_listed}
 use Rattle.schema_documents.specs.Bearers.{Documents}
 use Rattle.schema_reading.specs.Sites.{Site}
-use Rattle.schema_reading.specs.Rows.{Place, BuildCause, has_reference, takes_list}
+use Rattle.schema_reading.specs.Rows.{Place, BuildCause, has_reference}
 use Rattle.schema_reading.specs.BuildCauses.{Reached, IsCauseOf}
 
 -- the keywords that are read, and those that are left out by their own cause
@@ -16,18 +15,14 @@ read_now =
     codes "$ref" ∷ codes "$dynamicRef" ∷ codes "$recursiveRef" ∷ codes "type" ∷ codes "enum" ∷ codes "const" ∷ codes "multipleOf" ∷ codes "maximum" ∷ codes "minimum"
     ∷ codes "exclusiveMaximum" ∷ codes "exclusiveMinimum" ∷ codes "maxLength" ∷ codes "minLength" ∷ codes "maxItems" ∷ codes "minItems" ∷ codes "maxProperties"
     ∷ codes "minProperties" ∷ codes "uniqueItems" ∷ codes "required" ∷ codes "dependentRequired" ∷ codes "items" ∷ codes "properties" ∷ codes "unevaluatedItems"
-    ∷ codes "unevaluatedProperties" ∷ []
+    ∷ codes "unevaluatedProperties" ∷ codes "prefixItems" ∷ codes "dependentSchemas" ∷ codes "allOf" ∷ []
 
 abbrev pub place_of : Site → List Part → Place
 place_of s added = record { document = s.document; path = added ++ s.path }
 
--- `items` as a list, which drafts before 2020-12 have
-abbrev pub is_item_list : Site → List ℕ → Data → Bool
-is_item_list s k d = bytes_eq k (codes "items") && takes_list s.dialect.draft && is_some (as_array d)
-
--- a keyword that counts and is not read, or not with such a value
+-- a keyword that counts and is not read
 abbrev pub is_unread : Site → Members → List ℕ → Data → Bool
-is_unread s ms k d = counts s.dialect.draft s.dialect.vocabularies (has_reference ms) k && (not (is_listed k read_now) || is_item_list s k d)
+is_unread s ms k d = counts s.dialect.draft s.dialect.vocabularies (has_reference ms) k && not (is_listed k read_now)
 
 abbrev pub unread_members : Site → Members → Members → List Place
 unread_members s all no_members = []

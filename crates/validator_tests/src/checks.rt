@@ -12,7 +12,7 @@ const ROOT: &str =
 
 const LEAF: &str = "{\"$id\":\"http://a.test/leaf.json\",\"type\":\"string\"}";
 
-fn registry(alloc: Global, root: &str) -> Result<SchemaRegistry, Fail> {
+pub(crate) fn registry(alloc: Global, root: &str) -> Result<SchemaRegistry, Fail> {
     let mut documents = Documents::new(alloc);
     documents.add_text("http://a.test/root.json", root.as_bytes())?;
     documents.add_text("http://a.test/leaf.json", LEAF.as_bytes())?;
@@ -33,7 +33,7 @@ fn word(answer: CheckAnswer) -> &'static str {
 }
 
 // What is said of two paths, as a word.
-fn said(
+pub(crate) fn said(
     alloc: Global,
     registry: &SchemaRegistry,
     value: &str,

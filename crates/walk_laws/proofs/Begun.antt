@@ -21,6 +21,7 @@ use Rattle.check_laws.proofs.Parts.{path_text-append}
 use Rattle.check_laws.proofs.Steps.{first_step, from_step}
 use Rattle.walk_laws.specs.Words.{IsRest, nothing, IsOf}
 use Rattle.walk_laws.proofs.Cuts.{rest_of, rest_append}
+use Rattle.walk_laws.proofs.Added.{branch_added, by_item_added, triggered_added}
 use Rattle.walk_laws.proofs.Listed.{each_in, in_some, in_all, in_mapped, item_question, declared_question}
 
 -- ---- the rule of a keyword that is read
@@ -45,8 +46,14 @@ module _ {S : Type 0} (matches : List ℕ → List ℕ → Bool) (d : Data) (k :
     own = λ bs. ap at h;
     on = λ bs q i. let w = item_question (codes "items") s start (items_from start (items_of d)) q i in ([], ap (λ (x : Question S). x.added) w.3 ∙ ap at h);
   }
-  shape_begins (item_list ss) h = absurd h
-  shape_begins (prefix_items ss) h = absurd h
+  shape_begins (item_list ss) h = record {
+    own = λ bs. ap at h;
+    on = λ bs q i. let w = by_item_added (codes "items") ss 0 (items_of d) q i in (w.0, w.1 ∙ ap (λ n. w.0 ++ at n) h);
+  }
+  shape_begins (prefix_items ss) h = record {
+    own = λ bs. ap at h;
+    on = λ bs q i. let w = by_item_added (codes "prefixItems") ss 0 (items_of d) q i in (w.0, w.1 ∙ ap (λ n. w.0 ++ at n) h);
+  }
   shape_begins (additional_items start s) h = absurd h
   shape_begins (no_additional_items start s) h = absurd h
   shape_begins (contains s least most) h = absurd h
@@ -62,9 +69,15 @@ module _ {S : Type 0} (matches : List ℕ → List ℕ → Bool) (d : Data) (k :
   shape_begins (no_properties s) h = absurd h
   shape_begins (property_names s) h = absurd h
   shape_begins (no_property_names s) h = absurd h
-  shape_begins (dependent_schemas ps) h = absurd h
+  shape_begins (dependent_schemas ps) h = record {
+    own = λ bs. ap at h;
+    on = λ bs q i. let w = triggered_added (codes "dependentSchemas") d ps q i in (w.0, w.1 ∙ ap (λ n. w.0 ++ at n) h);
+  }
   shape_begins (dependencies ps) h = absurd h
-  shape_begins (all_of ss) h = absurd h
+  shape_begins (all_of ss) h = record {
+    own = λ bs. ap at h;
+    on = λ bs q i. let w = branch_added (codes "allOf") 0 ss q i in (w.0, w.1 ∙ ap (λ n. w.0 ++ at n) h);
+  }
   shape_begins (any_of ss) h = absurd h
   shape_begins (one_of ss) h = absurd h
   shape_begins (negation schema s) h = absurd h

@@ -1,4 +1,5 @@
 pub mod Cuts
 pub mod Named
 pub mod Listed
+pub mod Added
 pub mod Begun

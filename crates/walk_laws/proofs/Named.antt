@@ -10,11 +10,11 @@ use Rattle.schema_documents.specs.Places.{is_schema}
 use Rattle.schema_documents.specs.Lookup.{Target, LookupCause, lookup}
 use Rattle.schema_documents.specs.Scopes.{dynamic_lookup, recursive_lookup}
 use Rattle.schema_meaning.specs.Members.{In, first, later, is_listed}
-use Rattle.schema_meaning.specs.Keywords.{Assertion, named, types, constant, enumeration, multiple_of, maximum, exclusive_maximum, minimum, exclusive_minimum, maximum_of_draft_4, minimum_of_draft_4, max_length, min_length, max_items, min_items, max_properties, min_properties, dependent_required, Shape, asserts, items, item_list, properties, Reference, static, dynamic, recursive, reference_name, reference}
-use Rattle.unread_keywords.specs.NotYet.{is_unread, is_item_list, read_now}
+use Rattle.schema_meaning.specs.Keywords.{Assertion, named, types, constant, enumeration, multiple_of, maximum, exclusive_maximum, minimum, exclusive_minimum, maximum_of_draft_4, minimum_of_draft_4, max_length, min_length, max_items, min_items, max_properties, min_properties, dependent_required, Shape, asserts, items, item_list, prefix_items, properties, dependent_schemas, all_of, Reference, static, dynamic, recursive, reference_name, reference}
+use Rattle.unread_keywords.specs.NotYet.{is_unread, read_now}
 use Rattle.schema_reading.specs.Sites.{Site, target_site}
 use Rattle.schema_reading.specs.Values.{type_names, count_of, positive_of, whole_number, unique_names}
-use Rattle.schema_reading.specs.Rows.{BuildCause, Row, nothing_read, reads, Context, counts_here, at, bad_value, subschema, each_named, row_of, one_schema, schema_list, sites_named, schema_map, asserted, assertion, length_of_list, beside, takes_list, items_row, with_causes, target_causes, no_schema_there, led_to, ref_row, dynamic_row, is_hash, recursive_row, is_draft_4, is_true, unique_row, unless_empty, required_entries, dependent_required_row, readers, read_among, row_at}
+use Rattle.schema_reading.specs.Rows.{BuildCause, Row, nothing_read, reads, Context, counts_here, at, bad_value, subschema, each_subschema, each_named, row_of, one_schema, schema_list, sites_named, schema_map, asserted, assertion, length_of_list, beside, takes_list, items_row, with_causes, target_causes, no_schema_there, led_to, ref_row, dynamic_row, is_hash, recursive_row, is_draft_4, is_true, unique_row, unless_empty, required_entries, dependent_required_row, readers, read_among, row_at}
 use Rattle.walk_laws.specs.Words.{IsOf, IsUnder, member_of}
 
 abbrev AreOf : List ℕ → Row → Type 0
@@ -62,31 +62,31 @@ of_asserted x k word shapes h (Some a) = h a
 of_count : (x : Context) (k : List ℕ) (a : ℕ → Assertion) → ((n : ℕ) → named (a n) ≡ k) → (o : Option ℕ) → AreOf k (asserted x k (codes "count") (λ n. assertion (a n)) o)
 of_count x k a h o = of_asserted x k (codes "count") (λ n. assertion (a n)) (λ n. (h n, tt)) o
 
-of_list : (x : Context) (d : Data) → is_some (as_array d) ≡ false → AreOf (codes "items") (schema_list x (codes "items") (codes "schema or list") item_list d)
-of_list x null e = tt
-of_list x (boolean b) e = tt
-of_list x (number n) e = tt
-of_list x (string s) e = tt
-of_list x (array ds) e = absurd (true≢false e)
-of_list x (object ms) e = tt
+of_list : (x : Context) (k word : List ℕ) (shape : List Site → Shape Site) → ((ss : List Site) → IsOf k (shape ss)) → (d : Data) → AreOf k (schema_list x k word shape d)
+of_list x k word shape h null = tt
+of_list x k word shape h (boolean b) = tt
+of_list x k word shape h (number n) = tt
+of_list x k word shape h (string s) = tt
+of_list x k word shape h (array ds) = of_row k (λ ss. ss) (λ ss. shape ss ∷ []) (λ ss. (h ss, tt)) (each_subschema x k 0 ds)
+of_list x k word shape h (object ms) = tt
 
-of_items : (x : Context) (d : Data) → (takes_list x.site.dialect.draft && is_some (as_array d)) ≡ false → AreOf (codes "items") (items_row x (codes "items") d)
-of_items x d e = by (is_schema d) (takes_list x.site.dialect.draft) e
+of_items : (x : Context) (d : Data) → AreOf (codes "items") (items_row x (codes "items") d)
+of_items x d = by (is_schema d) (takes_list x.site.dialect.draft)
   where
-    by : (b c : Bool) → (c && is_some (as_array d)) ≡ false
+    by : (b c : Bool)
         → AreOf (codes "items") (if b then one_schema x (codes "items") (λ s. items (length_of_list (beside x (codes "prefixItems"))) s ∷ []) d
         else (if c then schema_list x (codes "items") (codes "schema or list") item_list d else bad_value x (codes "items") (codes "schema")))
-    by true c e = of_row (codes "items") (λ s. s ∷ []) (λ s. items (length_of_list (beside x (codes "prefixItems"))) s ∷ []) (λ s. (refl, tt)) (subschema x (at (codes "items")) d)
-    by false true e = of_list x d e
-    by false false e = tt
+    by true c = of_row (codes "items") (λ s. s ∷ []) (λ s. items (length_of_list (beside x (codes "prefixItems"))) s ∷ []) (λ s. (refl, tt)) (subschema x (at (codes "items")) d)
+    by false true = of_list x (codes "items") (codes "schema or list") item_list (λ ss. refl) d
+    by false false = tt
 
-of_properties : (x : Context) (d : Data) → AreOf (codes "properties") (schema_map x (codes "properties") properties d)
-of_properties x null = tt
-of_properties x (boolean b) = tt
-of_properties x (number n) = tt
-of_properties x (string s) = tt
-of_properties x (array ds) = tt
-of_properties x (object ms) = of_row (codes "properties") sites_named (λ ps. properties ps ∷ []) (λ ps. (refl, tt)) (each_named x (codes "properties") ms)
+of_map : (x : Context) (k : List ℕ) (shape : List (List ℕ × Site) → Shape Site) → ((ps : List (List ℕ × Site)) → IsOf k (shape ps)) → (d : Data) → AreOf k (schema_map x k shape d)
+of_map x k shape h null = tt
+of_map x k shape h (boolean b) = tt
+of_map x k shape h (number n) = tt
+of_map x k shape h (string s) = tt
+of_map x k shape h (array ds) = tt
+of_map x k shape h (object ms) = of_row k sites_named (λ ps. shape ps ∷ []) (λ ps. (h ps, tt)) (each_named x k ms)
 
 -- ---- of a name that is read
 
@@ -165,49 +165,46 @@ own b k same plain [] h = tt
 own b k same plain (s ∷ shapes) h = (record { name = k; named = h.0; of_member = same; plain = plain }, own b k same plain shapes h.1)
 
 -- a row for each name that is read
-of_read : (x : Context) (k : List ℕ) (d : Data) → is_item_list x.site k d ≡ false → In k read_now → AreUnder x k (read_among readers x k d)
+of_read : (x : Context) (k : List ℕ) (d : Data) → In k read_now → AreUnder x k (read_among readers x k d)
 unfolding escape
-of_read x _ d e first = own (is_draft_4 x.site.dialect.draft) (codes "$ref") refl refl _ (of_ref x (as_str d))
-of_read x _ d e (later first) = own (is_draft_4 x.site.dialect.draft) (codes "$dynamicRef") refl refl _ (of_dynamic x (as_str d))
-of_read x _ d e (later (later first)) = own (is_draft_4 x.site.dialect.draft) (codes "$recursiveRef") refl refl _ (of_recursive x d)
-of_read x _ d e (later (later (later first))) = own (is_draft_4 x.site.dialect.draft) (codes "type") refl refl _ (of_asserted x (codes "type") (codes "type name") (λ ts. assertion (types ts)) (λ ts. (refl, tt)) (type_names d))
-of_read x _ d e (later (later (later (later first)))) = own (is_draft_4 x.site.dialect.draft) (codes "enum") refl refl _ (of_asserted x (codes "enum") (codes "list") (λ ds. assertion (enumeration ds)) (λ ds. (refl, tt)) (as_array d))
-of_read x _ d e (later (later (later (later (later first))))) = own (is_draft_4 x.site.dialect.draft) (codes "const") refl refl (assertion (constant d)) (refl, tt)
-of_read x _ d e (later (later (later (later (later (later first)))))) = own (is_draft_4 x.site.dialect.draft) (codes "multipleOf") refl refl _ (of_asserted x (codes "multipleOf") (codes "positive number") (λ n. assertion (multiple_of n)) (λ n. (refl, tt)) (positive_of d))
-of_read x _ d e (later (later (later (later (later (later (later first))))))) = of_maximum x (whole_number d)
-of_read x _ d e (later (later (later (later (later (later (later (later first)))))))) = of_minimum x (whole_number d)
-of_read x _ d e (later (later (later (later (later (later (later (later (later first))))))))) = of_strict x (codes "exclusiveMaximum") exclusive_maximum under_strict_maximum (whole_number d) (is_draft_4 x.site.dialect.draft)
-of_read x _ d e (later (later (later (later (later (later (later (later (later (later first)))))))))) = of_strict x (codes "exclusiveMinimum") exclusive_minimum under_strict_minimum (whole_number d) (is_draft_4 x.site.dialect.draft)
-of_read x _ d e (later (later (later (later (later (later (later (later (later (later (later first))))))))))) = own (is_draft_4 x.site.dialect.draft) (codes "maxLength") refl refl _ (of_count x (codes "maxLength") max_length (λ n. refl) (count_of d))
-of_read x _ d e (later (later (later (later (later (later (later (later (later (later (later (later first)))))))))))) = own (is_draft_4 x.site.dialect.draft) (codes "minLength") refl refl _ (of_count x (codes "minLength") min_length (λ n. refl) (count_of d))
-of_read x _ d e (later (later (later (later (later (later (later (later (later (later (later (later (later first))))))))))))) = own (is_draft_4 x.site.dialect.draft) (codes "maxItems") refl refl _ (of_count x (codes "maxItems") max_items (λ n. refl) (count_of d))
-of_read x _ d e (later (later (later (later (later (later (later (later (later (later (later (later (later (later first)))))))))))))) = own (is_draft_4 x.site.dialect.draft) (codes "minItems") refl refl _ (of_count x (codes "minItems") min_items (λ n. refl) (count_of d))
-of_read x _ d e (later (later (later (later (later (later (later (later (later (later (later (later (later (later (later first))))))))))))))) = own (is_draft_4 x.site.dialect.draft) (codes "maxProperties") refl refl _ (of_count x (codes "maxProperties") max_properties (λ n. refl) (count_of d))
-of_read x _ d e (later (later (later (later (later (later (later (later (later (later (later (later (later (later (later (later first)))))))))))))))) = own (is_draft_4 x.site.dialect.draft) (codes "minProperties") refl refl _ (of_count x (codes "minProperties") min_properties (λ n. refl) (count_of d))
-of_read x _ d e (later (later (later (later (later (later (later (later (later (later (later (later (later (later (later (later (later first))))))))))))))))) = own (is_draft_4 x.site.dialect.draft) (codes "uniqueItems") refl refl _ (of_unique x (as_bool d))
-of_read x _ d e (later (later (later (later (later (later (later (later (later (later (later (later (later (later (later (later (later (later first)))))))))))))))))) = own (is_draft_4 x.site.dialect.draft) (codes "required") refl refl _ (of_required x (unique_names d))
-of_read x _ d e (later (later (later (later (later (later (later (later (later (later (later (later (later (later (later (later (later (later (later first))))))))))))))))))) = own (is_draft_4 x.site.dialect.draft) (codes "dependentRequired") refl refl _ (of_dependent x d)
-of_read x _ d e (later (later (later (later (later (later (later (later (later (later (later (later (later (later (later (later (later (later (later (later first)))))))))))))))))))) = own (is_draft_4 x.site.dialect.draft) (codes "items") refl refl _ (of_items x d e)
-of_read x _ d e (later (later (later (later (later (later (later (later (later (later (later (later (later (later (later (later (later (later (later (later (later first))))))))))))))))))))) = own (is_draft_4 x.site.dialect.draft) (codes "properties") refl refl _ (of_properties x d)
-of_read x _ d e (later (later (later (later (later (later (later (later (later (later (later (later (later (later (later (later (later (later (later (later (later (later first)))))))))))))))))))))) = tt
-of_read x _ d e (later (later (later (later (later (later (later (later (later (later (later (later (later (later (later (later (later (later (later (later (later (later (later first))))))))))))))))))))))) = tt
-of_read x k d e (later (later (later (later (later (later (later (later (later (later (later (later (later (later (later (later (later (later (later (later (later (later (later (later i)))))))))))))))))))))))) = elim i [ ]
+of_read x _ d first = own (is_draft_4 x.site.dialect.draft) (codes "$ref") refl refl _ (of_ref x (as_str d))
+of_read x _ d (later first) = own (is_draft_4 x.site.dialect.draft) (codes "$dynamicRef") refl refl _ (of_dynamic x (as_str d))
+of_read x _ d (later (later first)) = own (is_draft_4 x.site.dialect.draft) (codes "$recursiveRef") refl refl _ (of_recursive x d)
+of_read x _ d (later (later (later first))) = own (is_draft_4 x.site.dialect.draft) (codes "type") refl refl _ (of_asserted x (codes "type") (codes "type name") (λ ts. assertion (types ts)) (λ ts. (refl, tt)) (type_names d))
+of_read x _ d (later (later (later (later first)))) = own (is_draft_4 x.site.dialect.draft) (codes "enum") refl refl _ (of_asserted x (codes "enum") (codes "list") (λ ds. assertion (enumeration ds)) (λ ds. (refl, tt)) (as_array d))
+of_read x _ d (later (later (later (later (later first))))) = own (is_draft_4 x.site.dialect.draft) (codes "const") refl refl (assertion (constant d)) (refl, tt)
+of_read x _ d (later (later (later (later (later (later first)))))) = own (is_draft_4 x.site.dialect.draft) (codes "multipleOf") refl refl _ (of_asserted x (codes "multipleOf") (codes "positive number") (λ n. assertion (multiple_of n)) (λ n. (refl, tt)) (positive_of d))
+of_read x _ d (later (later (later (later (later (later (later first))))))) = of_maximum x (whole_number d)
+of_read x _ d (later (later (later (later (later (later (later (later first)))))))) = of_minimum x (whole_number d)
+of_read x _ d (later (later (later (later (later (later (later (later (later first))))))))) = of_strict x (codes "exclusiveMaximum") exclusive_maximum under_strict_maximum (whole_number d) (is_draft_4 x.site.dialect.draft)
+of_read x _ d (later (later (later (later (later (later (later (later (later (later first)))))))))) = of_strict x (codes "exclusiveMinimum") exclusive_minimum under_strict_minimum (whole_number d) (is_draft_4 x.site.dialect.draft)
+of_read x _ d (later (later (later (later (later (later (later (later (later (later (later first))))))))))) = own (is_draft_4 x.site.dialect.draft) (codes "maxLength") refl refl _ (of_count x (codes "maxLength") max_length (λ n. refl) (count_of d))
+of_read x _ d (later (later (later (later (later (later (later (later (later (later (later (later first)))))))))))) = own (is_draft_4 x.site.dialect.draft) (codes "minLength") refl refl _ (of_count x (codes "minLength") min_length (λ n. refl) (count_of d))
+of_read x _ d (later (later (later (later (later (later (later (later (later (later (later (later (later first))))))))))))) = own (is_draft_4 x.site.dialect.draft) (codes "maxItems") refl refl _ (of_count x (codes "maxItems") max_items (λ n. refl) (count_of d))
+of_read x _ d (later (later (later (later (later (later (later (later (later (later (later (later (later (later first)))))))))))))) = own (is_draft_4 x.site.dialect.draft) (codes "minItems") refl refl _ (of_count x (codes "minItems") min_items (λ n. refl) (count_of d))
+of_read x _ d (later (later (later (later (later (later (later (later (later (later (later (later (later (later (later first))))))))))))))) = own (is_draft_4 x.site.dialect.draft) (codes "maxProperties") refl refl _ (of_count x (codes "maxProperties") max_properties (λ n. refl) (count_of d))
+of_read x _ d (later (later (later (later (later (later (later (later (later (later (later (later (later (later (later (later first)))))))))))))))) = own (is_draft_4 x.site.dialect.draft) (codes "minProperties") refl refl _ (of_count x (codes "minProperties") min_properties (λ n. refl) (count_of d))
+of_read x _ d (later (later (later (later (later (later (later (later (later (later (later (later (later (later (later (later (later first))))))))))))))))) = own (is_draft_4 x.site.dialect.draft) (codes "uniqueItems") refl refl _ (of_unique x (as_bool d))
+of_read x _ d (later (later (later (later (later (later (later (later (later (later (later (later (later (later (later (later (later (later first)))))))))))))))))) = own (is_draft_4 x.site.dialect.draft) (codes "required") refl refl _ (of_required x (unique_names d))
+of_read x _ d (later (later (later (later (later (later (later (later (later (later (later (later (later (later (later (later (later (later (later first))))))))))))))))))) = own (is_draft_4 x.site.dialect.draft) (codes "dependentRequired") refl refl _ (of_dependent x d)
+of_read x _ d (later (later (later (later (later (later (later (later (later (later (later (later (later (later (later (later (later (later (later (later first)))))))))))))))))))) = own (is_draft_4 x.site.dialect.draft) (codes "items") refl refl _ (of_items x d)
+of_read x _ d (later (later (later (later (later (later (later (later (later (later (later (later (later (later (later (later (later (later (later (later (later first))))))))))))))))))))) = own (is_draft_4 x.site.dialect.draft) (codes "properties") refl refl _ (of_map x (codes "properties") properties (λ ps. refl) d)
+of_read x _ d (later (later (later (later (later (later (later (later (later (later (later (later (later (later (later (later (later (later (later (later (later (later first)))))))))))))))))))))) = tt
+of_read x _ d (later (later (later (later (later (later (later (later (later (later (later (later (later (later (later (later (later (later (later (later (later (later (later first))))))))))))))))))))))) = tt
+of_read x _ d (later (later (later (later (later (later (later (later (later (later (later (later (later (later (later (later (later (later (later (later (later (later (later (later first)))))))))))))))))))))))) = own (is_draft_4 x.site.dialect.draft) (codes "prefixItems") refl refl _ (of_list x (codes "prefixItems") (codes "list") prefix_items (λ ss. refl) d)
+of_read x _ d (later (later (later (later (later (later (later (later (later (later (later (later (later (later (later (later (later (later (later (later (later (later (later (later (later first))))))))))))))))))))))))) = own (is_draft_4 x.site.dialect.draft) (codes "dependentSchemas") refl refl _ (of_map x (codes "dependentSchemas") dependent_schemas (λ ps. refl) d)
+of_read x _ d (later (later (later (later (later (later (later (later (later (later (later (later (later (later (later (later (later (later (later (later (later (later (later (later (later (later first)))))))))))))))))))))))))) = own (is_draft_4 x.site.dialect.draft) (codes "allOf") refl refl _ (of_list x (codes "allOf") (codes "list") all_of (λ ss. refl) d)
+of_read x k d (later (later (later (later (later (later (later (later (later (later (later (later (later (later (later (later (later (later (later (later (later (later (later (later (later (later (later i))))))))))))))))))))))))))) = elim i [ ]
 
-record IsCounted (c e : Bool) : Type 0 where
-  listed : c ≡ true
-  other : e ≡ false
-
-counted : (b c e : Bool) → b ≡ true → (b && (not c || e)) ≡ false → IsCounted c e
-counted true true e h f = record { listed = refl; other = f }
-counted true false e h f = absurd (true≢false f)
-counted false c e h f = absurd (true≢false (sym h))
+counted : (b c : Bool) → b ≡ true → (b && not c) ≡ false → c ≡ true
+counted true true h f = refl
+counted true false h f = absurd (true≢false f)
+counted false c h f = absurd (true≢false (sym h))
 
 -- the shapes of a member that is read
 pub shapes_are_under : (x : Context) (k : List ℕ) (d : Data) → is_unread x.site x.members k d ≡ false → AreUnder x k (row_at x k d)
 shapes_are_under x k d read = by (counts_here x k) refl
   where
     by : (b : Bool) → counts_here x k ≡ b → AreUnder x k (if b then read_among readers x k d else nothing_read)
-    by true e =
-        let is = counted (counts_here x k) (is_listed k read_now) (is_item_list x.site k d) e read in
-        of_read x k d is.other (listed_in k read_now is.listed)
+    by true e = of_read x k d (listed_in k read_now (counted (counts_here x k) (is_listed k read_now) e read))
     by false e = tt

@@ -47,7 +47,7 @@ returns-clause-passes c =
       scope = c.in_ok-site-in-Some.ensures.scope;
       stands = λ s added. c.in_ok-site-in-Some.ensures.stands s added;
     } in
-    let path = ap (λ (p : List Part). p ++ path_of_reference (text_of c.args.walk.reference)) (behind_twice c.args.walk.parts.items _ _ _ c.in-Some.name c.in_ok-push-in-Some.ensures.items c.in_ok-push-in-Some-2.ensures.items) in
+    let path = ap (λ (p : List Part). p ++ path_of_reference (text_of c.args.walk.reference)) (behind_twice c.args.walk.parts.items _ _ _ _ c.in_ok-push-in-Some.ensures.items c.in_ok-push-in-Some-2.ensures.items) in
     members_on c.args.walk _ (members_view c.args.schemas.now.entries) c.args.after c.args.there.now c.args.declared.now c.first_part.result.0.now c.first_part-2.result.0.now (cow_str_bytes c.in-Some.name) (view c.in-Some.part.now)
     c.names_rise.ensures c.requires.more (record { at_instance = c.requires.there; on_evaluation = c.requires.declared; cut = c.first_part.ensures; cut_there = c.first_part-2.ensures })
     (same_by _ _ c.ne.result c.ne.ensures c.if-ne.false) (subst (FindsMember (members_view c.args.schemas.now.entries) (view c.args.walk.value.now) c.first_part.result.0.now) c.in-Some.is c.in_ok-member_at.ensures) child path

@@ -3,7 +3,7 @@ use Rattle.std.proofs.lemmas.Result.{IfOk-weaker}
 use Rattle.serde_json.specs.View.{view, members_view}
 use Rattle.serde_json.proofs.Views.{view-Object}
 use Rattle.serde_json.specs.declared.value.Value.{the_lemmas}
-use Rattle.keyword_refusals.proofs.Passed.{member_inside}
+use Rattle.keyword_refusals.proofs.Passed.{member_inside, asks_inside}
 use Rattle.keyword_refusals.proofs.Names.{found_listed}
 use Rattle.fault_steps.proofs.Going.{shorter_by, lies_in}
 use Rattle.fault_steps.proofs.WalkSteps.{no_members, no_such_member, by_member, refused_member}
@@ -23,7 +23,10 @@ by_own_name-requires c =
     let contents = ap view c.in-Object.is ∙ view-Object c.in-Object.members in
     let ms = members_view c.in-Object.members.entries in
     let listed = found_listed c.member_of-member.result.now (view c.in-Some.part.now) ms (sym c.in-Some.ensures) in
-    record { lies = lies_in c.args.walk.site (view c.in-Some.part.now) c.in-Ok.keyword c.in-Ok.ensures.found (member_inside (view c.args.walk.site.contents.now) ms _ _ contents listed) }
+    record {
+      lies = lies_in c.args.walk.site (view c.in-Some.part.now) c.in-Ok.keyword c.in-Ok.ensures.found (member_inside (view c.args.walk.site.contents.now) ms _ _ contents listed)
+          (asks_inside c.args.walk.site ms c.member_of-member.result.now (view c.in-Some.part.now) c.in-Ok.keyword contents listed c.in-Ok.ensures.read c.in-Ok.ensures.found);
+    }
 
 pub returns-in-Ok-clause-passes : goal.returns-in-Ok-clause-passes
 returns-in-Ok-clause-passes c =

@@ -3,7 +3,7 @@ use Rattle.std.proofs.lemmas.Result.{IfOk-weaker}
 use Rattle.serde_json.specs.View.{view, members_view}
 use Rattle.keyword_refusals.specs.Passed.{assertion_of, target_in}
 use Rattle.keyword_refusals.specs.Passed.{row_of}
-use Rattle.keyword_refusals.specs.Rows.{items_row, properties_row, reference_row}
+use Rattle.keyword_refusals.specs.Rows.{items_row, properties_row, applied_row, reference_row}
 use Rattle.keyword_refusals.specs.Verdicts.{LiesIn}
 use Rattle.fault_steps.proofs.ReferenceSteps.{asserted_passes, nothing_passes, by_row}
 use Rattle.fault_steps.proofs.stepping.through.Goals as goal
@@ -13,6 +13,9 @@ through_items-requires c = record { inside = subst (LiesIn c.args.walk.site) c.i
 
 pub through_properties-requires : goal.through_properties-requires
 through_properties-requires c = record { inside = subst (LiesIn c.args.walk.site) c.in-Properties.is c.requires.lies; more = c.requires.more }
+
+pub through_applicator-requires : goal.through_applicator-requires
+through_applicator-requires c = record { applies = subst (LiesIn c.args.walk.site) c.in-Applicator.is c.requires.lies; more = c.requires.more }
 
 pub through_reference-requires : goal.through_reference-requires
 through_reference-requires c = record { found = subst (LiesIn c.args.walk.site) c.in-Reference.is c.requires.lies; more = c.requires.more }
@@ -28,6 +31,12 @@ returns-in-Properties-clause-passes c =
     IfOk-weaker c.through_properties.result _ _
     (λ st h. by_row c.args.walk c.args.keyword (properties_row (members_view c.in-Properties.schemas.now.entries)) c.args.after st (λ x s. ap (λ k. row_of x.documents s k) c.in-Properties.is) h)
     c.through_properties.ensures.passes
+
+pub returns-in-Applicator-clause-passes : goal.returns-in-Applicator-clause-passes
+returns-in-Applicator-clause-passes c =
+    IfOk-weaker c.through_applicator.result _ _
+    (λ st h. by_row c.args.walk c.args.keyword (applied_row c.in-Applicator.applicator) c.args.after st (λ x s. ap (λ k. row_of x.documents s k) c.in-Applicator.is) h)
+    c.through_applicator.ensures.passes
 
 pub returns-in-Reference-clause-passes : goal.returns-in-Reference-clause-passes
 returns-in-Reference-clause-passes c =

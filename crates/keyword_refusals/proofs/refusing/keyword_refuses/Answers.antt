@@ -11,6 +11,7 @@ use Rattle.schema_reports.specs.References.{text_of}
 use Rattle.keyword_refusals.specs.Rows.{items_row, items_questions, properties_row, properties_questions, reference_row, reference_questions}
 use Rattle.keyword_refusals.specs.Verdicts.{rules_by, LiesIn}
 use Rattle.keyword_refusals.proofs.Gathered.{by_questions, by_assertion, by_nothing}
+use Rattle.keyword_refusals.proofs.AppliedQuestions.{by_applicator}
 use Rattle.keyword_refusals.proofs.refusing.keyword_refuses.Goals as goal
 
 pub returns-in-Nothing : goal.returns-in-Nothing
@@ -30,6 +31,20 @@ some_item_refused-requires c = record { shallow = c.requires.shallow; inside = s
 
 pub some_member_refused-requires : goal.some_member_refused-requires
 some_member_refused-requires c = record { shallow = c.requires.shallow; inside = subst (LiesIn c.args.site.now) c.in-Properties.is c.requires.lies }
+
+pub some_question_refused-requires : goal.some_question_refused-requires
+some_question_refused-requires c =
+    let lies = subst (LiesIn c.args.site.now) c.in-Applicator.is c.requires.lies in
+    record { shallow = c.requires.shallow; every = lies.every; inside = lies.inside }
+
+pub returns-in-Applicator : goal.returns-in-Applicator
+returns-in-Applicator c =
+    let d = view c.args.value.now in
+    let path = location_of c.args.schema.now ++ path_of_reference (text_of c.args.reference) in
+    let lies = subst (LiesIn c.args.site.now) c.in-Applicator.is c.requires.lies in
+    IfOk-weaker c.some_question_refused.result _ _
+    (λ b h. by_applicator c.args.site.now path d c.args.keyword c.in-Applicator.applicator b c.requires.shallow lies.every (λ x s. ap (λ k. row_of x.documents s k) c.in-Applicator.is) h)
+    c.some_question_refused.ensures
 
 pub is_target_refused-requires : goal.is_target_refused-requires
 is_target_refused-requires c = record { shallow = c.requires.shallow; found = subst (LiesIn c.args.site.now) c.in-Reference.is c.requires.lies }

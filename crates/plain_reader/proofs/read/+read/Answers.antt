@@ -10,11 +10,15 @@ use Rattle.schema_sites.specs.References.{kind_of, name_of}
 use Rattle.schema_sites.specs.Seen.{documents_at}
 use Rattle.schema_reports.specs.RoadPaths.{instance_in, evaluation_in}
 use Rattle.plain_reader.specs.Keys.{key, keys_in}
-use Rattle.plain_reader.proofs.Left.{MembersLeft, ItemsLeft, DeclaredLeft}
+use Rattle.plain_reader.proofs.Left.{MembersLeft, ItemsLeft, QuestionsLeft, DeclaredLeft}
 use Rattle.plain_reader.proofs.MemberTelling.{members_first, members_settled, members_step, members_last, members_listed}
 use Rattle.plain_reader.proofs.LookedLemmas.{looked_up_lies, looked_up_reads}
 use Rattle.plain_reader.proofs.TargetTelling.{target_deeper, target_back, target_on, falls_by_target, shallow_by_target, at_target_told}
-use Rattle.schema_meaning.specs.Members.{In}
+use Rattle.schema_meaning.specs.Members.{In, first}
+use Rattle.applicators.specs.declared.question.Question.{Question}
+use Rattle.applicators.specs.declared.subschema.Entry.TheVariants as entry
+use Rattle.schema_reports.specs.References.{text_of}
+use Rattle.schema_sites.specs.Read.{Finds}
 use Rattle.schema_meaning.specs.Questions.{each_item, items_from, items_of}
 use Rattle.plain_reader.specs.Tellings.{TellsQuestions}
 use Rattle.plain_reader.specs.Shapes.{keyword_leads, keyword_shapes, property_leads, property_questions, items_site}
@@ -25,8 +29,9 @@ use Rattle.schema_reading.specs.AllKeys.{spots_of_items}
 use Rattle.plain_reader.proofs.ItemTelling.{Child, Where, child_falls, child_shallow, item_within, member_within, drop-items, no_items_told, items_init, items_settled, items_step, items_done, item_asked, member_asked, property_told, declared_init, declared_settled, declared_absent, declared_step, declared_done}
 use Rattle.std.proofs.lemmas.Result.{on_ok_weaker}
 use Rattle.schema_sites.specs.Passed.{assertion_of}
+use Rattle.plain_reader.proofs.AppliedTelling.{asks_inside, question_inside, question_part, told_of_value, told_of_item, told_of_member, behind_entry, question_told, questions_init, questions_settled, questions_step, questions_done}
 use Rattle.plain_reader.proofs.Reading.{member_inside}
-use Rattle.plain_reader.proofs.KeywordTelling.{tells_nothing, tells_assertion, tells_items, tells_properties, tells_reference, tells_member, tells_refused, tells_object, tells_false, tells_no_object}
+use Rattle.plain_reader.proofs.KeywordTelling.{tells_nothing, tells_assertion, tells_items, tells_properties, tells_applicator, tells_reference, tells_member, tells_refused, tells_object, tells_false, tells_no_object}
 use Rattle.plain_reader.proofs.read.+read.Goals.{read_member-in-Memory, read_member-in_default}
 use Rattle.plain_reader.proofs.read.+read.Goals as goal
 
@@ -134,7 +139,7 @@ pub read_member-read_keyword-requires : goal.read_member-read_keyword-requires
 read_member-read_keyword-requires t c =
     let clauses = c.requires.1.1 in
     let inside = member_inside (view c.args.site.now.contents.now) (members_view c.args.members.now.entries) c.args.name.now (view c.args.part.now) clauses.1.1.0 clauses.1.1.1 in
-    (omega arith, (clauses.0, (clauses.1.0, (inside, c.in-Ok.ensures.found))))
+    (omega arith, (clauses.0, (clauses.1.0, (inside, (c.in-Ok.ensures.found, asks_inside c.args.site.now (members_view c.args.members.now.entries) c.args.name.now (view c.args.part.now) c.in-Ok.keyword clauses.1.1.0 clauses.1.1.1 c.in-Ok.ensures.read c.in-Ok.ensures.found)))))
 
 pub read_member-returns-in-Ok : goal.read_member-returns-in-Ok
 read_member-returns-in-Ok t c =
@@ -370,3 +375,101 @@ read_member-returns-after-refusal t c =
       | read_member-in-Memory w ↦ rw w.result-is (search rules)
       | read_member-in_default w ↦ rw w.result-is (tells_refused c.args.site.now whole d c.args.roads keys (members_view c.args.members.now.entries) c.args.name.now (view c.args.part.now) c.in-Err.refusal c.args.observer.now clauses.1.1.0 clauses.1.1.1 w.in_default.not-Memory c.in-Err.ensures.refused)
     ]
+
+pub read_asked-returns-in-Value : goal.read_asked-returns-in-Value
+read_asked-returns-in-Value t c =
+    on_ok_weaker c.read_site.result (told_of_value c.args.inner.now _ _ c.args.roads _ c.args.asked _ _ c.in-Value.is) c.read_site.ensures
+
+pub read_asked-returns-in-Item : goal.read_asked-returns-in-Item
+read_asked-returns-in-Item t c =
+    on_ok_weaker c.read_site-in-Item.result
+    (told_of_item c.args.inner.now _ _ c.args.roads _ _ c.args.asked c.in-Item.index c.in-Item.item _ _ c.in-Item.is c.push_index-instance.ensures refl refl)
+    c.read_site-in-Item.ensures
+
+pub read_asked-returns-in-Member : goal.read_asked-returns-in-Member
+read_asked-returns-in-Member t c =
+    on_ok_weaker c.read_site-in-Member.result
+    (told_of_member c.args.inner.now _ _ c.args.roads _ _ c.args.asked c.in-Member.name c.in-Member.member _ _ c.in-Member.is c.push_name-instance.ensures refl refl)
+    c.read_site-in-Member.ensures
+
+pub read_entry-returns-in-Name : goal.read_entry-returns-in-Name
+read_entry-returns-in-Name t c =
+    let road = λ (p : List Part). p ++ path_of_reference (text_of c.args.roads.reference) in
+    on_ok_weaker c.read_asked-in-Name.result
+    (behind_entry c.args.inner.now _ _ c.args.roads _ _ c.args.question.asked c.args.question.subschema.entry (entry.Name c.in-Name.name) _ _ c.in-Name.is refl (ap road c.push_name-schema.ensures) c.push_name-evaluation.ensures)
+    c.read_asked-in-Name.ensures
+
+pub read_entry-returns-in-Index : goal.read_entry-returns-in-Index
+read_entry-returns-in-Index t c =
+    let road = λ (p : List Part). p ++ path_of_reference (text_of c.args.roads.reference) in
+    on_ok_weaker c.read_asked-in-Index.result
+    (behind_entry c.args.inner.now _ _ c.args.roads _ _ c.args.question.asked c.args.question.subschema.entry (entry.Index c.in-Index.index) _ _ c.in-Index.is refl (ap road c.push_index-schema.ensures) c.push_index-evaluation.ensures)
+    c.read_asked-in-Index.ensures
+
+pub read_keyword-returns-in_ok-asked-in-Applicator : goal.read_keyword-returns-in_ok-asked-in-Applicator
+read_keyword-returns-in_ok-asked-in-Applicator t c =
+    let whole = view c.args.reading.now.whole.now in
+    let d = view c.args.value.now in
+    let keys = keys_in c.args.progress.now in
+    on_ok_weaker c.read_questions.result
+    (tells_applicator c.args.site.now whole d c.args.roads keys c.args.keyword c.in-Applicator.applicator c.args.observer.now c.read_questions.new.observer
+    (subst (λ k. Finds c.args.site.now (view c.args.part.now) k) c.in-Applicator.is c.requires.found) (λ x. ap (λ k. keyword_leads k x) c.in-Applicator.is) (λ x. ap (λ k. keyword_shapes k x) c.in-Applicator.is))
+    c.read_questions.ensures
+
+pub read_question-returns : goal.read_question-returns
+read_question-returns t c =
+    let q = c.args.question in
+    let child : Child c.args.site.now c.in_ok-inner.inner (view q.subschema.schema.now) = record {
+      contents = ap (λ (b : Bor Value). view b.now) c.in_ok-inner.ensures.contents;
+      documents = c.in_ok-inner.ensures.documents;
+      scope = c.in_ok-inner.ensures.scope;
+      stands = λ s added. c.in_ok-inner.ensures.stands s added;
+    } in
+    let road = λ (p : List Part). p ++ path_of_reference (text_of c.args.roads.reference) in
+    on_ok_weaker c.read_entry.result
+    (question_told c.args.site.now _ _ c.args.roads _ c.in_ok-inner.inner _ q _ _ child c.requires.inside c.requires.part refl (ap road c.push_name-schema.ensures) c.push_name-evaluation.ensures)
+    c.read_entry.ensures
+
+pub read_questions-loop-question-init : goal.read_questions-loop-question-init
+read_questions-loop-question-init t c = questions_init c.args.site.now _ _ c.args.roads _ c.args.applicator c.args.asked.now c.args.observer.now c.requires.asked
+
+pub read_questions-returns-then-is_settled : goal.read_questions-returns-then-is_settled
+read_questions-returns-then-is_settled t c =
+    questions_settled c.args.site.now _ _ c.args.roads _ c.args.applicator c.args.asked.now _ _ c.loop-question.observer (λ kept gs hs h. c.is_settled.ensures c.if-is_settled.true kept gs hs h)
+    c.loop-question.invariant
+
+pub read_questions-read_question-requires : goal.read_questions-read_question-requires
+read_questions-read_question-requires t c =
+    let qs = c.args.asked.now in
+    let i = c.loop-question.question-index in
+    let q = c.question-item.result in
+    let next : drop i qs ≡ q ∷ drop (i + 1) qs = drop_more qs i q c.loop-question-test.true ∙ ap (λ x. x ∷ drop (i + 1) qs) (sym c.question-item.is) in
+    let among = c.loop-question.invariant.among q (subst (λ (xs : List Question). In q xs) (sym next) first) in
+    let a = c.args.applicator in
+    let d = view c.args.value.now in (
+      omega arith,
+      (c.requires.shallow, (c.requires.within, (question_inside a d qs c.requires.asked c.requires.every q among c.args.site.now c.requires.inside, question_part a d qs c.requires.asked c.requires.every q among c.args.site.now))),
+    )
+
+pub read_questions-loop-question-preserved : goal.read_questions-loop-question-preserved
+read_questions-loop-question-preserved t c =
+    let qs = c.args.asked.now in
+    let i = c.loop-question.question-index in
+    let q = c.question-item.result in
+    let next : drop i qs ≡ q ∷ drop (i + 1) qs = drop_more qs i q c.loop-question-test.true ∙ ap (λ x. x ∷ drop (i + 1) qs) (sym c.question-item.is) in
+    let whole = view c.args.reading.now.whole.now in
+    let d = view c.args.value.now in
+    let keys = keys_in c.args.progress.now in
+    let left = subst (λ (xs : List Question). QuestionsLeft c.args.site.now whole d c.args.roads keys c.args.applicator qs xs c.args.observer.now c.loop-question.observer) next c.loop-question.invariant in
+    questions_step c.args.site.now whole d c.args.roads keys c.args.applicator qs (drop (i + 1) qs) q c.args.observer.now c.loop-question.observer c.read_question.new.observer c.requires.asked c.requires.every
+    c.in_ok-read_question.ensures left
+
+pub read_questions-returns : goal.read_questions-returns
+read_questions-returns t c =
+    let qs = c.args.asked.now in
+    let whole = view c.args.reading.now.whole.now in
+    let d = view c.args.value.now in
+    let keys = keys_in c.args.progress.now in
+    let nothing : drop c.loop-question.question-index qs ≡ [] = drop_all c.loop-question.question-index qs (omega (arith, c.loop-question-test.false)) in
+    let left = subst (λ (xs : List Question). QuestionsLeft c.args.site.now whole d c.args.roads keys c.args.applicator qs xs c.args.observer.now c.loop-question.observer) nothing c.loop-question.invariant in
+    questions_done c.args.site.now whole d c.args.roads keys c.args.applicator qs c.args.observer.now c.loop-question.observer left

@@ -3,7 +3,7 @@ use Rattle.serde_json.specs.View.{view, items_view, members_view}
 use Rattle.schema_sites.specs.Seen.{documents_at}
 use Rattle.plain_reader.specs.Keys.{keys_in}
 use Rattle.plain_reader.specs.Tellings.{room}
-use Rattle.plain_reader.proofs.Left.{MembersLeft, ItemsLeft, DeclaredLeft}
+use Rattle.plain_reader.proofs.Left.{MembersLeft, ItemsLeft, QuestionsLeft, DeclaredLeft}
 use Rattle.plain_reader.proofs.read.+read.Given as goal
 
 abbrev pub decreases-read_site : goal.decreases-read_site
@@ -26,6 +26,18 @@ decreases-read_properties l = 8 * room (documents_at l.site.now) (view l.reading
 
 abbrev pub decreases-read_property : goal.decreases-read_property
 decreases-read_property l = 8 * room (documents_at l.site.now) (view l.reading.now.whole.now) (keys_in l.progress.now) (view l.site.now.contents.now) + 2
+
+abbrev pub decreases-read_questions : goal.decreases-read_questions
+decreases-read_questions l = 8 * room (documents_at l.site.now) (view l.reading.now.whole.now) (keys_in l.progress.now) (view l.site.now.contents.now) + 3
+
+abbrev pub decreases-read_question : goal.decreases-read_question
+decreases-read_question l = 8 * room (documents_at l.site.now) (view l.reading.now.whole.now) (keys_in l.progress.now) (view l.site.now.contents.now) + 2
+
+abbrev pub decreases-read_entry : goal.decreases-read_entry
+decreases-read_entry l = 8 * room (documents_at l.inner.now) (view l.reading.now.whole.now) (keys_in l.progress.now) (view l.inner.now.contents.now) + 9
+
+abbrev pub decreases-read_asked : goal.decreases-read_asked
+decreases-read_asked l = 8 * room (documents_at l.inner.now) (view l.reading.now.whole.now) (keys_in l.progress.now) (view l.inner.now.contents.now) + 8
 
 abbrev pub decreases-read_target : goal.decreases-read_target
 decreases-read_target l = 8 * room (documents_at l.site.now) (view l.reading.now.whole.now) (keys_in l.progress.now) (view l.site.now.contents.now) + 3
@@ -51,3 +63,7 @@ invariant-read_properties-loop-name l =
       whole : members_view l.initial.name-iterator ≡ all;
       left : DeclaredLeft l.site (view l.reading.whole.now) (view l.value) l.roads (keys_in l.progress) all rest l.fn.observer l.observer;
     }
+
+abbrev pub invariant-read_questions-loop-question : goal.invariant-read_questions-loop-question
+invariant-read_questions-loop-question l =
+    QuestionsLeft l.site (view l.reading.whole.now) (view l.value) l.roads (keys_in l.progress) l.applicator l.asked (drop l.question-index l.asked) l.fn.observer l.observer

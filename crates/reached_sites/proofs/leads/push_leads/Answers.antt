@@ -24,6 +24,9 @@ returns-in-Assertion c = λ d f. as_keyword c.args.visit.now _ _ _ _ c.in-Assert
 pub returns-in-Items : goal.returns-in-Items
 returns-in-Items c = on_ok_weaker c.push_items.result (λ h d f. as_keyword c.args.visit.now _ _ _ _ c.in-Items.is (h c.in-Items.start)) c.push_items.ensures
 
+pub returns-in-Applicator : goal.returns-in-Applicator
+returns-in-Applicator c = on_ok_weaker c.push_applied.result (λ h d f. as_keyword c.args.visit.now _ _ _ _ c.in-Applicator.is h) c.push_applied.ensures
+
 pub returns : goal.returns
 returns c =
     let site = c.args.visit.now.site in

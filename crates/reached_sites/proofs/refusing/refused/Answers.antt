@@ -1,12 +1,12 @@
 use Rattle.std.proofs.Common.{subst, ap, ◌∷◌, codes}
-use Rattle.json_paths.specs.Parts.{name}
+use Rattle.json_paths.specs.Parts.{name, index}
 use Rattle.referencing.specs.Resolved.{target_in}
 use Rattle.unread_keywords.specs.NotYet.{wrong, not_yet}
 use Rattle.schema_reading.specs.Rows.{Place, keyword_value, bad_reference, left_out}
 use Rattle.schema_sites.specs.Refused.{Refuses}
 use Rattle.schema_sites.specs.declared.keyword.Refusal.{Refusal}
 use Rattle.reached_sites.specs.Members.{of_row, of_member}
-use Rattle.reached_sites.proofs.Placing.{placed, placed-in, member-in}
+use Rattle.reached_sites.proofs.Placing.{placed, placed-in, member-in, item-in}
 use Rattle.reached_sites.proofs.refusing.refused.Goals as goal
 
 pub returns-in-Value : goal.returns-in-Value
@@ -25,6 +25,16 @@ returns-in_ok-member-in-Entry c = λ x d row at h.
     let there = member-in x.site.document (name k ∷ x.site.path) n c.in_ok-here.here c.in_ok-member-in-Entry.field-0 here c.in_ok-member-in-Entry.ensures.document c.in_ok-member-in-Entry.ensures.path in
     let r = subst (λ (q : Refusal). Refuses x k d row q) c.in-Entry.is h in
     (wrong (keyword_value (placed x.site.document (name n ∷ name k ∷ x.site.path)) word), ap (λ (p : Place). wrong (keyword_value p word)) there, of_row r.stands)
+
+pub returns-in_ok-item-in-Element : goal.returns-in_ok-item-in-Element
+returns-in_ok-item-in-Element c = λ x d row at h.
+    let k = c.args.name.now in
+    let i = c.in-Element.index in
+    let word = c.in-Element.expected.now in
+    let here = member-in x.site.document x.site.path k c.args.place.now c.in_ok-here.here at c.in_ok-here.ensures.document c.in_ok-here.ensures.path in
+    let there = item-in x.site.document (name k ∷ x.site.path) i c.in_ok-here.here c.in_ok-item-in-Element.field-0 here c.in_ok-item-in-Element.ensures.document c.in_ok-item-in-Element.ensures.path in
+    let r = subst (λ (q : Refusal). Refuses x k d row q) c.in-Element.is h in
+    (wrong (keyword_value (placed x.site.document (index i ∷ name k ∷ x.site.path)) word), ap (λ (p : Place). wrong (keyword_value p word)) there, of_row r.stands)
 
 pub returns-in_ok-of_target-in-Target : goal.returns-in_ok-of_target-in-Target
 returns-in_ok-of_target-in-Target c = λ x d row at h.

@@ -4,6 +4,7 @@ use Rattle.schema_meaning.specs.Members.{first}
 use Rattle.schema_sites.specs.Arms.{one_items_row, properties_row}
 use Rattle.schema_sites.specs.declared.keyword.Refusal.TheVariants.{LeftOut}
 use Rattle.schema_sites.proofs.ArmLemmas.{items-row, properties-row, left_row, left-items-row, left-properties-row, refused-here}
+use Rattle.schema_sites.proofs.ApplyingLemmas.{refused-counted}
 use Rattle.schema_sites.proofs.ResultLemmas.{if-err}
 use Rattle.schema_sites.proofs.reading.applied.Goals as goal
 
@@ -24,3 +25,15 @@ pub returns-in-unevaluatedProperties-clause-refused : goal.returns-in-unevaluate
 returns-in-unevaluatedProperties-clause-refused c =
     refused-here c.args.site.now (members_view c.args.members.now.entries) c.args.name.now (codes "unevaluatedProperties") (view c.args.value.now) (left_row (codes "unevaluatedProperties")) c.in-unevaluatedProperties.is left-properties-row LeftOut
     (λ x s there. record { stands = first; alone = refl })
+
+pub returns-in-prefixItems-clause-refused : goal.returns-in-prefixItems-clause-refused
+returns-in-prefixItems-clause-refused c =
+    if-err _ _ c.applying_every.result (λ e h x s counted. refused-counted x c.args.name.now (view c.args.value.now) counted e (h x s)) c.applying_every.ensures.refused
+
+pub returns-in-dependentSchemas-clause-refused : goal.returns-in-dependentSchemas-clause-refused
+returns-in-dependentSchemas-clause-refused c =
+    if-err _ _ c.applying_every-in-dependentSchemas.result (λ e h x s counted. refused-counted x c.args.name.now (view c.args.value.now) counted e (h x s)) c.applying_every-in-dependentSchemas.ensures.refused
+
+pub returns-in-allOf-clause-refused : goal.returns-in-allOf-clause-refused
+returns-in-allOf-clause-refused c =
+    if-err _ _ c.applying_every-in-allOf.result (λ e h x s counted. refused-counted x c.args.name.now (view c.args.value.now) counted e (h x s)) c.applying_every-in-allOf.ensures.refused

@@ -1,0 +1,119 @@
+//! What keywords that apply subschemas ask of a value, by those subschemas.
+ghost use Rattle.std.specs.Prelude.{◌≤◌, ◌<◌, ◌++◌, ◌≡◌, List, ℕ, IfOk, true, not};
+ghost use Rattle.serde_json.specs.Data.{depth};
+ghost use Rattle.serde_json.specs.View.{view};
+ghost use Rattle.schema_meaning.specs.Places.{value_after};
+ghost use Rattle.schema_reading.specs.Plain.{deepest};
+ghost use Rattle.schema_reading.specs.Sites.{path_of_reference};
+ghost use Rattle.applicators.specs.Combined.{is_every};
+ghost use Rattle.applicators.specs.Questions.{step_of};
+ghost use Rattle.plain_reader.specs.Applied.{EachInside, AreAsked, IsPart};
+ghost use Rattle.plain_reader.specs.Passed.{documents_at};
+ghost use Rattle.schema_reports.specs.Locations.{location_of};
+ghost use Rattle.schema_reports.specs.References.{text_of};
+ghost use Rattle.keyword_refusals.specs.Rows.{applied_row, applied_questions};
+ghost use Rattle.keyword_refusals.specs.Verdicts.{AreRefused, IsVerdict, IsAnswered};
+
+use crate::refusing::is_refused;
+use applicators::applicator::Applicator;
+use applicators::question::{Asked, Question};
+use applicators::questions::questions;
+use applicators::subschema::Entry;
+use plain_reader::Site;
+use schema_reports::{LazyLocation, Reference};
+use serde_json::Value;
+use std::alloc::{AllocError, Global};
+
+// Whether what a question asks of is refused by the subschema at a site.
+fn is_asked_refused<'a, 'r>(
+    alloc: Global,
+    inner: &Site<'r>,
+    schema: &'a LazyLocation<'a, 'a>,
+    reference: Reference<'a>,
+    asked: Asked<'_>,
+    value: &Value,
+) -> Result<bool, AllocError>
+    requires shallow { depth (view inner.now.contents.now) ≤ deepest (documents_at inner.now) }
+    requires part { IsPart (view value.now) asked }
+    ensures { IfOk result (λ b. IsVerdict inner.now (location_of schema.now ++ path_of_reference (text_of reference.entry)) (value_after (view value.now) (step_of asked.entry)) (not b)) }
+{
+    match asked {
+        Asked::Value => is_refused(alloc, inner, schema, reference, value),
+        Asked::Item { item, .. } => is_refused(alloc, inner, schema, reference, item),
+        Asked::Member { member, .. } => is_refused(alloc, inner, schema, reference, member),
+        Asked::Name(_) => Ok(false),
+    }
+}
+
+// Whether a question's answer is no.
+fn is_question_refused<'a, 'r>(
+    alloc: Global,
+    site: &Site<'r>,
+    schema: &'a LazyLocation<'a, 'a>,
+    reference: Reference<'a>,
+    question: Question<'r, '_>,
+    value: &Value,
+) -> Result<bool, AllocError>
+    requires shallow { depth (view site.now.contents.now) ≤ deepest (documents_at site.now) }
+    requires inside { depth (view question.subschema.schema.now) < depth (view site.now.contents.now) }
+    requires part { IsPart (view value.now) question.asked }
+    ensures { IfOk result (λ b. IsAnswered site.now (location_of schema.now ++ path_of_reference (text_of reference.entry)) (view value.now) question.entry (not b)) }
+{
+    let inner = site.below(alloc, question.subschema.schema)?;
+    let road = schema.push_name(question.subschema.keyword);
+    match question.subschema.entry {
+        Entry::Whole => is_asked_refused(alloc, &inner, &road, reference, question.asked, value),
+        Entry::Name(name) => {
+            let road = road.push_name(name);
+            is_asked_refused(alloc, &inner, &road, reference, question.asked, value)
+        }
+        Entry::Index(index) => {
+            let road = road.push_index(index);
+            is_asked_refused(alloc, &inner, &road, reference, question.asked, value)
+        }
+    }
+}
+
+fn some_of_refused<'a, 'r>(
+    alloc: Global,
+    site: &Site<'r>,
+    schema: &'a LazyLocation<'a, 'a>,
+    reference: Reference<'a>,
+    applicator: Applicator<'r>,
+    asked: &[Question<'r, '_>],
+    value: &Value,
+) -> Result<bool, AllocError>
+    requires shallow { depth (view site.now.contents.now) ≤ deepest (documents_at site.now) }
+    requires every { is_every applicator ≡ true }
+    requires inside { EachInside site.now applicator }
+    requires asked { AreAsked applicator (view value.now) asked.now }
+    ensures { IfOk result (AreRefused site.now (location_of schema.now ++ path_of_reference (text_of reference.entry)) (view value.now) (applied_row applicator.entry) (applied_questions applicator.entry (view value.now))) }
+{
+    for question in asked {
+        if is_question_refused(alloc, site, &*schema, reference, *question, value)? {
+            return Ok(true);
+        }
+    }
+    Ok(false)
+}
+
+/// Whether one of a keyword's questions is answered no.
+///
+/// It takes memory for the list of questions.
+pub fn some_question_refused<'a, 'r>(
+    alloc: Global,
+    site: &Site<'r>,
+    schema: &'a LazyLocation<'a, 'a>,
+    reference: Reference<'a>,
+    applicator: Applicator<'r>,
+    value: &Value,
+) -> Result<bool, AllocError>
+    requires shallow { depth (view site.now.contents.now) ≤ deepest (documents_at site.now) }
+    requires every { is_every applicator ≡ true }
+    requires inside { EachInside site.now applicator }
+    ensures { IfOk result (AreRefused site.now (location_of schema.now ++ path_of_reference (text_of reference.entry)) (view value.now) (applied_row applicator.entry) (applied_questions applicator.entry (view value.now))) }
+{
+    let asked = questions(alloc, &applicator, value)?;
+    let asked = asked.as_slice();
+    some_of_refused(alloc, site, schema, reference, applicator, asked, value)
+}

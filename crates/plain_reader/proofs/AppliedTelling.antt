@@ -1,0 +1,233 @@
+-- What the questions of applicators tell.
+use Rattle.std.proofs.Common.{◌≡◌, ◌≤◌, ◌<◌, ◌++◌, ◌+◌, ◌*◌, ℕ, List, [], ◌∷◌, Bool, true, false, Bor, Option, None, refl, sym, ap, ap₂, subst, ◌∙◌, arith}
+use Rattle.serde_json.specs.Data.{Data, object, depth, Members}
+use Rattle.serde_json.specs.View.{view}
+use Rattle.serde_json.specs.declared.value.Value.{Value}
+use Rattle.json_paths.specs.Parts.{Part, name, index}
+use Rattle.schema_meaning.specs.Members.{In, first, later}
+use Rattle.schema_meaning.specs.Places.{Spot, Step, Key, whole, after, value_after, path_after, called_after}
+use Rattle.schema_meaning.specs.Faults.{Faults, joined}
+use Rattle.schema_meaning.specs.Questions as told
+use Rattle.schema_meaning.specs.Questions.{at, listed_members}
+use Rattle.schema_meaning.specs.Rules.{asks}
+use Rattle.schema_meaning.specs.Keywords.{Shape, rule}
+use Rattle.schema_meaning.specs.Readings.{Asks}
+use Rattle.schema_documents.specs.Bearers.{Documents, meta}
+use Rattle.schema_documents.specs.Places.{by_schema, schema_in_force}
+use Rattle.schema_reading.specs.Sites.{Site, below}
+use Rattle.schema_reading.specs.Rows.{Row, row_at, rows_at}
+use Rattle.schema_reading.specs.Plain.{plain, deepest}
+use Rattle.meaning_laws.proofs.Obliged.{in_map}
+use Rattle.place_laws.proofs.Depths.{placed_contents}
+use Rattle.plain_laws.proofs.Elements.{in_mapped}
+use Rattle.plain_laws.proofs.Nested.{all_known}
+use Rattle.walk_laws.proofs.Begun.{rules_stand}
+use Rattle.applicators.specs.Shapes.{shape_of, leads_of, place_of, added_at}
+use Rattle.applicators.specs.Combined.{is_every}
+use Rattle.applicators.specs.Questions.{step_of, question_of, questions_of}
+use Rattle.applicators.specs.declared.applicator.Applicator.{Applicator}
+use Rattle.applicators.specs.declared.question.Asked.{Asked}
+use Rattle.applicators.specs.declared.question.Asked.TheVariants as asked
+use Rattle.applicators.specs.declared.question.Question.{Question}
+use Rattle.applicators.specs.declared.subschema.Entry.{Entry}
+use Rattle.applicators.specs.declared.subschema.Entry.TheVariants as entry
+use Rattle.applied_laws.specs.Laws.{IsSound}
+use Rattle.applied_laws.proofs.Sound.{questions_are_sound}
+use Rattle.schema_sites.specs.Passed.{base_of, scope_of}
+use Rattle.schema_sites.specs.Read.{row_of, context_at, Finds}
+use Rattle.schema_sites.specs.Seen.{documents_at, Stands}
+use Rattle.schema_sites.specs.declared.keyword.Keyword.{Keyword}
+use Rattle.schema_sites.specs.declared.keyword.Keyword.TheVariants as keyword
+use Rattle.schema_vocabularies.specs.Dialects.{dialect_of}
+use Rattle.schema_sites.specs.declared.site.Site as code
+use Rattle.schema_reports.specs.Observers.{Hears}
+use Rattle.schema_reports.specs.RoadPaths.{instance_in, schema_in, evaluation_in}
+use Rattle.schema_reports.specs.declared.roads.Roads.{Roads}
+use Rattle.schema_reports.specs.declared.observer.Observation.{Observation}
+use Rattle.schema_reports.specs.declared.observer.Observer.{Observer}
+use Rattle.assertion_faults.specs.Tellings.{spot_at}
+use Rattle.plain_reader.specs.Settings.{Setting, asked_in, asked_by}
+use Rattle.plain_reader.specs.Tellings.{Fits, AreRead, Within, Tells, TellsQuestions, room}
+use Rattle.plain_reader.specs.Applied.{applied_leads, applied_questions, AreAsked, question_leads, one_question, EachInside, AsksInside, IsPart, entry_parts, TellsAsked}
+use Rattle.plain_reader.proofs.Reading.{row_here}
+use Rattle.plain_reader.proofs.ToldLemmas.{asked_by-more, asked_by-none}
+use Rattle.plain_reader.proofs.ItemTelling.{Child, Asked as AskedAt, asked_by-one, child_told}
+use Rattle.plain_reader.proofs.Left.{LeftOf, QuestionsLeft}
+use Rattle.plain_reader.proofs.LeftLemmas.{all_left, none_left, settled_left, told_one}
+
+-- ---- one of the code's questions
+
+-- the site of the schema that the code's stands for, wherever it is
+abbrev here : code.Site → Site
+here c = record {
+  document = [];
+  path = [];
+  contents = view c.contents.now;
+  base = base_of c.resolver;
+  dialect = dialect_of c.dialect;
+  scope = scope_of c.resolver;
+  schema_path = [];
+}
+
+module _ (a : Applicator) (d : Data) (qs : List Question) (are : AreAsked a d qs) (every : is_every a ≡ true) (q : Question) (i : In q qs) where
+  one_asked : (matches : List ℕ → List ℕ → Bool) (site : List Part → Data → Site) → In (question_of site q) (asks (rule matches d (shape_of site a)))
+  one_asked matches site = subst (λ ks. In (question_of site q) ks) (are matches site) (in_mapped (question_of site) q qs i)
+
+  pub question_sound : (matches : List ℕ → List ℕ → Bool) (site : List Part → Data → Site) → IsSound site a d (question_of site q)
+  question_sound matches site = questions_are_sound site matches d a every (question_of site q) (one_asked matches site)
+
+  pub question_part : (c : code.Site) → IsPart d q.asked
+  question_part c = let sound = question_sound (λ p text. false) (λ added e. here c) in record { uncalled = sound.uncalled; spots = sound.spots }
+
+  pub question_inside : (c : code.Site) → EachInside c a → depth (view q.subschema.schema.now) < depth (view c.contents.now)
+  question_inside c each =
+      let site = below (documents_at c) (here c) in
+      let added = added_at q.subschema.keyword.now q.subschema.entry in
+      let h = each.each (here c) (record { contents = refl; base = refl; dialect = refl }) refl (λ p text. false) d (question_of site q) (one_asked (λ p text. false) site) in
+      subst (λ (e : Data). depth e < depth (view c.contents.now))
+      (placed_contents (base_of c.resolver) (dialect_of c.dialect) (added ++ []) (view q.subschema.schema.now) (by_schema (meta (documents_at c)) (dialect_of c.dialect) (schema_in_force false (view q.subschema.schema.now)))) h
+
+-- ---- what is asked of
+
+pub part_within : (d whole : Data) (path inner : List Part) (a : Asked) → IsPart d a → inner ≡ path_after path (step_of a) → Within d path whole → Within (value_after d (step_of a)) inner whole
+part_within d whole path inner a part is within =
+    subst (λ p. Within (value_after d (step_of a)) p whole) (sym is) (record { spots = λ w h. within.spots w (part.spots path w h) })
+
+module _ (c : code.Site) (whole d : Data) (roads : Roads) (keys : List Key) where
+  pub tells_asked : (at_roads : Roads) (asked : Asked) (old new : Observer) → instance_in at_roads ≡ path_after (instance_in roads) (step_of asked) → schema_in at_roads ≡ schema_in roads
+      → evaluation_in at_roads ≡ evaluation_in roads → Tells c whole (value_after d (step_of asked)) at_roads keys old new → TellsAsked c whole d roads keys asked [] old new
+  tells_asked at_roads asked old new instance schema evaluation told = record { at = at_roads; instance = instance; schema = schema; evaluation = evaluation; told = told }
+
+  pub told_of_value : (a : Asked) (old new : Observer) → a ≡ asked.Value → Tells c whole d roads keys old new → TellsAsked c whole d roads keys a [] old new
+  told_of_value a old new is told = subst (λ (b : Asked). TellsAsked c whole d roads keys b [] old new) (sym is) (tells_asked roads asked.Value old new refl refl refl told)
+
+  pub told_of_item : (at_roads : Roads) (a : Asked) (i : ℕ) (e : Bor Value) (old new : Observer) → a ≡ asked.Item i e → instance_in at_roads ≡ index i ∷ instance_in roads
+      → schema_in at_roads ≡ schema_in roads → evaluation_in at_roads ≡ evaluation_in roads → Tells c whole (view e.now) at_roads keys old new → TellsAsked c whole d roads keys a [] old new
+  told_of_item at_roads a i e old new is instance schema evaluation told =
+      subst (λ (b : Asked). TellsAsked c whole d roads keys b [] old new) (sym is) (tells_asked at_roads (asked.Item i e) old new instance schema evaluation told)
+
+  pub told_of_member : (at_roads : Roads) (a : Asked) (k : Bor (List ℕ)) (e : Bor Value) (old new : Observer) → a ≡ asked.Member k e → instance_in at_roads ≡ name k.now ∷ instance_in roads
+      → schema_in at_roads ≡ schema_in roads → evaluation_in at_roads ≡ evaluation_in roads → Tells c whole (view e.now) at_roads keys old new → TellsAsked c whole d roads keys a [] old new
+  told_of_member at_roads a k e old new is instance schema evaluation told =
+      subst (λ (b : Asked). TellsAsked c whole d roads keys b [] old new) (sym is) (tells_asked at_roads (asked.Member k e) old new instance schema evaluation told)
+
+  pub behind_entry : (at_roads : Roads) (asked : Asked) (e f : Entry) (old new : Observer) → e ≡ f → instance_in at_roads ≡ instance_in roads → schema_in at_roads ≡ entry_parts f ++ schema_in roads
+      → evaluation_in at_roads ≡ entry_parts f ++ evaluation_in roads → TellsAsked c whole d at_roads keys asked [] old new → TellsAsked c whole d roads keys asked (entry_parts e) old new
+  behind_entry at_roads asked e f old new is instance schema evaluation t =
+      subst (λ (g : Entry). TellsAsked c whole d roads keys asked (entry_parts g) old new) (sym is) (record {
+        at = t.at;
+        instance = t.instance ∙ ap (λ p. path_after p (step_of asked)) instance;
+        schema = t.schema ∙ schema;
+        evaluation = t.evaluation ∙ evaluation;
+        told = t.told;
+      })
+
+-- ---- a question
+
+pub added-parts : (q : Question) → added_at q.subschema.keyword.now q.subschema.entry ≡ entry_parts q.subschema.entry ++ at q.subschema.keyword.now
+added-parts q = by q.subschema.entry
+  where
+    by : (e : Entry) → added_at q.subschema.keyword.now e ≡ entry_parts e ++ at q.subschema.keyword.now
+    by entry.Whole = refl
+    by (entry.Name n) = refl
+    by (entry.Index i) = refl
+
+module _ (c : code.Site) (whole d : Data) (roads : Roads) (keys : List Key) where
+  pub question_told : (b : code.Site) (at_roads : Roads) (q : Question) (old new : Observer) → Child c b (view q.subschema.schema.now) → depth (view q.subschema.schema.now) < depth (view c.contents.now)
+      → IsPart d q.asked → instance_in at_roads ≡ instance_in roads → schema_in at_roads ≡ name q.subschema.keyword.now ∷ schema_in roads
+      → evaluation_in at_roads ≡ name q.subschema.keyword.now ∷ evaluation_in roads → TellsAsked b whole d at_roads keys q.asked (entry_parts q.subschema.entry) old new
+      → TellsQuestions c whole d roads keys (question_leads q) (one_question q) old new
+  question_told b at_roads q old new child inside part instance schema evaluation t =
+      let step = step_of q.asked in
+      let parts = entry_parts q.subschema.entry in
+      let added = added_at q.subschema.keyword.now q.subschema.entry in
+      let k = q.subschema.keyword.now in
+      let joined_by : (xs : List Part) → parts ++ (name k ∷ xs) ≡ added ++ xs = λ xs. parts-joined parts k xs ∙ ap (λ (p : List Part). p ++ xs) (sym (added-parts q)) in
+      let asked : AskedAt added step d (value_after d step) roads t.at = record {
+        schema_path = t.schema ∙ ap (λ p. parts ++ p) schema ∙ joined_by (schema_in roads);
+        spot =
+            spots-same d step added (instance_in roads) (evaluation_in roads) (instance_in t.at) (evaluation_in t.at) part.uncalled (t.instance ∙ ap (λ p. path_after p step) instance)
+            (t.evaluation ∙ ap (λ p. parts ++ p) evaluation ∙ joined_by (evaluation_in roads));
+      } in record {
+        tells = λ x fits read enough kept fs h.
+            subst (λ gs. Hears kept new (joined fs gs)) (sym (asked_by-one x (question_of (below x.documents x.site) q)))
+            (child_told c b (view q.subschema.schema.now) whole d (value_after d step) roads t.at keys added step old new child asked inside t.told x fits (read _ first) enough kept fs h);
+      }
+    where
+      parts-joined : (ps : List Part) (k : List ℕ) (xs : List Part) → ps ++ (name k ∷ xs) ≡ (ps ++ at k) ++ xs
+      parts-joined [] k xs = refl
+      parts-joined (p ∷ ps) k xs = ap (λ ys. p ∷ ys) (parts-joined ps k xs)
+
+      spots-same : (d : Data) (step : Step) (added path road at_path at_road : List Part) → called_after None step ≡ None → at_path ≡ path_after path step → at_road ≡ added ++ road
+          → after (record { value = d; path = path; called = None; road = road }) step added ≡ (record { value = value_after d step; path = at_path; called = None; road = at_road })
+      spots-same d step added path road at_path at_road called is_path is_road =
+          ap (λ (o : Option (List ℕ)). record { value = value_after d step; path = path_after path step; called = o; road = added ++ road }) called
+          ∙ ap₂ (λ (p r : List Part). record { value = value_after d step; path = p; called = None; road = r }) (sym is_path) (sym is_road)
+
+-- ---- one question after another
+
+module _ (c : code.Site) (whole d : Data) (roads : Roads) (keys : List Key) (a : Applicator) where
+  pub questions_init : (all : List Question) (old : Observer) → AreAsked a d all → QuestionsLeft c whole d roads keys a all all old old
+  questions_init all old are = record {
+    among = λ q i. i;
+    left = λ x fits read enough kept fs h.
+        subst (λ qs. LeftOf (asked_by x (applied_questions a d x)) (asked_by x qs) kept fs old) (sym (are x.matches (below x.documents x.site))) (all_left _ kept fs old h);
+  }
+
+  pub questions_settled : (all rest : List Question) (old now : Observer) → ((kept : Observation) (gs hs : Faults) → Hears kept now gs → Hears kept now (joined gs hs))
+      → QuestionsLeft c whole d roads keys a all rest old now → TellsQuestions c whole d roads keys (applied_leads a) (applied_questions a d) old now
+  questions_settled all rest old now settles l = record {
+    tells = λ x fits read enough kept fs h. settled_left _ _ kept fs now (settles kept) (l.left x fits read enough kept fs h);
+  }
+
+  pub questions_done : (all : List Question) (old now : Observer) → QuestionsLeft c whole d roads keys a all [] old now
+      → TellsQuestions c whole d roads keys (applied_leads a) (applied_questions a d) old now
+  questions_done all old now l = record {
+    tells = λ x fits read enough kept fs h. none_left _ _ kept fs now (asked_by-none x) (l.left x fits read enough kept fs h);
+  }
+
+  pub questions_step : (all rest : List Question) (q : Question) (old now new : Observer) → AreAsked a d all → is_every a ≡ true
+      → TellsQuestions c whole d roads keys (question_leads q) (one_question q) now new → QuestionsLeft c whole d roads keys a all (q ∷ rest) old now
+      → QuestionsLeft c whole d roads keys a all rest old new
+  questions_step all rest q old now new are every told l = record {
+    among = λ p i. l.among p (later i);
+    left = λ x fits read enough kept fs h.
+        let site = below x.documents x.site in
+        let sound = question_sound a d all are every q (l.among q first) x.matches site in
+        let here : (t : Site) → In t (question_leads q x) → AreRead x.documents x.makes t = λ t i. read t (only_one (place_of site q.subschema) t (leads_of site a) sound.led i) in
+        let more = questions_of site rest in
+        let left = subst (λ gs. LeftOf (asked_by x (applied_questions a d x)) gs kept fs now) (asked_by-more x (question_of site q) more) (l.left x fits read enough kept fs h) in
+        told_one _ (asked_in x (question_of site q)) (asked_by x more) _ kept fs now new refl
+        (λ gs g. subst (λ hs. Hears kept new (joined gs hs)) (asked_by-one x (question_of site q)) (told.tells x fits here enough kept gs g)) left;
+  }
+    where
+      only_one : (s t : Site) (ss : List Site) → In s ss → In t (s ∷ []) → In t ss
+      only_one s t ss i first = i
+      only_one s t ss i (later j) = elim j [ ]
+
+-- ---- the schemas that a keyword asks
+
+pub asks_inside : (c : code.Site) (ms : Members) (k : List ℕ) (e : Data) (word : Keyword) → view c.contents.now ≡ object ms → In (k, e) (listed_members ms)
+    → ((makes : List ℕ → Bool) (s : Site) → Stands c s → s.scope ≡ scope_of c.resolver → row_at (context_at c ms makes s) k e ≡ row_of (documents_at c) s word) → Finds c e word → AsksInside c word
+asks_inside c ms k e keyword.Nothing is listed reads found = tt
+asks_inside c ms k e (keyword.Assertion a) is listed reads found = tt
+asks_inside c ms k e (keyword.Items start schema) is listed reads found = tt
+asks_inside c ms k e (keyword.Properties map) is listed reads found = tt
+asks_inside c ms k e (keyword.Reference by text target) is listed reads found = tt
+asks_inside c ms k e (keyword.Applicator a) is listed reads found = record {
+  each = λ s stands scope matches d q i.
+      let docs = documents_at c in
+      let makes = λ (t : List ℕ). true in
+      let shape = shape_of (below docs s) a in
+      let row = row_at (context_at c ms makes s) k e in
+      let same : row ≡ row_of docs s (keyword.Applicator a) = reads makes s stands scope in
+      let lies : In row (rows_at docs makes s) = row_here docs makes s ms k e (stands.contents ∙ is) listed in
+      let there : In shape row.shapes = subst (λ (r : Row). In shape r.shapes) (sym same) first in
+      let asks_it : Asks (plain docs makes matches) s (whole d) q = record {
+        keyword = rule matches d shape;
+        stands = rules_stand docs makes matches s row d lies (rule matches d shape) (in_map (rule matches d) shape row.shapes there);
+        asked = i;
+      } in
+      let known = all_known docs makes matches s (whole d) q asks_it in
+      subst (λ (f : Data). depth q.site.contents < depth f) stands.contents ((known.within (questions_are_sound (below docs s) matches d a found q i).within).is);
+}

@@ -1,0 +1,78 @@
+-- What keywords with subschemas ask, and what their questions tell.
+use Rattle.std.specs.Prelude.{◌≡◌, ◌<◌, ◌++◌, ℕ, List, [], ◌∷◌, Bool, Option, None}
+use Rattle.serde_json.specs.Data.{Data, depth}
+use Rattle.serde_json.specs.View.{view}
+use Rattle.json_paths.specs.Parts.{Part, name, index}
+use Rattle.schema_meaning.specs.Members.{In}
+use Rattle.schema_meaning.specs.Places.{Key, value_after, path_after, called_after}
+use Rattle.schema_meaning.specs.Questions as told
+use Rattle.schema_meaning.specs.Rules.{asks}
+use Rattle.schema_meaning.specs.Keywords.{rule}
+use Rattle.schema_reading.specs.Sites.{Site, below}
+use Rattle.schema_reading.specs.AllKeys.{spots_in}
+use Rattle.applicators.specs.Shapes.{shape_of, leads_of, place_of}
+use Rattle.applicators.specs.Questions.{step_of, question_of, questions_of}
+use Rattle.applicators.specs.declared.applicator.Applicator.{Applicator}
+use Rattle.applicators.specs.declared.question.Asked.{Asked}
+use Rattle.applicators.specs.declared.question.Question.{Question}
+use Rattle.applicators.specs.declared.subschema.Entry.{Entry}
+use Rattle.applicators.specs.declared.subschema.Entry.TheVariants as entry
+use Rattle.schema_sites.specs.Passed.{scope_of}
+use Rattle.schema_sites.specs.Seen.{documents_at, Stands}
+use Rattle.schema_sites.specs.declared.keyword.Keyword.{Keyword}
+use Rattle.schema_sites.specs.declared.keyword.Keyword.TheVariants as keyword
+use Rattle.schema_sites.specs.declared.site.Site as code
+use Rattle.schema_reports.specs.RoadPaths.{instance_in, schema_in, evaluation_in}
+use Rattle.schema_reports.specs.declared.roads.Roads.{Roads}
+use Rattle.schema_reports.specs.declared.observer.Observer.{Observer}
+use Rattle.plain_reader.specs.Settings.{Setting}
+use Rattle.plain_reader.specs.Tellings.{Tells}
+
+abbrev pub applied_leads : Applicator → Setting → List Site
+applied_leads a x = leads_of (below x.documents x.site) a
+
+abbrev pub applied_questions : Applicator → Data → Setting → List (told.Question Site)
+applied_questions a d x = asks (rule x.matches d (shape_of (below x.documents x.site) a))
+
+-- the code's questions are those that an applicator asks of a value
+abbrev pub AreAsked : Applicator → Data → List Question → Type 0
+AreAsked a d qs = (matches : List ℕ → List ℕ → Bool) (site : List Part → Data → Site) → questions_of site qs ≡ asks (rule matches d (shape_of site a))
+
+-- of one of these questions
+abbrev pub question_leads : Question → Setting → List Site
+question_leads q x = place_of (below x.documents x.site) q.subschema ∷ []
+
+abbrev pub one_question : Question → Setting → List (told.Question Site)
+one_question q x = question_of (below x.documents x.site) q ∷ []
+
+-- each schema that an applicator asks is less deep than the one at the site
+pub record EachInside (c : code.Site) (a : Applicator) : Type 0 where
+  pub each : (s : Site) → Stands c s → s.scope ≡ scope_of c.resolver → (matches : List ℕ → List ℕ → Bool) (d : Data) (q : told.Question Site)
+      → In q (asks (rule matches d (shape_of (below (documents_at c) s) a))) → depth q.site.contents < depth (view c.contents.now)
+
+abbrev pub AsksInside : code.Site → Keyword → Type 0
+AsksInside c keyword.Nothing = Unit {0}
+AsksInside c (keyword.Assertion a) = Unit {0}
+AsksInside c (keyword.Items start schema) = Unit {0}
+AsksInside c (keyword.Properties map) = Unit {0}
+AsksInside c (keyword.Applicator a) = EachInside c a
+AsksInside c (keyword.Reference by text target) = Unit {0}
+
+-- what is asked of is no name, and its places are the value's
+pub record IsPart (d : Data) (a : Asked) : Type 0 where
+  pub uncalled : called_after None (step_of a) ≡ None
+  pub spots : (path : List Part) (w : List Part × Option (List ℕ)) → In w (spots_in (path_after path (step_of a)) (value_after d (step_of a))) → In w (spots_in path d)
+
+-- the parts behind a keyword's name, last part first
+abbrev pub entry_parts : Entry → List Part
+entry_parts entry.Whole = []
+entry_parts (entry.Name n) = name n.now ∷ []
+entry_parts (entry.Index i) = index i ∷ []
+
+-- the observer is told what the schema at a site tells of what is asked of, the roads going on by these parts
+pub record TellsAsked (c : code.Site) (whole d : Data) (roads : Roads) (keys : List Key) (asked : Asked) (parts : List Part) (old new : Observer) : Type 0 where
+  pub at : Roads
+  pub instance : instance_in at ≡ path_after (instance_in roads) (step_of asked)
+  pub schema : schema_in at ≡ parts ++ schema_in roads
+  pub evaluation : evaluation_in at ≡ parts ++ evaluation_in roads
+  pub told : Tells c whole (value_after d (step_of asked)) at keys old new

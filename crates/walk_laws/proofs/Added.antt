@@ -1,0 +1,36 @@
+-- What questions add to the road begins by their keyword.
+use Rattle.std.proofs.Common.{◌≡◌, ◌++◌, ℕ, suc, List, [], ◌∷◌, Option, None, Some, refl}
+use Rattle.std.specs.List.{AllByRecursion}
+use Rattle.serde_json.specs.Data.{Data, Items, no_items, item}
+use Rattle.serde_json.specs.Find.{get}
+use Rattle.json_paths.specs.Parts.{Part, name, index}
+use Rattle.schema_meaning.specs.Members.{In, first, later}
+use Rattle.schema_meaning.specs.Places.{stay}
+use Rattle.schema_meaning.specs.Questions.{Question, question, at, at_name, each_branch, item_by_item, if_member, each_triggered}
+use Rattle.walk_laws.proofs.Listed.{in_some}
+
+abbrev pub AddsTo : {S : Type 0} → List ℕ → Question S → Type 0
+AddsTo k q = (ps : List Part) × (q.added ≡ ps ++ at k)
+
+module _ {S : Type 0} (k : List ℕ) where
+  pub branch_added : (i : ℕ) (ss : List S) (q : Question S) → In q (each_branch k i ss) → AddsTo k q
+  branch_added i [] q h = elim h [ ]
+  branch_added i (s ∷ ss) q first = (index i ∷ [], refl)
+  branch_added i (s ∷ ss) q (later h) = branch_added (suc i) ss q h
+
+  pub by_item_added : (ss : List S) (i : ℕ) (ds : Items) (q : Question S) → In q (item_by_item k ss i ds) → AddsTo k q
+  by_item_added [] i ds q h = elim h [ ]
+  by_item_added (s ∷ ss) i no_items q h = elim h [ ]
+  by_item_added (s ∷ ss) i (item d ds) q first = (index i ∷ [], refl)
+  by_item_added (s ∷ ss) i (item d ds) q (later h) = by_item_added ss (suc i) ds q h
+
+  abbrev trigger : Data → List ℕ × S → List (Question S)
+  trigger d p = if_member (get p.0 d) (λ e. question p.1 stay (at_name k p.0) ∷ [])
+
+  one_added : (p : List ℕ × S) (o : Option Data) (q : Question S) → In q (if_member o (λ e. question p.1 stay (at_name k p.0) ∷ [])) → AddsTo k q
+  one_added p None q h = elim h [ ]
+  one_added p (Some e) q first = (name p.0 ∷ [], refl)
+  one_added p (Some e) q (later h) = elim h [ ]
+
+  pub triggered_added : (d : Data) (ps : List (List ℕ × S)) (q : Question S) → In q (each_triggered k d ps) → AddsTo k q
+  triggered_added d ps q h = let w = in_some (trigger d) ps h in one_added w.0 (get w.0.0 d) q w.2
