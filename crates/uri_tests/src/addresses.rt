@@ -3,41 +3,56 @@
 use ip_literals::addresses::{
     is_dec_octet, is_ip_future, is_ip_literal, is_ipv4_address, is_ipv6_address,
 };
+use std::process::Abort;
+
+fn assert_told(rt: &impl Abort, rows: &[(&str, bool)]) {
+    for (text, address) in rows {
+        assert_eq!(rt; is_ipv6_address(text), *address, "{text}");
+    }
+}
 
 /// Each text, and whether it is an IPv6 address.
 #[test]
 fn tells_addresses(rt: HostRuntime) {
-    for (text, address) in [
-        ("::", true),
-        ("::1", true),
-        ("1:2:3:4:5:6:7:8", true),
-        ("2001:DB8:0:0:8:800:200C:417A", true),
-        ("2001:DB8::8:800:200C:417A", true),
-        ("::ffff:192.0.2.1", true),
-        ("0:0:0:0:0:FFFF:129.144.52.38", true),
-        ("1::8", true),
-        ("1:2:3:4:5:6:7::", true),
-        ("::2:3:4:5:6:7:8", true),
-        ("", false),
-        ("1:2:3", false),
-        ("1::2::3", false),
-        ("12345::", false),
-        ("::256.0.0.1", false),
-        ("::1.2.3", false),
-        ("1.2.3.4::", false),
-        (":::", false),
-        ("1:2:3:4::5:6:7:8", false),
-        ("1:2:3:4:5:6:7:8:9", false),
-        ("::g", false),
-    ] {
-        assert_eq!(rt; is_ipv6_address(text), address, "{text}");
-    }
-    assert!(rt;
-        is_ipv4_address("192.0.2.16")
-            && !is_ipv4_address("192.0.2")
-            && !is_ipv4_address("192.0.2.016")
+    assert_told(
+        &rt,
+        &[
+            ("::", true),
+            ("::1", true),
+            ("1:2:3:4:5:6:7:8", true),
+            ("2001:DB8:0:0:8:800:200C:417A", true),
+            ("2001:DB8::8:800:200C:417A", true),
+            ("::ffff:192.0.2.1", true),
+            ("0:0:0:0:0:FFFF:129.144.52.38", true),
+            ("1::8", true),
+            ("1:2:3:4:5:6:7::", true),
+            ("::2:3:4:5:6:7:8", true),
+            ("", false),
+            ("1:2:3", false),
+            ("1::2::3", false),
+            ("12345::", false),
+            ("::256.0.0.1", false),
+            ("::1.2.3", false),
+            ("1.2.3.4::", false),
+            (":::", false),
+            ("1:2:3:4::5:6:7:8", false),
+            ("1:2:3:4:5:6:7:8:9", false),
+            ("::g", false),
+        ],
     );
-    assert!(rt; is_dec_octet("255") && !is_dec_octet("256"));
-    assert!(rt; is_ip_future("v1F.a:b") && !is_ip_future("v.x") && !is_ip_future("v1"));
-    assert!(rt; is_ip_literal("[::1]") && !is_ip_literal("[::1") && !is_ip_literal("[1.2.3.4]"));
+}
+
+#[test]
+fn tells_other_addresses(rt: HostRuntime) {
+    assert!(rt; is_ipv4_address("192.0.2.16"));
+    assert!(rt; !is_ipv4_address("192.0.2"));
+    assert!(rt; !is_ipv4_address("192.0.2.016"));
+    assert!(rt; is_dec_octet("255"));
+    assert!(rt; !is_dec_octet("256"));
+    assert!(rt; is_ip_future("v1F.a:b"));
+    assert!(rt; !is_ip_future("v.x"));
+    assert!(rt; !is_ip_future("v1"));
+    assert!(rt; is_ip_literal("[::1]"));
+    assert!(rt; !is_ip_literal("[::1"));
+    assert!(rt; !is_ip_literal("[1.2.3.4]"));
 }

@@ -1,5 +1,7 @@
 // The fragments of RFC 6901, section 6: a pointer, and how it is written as a URI fragment.
 use percent_encoding::percent_decode_str;
+use std::alloc::Global;
+use std::process::Abort;
 use std::test::Fail;
 use uri_fragments::FragmentBuffer;
 
@@ -18,31 +20,60 @@ const FRAGMENTS: [(&str, &str); 12] = [
     ("/m~0n", "/m~0n"),
 ];
 
-#[test]
-fn pointers_as_fragments(rt: HostRuntime) -> Result<(), Fail> {
-    for (pointer, fragment) in FRAGMENTS {
-        let mut buffer = FragmentBuffer::new(rt.alloc());
-        buffer.push(pointer)?;
-        assert_eq!(rt; buffer.as_str(), fragment);
-        let back = percent_decode_str(buffer.as_str()).decode_utf8(rt.alloc())?;
-        assert_eq!(rt; back.as_str(), pointer);
+// What is written of pieces that are pushed one after another.
+fn written(alloc: Global, pieces: &[&str]) -> Result<String, Fail> {
+    let mut buffer = FragmentBuffer::new(alloc);
+    for piece in pieces {
+        buffer.push(piece)?;
+    }
+    Ok(String::from_str(alloc, buffer.as_str())?)
+}
+
+fn fragment_of(alloc: Global, pointer: &str) -> Result<String, Fail> {
+    let mut buffer = FragmentBuffer::new(alloc);
+    buffer.push(pointer)?;
+    Ok(String::from_str(alloc, buffer.as_str())?)
+}
+
+fn pointer_of(alloc: Global, fragment: &str) -> Result<String, Fail> {
+    let pointer = percent_decode_str(fragment).decode_utf8(alloc)?;
+    Ok(String::from_str(alloc, pointer.as_str())?)
+}
+
+fn assert_written(rt: &impl Abort, alloc: Global, rows: &[(&str, &str)]) -> Result<(), Fail> {
+    for (pointer, fragment) in rows {
+        let text = fragment_of(alloc, pointer)?;
+        assert_eq!(rt; text.as_str(), *fragment);
+        let back = pointer_of(alloc, text.as_str())?;
+        assert_eq!(rt; back.as_str(), *pointer);
     }
     Ok(())
 }
 
 #[test]
-fn pieces(rt: HostRuntime) -> Result<(), Fail> {
-    let mut buffer = FragmentBuffer::new(rt.alloc());
-    // Unreserved characters, sub-delims and the rest that stand for themselves, of RFC 3986, sections 2.3, 2.2 and 3.5.
-    buffer.push("azAZ09-._~")?;
-    buffer.push("!$&'()*+,;=")?;
-    buffer.push(":@/?")?;
-    assert_eq!(rt; buffer.as_str(), "azAZ09-._~!$&'()*+,;=:@/?");
-    // U+00E9 is C3 A9 in UTF-8; a `%` is one of the text, whatever comes after it.
-    buffer.push("#[]\u{e9}%")?;
-    buffer.push("41")?;
+fn pointers_as_fragments(rt: HostRuntime) -> Result<(), Fail> {
+    assert_written(&rt, rt.alloc(), &FRAGMENTS)
+}
+
+// Unreserved characters, sub-delims and the rest that stand for themselves, of RFC 3986, sections 2.3, 2.2 and 3.5.
+#[test]
+fn pieces_that_stand(rt: HostRuntime) -> Result<(), Fail> {
     assert_eq!(rt;
-        buffer.as_str(),
+        written(rt.alloc(), &["azAZ09-._~", "!$&'()*+,;=", ":@/?"])?.as_str(),
+        "azAZ09-._~!$&'()*+,;=:@/?"
+    );
+    Ok(())
+}
+
+// U+00E9 is C3 A9 in UTF-8; a `%` is one of the text, whatever comes after it.
+#[test]
+fn pieces_that_are_encoded(rt: HostRuntime) -> Result<(), Fail> {
+    assert_eq!(rt;
+        written(
+            rt.alloc(),
+            &["azAZ09-._~", "!$&'()*+,;=", ":@/?", "#[]\u{e9}%", "41"]
+        )?
+        .as_str(),
         "azAZ09-._~!$&'()*+,;=:@/?%23%5B%5D%C3%A9%2541"
     );
     Ok(())

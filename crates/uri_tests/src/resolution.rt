@@ -1,6 +1,7 @@
 //! The examples of RFC 3986.
 
-use std::alloc::AllocError;
+use std::alloc::{AllocError, Global};
+use std::process::Abort;
 use uri_grammar::components::{Components, split_reference};
 use uri_resolution::dots::remove_dot_segments;
 use uri_resolution::normal::normalize;
@@ -11,12 +12,23 @@ use uri_resolution::writing::write_guarded;
 /// Section 5.2.4.
 #[test]
 fn removes_dot_segments(rt: HostRuntime) -> Result<(), AllocError> {
-    for (path, want) in [
-        ("/a/b/c/./../../g", "/a/g"),
-        ("mid/content=5/../6", "mid/6"),
-    ] {
-        let path = remove_dot_segments(rt.alloc(), path)?;
-        assert_eq!(rt; path.as_str(), want);
+    let path = remove_dot_segments(rt.alloc(), "/a/b/c/./../../g")?;
+    assert_eq!(rt; path.as_str(), "/a/g");
+    let path = remove_dot_segments(rt.alloc(), "mid/content=5/../6")?;
+    assert_eq!(rt; path.as_str(), "mid/6");
+    Ok(())
+}
+
+fn assert_resolved(
+    rt: &impl Abort,
+    alloc: Global,
+    base: &str,
+    rows: &[(&str, &str)],
+) -> Result<(), AllocError> {
+    let base = split_reference(base);
+    for (reference, want) in rows {
+        let target = resolve(alloc, &base, &split_reference(reference))?;
+        assert_eq!(rt; target.as_str(), *want, "{reference}");
     }
     Ok(())
 }
@@ -24,12 +36,7 @@ fn removes_dot_segments(rt: HostRuntime) -> Result<(), AllocError> {
 /// Sections 5.4.1 and 5.4.2, against `http://a/b/c/d;p?q`.
 #[test]
 fn resolves(rt: HostRuntime) -> Result<(), AllocError> {
-    let base = split_reference("http://a/b/c/d;p?q");
-    for (reference, want) in EXAMPLES {
-        let target = resolve(rt.alloc(), &base, &split_reference(reference))?;
-        assert_eq!(rt; target.as_str(), want, "{reference}");
-    }
-    Ok(())
+    assert_resolved(&rt, rt.alloc(), "http://a/b/c/d;p?q", &EXAMPLES)
 }
 
 /// References against `http://a/b/c/d;p?q`, and what they lead to.
@@ -78,21 +85,34 @@ pub const EXAMPLES: [(&str, &str); 42] = [
     ("http:g", "http:g"),
 ];
 
+fn assert_normal(rt: &impl Abort, alloc: Global, rows: &[(&str, &str)]) -> Result<(), AllocError> {
+    for (text, want) in rows {
+        let normal = normalize(alloc, &split_reference(text))?;
+        assert_eq!(rt; normal.as_str(), *want, "{text}");
+    }
+    Ok(())
+}
+
 /// Section 6.2.2.
 #[test]
 fn normalizes(rt: HostRuntime) -> Result<(), AllocError> {
-    for (text, want) in [
-        ("example://a/b/c/%7Bfoo%7D", "example://a/b/c/%7Bfoo%7D"),
-        (
-            "eXAMPLE://a/./b/../b/%63/%7bfoo%7d",
-            "example://a/b/c/%7Bfoo%7D",
-        ),
-        ("HTTP://www.EXAMPLE.com/", "http://www.example.com/"),
-        ("a://U%73er@H:80/%3a", "a://User@h:80/%3A"),
-    ] {
-        let normal = normalize(rt.alloc(), &split_reference(text))?;
-        assert_eq!(rt; normal.as_str(), want, "{text}");
-    }
+    assert_normal(
+        &rt,
+        rt.alloc(),
+        &[
+            ("example://a/b/c/%7Bfoo%7D", "example://a/b/c/%7Bfoo%7D"),
+            (
+                "eXAMPLE://a/./b/../b/%63/%7bfoo%7d",
+                "example://a/b/c/%7Bfoo%7D",
+            ),
+            ("HTTP://www.EXAMPLE.com/", "http://www.example.com/"),
+            ("a://U%73er@H:80/%3a", "a://User@h:80/%3A"),
+        ],
+    )
+}
+
+#[test]
+fn normalizes_triplets(rt: HostRuntime) -> Result<(), AllocError> {
     let triplets = normalize_triplets(rt.alloc(), "%41%c3%bc%2E%")?;
     assert_eq!(rt; triplets.as_str(), "A%C3%BC.%");
     Ok(())
