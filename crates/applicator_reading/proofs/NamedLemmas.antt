@@ -5,8 +5,8 @@ use Rattle.serde_json.specs.Data.{Data}
 use Rattle.schema_meaning.specs.Members.{is_listed}
 use Rattle.schema_reading.specs.Rows.{Context, readers, read_among, additional_properties_row}
 use Rattle.applicator_reading.specs.Beside.{Surrounds}
-use Rattle.applicator_reading.specs.Names.{applicator_names, every_names, is_read, needs_no_names}
-use Rattle.applicator_reading.specs.Reads.{ReadsAs, AppliesEvery}
+use Rattle.applicator_reading.specs.Names.{applicator_names, valued_names, is_read, needs_no_names}
+use Rattle.applicator_reading.specs.Reads.{ReadsAs, AsksValues}
 use Rattle.applicator_reading.specs.declared.neighbours.Neighbours.{Neighbours}
 use Rattle.applicator_reading.specs.declared.reading.Reading.{Reading}
 
@@ -18,12 +18,12 @@ pub named-at : (k known : List ℕ) (x : Context) (d : Data) → k ≡ known →
 named-at k known x d is listed =
     ap (λ (b : Bool). b || (bytes_eq k (codes "additionalProperties") && needs_no_names x d)) (ap (λ (w : List ℕ). is_listed w applicator_names) is ∙ listed)
 
-pub not-every : (k known : List ℕ) → k ≡ known → is_listed known every_names ≡ false → is_listed k every_names ≡ true → ⊥
-not-every k known is unlisted listed = true≢false (sym listed ∙ ap (λ (w : List ℕ). is_listed w every_names) is ∙ unlisted)
+pub not-valued : (k known : List ℕ) → k ≡ known → is_listed known valued_names ≡ false → is_listed k valued_names ≡ true → ⊥
+not-valued k known is unlisted listed = true≢false (sym listed ∙ ap (λ (w : List ℕ). is_listed w valued_names) is ∙ unlisted)
 
-pub some-every : {A : Type 0} (o : Option Reading) → (A → ⊥) → IfSome o (λ r. A → AppliesEvery r)
-some-every None h = tt
-some-every (Some r) h = λ a. absurd (h a)
+pub some-valued : {A : Type 0} (o : Option Reading) → (A → ⊥) → IfSome o (λ r. A → AsksValues r)
+some-valued None h = tt
+some-valued (Some r) h = λ a. absurd (h a)
 
 module _ (k : List ℕ) (n : Neighbours) (d : Data) (is : k ≡ codes "additionalProperties") where
   pub additional-read : (o : Option Reading)

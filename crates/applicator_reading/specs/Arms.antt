@@ -31,14 +31,6 @@ list_shape AllOf ss = all_of ss
 list_shape AnyOf ss = any_of ss
 list_shape OneOf ss = one_of ss
 
--- whether it accepts a value just where every answer is yes
-abbrev pub list_is_every : ListKeyword → Bool
-list_is_every ItemList = true
-list_is_every PrefixItems = true
-list_is_every AllOf = true
-list_is_every AnyOf = false
-list_is_every OneOf = false
-
 abbrev pub list_row : ListKeyword → Context → Data → Row
 list_row w x d = schema_list x (list_name w) (list_word w) (list_shape w) d
 

@@ -19,9 +19,10 @@ needs_no_names x (string s) = true
 needs_no_names x (array ds) = true
 needs_no_names x (object ms) = false
 
--- the names of those that accept a value just where every answer is yes
-abbrev pub every_names : List (List ℕ)
-every_names = codes "items" ∷ codes "prefixItems" ∷ codes "properties" ∷ codes "dependentSchemas" ∷ codes "allOf" ∷ []
+-- the names of those whose verdict is by the number of answers that are yes
+abbrev pub valued_names : List (List ℕ)
+valued_names =
+    codes "items" ∷ codes "prefixItems" ∷ codes "additionalItems" ∷ codes "properties" ∷ codes "dependentSchemas" ∷ codes "allOf" ∷ codes "anyOf" ∷ codes "oneOf" ∷ codes "not" ∷ []
 
 abbrev pub is_read : Context → List ℕ → Data → Bool
 is_read x k d = is_listed k applicator_names || (bytes_eq k (codes "additionalProperties") && needs_no_names x d)

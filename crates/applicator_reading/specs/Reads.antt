@@ -7,7 +7,7 @@ use Rattle.schema_meaning.specs.Members.{In}
 use Rattle.schema_reading.specs.Sites.{Site, below}
 use Rattle.schema_reading.specs.Rows.{Row, BuildCause, keyword_value, Context, place_at, at, reads}
 use Rattle.applicators.specs.Shapes.{shape_of, leads_of}
-use Rattle.applicators.specs.Combined.{is_every}
+use Rattle.applicators.specs.Combined.{asks_values}
 use Rattle.applicator_reading.specs.declared.reading.Reading.{Reading}
 use Rattle.applicator_reading.specs.declared.reading.Reading.TheVariants as reading
 
@@ -29,14 +29,14 @@ ReadsAs x k row (reading.Value expected) = IsCause (keyword_value (place_at x (a
 ReadsAs x k row (reading.Entry n expected) = IsCause (keyword_value (place_at x (name n.now ∷ name k ∷ [])) expected.now) row
 ReadsAs x k row (reading.Element i expected) = IsCause (keyword_value (place_at x (index i ∷ name k ∷ [])) expected.now) row
 
--- what is applied accepts a value just where every answer is yes
-abbrev pub AppliesEvery : Reading → Type 0
-AppliesEvery (reading.Applied a) = is_every a ≡ true
-AppliesEvery reading.Nothing = Unit {0}
-AppliesEvery (reading.Consequent schema) = ⊥
-AppliesEvery (reading.Value expected) = Unit {0}
-AppliesEvery (reading.Entry n expected) = Unit {0}
-AppliesEvery (reading.Element i expected) = Unit {0}
+-- the verdict of what is applied is by the number of answers that are yes
+abbrev pub AsksValues : Reading → Type 0
+AsksValues (reading.Applied a) = asks_values a ≡ true
+AsksValues reading.Nothing = Unit {0}
+AsksValues (reading.Consequent schema) = ⊥
+AsksValues (reading.Value expected) = Unit {0}
+AsksValues (reading.Entry n expected) = Unit {0}
+AsksValues (reading.Element i expected) = Unit {0}
 
 -- schemas refused for that cause among others
 abbrev pub IsRefusedFor : {A : Type 0} → BuildCause → Result A (List BuildCause) → Type 0

@@ -6,8 +6,8 @@ ghost use Rattle.json_paths.specs.Parts.{Part};
 ghost use Rattle.schema_reading.specs.Sites.{Site};
 ghost use Rattle.schema_reading.specs.Rows.{sites_named};
 ghost use Rattle.applicators.specs.Shapes.{shape_of, leads_of, sites_of_list, sites_of_map};
-ghost use Rattle.applicators.specs.Combined.{is_every};
-ghost use Rattle.applicator_reading.specs.Arms.{list_name, list_word, list_shape, list_is_every, map_name, map_shape};
+ghost use Rattle.applicators.specs.Combined.{asks_values};
+ghost use Rattle.applicator_reading.specs.Arms.{list_name, list_word, list_shape, map_name, map_shape};
 
 use applicators::applicator::Applicator;
 use serde_json::{Map, Value};
@@ -44,7 +44,7 @@ impl ListKeyword {
     pub(crate) const fn applied(self, schemas: &[Value]) -> Applicator<'_>
         ensures shape { (site : List Part → Data → Site) → shape_of site result ≡ list_shape self (sites_of_list site (list_name self) 0 (items_view schemas.now)) }
         ensures leads { (site : List Part → Data → Site) → leads_of site result ≡ sites_of_list site (list_name self) 0 (items_view schemas.now) }
-        ensures every { is_every result ≡ list_is_every self }
+        ensures values { asks_values result ≡ true }
     {
         match self {
             ListKeyword::ItemList => Applicator::ItemList(schemas),
@@ -60,7 +60,7 @@ impl MapKeyword {
     pub(crate) const fn applied(self, schemas: &Map<String, Value>) -> Applicator<'_>
         ensures shape { (site : List Part → Data → Site) → shape_of site result ≡ map_shape self (sites_of_map site (map_name self) (members_view schemas.now.entries)) }
         ensures leads { (site : List Part → Data → Site) → leads_of site result ≡ sites_named (sites_of_map site (map_name self) (members_view schemas.now.entries)) }
-        ensures every { is_every result ≡ true }
+        ensures values { asks_values result ≡ true }
     {
         match self {
             MapKeyword::Properties => Applicator::Properties(schemas),

@@ -6,9 +6,9 @@ ghost use Rattle.schema_meaning.specs.Members.{is_listed};
 ghost use Rattle.schema_reading.specs.Sites.{Site};
 ghost use Rattle.schema_reading.specs.Rows as rows;
 ghost use Rattle.applicator_reading.specs.Beside.{Surrounds};
-ghost use Rattle.applicator_reading.specs.Names.{is_read, needs_no_names, every_names};
-ghost use Rattle.applicator_reading.specs.Arms.{list_name, list_row, list_is_every, map_name, map_row};
-ghost use Rattle.applicator_reading.specs.Reads.{ReadsAs, AppliesEvery, site_in};
+ghost use Rattle.applicator_reading.specs.Names.{is_read, needs_no_names, valued_names};
+ghost use Rattle.applicator_reading.specs.Arms.{list_name, list_row, map_name, map_row};
+ghost use Rattle.applicator_reading.specs.Reads.{ReadsAs, AsksValues, site_in};
 
 use crate::entries::{other_item, other_member};
 use crate::keyword::{ListKeyword, MapKeyword};
@@ -66,9 +66,10 @@ fn is_false(value: &Value) -> bool
 
 // The reading of a keyword whose value is one schema, where it is one.
 fn if_schema<'r>(schema: &Value, reading: Reading<'r>) -> Reading<'r>
-    ensures { (x : rows.Context) (k : List ℕ) (shapes : Site → List (Shape Site))
+    ensures read { (x : rows.Context) (k : List ℕ) (shapes : Site → List (Shape Site))
         → ReadsAs x k (rows.reads (site_in x (rows.at k) (view schema.now) ∷ []) (shapes (site_in x (rows.at k) (view schema.now)))) reading.entry
         → ReadsAs x k (rows.one_schema x k shapes (view schema.now)) result }
+    ensures values { AsksValues reading.entry → AsksValues result }
 {
     if is_schema(schema) {
         reading
@@ -79,7 +80,7 @@ fn if_schema<'r>(schema: &Value, reading: Reading<'r>) -> Reading<'r>
 
 fn list<'r>(keyword: ListKeyword, value: &'r Value) -> Reading<'r>
     ensures read { (x : rows.Context) → ReadsAs x (list_name keyword) (list_row keyword x (view value.now)) result }
-    ensures every { list_is_every keyword ≡ true → AppliesEvery result }
+    ensures values { AsksValues result }
 {
     let Some(items) = value.as_array() else {
         return Reading::Value {
@@ -98,7 +99,7 @@ fn list<'r>(keyword: ListKeyword, value: &'r Value) -> Reading<'r>
 
 fn map<'r>(keyword: MapKeyword, value: &'r Value) -> Reading<'r>
     ensures read { (x : rows.Context) → ReadsAs x (map_name keyword) (map_row keyword x (view value.now)) result }
-    ensures every { AppliesEvery result }
+    ensures values { AsksValues result }
 {
     let Some(schemas) = value.as_object() else {
         return Reading::Value { expected: "object" };
@@ -114,7 +115,7 @@ fn map<'r>(keyword: MapKeyword, value: &'r Value) -> Reading<'r>
 
 fn items<'r>(neighbours: Neighbours<'r>, value: &'r Value) -> Reading<'r>
     ensures read { (x : rows.Context) → Surrounds neighbours.entry x → ReadsAs x (codes "items") (rows.items_row x (codes "items") (view value.now)) result }
-    ensures every { AppliesEvery result }
+    ensures values { AsksValues result }
 {
     if is_schema(value) {
         return Reading::Applied(Applicator::Items {
@@ -130,7 +131,8 @@ fn items<'r>(neighbours: Neighbours<'r>, value: &'r Value) -> Reading<'r>
 }
 
 fn additional_items<'r>(neighbours: Neighbours<'r>, value: &'r Value) -> Reading<'r>
-    ensures { (x : rows.Context) → Surrounds neighbours.entry x → ReadsAs x (codes "additionalItems") (rows.additional_items_row x (codes "additionalItems") (view value.now)) result }
+    ensures read { (x : rows.Context) → Surrounds neighbours.entry x → ReadsAs x (codes "additionalItems") (rows.additional_items_row x (codes "additionalItems") (view value.now)) result }
+    ensures values { AsksValues result }
 {
     let Some(start) = items_length(neighbours) else {
         return Reading::Nothing;
@@ -218,7 +220,8 @@ fn property_names<'r>(value: &'r Value) -> Reading<'r>
 }
 
 fn negation<'r>(value: &'r Value) -> Reading<'r>
-    ensures { (x : rows.Context) → ReadsAs x (codes "not") (rows.read_among rows.readers x (codes "not") (view value.now)) result }
+    ensures read { (x : rows.Context) → ReadsAs x (codes "not") (rows.read_among rows.readers x (codes "not") (view value.now)) result }
+    ensures values { AsksValues result }
 {
     if_schema(value, Reading::Applied(Applicator::Not(value)))
 }
@@ -260,7 +263,7 @@ pub fn read<'r>(neighbours: Neighbours<'r>, name: &str, value: &'r Value) -> Opt
     ensures read { IfSome result (λ r. (x : rows.Context) → Surrounds neighbours.entry x → ReadsAs x name.now (rows.read_among rows.readers x name.now (view value.now)) r) }
     ensures named { IfSome result (λ r. (x : rows.Context) → Surrounds neighbours.entry x → is_read x name.now (view value.now) ≡ true) }
     ensures other { IfNone result ((x : rows.Context) → Surrounds neighbours.entry x → is_read x name.now (view value.now) ≡ false) }
-    ensures every { IfSome result (λ r. is_listed name.now every_names ≡ true → AppliesEvery r) }
+    ensures values { IfSome result (λ r. is_listed name.now valued_names ≡ true → AsksValues r) }
 {
     match name {
         "items" => Some(items(neighbours, value)),

@@ -1,10 +1,11 @@
--- Applicators whose rule is `every`: nothing is wrong by the value itself, and every answer is yes.
-use Rattle.std.specs.Prelude.{◌≡◌, ℕ, List, [], Bool, true, false, codes}
+-- How the answers to an applicator's questions are combined.
+use Rattle.std.specs.Prelude.{◌≡◌, ◌==◌, ℕ, nat_lt, List, [], Bool, true, false, not, codes, length}
 use Rattle.serde_json.specs.Data.{Data}
 use Rattle.json_paths.specs.Parts.{Part}
 use Rattle.schema_reading.specs.Sites.{Site}
+use Rattle.schema_meaning.specs.Members.{count_true}
 use Rattle.schema_meaning.specs.Questions.{at}
-use Rattle.schema_meaning.specs.Rules.{every, asks}
+use Rattle.schema_meaning.specs.Rules.{every, asks, accepts}
 use Rattle.schema_meaning.specs.Keywords.{rule}
 use Rattle.applicators.specs.Shapes.{shape_of}
 use Rattle.applicators.specs.declared.applicator.Applicator.{Applicator}
@@ -28,6 +29,7 @@ name_of (code.OneOf schemas) = codes "oneOf"
 name_of (code.Not schema) = codes "not"
 name_of (code.If condition then_schema else_schema) = codes "if"
 
+-- whether its rule is `every`: nothing is wrong by the value itself, and every answer is yes
 abbrev pub is_every : Applicator → Bool
 is_every (code.Items start schema) = true
 is_every (code.ItemList schemas) = true
@@ -49,3 +51,45 @@ is_every (code.If condition then_schema else_schema) = false
 -- its rule, wherever its subschemas stand and whatever the value
 abbrev pub IsEvery : Applicator → Type 0
 IsEvery a = (site : List Part → Data → Site) (matches : List ℕ → List ℕ → Bool) (d : Data) → rule matches d (shape_of site a) ≡ every (at (name_of a)) [] (asks (rule matches d (shape_of site a)))
+
+-- whether its verdict is by the number of answers that are yes, whatever is asked of, and it refuses under its own name
+abbrev pub asks_values : Applicator → Bool
+asks_values (code.Items start schema) = true
+asks_values (code.ItemList schemas) = true
+asks_values (code.PrefixItems schemas) = true
+asks_values (code.AdditionalItems start schema) = true
+asks_values (code.NoAdditionalItems start schema) = true
+asks_values (code.Contains schema least most) = false
+asks_values (code.Properties schemas) = true
+asks_values (code.NoProperties schema) = false
+asks_values (code.PropertyNames schema) = false
+asks_values (code.NoPropertyNames schema) = false
+asks_values (code.DependentSchemas schemas) = true
+asks_values (code.AllOf schemas) = true
+asks_values (code.AnyOf schemas) = true
+asks_values (code.OneOf schemas) = true
+asks_values (code.Not schema) = true
+asks_values (code.If condition then_schema else_schema) = false
+
+abbrev pub decided : Applicator → ℕ → ℕ → Bool
+decided (code.Items start schema) n m = m == n
+decided (code.ItemList schemas) n m = m == n
+decided (code.PrefixItems schemas) n m = m == n
+decided (code.AdditionalItems start schema) n m = m == n
+decided (code.NoAdditionalItems start schema) n m = m == n
+decided (code.Contains schema least most) n m = m == n
+decided (code.Properties schemas) n m = m == n
+decided (code.NoProperties schema) n m = m == n
+decided (code.PropertyNames schema) n m = m == n
+decided (code.NoPropertyNames schema) n m = m == n
+decided (code.DependentSchemas schemas) n m = m == n
+decided (code.AllOf schemas) n m = m == n
+decided (code.AnyOf schemas) n m = nat_lt 0 m
+decided (code.OneOf schemas) n m = m == 1
+decided (code.Not schema) n m = not (m == n)
+decided (code.If condition then_schema else_schema) n m = m == n
+
+-- the verdict, where so many questions are asked and so many of them are answered yes
+pub record Decides (a : Applicator) (asked accepted : ℕ) (b : Bool) : Type 0 where
+  pub is : asks_values a ≡ true → (site : List Part → Data → Site) (matches : List ℕ → List ℕ → Bool) (d : Data) (bs : List Bool) → length bs ≡ asked → count_true bs ≡ accepted
+      → accepts (rule matches d (shape_of site a)) bs ≡ b

@@ -1,6 +1,6 @@
 //! How the answers to an applicator's questions are combined.
 ghost use Rattle.std.specs.Prelude.{◌≡◌, true};
-ghost use Rattle.applicators.specs.Combined.{name_of, is_every, IsEvery};
+ghost use Rattle.applicators.specs.Combined.{name_of, is_every, IsEvery, decided, Decides};
 
 use crate::applicator::Applicator;
 
@@ -44,5 +44,25 @@ impl Applicator<'_> {
                 | Applicator::DependentSchemas(_)
                 | Applicator::AllOf(_)
         )
+    }
+
+    const fn decided(&self, asked: usize, accepted: usize) -> bool
+        ensures { result ≡ decided self.now asked accepted }
+    {
+        match self {
+            Applicator::AnyOf(_) => accepted > 0,
+            Applicator::OneOf(_) => accepted == 1,
+            Applicator::Not(_) => accepted != asked,
+            _ => accepted == asked,
+        }
+    }
+
+    /// Whether it accepts a value of which it asks so many questions, so many of them answered yes.
+    ///
+    /// It speaks of the keywords whose verdict is by these numbers alone.
+    pub const fn accepts(&self, asked: usize, accepted: usize) -> bool
+        ensures { Decides self.now asked accepted result }
+    {
+        self.decided(asked, accepted)
     }
 }

@@ -1,4 +1,4 @@
--- Each question of a keyword whose rule is `every`.
+-- Each question of a keyword whose verdict is by the number of answers that are yes.
 use Rattle.std.proofs.Common.{◌≡◌, ℕ, suc, List, [], ◌∷◌, Bool, true, false, codes, Option, None, Some, refl}
 use Rattle.std.specs.List.{AllByRecursion}
 use Rattle.std.specs.Prelude.{⊤}
@@ -15,7 +15,7 @@ use Rattle.schema_reading.specs.Sites.{Site}
 use Rattle.plain_laws.proofs.Elements.{each_in, each_laid_flat, in_mapped}
 use Rattle.plain_laws.proofs.Asked.{Holds, Sound, all_sound}
 use Rattle.applicators.specs.Shapes.{shape_of, leads_of, site_of, sites_of_list, sites_of_map}
-use Rattle.applicators.specs.Combined.{is_every}
+use Rattle.applicators.specs.Combined.{asks_values}
 use Rattle.applicators.specs.declared.applicator.Applicator.{Applicator}
 use Rattle.applicators.specs.declared.applicator.Applicator.TheVariants as code
 use Rattle.applied_laws.specs.Laws.{IsSound, QuestionsAreSound}
@@ -29,12 +29,12 @@ each_among f (x ∷ xs) P h = (h x first, each_among f xs P (λ y i. h y (later 
 abbrev Led : (List Part → Data → Site) → Applicator → Site → Type 0
 Led site a s = In s (leads_of site a)
 
-all_led : (site : List Part → Data → Site) (a : Applicator) → is_every a ≡ true → Holds (Led site a) (λ s. ⊤) (shape_of site a)
+all_led : (site : List Part → Data → Site) (a : Applicator) → asks_values a ≡ true → Holds (Led site a) (λ s. ⊤) (shape_of site a)
 all_led site (code.Items start schema) h = first
 all_led site (code.ItemList schemas) h = each_among (λ s. s) (sites_of_list site (codes "items") 0 (items_view schemas.now)) (Led site (code.ItemList schemas)) (λ s i. i)
 all_led site (code.PrefixItems schemas) h = each_among (λ s. s) (sites_of_list site (codes "prefixItems") 0 (items_view schemas.now)) (Led site (code.PrefixItems schemas)) (λ s i. i)
 all_led site (code.AdditionalItems start schema) h = first
-all_led site (code.NoAdditionalItems start schema) h = absurd (cc)
+all_led site (code.NoAdditionalItems start schema) h = first
 all_led site (code.Contains schema least most) h = absurd (cc)
 all_led site (code.Properties schemas) h =
     let ps = sites_of_map site (codes "properties") (members_view schemas.now.entries) in each_among (λ p. p.1) ps (Led site (code.Properties schemas)) (λ p i. in_mapped (λ q. q.1) p ps i)
@@ -44,9 +44,9 @@ all_led site (code.NoPropertyNames schema) h = absurd (cc)
 all_led site (code.DependentSchemas schemas) h =
     let ps = sites_of_map site (codes "dependentSchemas") (members_view schemas.now.entries) in each_among (λ p. p.1) ps (Led site (code.DependentSchemas schemas)) (λ p i. in_mapped (λ q. q.1) p ps i)
 all_led site (code.AllOf schemas) h = each_among (λ s. s) (sites_of_list site (codes "allOf") 0 (items_view schemas.now)) (Led site (code.AllOf schemas)) (λ s i. i)
-all_led site (code.AnyOf schemas) h = absurd (cc)
-all_led site (code.OneOf schemas) h = absurd (cc)
-all_led site (code.Not schema) h = absurd (cc)
+all_led site (code.AnyOf schemas) h = each_among (λ s. s) (sites_of_list site (codes "anyOf") 0 (items_view schemas.now)) (Led site (code.AnyOf schemas)) (λ s i. i)
+all_led site (code.OneOf schemas) h = each_among (λ s. s) (sites_of_list site (codes "oneOf") 0 (items_view schemas.now)) (Led site (code.OneOf schemas)) (λ s i. i)
+all_led site (code.Not schema) h = first
 all_led site (code.If condition then_schema else_schema) h = absurd (cc)
 
 -- ---- of what they are asked: not of names; and no reference is followed
@@ -87,13 +87,14 @@ calm_triggered : (keyword : List ℕ) (d : Data) (ps : List (List ℕ × Site)) 
 calm_triggered keyword d ps =
     each_laid_flat (λ p. ⊤) IsCalm (λ p. if_member (get p.0 d) (λ e. question p.1 stay (at_name keyword p.0) ∷ [])) (λ p u. calm_trigger keyword p.0 p.1 (get p.0 d)) ps (any_pair ps)
 
-all_calm : (site : List Part → Data → Site) (matches : List ℕ → List ℕ → Bool) (d : Data) (a : Applicator) → is_every a ≡ true → AllByRecursion IsCalm (asks (rule matches d (shape_of site a)))
+all_calm : (site : List Part → Data → Site) (matches : List ℕ → List ℕ → Bool) (d : Data) (a : Applicator) → asks_values a ≡ true → AllByRecursion IsCalm (asks (rule matches d (shape_of site a)))
 all_calm site matches d (code.Items start schema) h = calm_items (codes "items") (site_of site (codes "items") (view schema.now)) start (items_from start (items_of d))
 all_calm site matches d (code.ItemList schemas) h = calm_by_item (codes "items") (sites_of_list site (codes "items") 0 (items_view schemas.now)) 0 (items_of d)
 all_calm site matches d (code.PrefixItems schemas) h = calm_by_item (codes "prefixItems") (sites_of_list site (codes "prefixItems") 0 (items_view schemas.now)) 0 (items_of d)
 all_calm site matches d (code.AdditionalItems start schema) h =
     calm_items (codes "additionalItems") (site_of site (codes "additionalItems") (view schema.now)) start (items_from start (items_of d))
-all_calm site matches d (code.NoAdditionalItems start schema) h = absurd (cc)
+all_calm site matches d (code.NoAdditionalItems start schema) h =
+    calm_items (codes "additionalItems") (site_of site (codes "additionalItems") (view schema.now)) start (items_from start (items_of d))
 all_calm site matches d (code.Contains schema least most) h = absurd (cc)
 all_calm site matches d (code.Properties schemas) h = calm_declared (codes "properties") d (sites_of_map site (codes "properties") (members_view schemas.now.entries))
 all_calm site matches d (code.NoProperties schema) h = absurd (cc)
@@ -101,13 +102,13 @@ all_calm site matches d (code.PropertyNames schema) h = absurd (cc)
 all_calm site matches d (code.NoPropertyNames schema) h = absurd (cc)
 all_calm site matches d (code.DependentSchemas schemas) h = calm_triggered (codes "dependentSchemas") d (sites_of_map site (codes "dependentSchemas") (members_view schemas.now.entries))
 all_calm site matches d (code.AllOf schemas) h = calm_branches (codes "allOf") 0 (sites_of_list site (codes "allOf") 0 (items_view schemas.now))
-all_calm site matches d (code.AnyOf schemas) h = absurd (cc)
-all_calm site matches d (code.OneOf schemas) h = absurd (cc)
-all_calm site matches d (code.Not schema) h = absurd (cc)
+all_calm site matches d (code.AnyOf schemas) h = calm_branches (codes "anyOf") 0 (sites_of_list site (codes "anyOf") 0 (items_view schemas.now))
+all_calm site matches d (code.OneOf schemas) h = calm_branches (codes "oneOf") 0 (sites_of_list site (codes "oneOf") 0 (items_view schemas.now))
+all_calm site matches d (code.Not schema) h = ((refl, refl), tt)
 all_calm site matches d (code.If condition then_schema else_schema) h = absurd (cc)
 
 pub questions_are_sound : QuestionsAreSound
-questions_are_sound site matches d a every q i =
-    let known = each_in (Sound (Led site a) (λ s. ⊤) d) (asks (rule matches d (shape_of site a))) (all_sound (Led site a) (λ s. ⊤) matches d (shape_of site a) (all_led site a every)) q i in
-    let calm = each_in IsCalm (asks (rule matches d (shape_of site a))) (all_calm site matches d a every) q i in
+questions_are_sound site matches d a values q i =
+    let known = each_in (Sound (Led site a) (λ s. ⊤) d) (asks (rule matches d (shape_of site a))) (all_sound (Led site a) (λ s. ⊤) matches d (shape_of site a) (all_led site a values)) q i in
+    let calm = each_in IsCalm (asks (rule matches d (shape_of site a))) (all_calm site matches d a values) q i in
     record { led = known.within calm.1; within = calm.1; uncalled = calm.0; spots = λ path w h. known.step.inside path w h }

@@ -10,7 +10,7 @@ use Rattle.schema_meaning.specs.Keywords.{rule}
 use Rattle.schema_reading.specs.Sites.{Site}
 use Rattle.schema_reading.specs.AllKeys.{spots_in}
 use Rattle.applicators.specs.Shapes.{shape_of, leads_of}
-use Rattle.applicators.specs.Combined.{is_every}
+use Rattle.applicators.specs.Combined.{asks_values}
 use Rattle.applicators.specs.declared.applicator.Applicator.{Applicator}
 
 -- its site is one that the keyword leads to; it follows no reference, and asks of no name; the places of what it asks of are the value's
@@ -21,5 +21,5 @@ pub record IsSound (site : List Part → Data → Site) (a : Applicator) (d : Da
   pub spots : (path : List Part) (w : List Part × Option (List ℕ)) → In w (spots_in (path_after path q.step) (value_after d q.step)) → In w (spots_in path d)
 
 abbrev pub QuestionsAreSound : Type 0
-QuestionsAreSound = (site : List Part → Data → Site) (matches : List ℕ → List ℕ → Bool) (d : Data) (a : Applicator) → is_every a ≡ true
+QuestionsAreSound = (site : List Part → Data → Site) (matches : List ℕ → List ℕ → Bool) (d : Data) (a : Applicator) → asks_values a ≡ true
     → (q : Question Site) → In q (asks (rule matches d (shape_of site a))) → IsSound site a d q

@@ -19,7 +19,7 @@ fn list_of(alloc: Global, values: &[Value]) -> Result<Value, AllocError>
     Ok(Value::Array(values.to_vec(alloc)?))
 }
 
-fn out_of_bound(bound: Bound, number: WholeNumber) -> ValidationErrorKind
+fn out_of_bound<'i>(bound: Bound, number: WholeNumber) -> ValidationErrorKind<'i>
     ensures { kind_of result ≡ bound_kind bound (integer_of number) }
 {
     let limit = number.to_value();
@@ -31,7 +31,7 @@ fn out_of_bound(bound: Bound, number: WholeNumber) -> ValidationErrorKind
     }
 }
 
-const fn out_of_count(count: Count, limit: u64) -> ValidationErrorKind
+const fn out_of_count<'i>(count: Count, limit: u64) -> ValidationErrorKind<'i>
     ensures { kind_of result ≡ count_kind count limit }
 {
     match count {
@@ -45,10 +45,10 @@ const fn out_of_count(count: Count, limit: u64) -> ValidationErrorKind
 }
 
 // The kind of what is wrong. The error comes where memory for the copies is refused.
-pub(crate) fn kind_of_wrong(
+pub(crate) fn kind_of_wrong<'i>(
     alloc: Global,
     wrong: Wrong<'_>,
-) -> Result<ValidationErrorKind, AllocError>
+) -> Result<ValidationErrorKind<'i>, AllocError>
     ensures { IfOk result (λ k. kind_of k ≡ kind_of_wrong wrong.entry) }
 {
     Ok(match wrong {

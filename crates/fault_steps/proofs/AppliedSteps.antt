@@ -1,33 +1,29 @@
 -- Steps by keywords that apply subschemas, by their questions.
-use Rattle.std.proofs.Common.{◌≡◌, ◌∙◌, ◌++◌, ◌<◌, ◌≤◌, ℕ, List, [], ◌∷◌, Bool, true, false, All, Bor, Option, None, codes, map, length, reverse, refl, sym, ap, ap₂, subst, append_assoc, arith}
-use Rattle.std.specs.List.{AllByRecursion}
-use Rattle.serde_json.specs.Data.{Data, depth}
+use Rattle.std.proofs.Common.{◌≡◌, ◌∙◌, ◌++◌, ◌≤◌, ℕ, List, [], ◌∷◌, Bool, true, false, Bor, Option, length, reverse, refl, sym, ap, subst, append_assoc}
+use Rattle.std.proofs.lemmas.List.{length-map}
+use Rattle.serde_json.specs.Data.{Data}
 use Rattle.serde_json.specs.View.{view}
 use Rattle.json_paths.specs.Parts.{Part, name}
 use Rattle.json_paths.specs.Pointers.{escape}
 use Rattle.schema_meaning.specs.Members.{In, first}
 use Rattle.schema_meaning.specs.Places.{whole, value_after, path_after}
 use Rattle.schema_meaning.specs.Questions as told
-use Rattle.schema_meaning.specs.Questions.{at}
-use Rattle.schema_meaning.specs.Rules.{Rule, every, asks, obliged}
-use Rattle.schema_meaning.specs.Keywords.{Shape, rule}
-use Rattle.schema_meaning.specs.Readings.{Reading}
+use Rattle.schema_meaning.specs.Rules.{Rule, obliged, refuses_at}
+use Rattle.schema_meaning.specs.Keywords.{rule}
 use Rattle.schema_meaning.specs.Circular.{IsCircular}
-use Rattle.schema_meaning.specs.Certificates.{AreAnswers}
 use Rattle.schema_reading.specs.Sites.{Site, below}
 use Rattle.schema_reading.specs.PathTexts.{path_text}
-use Rattle.applicators.specs.Shapes.{shape_of, leads_of, place_of, added_at}
-use Rattle.applicators.specs.Combined.{is_every, name_of}
+use Rattle.applicators.specs.Shapes.{shape_of, place_of, added_at}
+use Rattle.applicators.specs.Combined.{asks_values, name_of}
 use Rattle.applicators.specs.Questions.{step_of, question_of}
 use Rattle.applicators.specs.declared.applicator.Applicator.{Applicator}
 use Rattle.applicators.specs.declared.applicator.Applicator.TheVariants as code
 use Rattle.applicators.specs.declared.question.Question.{Question}
-use Rattle.applicators.proofs.CombinedLemmas.{every_rule}
 use Rattle.applied_laws.proofs.Sound.{questions_are_sound}
-use Rattle.check_laws.specs.Spelled.{AreSpelled, AreSpelledBy}
+use Rattle.check_laws.specs.Spelled.{AreSpelled}
 use Rattle.check_laws.proofs.Answers.{answers_there}
-use Rattle.walk_laws.specs.Words.{IsOf, IsRest, cuts, cuts_behind}
-use Rattle.walk_laws.proofs.Cuts.{NotSlash, cut_is, cuts_first, escape_no_slash, rest_of, rest_append}
+use Rattle.walk_laws.specs.Words.{IsOf, IsRest}
+use Rattle.walk_laws.proofs.Cuts.{rest_of}
 use Rattle.walk_laws.proofs.Begun.{shape_begins, rules_stand}
 use Rattle.walk_laws.proofs.Listed.{in_mapped}
 use Rattle.path_parts.specs.Texts.{text_left}
@@ -38,8 +34,8 @@ use Rattle.question_paths.specs.Ahead.{LeadsOn, NoneAhead, IsAhead, IsNoLonger}
 use Rattle.question_paths.specs.Laws.{OneAhead}
 use Rattle.question_paths.specs.declared.ahead.Ahead.{Ahead}
 use Rattle.question_paths.proofs.AddedFacts.{added_parts, added_text}
-use Rattle.keyword_refusals.specs.Passed.{AreAsked, documents_at}
-use Rattle.keyword_refusals.specs.Scenes.{Scene, reading_of, Stage, Meets}
+use Rattle.keyword_refusals.specs.Passed.{AreAsked}
+use Rattle.keyword_refusals.specs.Scenes.{Scene, reading_of, Meets}
 use Rattle.keyword_refusals.specs.Rows.{applied_row, applied_questions}
 use Rattle.keyword_refusals.specs.Verdicts.{AppliesIn}
 use Rattle.keyword_refusals.proofs.Passed.{Child}
@@ -49,7 +45,9 @@ use Rattle.fault_steps.specs.declared.walk.Walk.{Walk}
 use Rattle.fault_steps.specs.declared.walk.Step.{Step}
 use Rattle.fault_steps.specs.declared.walk.Step.TheVariants.{Answered, On}
 use Rattle.fault_steps.specs.Steps.{path_at, IsLeft, IsMore, IsNotLonger, GoesInto, LeadsInto, PassesThrough}
-use Rattle.fault_steps.proofs.Going.{Goes, going, gone, not_last}
+use Rattle.fault_steps.specs.Obliged.{obliges}
+use Rattle.fault_steps.proofs.ObligedFacts.{AllOrNone, all_or_none}
+use Rattle.fault_steps.proofs.Going.{Goes, going_by, gone_by, not_last}
 
 -- ---- the keyword's own name
 
@@ -57,8 +55,8 @@ pub named_as : (site : List Part → Data → Site) (a : Applicator) (k : List �
 named_as site (code.Items start schema) k is = is
 named_as site (code.ItemList schemas) k is = is
 named_as site (code.PrefixItems schemas) k is = is
-named_as site (code.AdditionalItems start schema) k is = absurd is
-named_as site (code.NoAdditionalItems start schema) k is = absurd is
+named_as site (code.AdditionalItems start schema) k is = is
+named_as site (code.NoAdditionalItems start schema) k is = is
 named_as site (code.Contains schema least most) k is = absurd is
 named_as site (code.Properties schemas) k is = is
 named_as site (code.NoProperties schema) k is = absurd is
@@ -66,9 +64,9 @@ named_as site (code.PropertyNames schema) k is = absurd is
 named_as site (code.NoPropertyNames schema) k is = absurd is
 named_as site (code.DependentSchemas schemas) k is = is
 named_as site (code.AllOf schemas) k is = is
-named_as site (code.AnyOf schemas) k is = absurd is
-named_as site (code.OneOf schemas) k is = absurd is
-named_as site (code.Not schema) k is = absurd is
+named_as site (code.AnyOf schemas) k is = is
+named_as site (code.OneOf schemas) k is = is
+named_as site (code.Not schema) k is = is
 named_as site (code.If condition then_schema else_schema) k is = absurd is
 
 -- ---- the last part
@@ -87,32 +85,37 @@ one_last p q ps qs e = sym (last_is p p ps) ∙ ap (last_of p) e ∙ last_is p q
 one_name : (k n : List ℕ) → name k ≡ name n → k ≡ n
 one_name k n e = cc
 
-module _ (x : Scene) (s : Site) (d : Data) (a : Applicator) (each : is_every a ≡ true) (n : List ℕ) (of : IsOf n (shape_of (below x.documents s) a)) (plain : escape n ≡ n) where
+module _ (x : Scene) (s : Site) (d : Data) (a : Applicator) (values : asks_values a ≡ true) (n : List ℕ) (of : IsOf n (shape_of (below x.documents s) a)) (plain : escape n ≡ n) where
   abbrev the_rule : Rule Site
   the_rule = rule x.matches d (shape_of (below x.documents s) a)
 
   abbrev all : List (told.Question Site)
   all = applied_questions a d x s
 
-  is_rule : the_rule ≡ every (at (name_of a)) [] all
-  is_rule = every_rule a each (below x.documents s) x.matches d
-
-  own_name : name_of a ≡ n
-  own_name = named_as (below x.documents s) a n of
-
-  clean : All NotSlash n
-  clean = subst (λ t. All NotSlash t) plain (escape_no_slash n)
+  -- where something is left, the keyword is not the last
+  not_here : (instance after : Option (Bor (List ℕ))) → IsMore instance after → (bs : List Bool) → text_left instance ≡ [] → 47 ∷ (n ++ text_left after) ≡ path_text (refuses_at the_rule bs) → ⊥
+  not_here instance after more bs none is =
+      not_last instance after n n more refl plain none (is ∙ ap path_text ((shape_begins x.matches d n (shape_of (below x.documents s) a) of).own bs))
 
   module _ (qs : List Question) (are : AreAsked a d qs) where
+    -- all of its questions oblige, or none
+    steps_are : (b : Bool) → obliges a (length qs) ≡ b → (bs : List Bool) → AllOrNone b all (obliged the_rule bs)
+    steps_are b is bs =
+        let site = below x.documents s in
+        subst (λ c. AllOrNone c all (obliged the_rule bs)) is
+        (all_or_none site x.matches d bs a (length qs) values (ap length (sym (are x.matches site)) ∙ length-map qs (question_of site)))
+
     asked_here : (q : Question) → In q qs → In (question_of (below x.documents s) q) all
     asked_here q i = subst (λ ks. In (question_of (below x.documents s) q) ks) (are x.matches (below x.documents s)) (elements.in_mapped (question_of (below x.documents s)) q qs i)
 
+  module _ (qs : List Question) (are : AreAsked a d qs) (obliging : obliges a (length qs) ≡ true) where
     -- a question's keyword is the one that asks it
     keyword_is : (q : Question) → In q qs → q.subschema.keyword.now ≡ n
     keyword_is q i =
         let k = q.subschema.keyword.now in
         let e = q.subschema.entry in
-        let there : In (question_of (below x.documents s) q) (obliged the_rule []) = subst (λ (r : Rule Site). In (question_of (below x.documents s) q) (obliged r [])) (sym is_rule) (asked_here q i) in
+        let there : In (question_of (below x.documents s) q) (obliged the_rule []) =
+        subst (λ ks. In (question_of (below x.documents s) q) ks) (sym (steps_are qs are true obliging [])) (asked_here qs are q i) in
         let begins = (shape_begins x.matches d n (shape_of (below x.documents s) a) of).on [] (question_of (below x.documents s) q) there in
         one_name k n (one_last (name k) (name n) (entry_parts e) begins.0 (sym (added_parts k e) ∙ begins.1))
 
@@ -151,7 +154,7 @@ module _ (x : Scene) (s : Site) (d : Data) (a : Applicator) (each : is_every a �
         → AreSpelled (reading_of x) (place_of (below x.documents s) q.subschema) (value_after d (step_of q.asked)) left_i left_e → Goes (reading_of x) d all i (47 ∷ (n ++ after))
     goes_by q j i after left_i left_e leads under = record {
       question = question_of (below x.documents s) q;
-      asked = asked_here q j;
+      asked = asked_here qs are q j;
       instance = left_i;
       evaluation = left_e;
       under = under;
@@ -161,22 +164,35 @@ module _ (x : Scene) (s : Site) (d : Data) (a : Applicator) (each : is_every a �
 
 -- ---- the steps
 
-pub applied_nowhere : (w : Walk) (a : Applicator) (after : Option (Bor (List ℕ))) (qs : List Question) → AreAsked a (view w.value.now) qs → AppliesIn w.site a → IsMore w.instance after
-    → NoneAhead qs (text_left w.instance) (text_left after) → PassesThrough w (applied_row a) after (Answered false)
-applied_nowhere w a after qs are applies more nowhere = record {
+-- by a keyword none of whose questions obliges
+pub applied_never : (w : Walk) (a : Applicator) (after : Option (Bor (List ℕ))) (qs : List Question) → AreAsked a (view w.value.now) qs → AppliesIn w.site a → IsMore w.instance after
+    → obliges a (length qs) ≡ false → PassesThrough w (applied_row a) after (Answered false)
+applied_never w a after qs are applies more never = record {
   outcome = λ x s n stage h.
       let d = view w.value.now in
       let of = stage.named.0 in
       let plain = stage.plain _ first in
-      let spelled = subst (λ (r : Rule Site). AreSpelledBy (reading_of x) d (r ∷ []) (text_left w.instance) (47 ∷ (n ++ text_left after))) (is_rule x s d a applies.every n of plain) h in
-      let g = going (reading_of x) d (at (name_of a)) [] (applied_questions a d x s) _ _ (not_last w.instance after (name_of a) n more (own_name x s d a applies.every n of plain) plain) spelled in
-      let c = came x s d a applies.every n of plain qs are (text_left w.instance) (text_left after) g in
+      let g = going_by (reading_of x) d (the_rule x s d a applies.values n of plain) [] _ _ (steps_are x s d a applies.values n of plain qs are false never)
+      (not_here x s d a applies.values n of plain w.instance after more) h in
+      elim g.asked [ ];
+}
+
+pub applied_nowhere : (w : Walk) (a : Applicator) (after : Option (Bor (List ℕ))) (qs : List Question) → AreAsked a (view w.value.now) qs → AppliesIn w.site a → IsMore w.instance after
+    → obliges a (length qs) ≡ true → NoneAhead qs (text_left w.instance) (text_left after) → PassesThrough w (applied_row a) after (Answered false)
+applied_nowhere w a after qs are applies more obliging nowhere = record {
+  outcome = λ x s n stage h.
+      let d = view w.value.now in
+      let of = stage.named.0 in
+      let plain = stage.plain _ first in
+      let g = going_by (reading_of x) d (the_rule x s d a applies.values n of plain) (applied_questions a d x s) _ _ (steps_are x s d a applies.values n of plain qs are true obliging)
+      (not_here x s d a applies.values n of plain w.instance after more) h in
+      let c = came x s d a applies.values n of plain qs are obliging (text_left w.instance) (text_left after) g in
       nowhere.none c.0 c.1 c.2 c.3 c.4 c.5 c.6;
 }
 
 pub applied_on : (w v : Walk) (a : Applicator) (after : Option (Bor (List ℕ))) (qs : List Question) (b : Ahead) → AreAsked a (view w.value.now) qs → AppliesIn w.site a → IsMore w.instance after
-    → OneAhead a (view w.value.now) → IsAhead qs (text_left w.instance) (text_left after) b → GoesInto w b v → PassesThrough w (applied_row a) after (On v)
-applied_on w v a after qs b are applies more once ahead into = record {
+    → obliges a (length qs) ≡ true → OneAhead a (view w.value.now) → IsAhead qs (text_left w.instance) (text_left after) b → GoesInto w b v → PassesThrough w (applied_row a) after (On v)
+applied_on w v a after qs b are applies more obliging once ahead into = record {
   outcome = λ x s n stage.
       let d = view w.value.now in
       let i = text_left w.instance in
@@ -189,13 +205,12 @@ applied_on w v a after qs b are applies more once ahead into = record {
       let schema = view q.subschema.schema.now in
       let asks_it = question_of site q in
       let inner = place_of site q.subschema in
-      let is = is_rule x s d a applies.every n of plain in
-      let asked = asked_here x s d a applies.every n of plain qs are q ahead.among in
-      let sound = questions_are_sound site x.matches d a applies.every asks_it asked in
-      let decided = told_there x s d (meets_shallow w.site (path_at w) x s stage.meets w.shallow) stage.straight in
       let the = rule x.matches d (shape_of site a) in
+      let steps = steps_are x s d a applies.values n of plain qs are true obliging in
+      let asked = asked_here x s d a applies.values n of plain qs are q ahead.among in
+      let sound = questions_are_sound site x.matches d a applies.values asks_it asked in
+      let decided = told_there x s d (meets_shallow w.site (path_at w) x s stage.meets w.shallow) stage.straight in
       let bs = answers_there (reading_of x) s d _ decided the (rules_stand x.documents x.makes x.matches s row d stage.stands the first) in
-      let answers = subst (λ (r : Rule Site). AreAnswers (reading_of x) (whole d) r bs.0) is bs.1 in
       let child : Child w.site v.site schema = record { contents = into.contents; documents = into.documents; scope = into.scope; stands = λ t added. into.stands t added } in
       let meets = child_meets w.site v.site schema (added_at q.subschema.keyword.now q.subschema.entry) (path_at w) x s child stage.meets (right_on x s row inner stage.meets.right stage.stands sound.led) in
       let spelled_at = λ (f : Data) (t u : Option (Bor (List ℕ))). AreSpelled (reading_of x) inner f (text_left t) (text_left u) in
@@ -213,13 +228,12 @@ applied_on w v a after qs b are applies more once ahead into = record {
         back = λ circular.
             asked_back x s row d (shape_of site a) asks_it stage.stands first asked sound.uncalled (subst (λ (f : Data). IsCircular (reading_of x) inner (whole f)) into.value circular);
         to = λ h.
-            let spelled = subst (λ (r : Rule Site). AreSpelledBy (reading_of x) d (r ∷ []) i e) is h in
-            let g = going (reading_of x) d (at (name_of a)) [] (applied_questions a d x s) i e (not_last w.instance after (name_of a) n more (own_name x s d a applies.every n of plain) plain) spelled in
-            let c = came x s d a applies.every n of plain qs are i (text_left after) g in
-            let on_road = ap (λ t. 47 ∷ (n ++ t)) c.6.on_evaluation ∙ sym (added_is x s d a applies.every n of plain qs are c.0 c.1 c.3) in
-            let on_own = ap (λ t. 47 ∷ (n ++ t)) ahead.leads.on_evaluation ∙ sym (added_is x s d a applies.every n of plain qs are q ahead.among (text_left b.evaluation)) in
+            let g = going_by (reading_of x) d the (applied_questions a d x s) i e steps (not_here x s d a applies.values n of plain w.instance after more) h in
+            let c = came x s d a applies.values n of plain qs are obliging i (text_left after) g in
+            let on_road = ap (λ t. 47 ∷ (n ++ t)) c.6.on_evaluation ∙ sym (added_is x s d a applies.values n of plain qs are obliging c.0 c.1 c.3) in
+            let on_own = ap (λ t. 47 ∷ (n ++ t)) ahead.leads.on_evaluation ∙ sym (added_is x s d a applies.values n of plain qs are obliging q ahead.among (text_left b.evaluation)) in
             let one : question_of site c.0 ≡ asks_it =
-            once applies.every site x.matches (question_of site c.0) asks_it (asked_here x s d a applies.every n of plain qs are c.0 c.1) asked i e c.2 c.3 (text_left b.instance) (text_left b.evaluation) c.4 c.5
+            once applies.values site x.matches (question_of site c.0) asks_it (asked_here x s d a applies.values n of plain qs are c.0 c.1) asked i e c.2 c.3 (text_left b.instance) (text_left b.evaluation) c.4 c.5
             (rest_left b.instance) (rest_left b.evaluation) c.6.at_instance on_road ahead.leads.at_instance on_own in
             let same_i : c.2 ≡ text_left b.instance =
             behind_same (path_text (path_after [] (step_of q.asked))) c.2 (text_left b.instance)
@@ -232,16 +246,15 @@ applied_on w v a after qs b are applies more once ahead into = record {
             (subst (λ (t : List ℕ). AreSpelled (reading_of x) inner (value_after d (step_of q.asked)) t (text_left b.evaluation)) same_i
             (subst (λ (u : List ℕ). AreSpelled (reading_of x) inner (value_after d (step_of q.asked)) c.2 u) same_e under));
         from = λ under.
-            subst (λ (r : Rule Site). AreSpelledBy (reading_of x) d (r ∷ []) i e) (sym is)
-            (gone (reading_of x) d (at (name_of a)) [] (applied_questions a d x s) i e bs.0 answers
-            (goes_by x s d a applies.every n of plain qs are q ahead.among i (text_left after) (text_left b.instance) (text_left b.evaluation) ahead.leads (unshift under)));
+            gone_by (reading_of x) d the (applied_questions a d x s) i e bs.0 steps bs.1
+            (goes_by x s d a applies.values n of plain qs are obliging q ahead.among i (text_left after) (text_left b.instance) (text_left b.evaluation) ahead.leads (unshift under));
       };
 }
 
 pub applied_to : (w : Walk) (a : Applicator) (after : Option (Bor (List ℕ))) (qs : List Question) (b : Ahead) (step : Step) → AreAsked a (view w.value.now) qs → AppliesIn w.site a → IsMore w.instance after
-    → OneAhead a (view w.value.now) → IsAhead qs (text_left w.instance) (text_left after) b → LeadsInto w b step → PassesThrough w (applied_row a) after step
-applied_to w a after qs b (Answered r) are applies more once ahead into = absurd into
-applied_to w a after qs b (On v) are applies more once ahead into = applied_on w v a after qs b are applies more once ahead into
+    → obliges a (length qs) ≡ true → OneAhead a (view w.value.now) → IsAhead qs (text_left w.instance) (text_left after) b → LeadsInto w b step → PassesThrough w (applied_row a) after step
+applied_to w a after qs b (Answered r) are applies more obliging once ahead into = absurd into
+applied_to w a after qs b (On v) are applies more obliging once ahead into = applied_on w v a after qs b are applies more obliging once ahead into
 
 pub applied_shorter : (w : Walk) (after : Option (Bor (List ℕ))) (b : Ahead) (step : Step) → IsNoLonger (text_left after) b → LeadsInto w b step → IsNotLonger after step
 applied_shorter w after b (Answered r) shorter into = absurd into

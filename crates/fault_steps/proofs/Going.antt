@@ -1,12 +1,12 @@
 -- The step of a certificate by a keyword behind whose name something is left.
 use Rattle.std.proofs.Common.{◌≡◌, ◌∙◌, ◌++◌, ℕ, List, [], ◌∷◌, Bool, true, false, true≢false, Bor, Option, None, Some, is_some, not, ◌||◌, map, refl, sym, ap, subst, append-nil, length, suc, ◌+◌, ◌<◌, ◌≤◌, length-append, arith}
 use Rattle.serde_json.specs.Data.{Data, boolean, depth}
-use Rattle.json_paths.specs.Parts.{Part, name}
+use Rattle.json_paths.specs.Parts.{Part}
 use Rattle.json_paths.specs.Pointers.{escape}
 use Rattle.schema_meaning.specs.Members.{In, first, later}
 use Rattle.schema_meaning.specs.Places.{whole, value_after, path_after}
 use Rattle.schema_meaning.specs.Questions.{Question, at}
-use Rattle.schema_meaning.specs.Rules.{Note, every}
+use Rattle.schema_meaning.specs.Rules.{Note, Rule, every, obliged, refuses_at}
 use Rattle.schema_meaning.specs.Readings.{Reading}
 use Rattle.schema_meaning.specs.Certificates.{AreAnswers}
 use Rattle.schema_reading.specs.Sites.{Site}
@@ -43,17 +43,27 @@ pub record Goes (r : Reading Site) (d : Data) (qs : List (Question Site)) (i e :
   pub at_instance : i ≡ path_text (path_after [] question.step) ++ instance
   pub on_evaluation : e ≡ path_text question.added ++ evaluation
 
+-- by a rule whose obliged steps are these, whatever is answered
+pub going_by : (r : Reading Site) (d : Data) (k : Rule Site) (qs : List (Question Site)) (i e : List ℕ) → ((bs : List Bool) → obliged k bs ≡ qs)
+    → ((bs : List Bool) → i ≡ [] → e ≡ path_text (refuses_at k bs) → ⊥) → AreSpelledBy r d (k ∷ []) i e → Goes r d qs i e
+going_by r d k qs i e obliges own (refuses _ bs first a wrong at_i on_e) = absurd (own bs at_i on_e)
+going_by r d k qs i e obliges own (refuses l bs (later j) a wrong at_i on_e) = elim j [ ]
+going_by r d k qs i e obliges own (goes _ bs q x y first a o under at_i on_e) =
+    record { question = q; asked = subst (λ ks. In q ks) (obliges bs) o; instance = x; evaluation = y; under = under; at_instance = at_i; on_evaluation = on_e }
+going_by r d k qs i e obliges own (goes l bs q x y (later j) a o under at_i on_e) = elim j [ ]
+
+pub gone_by : (r : Reading Site) (d : Data) (k : Rule Site) (qs : List (Question Site)) (i e : List ℕ) (bs : List Bool) → ((bs : List Bool) → obliged k bs ≡ qs)
+    → AreAnswers r (whole d) k bs → Goes r d qs i e → AreSpelledBy r d (k ∷ []) i e
+gone_by r d k qs i e bs obliges a g =
+    goes k bs g.question g.instance g.evaluation first a (subst (λ ks. In g.question ks) (sym (obliges bs)) g.asked) g.under g.at_instance g.on_evaluation
+
 pub going : (r : Reading Site) (d : Data) (p : List Part) (notes : List Note) (qs : List (Question Site)) (i e : List ℕ) → (i ≡ [] → e ≡ path_text p → ⊥)
     → AreSpelledBy r d (every p notes qs ∷ []) i e → Goes r d qs i e
-going r d p notes qs i e own (refuses _ bs first a wrong at_i on_e) = absurd (own at_i on_e)
-going r d p notes qs i e own (refuses k bs (later j) a wrong at_i on_e) = elim j [ ]
-going r d p notes qs i e own (goes _ bs q x y first a o under at_i on_e) =
-    record { question = q; asked = o; instance = x; evaluation = y; under = under; at_instance = at_i; on_evaluation = on_e }
-going r d p notes qs i e own (goes k bs q x y (later j) a o under at_i on_e) = elim j [ ]
+going r d p notes qs i e own h = going_by r d (every p notes qs) qs i e (λ bs. refl) (λ bs. own) h
 
 pub gone : (r : Reading Site) (d : Data) (p : List Part) (notes : List Note) (qs : List (Question Site)) (i e : List ℕ) (bs : List Bool)
     → AreAnswers r (whole d) (every p notes qs) bs → Goes r d qs i e → AreSpelledBy r d (every p notes qs ∷ []) i e
-gone r d p notes qs i e bs a g = goes (every p notes qs) bs g.question g.instance g.evaluation first a g.asked g.under g.at_instance g.on_evaluation
+gone r d p notes qs i e bs a g = gone_by r d (every p notes qs) qs i e bs (λ bs. refl) a g
 
 -- where something is left, the keyword is not the last
 pub not_last : (instance after : Option (Bor (List ℕ))) (k n : List ℕ) → IsMore instance after → k ≡ n → escape n ≡ n
@@ -111,7 +121,7 @@ lies_in c d code.Nothing f h i = tt
 lies_in c d (code.Assertion a) f h i = tt
 lies_in c d (code.Items start schema) f h i = subst (λ e. depth e < depth (view c.contents.now)) f h
 lies_in c d (code.Properties map) f h i = subst (λ e. depth e < depth (view c.contents.now)) f h
-lies_in c d (code.Applicator a) f h i = record { every = f; inside = i }
+lies_in c d (code.Applicator a) f h i = record { values = f; inside = i }
 lies_in c d (code.Reference by text target) f h i = f
 
 pub shorter_part : (after : Option (Bor (List ℕ))) (text token : List ℕ) (left : Option (Bor (List ℕ))) → text_left after ≡ 47 ∷ text → cuts text ≡ token ∷ cuts_behind (text_left left)

@@ -1,6 +1,7 @@
 pub mod Going
 pub mod ItemSteps
 pub mod MemberSteps
+pub mod ObligedFacts
 pub mod AppliedSteps
 pub mod ReferenceSteps
 pub mod OwnNames

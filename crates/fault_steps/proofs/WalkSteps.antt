@@ -6,7 +6,7 @@ use Rattle.serde_json.specs.Data.{Data, null, boolean, number, string, array, ob
 use Rattle.serde_json.specs.Find.{get_member}
 use Rattle.serde_json.specs.View.{view}
 use Rattle.json_paths.specs.Pointers.{escape}
-use Rattle.schema_meaning.specs.Members.{In, first, later}
+use Rattle.schema_meaning.specs.Members.{In, first}
 use Rattle.schema_meaning.specs.Places.{whole}
 use Rattle.schema_meaning.specs.Circular.{IsCircular}
 use Rattle.schema_meaning.specs.Questions.{at, listed_members}

@@ -1,5 +1,5 @@
 //! Steps by other keywords that apply subschemas.
-ghost use Rattle.std.specs.Prelude.{◌≡◌, ◌<◌, ◌++◌, [], IfOk, OnOk};
+ghost use Rattle.std.specs.Prelude.{◌≡◌, ◌<◌, ◌++◌, [], IfOk, OnOk, length, true};
 ghost use Rattle.serde_json.specs.Data.{depth};
 ghost use Rattle.serde_json.specs.View.{view};
 ghost use Rattle.schema_meaning.specs.Places.{value_after};
@@ -10,6 +10,7 @@ ghost use Rattle.keyword_refusals.specs.Passed.{AreAsked, IsPart};
 ghost use Rattle.keyword_refusals.specs.Rows.{applied_row};
 ghost use Rattle.keyword_refusals.specs.Verdicts.{AppliesIn};
 ghost use Rattle.question_paths.specs.Laws.{OneAhead};
+ghost use Rattle.fault_steps.specs.Obliged.{obliges};
 ghost use Rattle.fault_steps.specs.Steps.{PassesThrough, LeadsInto, IsMore, IsNotLonger};
 
 use crate::walk::{Step, Walk};
@@ -58,6 +59,20 @@ fn push_road<'r, 'p>(
     }
 }
 
+// Whether the questions of a keyword oblige, where it asks so many.
+const fn obliges(applicator: &Applicator<'_>, asked: usize) -> bool
+    ensures { result ≡ obliges applicator.now asked }
+{
+    match applicator {
+        Applicator::AnyOf(_) => asked == 1,
+        Applicator::OneOf(_) => asked == 1,
+        Applicator::Not(_) => false,
+        Applicator::Contains { .. } => false,
+        Applicator::If { .. } => false,
+        _ => true,
+    }
+}
+
 // The step to what a question asks of.
 fn to_question<'r, 'i, 'p>(
     alloc: Global,
@@ -82,6 +97,7 @@ fn to_question<'r, 'i, 'p>(
     }))
 }
 
+// The step by a keyword whose questions oblige.
 fn along<'r, 'i, 'p>(
     alloc: Global,
     walk: Walk<'r, 'i, 'p>,
@@ -92,6 +108,7 @@ fn along<'r, 'i, 'p>(
     requires applies { AppliesIn walk.site applicator }
     requires more { IsMore walk.instance after }
     requires asked { AreAsked applicator (view walk.value.now) asked.now }
+    requires obliging { obliges applicator (length asked.now) ≡ true }
     requires once { OneAhead applicator (view walk.value.now) }
     ensures passes { IfOk result (PassesThrough walk.entry (applied_row applicator.entry) after.entry) }
     ensures shorter { IfOk result (IsNotLonger after.entry) }
@@ -102,7 +119,8 @@ fn along<'r, 'i, 'p>(
     }
 }
 
-/// The step of a walk by another keyword that applies subschemas.
+/// The step of a walk by another keyword that applies subschemas. It goes on to no subschema whose no is not the keyword's: to none of
+/// `not`, and to one of `anyOf` or `oneOf` where there is no other.
 ///
 /// It takes memory for the questions of the keyword, and looks at them in order.
 pub fn through_applicator<'r, 'i, 'p>(
@@ -118,5 +136,9 @@ pub fn through_applicator<'r, 'i, 'p>(
 {
     one_ahead(&applicator, walk.value);
     let asked = questions(alloc, &applicator, walk.value)?;
-    along(alloc, walk, applicator, asked.as_slice(), after)
+    let asked = asked.as_slice();
+    if obliges(&applicator, asked.len()) {
+        return along(alloc, walk, applicator, asked, after);
+    }
+    Ok(Step::Answered(false))
 }

@@ -5,3 +5,4 @@ pub mod Prepared
 pub mod Refused
 pub mod Built
 pub mod Joined
+pub mod New

@@ -39,6 +39,7 @@ RefusesGiven a limit draft None given e = RefusesDocuments a limit (documents_by
 RefusesGiven a limit draft (Some metas) given e = RefusesDocuments a limit (documents_by draft metas) e ⊎ RefusesBeside a limit draft metas given e
 
 abbrev pub RefusesPreparing : {R : Type 0} → (R → List ℕ → Data → Type 0) → (R → List ℕ → Type 0) → ValidationOptions R → List Given → BuildError → Type 0
+RefusesPreparing may_answer may_refuse o given (error.Document e) = ⊥
 RefusesPreparing may_answer may_refuse o given (error.Registry e) = RefusesGiven (asking_by may_answer may_refuse o) o.limit o.draft (meta_schemas_given o) given e
 RefusesPreparing may_answer may_refuse o given (error.Root e) = ⊥
 RefusesPreparing may_answer may_refuse o given (error.Schema e) = ⊥
@@ -53,6 +54,7 @@ IsOfRegistry e b = (IsMemory e × (b ≡ error.Memory)) ⊎ ((IsMemory e → ⊥
 
 -- a root is refused because its reference leads nowhere, or for a cause at what is reached from it
 abbrev pub RefusesBuild : Root → BuildError → Type 0
+RefusesBuild r (error.Document e) = ⊥
 RefusesBuild r (error.Registry e) = ⊥
 RefusesBuild r (error.Root e) = (cause : LookupCause) × (lookup r.documents r.base r.reference ≡ Err cause) × NamesLookup cause e
 RefusesBuild r (error.Schema e) =
@@ -68,6 +70,7 @@ pub record SpellsFault (f : Fault) (i e : List ℕ) : Type 0 where
   pub evaluation : e ≡ path_text (evaluation_path f)
 
 abbrev pub TellsFault : Fault → BuildError → Type 0
+TellsFault f (error.Document x) = ⊥
 TellsFault f (error.Registry x) = ⊥
 TellsFault f (error.Root x) = ⊥
 TellsFault f (error.Schema x) = ⊥

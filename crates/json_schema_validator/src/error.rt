@@ -8,16 +8,21 @@ ghost use Rattle.referencing_errors.specs.Causes.{RefusesLookup};
 ghost use Rattle.reached_sites.specs.Causes as reached;
 ghost use Rattle.schema_roots.specs.Roots.{Root, Finds};
 ghost use Rattle.json_schema_validator.specs.Refused.{IsOfRegistry, RefusesBuild, TellsFault};
+ghost use Rattle.json_schema_validator.specs.New.{IsOfDocument};
 
 use reached_sites::Error as ReferenceError;
 use reached_sites::cause::BuildCause;
 use schema_reports::ValidationError;
+use schema_roots::DocumentError;
 use std::alloc::{AllocError, Global};
 use thiserror::Error;
 
 /// Why no validator is built.
 #[derive(Debug, Drop, Error)]
 pub enum BuildError {
+    /// The schema is no document.
+    #[error(transparent)]
+    Document(DocumentError),
     /// The documents, or the meta-schemas handed in, are no registry.
     #[error(transparent)]
     Registry(ReferenceError),
@@ -49,6 +54,16 @@ impl From<AllocError> for BuildError {
 }
 
 impl BuildError {
+    /// The error of a schema that is no document.
+    pub(crate) fn of_document(error: DocumentError) -> BuildError
+        ensures { IsOfDocument error result }
+    {
+        match error {
+            DocumentError::Memory => BuildError::Memory,
+            error => BuildError::Document(error),
+        }
+    }
+
     /// The error of documents that are refused.
     pub(crate) fn of_registry(error: ReferenceError) -> BuildError
         ensures { IsOfRegistry error result }

@@ -14,11 +14,13 @@ ghost use Rattle.schema_roots.specs.Answers.{IsCut, IsAnswer, IsFault};
 ghost use Rattle.schema_roots.specs.Certified.{IsCertified, HasCertificate, HaveCertificates};
 ghost use Rattle.schema_roots.specs.Roots.{IsSound};
 
+use crate::error::BuildError;
 use crate::options::ValidationOptions;
 use plain_reader::root::tell_root;
 use reached_sites::Registry;
 use schema_drafts::draft::Draft;
 use schema_reports::{AllFaults, ErrorIterator, FirstFault, Observer, ValidationError, Verdict};
+use schema_roots::{DefaultRetriever, Documents, Retrieve};
 use serde_json::Value;
 use std::alloc::{AllocError, Global};
 use std::rc::Rc;
@@ -40,6 +42,7 @@ pub struct Validator {
 impl Validator {
     ghost use Rattle.json_schema_validator.specs.Seen.{root_in};
     ghost use Rattle.json_schema_validator.specs.Heard.{HearsCut};
+    ghost use Rattle.json_schema_validator.specs.New.{IsNew, Refuses};
 
     /// How validators are built: by the draft 2020-12 and the base URI `json-schema:///`, with nobody asked for documents, at most 256
     /// of them, and no meta-schemas, until it is said otherwise.
@@ -54,6 +57,27 @@ impl Validator {
         ensures meta_schemas { IfOk result (λ o. o.meta_schemas ≡ None) }
     {
         ValidationOptions::new(alloc)
+    }
+
+    /// A validator of a schema by the options that stand until it is said otherwise: the schema is the document at the base URI, and the
+    /// root of validation.
+    ///
+    /// It costs what `build` costs. The schema is not copied.
+    ///
+    /// # Errors
+    ///
+    /// Where a number of the schema is no whole number of 64 bits; those of `build`; and want of memory.
+    pub fn new(alloc: Global, schema: Value) -> Result<Validator, BuildError>
+        ensures built { IfOk result (IsNew ⟦<DefaultRetriever as Retrieve>⟧.may_answer ⟦<DefaultRetriever as Retrieve>⟧.may_refuse (view schema)) }
+        ensures sound { IfOk result (λ v. IsSound (root_in v)) }
+        ensures refused { IfErr result (Refuses ⟦<DefaultRetriever as Retrieve>⟧.may_answer ⟦<DefaultRetriever as Retrieve>⟧.may_refuse (view schema)) }
+    {
+        let options = Validator::options(alloc)?;
+        let mut documents = Documents::new(alloc);
+        match documents.add("", schema) {
+            Ok(()) => options.build(&documents, ""),
+            Err(error) => Err(BuildError::of_document(error)),
+        }
     }
 
     /// Where it begins leads somewhere, and nothing is wrong at the schemas reached from there. It does nothing.

@@ -1,5 +1,5 @@
 -- Whether the questions of applicators are answered no, one after another.
-use Rattle.std.proofs.Common.{◌≡◌, ◌∙◌, ◌++◌, ◌<◌, ◌≤◌, ℕ, List, [], ◌∷◌, Bool, true, false, not, None, Bor, refl, sym, ap, subst}
+use Rattle.std.proofs.Common.{◌≡◌, ◌∙◌, ◌++◌, ◌≤◌, ℕ, List, [], ◌∷◌, Bool, true, false, None, Bor, refl, sym, ap, subst}
 use Rattle.serde_json.specs.Data.{Data, depth}
 use Rattle.serde_json.specs.View.{view}
 use Rattle.serde_json.specs.declared.value.Value.{Value}
@@ -8,31 +8,28 @@ use Rattle.schema_meaning.specs.Members.{In, first, later}
 use Rattle.schema_meaning.specs.Places.{whole, value_after, called_after}
 use Rattle.schema_meaning.specs.Questions as told
 use Rattle.schema_meaning.specs.Questions.{at}
-use Rattle.schema_meaning.specs.Rules.{every, asks}
-use Rattle.schema_meaning.specs.Keywords.{rule}
 use Rattle.schema_meaning.specs.Readings.{verdicts, IsTold}
 use Rattle.schema_reading.specs.Sites.{Site, below}
 use Rattle.schema_reading.specs.Plain.{deepest}
-use Rattle.applicators.specs.Shapes.{shape_of, leads_of, place_of, added_at}
-use Rattle.applicators.specs.Combined.{is_every, name_of}
-use Rattle.applicators.specs.Questions.{step_of, question_of, questions_of}
+use Rattle.applicators.specs.Shapes.{shape_of, place_of, added_at}
+use Rattle.applicators.specs.Combined.{is_every, asks_values, name_of}
+use Rattle.applicators.specs.Questions.{step_of, question_of}
 use Rattle.applicators.specs.declared.applicator.Applicator.{Applicator}
 use Rattle.applicators.specs.declared.question.Asked.{Asked}
 use Rattle.applicators.specs.declared.question.Asked.TheVariants as asked
 use Rattle.applicators.specs.declared.question.Question.{Question}
 use Rattle.applicators.proofs.CombinedLemmas.{every_rule}
-use Rattle.applied_laws.specs.Laws.{IsSound}
 use Rattle.applied_laws.proofs.Sound.{questions_are_sound}
 use Rattle.plain_laws.proofs.Elements as elements
 use Rattle.plain_reader.specs.Applied.{AreAsked, IsPart, entry_parts}
-use Rattle.plain_reader.specs.Passed.{documents_at, row_of}
+use Rattle.plain_reader.specs.Passed.{documents_at}
 use Rattle.plain_reader.specs.Passed as code
 use Rattle.plain_reader.proofs.AppliedTelling.{added-parts}
 use Rattle.plain_reader.proofs.ItemTelling.{Child}
 use Rattle.walk_laws.proofs.Listed.{in_mapped}
-use Rattle.keyword_refusals.specs.Scenes.{Scene, reading_of, Stage, Meets}
+use Rattle.keyword_refusals.specs.Scenes.{Scene, reading_of, Meets}
 use Rattle.keyword_refusals.specs.Rows.{applied_row, applied_questions}
-use Rattle.keyword_refusals.specs.Verdicts.{AreRefused, IsVerdict, IsAnswered, IsRefusal, SomeRefused, AllAccepted, Answers}
+use Rattle.keyword_refusals.specs.Verdicts.{AreRefused, IsVerdict, IsAnswered, IsRefusal}
 use Rattle.keyword_refusals.proofs.Right.{right_on, asked_back}
 use Rattle.keyword_refusals.proofs.Children.{child_meets}
 use Rattle.keyword_refusals.proofs.Gathered.{by_questions}
@@ -57,13 +54,13 @@ no_name d a k part is = let no : called_after None (step_of (asked.Name k)) ≡ 
 pub answered : (c b : code.Site) (path road : List Part) (d : Data) (q : Question) (v : Bool) → Child c b (view q.subschema.schema.now) → road ≡ entry_parts q.subschema.entry ++ (name q.subschema.keyword.now ∷ path)
     → IsVerdict b road (value_after d (step_of q.asked)) v → IsAnswered c path d q v
 answered c b path road d q v child at_road verdict = record {
-  told = λ a each x s k i stage.
+  told = λ a values x s k i stage.
       let site = below x.documents s in
       let row = applied_row a x s in
       let schema = view q.subschema.schema.now in
       let added = added_at q.subschema.keyword.now q.subschema.entry in
       let inner = place_of site q.subschema in
-      let sound = questions_are_sound site x.matches d a each (question_of site q) i in
+      let sound = questions_are_sound site x.matches d a values (question_of site q) i in
       let meets = child_meets c b schema added path x s child stage.meets (right_on x s row inner stage.meets.right stage.stands sound.led) in
       let same : road ≡ added ++ path = at_road ∙ parts-joined (entry_parts q.subschema.entry) q.subschema.keyword.now path ∙ ap (λ (p : List Part). p ++ path) (sym (added-parts q)) in
       verdict.told x inner (subst (λ p. Meets b p x inner) (sym same) meets)
@@ -76,13 +73,13 @@ answered c b path road d q v child at_road verdict = record {
 
 -- ---- one question after another
 
-module _ (c : code.Site) (path : List Part) (d : Data) (a : Applicator) (qs : List Question) (are : AreAsked a d qs) (each : is_every a ≡ true) where
+module _ (c : code.Site) (path : List Part) (d : Data) (a : Applicator) (qs : List Question) (are : AreAsked a d qs) (values : asks_values a ≡ true) where
   there : (x : Scene) (s : Site) (q : Question) → In q qs → In (question_of (below x.documents s) q) (applied_questions a d x s)
   there x s q i = subst (λ ks. In (question_of (below x.documents s) q) ks) (are x.matches (below x.documents s)) (elements.in_mapped (question_of (below x.documents s)) q qs i)
 
   pub one_refused : (q : Question) → In q qs → IsAnswered c path d q false → AreRefused c path d (applied_row a) (applied_questions a d) true
   one_refused q i answer = record {
-    answers = λ x s k stage. (question_of (below x.documents s) q, there x s q i, answer.told a each x s k (there x s q i) stage);
+    answers = λ x s k stage. (question_of (below x.documents s) q, there x s q i, answer.told a values x s k (there x s q i) stage);
   }
 
   pub none_refused : ((q : Question) → In q qs → IsAnswered c path d q true) → AreRefused c path d (applied_row a) (applied_questions a d) false
@@ -91,7 +88,7 @@ module _ (c : code.Site) (path : List Part) (d : Data) (a : Applicator) (qs : Li
         let site = below x.documents s in
         let w = in_mapped (question_of site) qs (subst (λ ks. In p ks) (sym (are x.matches site)) i) in
         subst (λ (r : told.Question Site). IsTold verdicts (reading_of x) r.site (whole (value_after d r.step)) true) w.2
-        ((answers w.0 w.1).told a each x s k (there x s w.0 w.1) stage);
+        ((answers w.0 w.1).told a values x s k (there x s w.0 w.1) stage);
   }
 
 -- where all of the rest are accepted, all are
@@ -114,8 +111,8 @@ accepts_all c path d all h = h.accepts (λ q i. elim i [ ])
 
 -- ---- the keyword
 
-pub by_applicator : (c : code.Site) (path : List Part) (d : Data) (k : code.Keyword) (a : Applicator) (b : Bool) → depth (view c.contents.now) ≤ deepest (documents_at c) → is_every a ≡ true
-    → ((x : Scene) (s : Site) → row_of x.documents s k ≡ applied_row a x s) → AreRefused c path d (applied_row a) (applied_questions a d) b → IsRefusal c path d k b
-by_applicator c path d k a b shallow each is h =
-    by_questions c path d k (applied_row a) (at (name_of a)) (applied_questions a d) b shallow is
+pub by_applicator : (c : code.Site) (path : List Part) (d : Data) (a : Applicator) (b : Bool) → depth (view c.contents.now) ≤ deepest (documents_at c) → is_every a ≡ true
+    → AreRefused c path d (applied_row a) (applied_questions a d) b → IsRefusal c path d (code.Applicator a) b
+by_applicator c path d a b shallow each h =
+    by_questions c path d (code.Applicator a) (applied_row a) (at (name_of a)) (applied_questions a d) b shallow (λ x s. refl)
     (λ x s. ap (λ r. r ∷ []) (every_rule a each (below x.documents s) x.matches d)) h

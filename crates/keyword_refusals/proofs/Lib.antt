@@ -6,4 +6,5 @@ pub mod MemberQuestions
 pub mod Refusals
 pub mod Gathered
 pub mod AppliedQuestions
+pub mod Counted
 pub mod Passed

@@ -1,10 +1,10 @@
 -- What is said of a schema, of a keyword and of questions, where no references come back.
-use Rattle.std.specs.Prelude.{◌≡◌, ◌<◌, ℕ, List, map, Bool, true, false, not, Some}
+use Rattle.std.specs.Prelude.{◌≡◌, ◌<◌, ℕ, List, map, length, Bool, true, false, not, Some}
 use Rattle.serde_json.specs.Data.{Data, object, depth, Members}
 use Rattle.serde_json.specs.Find.{get}
 use Rattle.serde_json.specs.View.{view, members_view}
 use Rattle.json_paths.specs.Parts.{Part}
-use Rattle.schema_meaning.specs.Members.{In}
+use Rattle.schema_meaning.specs.Members.{In, count_true}
 use Rattle.schema_meaning.specs.Places.{whole, value_after}
 use Rattle.schema_meaning.specs.Questions.{Question, listed_members}
 use Rattle.schema_meaning.specs.Rules.{Rule, accepts, asks}
@@ -20,7 +20,7 @@ use Rattle.plain_reader.specs.Passed.{Keyword}
 use Rattle.plain_reader.specs.Passed.{Nothing, Assertion, Items, Properties, Applicator, Reference}
 use Rattle.plain_reader.specs.Applied.{EachInside}
 use Rattle.applicators.specs.Shapes.{shape_of, place_of}
-use Rattle.applicators.specs.Combined.{is_every}
+use Rattle.applicators.specs.Combined.{asks_values}
 use Rattle.applicators.specs.Questions.{step_of, question_of}
 use Rattle.applicators.specs.declared.applicator.Applicator as applied
 use Rattle.applicators.specs.declared.question.Question as asking
@@ -62,9 +62,9 @@ rules_by x s d k = map (rule x.matches d) (shapes_of x.documents s k)
 pub record IsRefusal (c : code.Site) (path : List Part) (d : Data) (k : Keyword) (b : Bool) : Type 0 where
   pub decides : (x : Scene) (s : Site) (name : List ℕ) → Stage c path d name (row_of x.documents s k) x s → IsDecided b (SomeRefuses (reading_of x) d (rules_by x s d k))
 
--- its rule is `every`, and the schemas that it asks lie in the schema
+-- its verdict is by the number of answers that are yes, and the schemas that it asks lie in the schema
 pub record AppliesIn (c : code.Site) (a : applied.Applicator) : Type 0 where
-  pub every : is_every a ≡ true
+  pub values : asks_values a ≡ true
   pub inside : EachInside c a
 
 -- the keyword's schemas lie in the schema, and its target is found
@@ -83,6 +83,11 @@ pub record IsMemberRefused (c : code.Site) (path : List Part) (n : List ℕ) (sc
 
 -- the answer to a question, where an applicator asks it
 pub record IsAnswered (c : code.Site) (path : List Part) (d : Data) (q : asking.Question) (b : Bool) : Type 0 where
-  pub told : (a : applied.Applicator) → is_every a ≡ true → (x : Scene) (s : Site) (k : List ℕ)
+  pub told : (a : applied.Applicator) → asks_values a ≡ true → (x : Scene) (s : Site) (k : List ℕ)
       → In (question_of (below x.documents s) q) (asks (rule x.matches d (shape_of (below x.documents s) a))) → Stage c path d k (applied_row a x s) x s
       → IsTold verdicts (reading_of x) (place_of (below x.documents s) q.subschema) (whole (value_after d (step_of q.asked))) b
+
+-- an applicator's questions have answers, so many, and so many of them are yes
+pub record AreCounted (c : code.Site) (path : List Part) (d : Data) (a : applied.Applicator) (asked accepted : ℕ) : Type 0 where
+  pub answers : (x : Scene) (s : Site) (k : List ℕ) → Stage c path d k (applied_row a x s) x s
+      → (bs : List Bool) × AreAnswers (reading_of x) (whole d) (rule x.matches d (shape_of (below x.documents s) a)) bs × (length bs ≡ asked) × (count_true bs ≡ accepted)

@@ -1,18 +1,19 @@
 //! What keywords that apply subschemas ask of a value, by those subschemas.
-ghost use Rattle.std.specs.Prelude.{◌≤◌, ◌<◌, ◌++◌, ◌≡◌, List, ℕ, IfOk, true, not};
+ghost use Rattle.std.specs.Prelude.{◌≤◌, ◌<◌, ◌++◌, ◌≡◌, List, length, ℕ, IfOk, true, not};
 ghost use Rattle.serde_json.specs.Data.{depth};
 ghost use Rattle.serde_json.specs.View.{view};
 ghost use Rattle.schema_meaning.specs.Places.{value_after};
 ghost use Rattle.schema_reading.specs.Plain.{deepest};
 ghost use Rattle.schema_reading.specs.Sites.{path_of_reference};
-ghost use Rattle.applicators.specs.Combined.{is_every};
+ghost use Rattle.applicators.specs.Combined.{asks_values};
 ghost use Rattle.applicators.specs.Questions.{step_of};
 ghost use Rattle.plain_reader.specs.Applied.{EachInside, AreAsked, IsPart};
 ghost use Rattle.plain_reader.specs.Passed.{documents_at};
 ghost use Rattle.schema_reports.specs.Locations.{location_of};
 ghost use Rattle.schema_reports.specs.References.{text_of};
 ghost use Rattle.keyword_refusals.specs.Rows.{applied_row, applied_questions};
-ghost use Rattle.keyword_refusals.specs.Verdicts.{AreRefused, IsVerdict, IsAnswered};
+ghost use Rattle.plain_reader.specs.Passed as code;
+ghost use Rattle.keyword_refusals.specs.Verdicts.{AppliesIn, AreRefused, AreCounted, IsVerdict, IsAnswered, IsRefusal};
 
 use crate::refusing::is_refused;
 use applicators::applicator::Applicator;
@@ -74,6 +75,7 @@ fn is_question_refused<'a, 'r>(
     }
 }
 
+// Whether one of them is answered no.
 fn some_of_refused<'a, 'r>(
     alloc: Global,
     site: &Site<'r>,
@@ -84,7 +86,7 @@ fn some_of_refused<'a, 'r>(
     value: &Value,
 ) -> Result<bool, AllocError>
     requires shallow { depth (view site.now.contents.now) ≤ deepest (documents_at site.now) }
-    requires every { is_every applicator ≡ true }
+    requires values { asks_values applicator ≡ true }
     requires inside { EachInside site.now applicator }
     requires asked { AreAsked applicator (view value.now) asked.now }
     ensures { IfOk result (AreRefused site.now (location_of schema.now ++ path_of_reference (text_of reference.entry)) (view value.now) (applied_row applicator.entry) (applied_questions applicator.entry (view value.now))) }
@@ -97,10 +99,35 @@ fn some_of_refused<'a, 'r>(
     Ok(false)
 }
 
-/// Whether one of a keyword's questions is answered no.
+// How many of them are answered yes.
+fn accepted_of<'a, 'r>(
+    alloc: Global,
+    site: &Site<'r>,
+    schema: &'a LazyLocation<'a, 'a>,
+    reference: Reference<'a>,
+    applicator: Applicator<'r>,
+    asked: &[Question<'r, '_>],
+    value: &Value,
+) -> Result<usize, AllocError>
+    requires shallow { depth (view site.now.contents.now) ≤ deepest (documents_at site.now) }
+    requires values { asks_values applicator ≡ true }
+    requires inside { EachInside site.now applicator }
+    requires asked { AreAsked applicator (view value.now) asked.now }
+    ensures { IfOk result (AreCounted site.now (location_of schema.now ++ path_of_reference (text_of reference.entry)) (view value.now) applicator.entry (length asked.now)) }
+{
+    let mut accepted = 0;
+    for question in asked {
+        if !is_question_refused(alloc, site, &*schema, reference, *question, value)? {
+            accepted += 1;
+        }
+    }
+    Ok(accepted)
+}
+
+/// Whether an applicator refuses a value.
 ///
 /// It takes memory for the list of questions.
-pub fn some_question_refused<'a, 'r>(
+pub fn applicator_refuses<'a, 'r>(
     alloc: Global,
     site: &Site<'r>,
     schema: &'a LazyLocation<'a, 'a>,
@@ -109,11 +136,14 @@ pub fn some_question_refused<'a, 'r>(
     value: &Value,
 ) -> Result<bool, AllocError>
     requires shallow { depth (view site.now.contents.now) ≤ deepest (documents_at site.now) }
-    requires every { is_every applicator ≡ true }
-    requires inside { EachInside site.now applicator }
-    ensures { IfOk result (AreRefused site.now (location_of schema.now ++ path_of_reference (text_of reference.entry)) (view value.now) (applied_row applicator.entry) (applied_questions applicator.entry (view value.now))) }
+    requires applies { AppliesIn site.now applicator }
+    ensures { IfOk result (IsRefusal site.now (location_of schema.now ++ path_of_reference (text_of reference.entry)) (view value.now) (code.Applicator applicator.entry)) }
 {
     let asked = questions(alloc, &applicator, value)?;
     let asked = asked.as_slice();
-    some_of_refused(alloc, site, schema, reference, applicator, asked, value)
+    if applicator.is_every() {
+        return some_of_refused(alloc, site, schema, reference, applicator, asked, value);
+    }
+    let accepted = accepted_of(alloc, site, schema, reference, applicator, asked, value)?;
+    Ok(!applicator.accepts(asked.len(), accepted))
 }

@@ -13,7 +13,7 @@ ghost use Rattle.keyword_refusals.specs.Scenes.{behind};
 ghost use Rattle.keyword_refusals.specs.Rows.{reference_row, reference_questions};
 ghost use Rattle.keyword_refusals.specs.Verdicts.{IsVerdict, IsRefusal, AreRefused, LiesIn};
 
-use crate::applied::some_question_refused;
+use crate::applied::applicator_refuses;
 use crate::items::some_item_refused;
 use crate::members::some_member_refused;
 use crate::road::RoadPart;
@@ -87,7 +87,7 @@ fn keyword_refuses<'a, 'r>(
             some_member_refused(alloc, site, &*schema, reference, schemas, value)
         }
         Keyword::Applicator(applicator) => {
-            some_question_refused(alloc, site, &*schema, reference, applicator, value)
+            applicator_refuses(alloc, site, &*schema, reference, applicator, value)
         }
         Keyword::Reference {
             keyword: by,

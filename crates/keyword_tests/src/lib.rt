@@ -4,4 +4,8 @@
 #[cfg(test)]
 mod asserting;
 #[cfg(test)]
+mod branching;
+#[cfg(test)]
+mod carrying;
+#[cfg(test)]
 mod subject;

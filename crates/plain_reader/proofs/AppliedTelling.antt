@@ -1,29 +1,28 @@
 -- What the questions of applicators tell.
-use Rattle.std.proofs.Common.{◌≡◌, ◌≤◌, ◌<◌, ◌++◌, ◌+◌, ◌*◌, ℕ, List, [], ◌∷◌, Bool, true, false, Bor, Option, None, refl, sym, ap, ap₂, subst, ◌∙◌, arith}
+use Rattle.std.proofs.Common.{◌≡◌, ◌<◌, ◌++◌, ℕ, List, [], ◌∷◌, Bool, true, false, Bor, Option, None, refl, sym, ap, ap₂, subst, ◌∙◌}
 use Rattle.serde_json.specs.Data.{Data, object, depth, Members}
 use Rattle.serde_json.specs.View.{view}
 use Rattle.serde_json.specs.declared.value.Value.{Value}
 use Rattle.json_paths.specs.Parts.{Part, name, index}
 use Rattle.schema_meaning.specs.Members.{In, first, later}
-use Rattle.schema_meaning.specs.Places.{Spot, Step, Key, whole, after, value_after, path_after, called_after}
+use Rattle.schema_meaning.specs.Places.{Step, Key, whole, after, value_after, path_after, called_after}
 use Rattle.schema_meaning.specs.Faults.{Faults, joined}
-use Rattle.schema_meaning.specs.Questions as told
 use Rattle.schema_meaning.specs.Questions.{at, listed_members}
 use Rattle.schema_meaning.specs.Rules.{asks}
-use Rattle.schema_meaning.specs.Keywords.{Shape, rule}
+use Rattle.schema_meaning.specs.Keywords.{rule}
 use Rattle.schema_meaning.specs.Readings.{Asks}
-use Rattle.schema_documents.specs.Bearers.{Documents, meta}
+use Rattle.schema_documents.specs.Bearers.{meta}
 use Rattle.schema_documents.specs.Places.{by_schema, schema_in_force}
 use Rattle.schema_reading.specs.Sites.{Site, below}
 use Rattle.schema_reading.specs.Rows.{Row, row_at, rows_at}
-use Rattle.schema_reading.specs.Plain.{plain, deepest}
+use Rattle.schema_reading.specs.Plain.{plain}
 use Rattle.meaning_laws.proofs.Obliged.{in_map}
 use Rattle.place_laws.proofs.Depths.{placed_contents}
 use Rattle.plain_laws.proofs.Elements.{in_mapped}
 use Rattle.plain_laws.proofs.Nested.{all_known}
 use Rattle.walk_laws.proofs.Begun.{rules_stand}
-use Rattle.applicators.specs.Shapes.{shape_of, leads_of, place_of, added_at}
-use Rattle.applicators.specs.Combined.{is_every}
+use Rattle.applicators.specs.Shapes.{shape_of, added_at}
+use Rattle.applicators.specs.Combined.{asks_values}
 use Rattle.applicators.specs.Questions.{step_of, question_of, questions_of}
 use Rattle.applicators.specs.declared.applicator.Applicator.{Applicator}
 use Rattle.applicators.specs.declared.question.Asked.{Asked}
@@ -45,9 +44,8 @@ use Rattle.schema_reports.specs.RoadPaths.{instance_in, schema_in, evaluation_in
 use Rattle.schema_reports.specs.declared.roads.Roads.{Roads}
 use Rattle.schema_reports.specs.declared.observer.Observation.{Observation}
 use Rattle.schema_reports.specs.declared.observer.Observer.{Observer}
-use Rattle.assertion_faults.specs.Tellings.{spot_at}
 use Rattle.plain_reader.specs.Settings.{Setting, asked_in, asked_by}
-use Rattle.plain_reader.specs.Tellings.{Fits, AreRead, Within, Tells, TellsQuestions, room}
+use Rattle.plain_reader.specs.Tellings.{AreRead, Within, Tells, TellsQuestions}
 use Rattle.plain_reader.specs.Applied.{applied_leads, applied_questions, AreAsked, question_leads, one_question, EachInside, AsksInside, IsPart, entry_parts, TellsAsked}
 use Rattle.plain_reader.proofs.Reading.{row_here}
 use Rattle.plain_reader.proofs.ToldLemmas.{asked_by-more, asked_by-none}
@@ -69,12 +67,16 @@ here c = record {
   schema_path = [];
 }
 
-module _ (a : Applicator) (d : Data) (qs : List Question) (are : AreAsked a d qs) (every : is_every a ≡ true) (q : Question) (i : In q qs) where
+module _ (a : Applicator) (d : Data) (qs : List Question) (are : AreAsked a d qs) (values : asks_values a ≡ true) (q : Question) (i : In q qs) where
   one_asked : (matches : List ℕ → List ℕ → Bool) (site : List Part → Data → Site) → In (question_of site q) (asks (rule matches d (shape_of site a)))
   one_asked matches site = subst (λ ks. In (question_of site q) ks) (are matches site) (in_mapped (question_of site) q qs i)
 
   pub question_sound : (matches : List ℕ → List ℕ → Bool) (site : List Part → Data → Site) → IsSound site a d (question_of site q)
-  question_sound matches site = questions_are_sound site matches d a every (question_of site q) (one_asked matches site)
+  question_sound matches site = questions_are_sound site matches d a values (question_of site q) (one_asked matches site)
+
+  pub question_led : (x : Setting) (t : Site) → In t (question_leads q x) → In t (applied_leads a x)
+  question_led x t first = (question_sound x.matches (below x.documents x.site)).led
+  question_led x t (later i) = elim i [ ]
 
   pub question_part : (c : code.Site) → IsPart d q.asked
   question_part c = let sound = question_sound (λ p text. false) (λ added e. here c) in record { uncalled = sound.uncalled; spots = sound.spots }
@@ -186,24 +188,19 @@ module _ (c : code.Site) (whole d : Data) (roads : Roads) (keys : List Key) (a :
     tells = λ x fits read enough kept fs h. none_left _ _ kept fs now (asked_by-none x) (l.left x fits read enough kept fs h);
   }
 
-  pub questions_step : (all rest : List Question) (q : Question) (old now new : Observer) → AreAsked a d all → is_every a ≡ true
+  pub questions_step : (all rest : List Question) (q : Question) (old now new : Observer) → AreAsked a d all → asks_values a ≡ true
       → TellsQuestions c whole d roads keys (question_leads q) (one_question q) now new → QuestionsLeft c whole d roads keys a all (q ∷ rest) old now
       → QuestionsLeft c whole d roads keys a all rest old new
-  questions_step all rest q old now new are every told l = record {
+  questions_step all rest q old now new are values told l = record {
     among = λ p i. l.among p (later i);
     left = λ x fits read enough kept fs h.
         let site = below x.documents x.site in
-        let sound = question_sound a d all are every q (l.among q first) x.matches site in
-        let here : (t : Site) → In t (question_leads q x) → AreRead x.documents x.makes t = λ t i. read t (only_one (place_of site q.subschema) t (leads_of site a) sound.led i) in
+        let here : (t : Site) → In t (question_leads q x) → AreRead x.documents x.makes t = λ t i. read t (question_led a d all are values q (l.among q first) x t i) in
         let more = questions_of site rest in
         let left = subst (λ gs. LeftOf (asked_by x (applied_questions a d x)) gs kept fs now) (asked_by-more x (question_of site q) more) (l.left x fits read enough kept fs h) in
         told_one _ (asked_in x (question_of site q)) (asked_by x more) _ kept fs now new refl
         (λ gs g. subst (λ hs. Hears kept new (joined gs hs)) (asked_by-one x (question_of site q)) (told.tells x fits here enough kept gs g)) left;
   }
-    where
-      only_one : (s t : Site) (ss : List Site) → In s ss → In t (s ∷ []) → In t ss
-      only_one s t ss i first = i
-      only_one s t ss i (later j) = elim j [ ]
 
 -- ---- the schemas that a keyword asks
 

@@ -53,14 +53,14 @@ pub child_shallow : (c b : code.Site) (d : Data) → Child c b d → depth d < d
 child_shallow c b d child inside shallow =
     subst (λ e. depth e ≤ deepest (documents_at b)) (sym child.contents) (subst (λ docs. depth d ≤ deepest docs) (sym child.documents) (omega (arith, inside, shallow)))
 
-deeper_room : (n : ℕ) (a b : ℕ) → a < b → 8 * (n + a) + 7 < 8 * (n + b)
+deeper_room : (n : ℕ) (a b : ℕ) → a < b → 12 * (n + a) + 11 < 12 * (n + b)
 deeper_room n a b h = omega (arith, h)
 
 pub child_falls : (c b : code.Site) (d whole : Data) (keys : List Key) → Child c b d → depth d < depth (view c.contents.now)
-    → 8 * room (documents_at b) whole keys (view b.contents.now) + 7 < 8 * room (documents_at c) whole keys (view c.contents.now)
+    → 12 * room (documents_at b) whole keys (view b.contents.now) + 11 < 12 * room (documents_at c) whole keys (view c.contents.now)
 child_falls c b d whole keys child inside =
-    subst (λ e. 8 * room (documents_at b) whole keys e + 7 < 8 * room (documents_at c) whole keys (view c.contents.now)) (sym child.contents)
-    (subst (λ docs. 8 * room docs whole keys d + 7 < 8 * room (documents_at c) whole keys (view c.contents.now)) (sym child.documents) (deeper_room _ _ _ inside))
+    subst (λ e. 12 * room (documents_at b) whole keys e + 11 < 12 * room (documents_at c) whole keys (view c.contents.now)) (sym child.contents)
+    (subst (λ docs. 12 * room docs whole keys d + 11 < 12 * room (documents_at c) whole keys (view c.contents.now)) (sym child.documents) (deeper_room _ _ _ inside))
 
 -- what a site asks of a child
 abbrev asks : Data → List Part → Step → Setting → Question Site

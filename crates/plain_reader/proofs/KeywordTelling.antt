@@ -17,7 +17,7 @@ use Rattle.applicators.specs.Shapes.{shape_of}
 use Rattle.applicators.specs.Combined.{is_every, name_of as applicator_name}
 use Rattle.applicators.specs.declared.applicator.Applicator.{Applicator}
 use Rattle.applicators.proofs.CombinedLemmas.{every_rule}
-use Rattle.plain_reader.specs.Applied.{applied_leads, applied_questions}
+use Rattle.plain_reader.specs.Applied.{applied_leads, applied_shapes, applied_questions}
 use Rattle.schema_reading.specs.Rows.{Row, Context, row_at, assertion, rows_in}
 use Rattle.unread_keywords.specs.NotYet.{is_unread}
 use Rattle.schema_reading.specs.Plain.{keywords_at}
@@ -27,6 +27,7 @@ use Rattle.schema_sites.specs.Read.{row_of, context_at}
 use Rattle.schema_sites.specs.Refused.{Refuses}
 use Rattle.schema_sites.specs.declared.site.Site as code
 use Rattle.schema_sites.specs.declared.keyword.Keyword.{Keyword}
+use Rattle.schema_sites.specs.declared.keyword.Keyword.TheVariants as keyword
 use Rattle.schema_sites.specs.declared.keyword.Refusal.{Refusal}
 use Rattle.schema_sites.specs.declared.keyword.Refusal.TheVariants as refusal
 use Rattle.schema_reports.specs.RoadPaths.{instance_in, schema_in, evaluation_in}
@@ -87,15 +88,19 @@ module _ (c : code.Site) (whole d : Data) (roads : Roads) (progress : List Key) 
   tells_properties k ms old new led shaped told = tells_questions k (properties_leads ms) (properties_questions ms d) old new led
       (λ x is. ap (told_by x) (shaped x) ∙ told_by-properties x (declared_in ms x) ∙ ap (λ v. asked_by x (properties_questions ms v x)) is) told
 
-  pub tells_applicator : (k : Keyword) (a : Applicator) (old new : Observer) → is_every a ≡ true → ((x : Setting) → keyword_leads k x ≡ applied_leads a x)
-      → ((x : Setting) → keyword_shapes k x ≡ shape_of (below x.documents x.site) a ∷ []) → TellsQuestions c whole d roads progress (applied_leads a) (applied_questions a d) old new
+  pub tells_every : (a : Applicator) (old new : Observer) → is_every a ≡ true → TellsQuestions c whole d roads progress (applied_leads a) (applied_questions a d) old new
+      → TellsShapes c whole d roads progress (applied_leads a) (applied_shapes a) old new
+  tells_every a old new every told = record {
+    tells = λ x fits read deep kept fs h.
+        let site = below x.documents x.site in
+        let same : told_by x (applied_shapes a x) ≡ asked_by x (applied_questions a d x) =
+        told_by-every x (shape_of site a) (at (applicator_name a)) (every_rule a every site x.matches x.spot.value) ∙ ap (λ w. asked_by x (applied_questions a w.value x)) fits.spot in
+        subst (λ gs. Hears kept new (joined fs gs)) (sym same) (told.tells x fits read deep kept fs h);
+  }
+
+  pub tells_applicator : (k : Keyword) (a : Applicator) (old new : Observer) → k ≡ keyword.Applicator a → TellsShapes c whole d roads progress (applied_leads a) (applied_shapes a) old new
       → TellsShapes c whole d roads progress (keyword_leads k) (keyword_shapes k) old new
-  tells_applicator k a old new every led shaped told = tells_questions k (applied_leads a) (applied_questions a d) old new led
-      (λ x is.
-      ap (told_by x) (shaped x)
-      ∙ told_by-every x (shape_of (below x.documents x.site) a) (at (applicator_name a)) (every_rule a every (below x.documents x.site) x.matches x.spot.value)
-      ∙ ap (λ v. asked_by x (applied_questions a v x)) is)
-      told
+  tells_applicator k a old new is told = subst (λ (k : Keyword). TellsShapes c whole d roads progress (keyword_leads k) (keyword_shapes k) old new) (sym is) told
 
   pub tells_reference : (k : Keyword) (kind : Reference) (text : List ℕ) (target : Target) (old new : Observer) → ((x : Setting) → keyword_leads k x ≡ reference_leads text target x)
       → ((x : Setting) → keyword_shapes k x ≡ reference kind (target_site x.site text target) ∷ [])

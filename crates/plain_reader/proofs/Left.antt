@@ -1,12 +1,15 @@
 -- What a loop of the reader has still to tell.
-use Rattle.std.proofs.Common.{◌≡◌, ◌≤◌, ℕ, List, Option, codes}
+use Rattle.std.proofs.Common.{◌≡◌, ◌≤◌, ◌+◌, ◌++◌, ℕ, List, map, Option, codes}
+use Rattle.std.specs.declared.alloc.Global.{Global}
+use Rattle.std.specs.declared.vec.Vec.{Vec}
 use Rattle.serde_json.specs.Data.{Data, Items, Members, depth, object}
 use Rattle.serde_json.specs.View.{view}
 use Rattle.json_paths.specs.Parts.{Part}
-use Rattle.schema_meaning.specs.Members.{In}
+use Rattle.schema_meaning.specs.Members.{In, count_true}
 use Rattle.schema_meaning.specs.Places.{Key}
 use Rattle.schema_meaning.specs.Faults.{Faults, joined}
 use Rattle.schema_meaning.specs.Questions.{each_item, listed_members}
+use Rattle.schema_meaning.specs.Rules.{verdicts_of}
 use Rattle.schema_reading.specs.Sites.{Site, below}
 use Rattle.applicators.specs.Questions.{questions_of}
 use Rattle.applicators.specs.declared.applicator.Applicator.{Applicator}
@@ -19,9 +22,12 @@ use Rattle.schema_reports.specs.declared.roads.Roads.{Roads}
 use Rattle.schema_reports.specs.declared.observer.Observation.{Observation}
 use Rattle.schema_reports.specs.declared.observer.Observer.{Observer}
 use Rattle.schema_reports.specs.RoadPaths.{instance_in}
-use Rattle.plain_reader.specs.Settings.{Setting, told_by, asked_by}
+use Rattle.schema_reports.specs.Told.{faults_of}
+use Rattle.schema_reports.specs.declared.error.ValidationError.{ValidationError}
+use Rattle.plain_reader.specs.Settings.{Setting, told_by, asked_in, asked_by}
 use Rattle.plain_reader.specs.Tellings.{Fits, AreRead, room}
 use Rattle.plain_reader.specs.Applied.{applied_leads, applied_questions}
+use Rattle.plain_reader.specs.Combined.{answers_in}
 use Rattle.plain_reader.specs.Shapes.{shapes_among, items_site, items_questions, properties_questions, properties_leads}
 
 -- of all that is told, what is left to tell
@@ -57,3 +63,17 @@ module _ (c : code.Site) (whole d : Data) (roads : Roads) (progress : List Key) 
         → (kept : Observation) (fs : Faults) → Hears kept old fs
         → LeftOf (asked_by x (properties_questions all d x)) (asked_by x (properties_questions rest d x)) kept fs now
     pub leads : (x : Setting) (t : Site) → In t (properties_leads rest x) → In t (properties_leads all x)
+
+  -- so many answers were yes so far
+  pub record CountLeft (a : Applicator) (all rest : List Question) (n : ℕ) : Type 0 where
+    pub among : (q : Question) → In q rest → In q all
+    pub left : (x : Setting) → Fits c d roads progress x → ((t : Site) → In t (applied_leads a x) → AreRead x.documents x.makes t)
+        → room (documents_at c) whole progress (view c.contents.now) ≤ x.depth
+        → count_true (verdicts_of (answers_in a d x)) ≡ n + count_true (verdicts_of (map (asked_in x) (questions_of (below x.documents x.site) rest)))
+
+  -- these errors were told so far
+  pub record BranchesLeft (a : Applicator) (all rest : List Question) (context : List (Vec ValidationError Global)) : Type 0 where
+    pub among : (q : Question) → In q rest → In q all
+    pub left : (x : Setting) → Fits c d roads progress x → ((t : Site) → In t (applied_leads a x) → AreRead x.documents x.makes t)
+        → room (documents_at c) whole progress (view c.contents.now) ≤ x.depth
+        → answers_in a d x ≡ map (λ es. faults_of es.items) context ++ map (asked_in x) (questions_of (below x.documents x.site) rest)

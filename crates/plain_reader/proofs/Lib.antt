@@ -7,5 +7,7 @@ pub mod TargetTelling
 pub mod RootTelling
 pub mod ItemTelling
 pub mod AppliedTelling
+pub mod RefusalLemmas
+pub mod CombinedTelling
 pub mod Reading
 pub mod KeywordTelling

@@ -118,7 +118,7 @@ module _ (c : code.Site) (whole d : Data) (roads : Roads) (progress : List Key) 
 
 pub falls_by_target : (docs other : Documents) (whole : Data) (t : Target) (u : List ℕ) (p path : List Part) (progress : List Key) (f schema : Data) → u ≡ t.document → p ≡ t.path
     → other ≡ docs → t.contents ≡ f → room docs whole (key t.document t.path path ∷ progress) t.contents < room docs whole progress schema
-    → 8 * room other whole (key u p path ∷ progress) f + 7 < 8 * room docs whole progress schema + 3
+    → 12 * room other whole (key u p path ∷ progress) f + 11 < 12 * room docs whole progress schema + 3
 falls_by_target docs other whole t u p path progress f schema document place same contents less =
     let keys : List Key = key t.document t.path path ∷ progress in
     let known : key u p path ∷ progress ≡ keys = ap₂ (λ (v : List ℕ) (q : List Part). key v q path ∷ progress) document place in

@@ -4,7 +4,7 @@ use Rattle.json_paths.specs.Parts.{Part}
 use Rattle.schema_meaning.specs.Places.{Spot, Key}
 use Rattle.schema_meaning.specs.Faults.{Fault, Faults, none, also, joined, join}
 use Rattle.schema_meaning.specs.Questions.{Question, at, asked_at, each_item, items_from, items_of, each_declared}
-use Rattle.schema_meaning.specs.Rules.{Rule, every, asks, own_faults}
+use Rattle.schema_meaning.specs.Rules.{Rule, every, asks, faults, own_faults}
 use Rattle.schema_meaning.specs.Keywords.{Shape, Assertion, asserts, never, items, properties, reference, Reference, reference_name, rule, named, wrong}
 use Rattle.schema_meaning.specs.Readings.{bags}
 use Rattle.schema_meaning.specs.Circular.{key_at}
@@ -58,6 +58,12 @@ pub told_by-every : (x : Setting) (shape : Shape Site) (p : List Part) → rule 
     → told_by x (shape ∷ []) ≡ asked_by x (asks (rule x.matches x.spot.value shape))
 unfolding told_by asked_by
 told_by-every x shape p e = ap (λ r. join (cut_one bags x.spot x.site.schema_path (asked_in x) r ∷ [])) e ∙ joined-none _
+
+-- a keyword, by the faults of its questions
+pub told_by-one : (x : Setting) (shape : Shape Site)
+    → told_by x (shape ∷ []) ≡ faults (rule x.matches x.spot.value shape) x.spot x.site.schema_path (map (asked_in x) (asks (rule x.matches x.spot.value shape)))
+unfolding told_by
+told_by-one x shape = joined-none _
 
 -- ---- questions
 

@@ -7,7 +7,7 @@ use Rattle.schema_meaning.specs.Members.{In}
 use Rattle.schema_meaning.specs.Places.{Key, value_after, path_after, called_after}
 use Rattle.schema_meaning.specs.Questions as told
 use Rattle.schema_meaning.specs.Rules.{asks}
-use Rattle.schema_meaning.specs.Keywords.{rule}
+use Rattle.schema_meaning.specs.Keywords.{Shape, rule}
 use Rattle.schema_reading.specs.Sites.{Site, below}
 use Rattle.schema_reading.specs.AllKeys.{spots_in}
 use Rattle.applicators.specs.Shapes.{shape_of, leads_of, place_of}
@@ -30,6 +30,9 @@ use Rattle.plain_reader.specs.Tellings.{Tells}
 
 abbrev pub applied_leads : Applicator → Setting → List Site
 applied_leads a x = leads_of (below x.documents x.site) a
+
+abbrev pub applied_shapes : Applicator → Setting → List (Shape Site)
+applied_shapes a x = shape_of (below x.documents x.site) a ∷ []
 
 abbrev pub applied_questions : Applicator → Data → Setting → List (told.Question Site)
 applied_questions a d x = asks (rule x.matches d (shape_of (below x.documents x.site) a))

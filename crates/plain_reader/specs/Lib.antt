@@ -3,6 +3,8 @@ pub mod Keys
 pub mod Tellings
 pub mod Shapes
 pub mod Applied
+pub mod Combined
+pub mod Refusals
 pub mod Targets
 pub mod Roots
 pub mod Sites

@@ -1,8 +1,10 @@
 //! The plain reader: what a schema tells of a value, each reference looked up anew.
 #![tactic(auto)]
 
+mod heard;
 mod progress;
 mod read;
+mod refusals;
 pub mod root;
 pub mod site;
 

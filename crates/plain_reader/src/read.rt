@@ -1,5 +1,5 @@
 //! The reading of a schema.
-ghost use Rattle.std.specs.Prelude.{◌≡◌, ◌≤◌, ◌<◌, [], OnOk, Some, true};
+ghost use Rattle.std.specs.Prelude.{◌≡◌, ◌≤◌, ◌<◌, [], OnOk, IfOk, Some, true, false};
 ghost use Rattle.serde_json.specs.Find.{get};
 ghost use Rattle.serde_json.specs.Data.{depth, object};
 ghost use Rattle.serde_json.specs.View.{view, members_view};
@@ -14,17 +14,23 @@ ghost use Rattle.schema_reports.specs.RoadPaths.{instance_in};
 ghost use Rattle.plain_reader.specs.Keys.{keys_in};
 ghost use Rattle.plain_reader.specs.Tellings.{Within, Tells, TellsShapes, TellsQuestions};
 ghost use Rattle.plain_reader.specs.Shapes.{no_leads, shapes_among, shapes_at, keyword_leads, keyword_shapes, items_leads, items_questions, properties_leads, properties_questions, property_leads, property_questions};
-ghost use Rattle.applicators.specs.Combined.{is_every};
-ghost use Rattle.plain_reader.specs.Applied.{AsksInside, EachInside, AreAsked, IsPart, TellsAsked, entry_parts, applied_leads, applied_questions, question_leads, one_question};
+ghost use Rattle.applicators.specs.Combined.{is_every, asks_values};
+ghost use Rattle.plain_reader.specs.Applied.{AsksInside, EachInside, AreAsked, IsPart, TellsAsked, entry_parts, applied_leads, applied_shapes, applied_questions, question_leads, one_question};
+ghost use Rattle.plain_reader.specs.Combined.{Counts, HasBranches};
 ghost use Rattle.plain_reader.specs.Targets.{reference_leads, reference_questions};
 
+use crate::heard::{all_heard, heard_none};
 use crate::progress::{Progress, is_in_progress};
+use crate::refusals::{carries_branches, tell_refusal};
 use applicators::applicator::Applicator;
 use applicators::question::{Asked, Question};
 use applicators::questions::questions;
 use applicators::subschema::Entry;
 use assertion_faults::tell_assertion;
-use schema_reports::{LazyLocation, Observer, Reference, Roads, ValidationErrorKind};
+use schema_reports::{
+    AllFaults, LazyLocation, Observer, Reference, Roads, ValidationError, ValidationErrorKind,
+    Verdict,
+};
 use schema_sites::Resolved;
 use schema_sites::keyword::{Keyword, Refusal};
 use schema_sites::reading::keyword;
@@ -167,11 +173,7 @@ fn read_keyword<'r, 'i>(
             read_properties(reading, site, schemas, value, roads, progress, observer)
         }
         Keyword::Applicator(applicator) => {
-            let asked = questions(reading.alloc, &applicator, value)?;
-            let asked = asked.as_slice();
-            read_questions(
-                reading, site, applicator, asked, value, roads, progress, observer,
-            )
+            read_applicator(reading, site, applicator, value, roads, progress, observer)
         }
         Keyword::Reference {
             keyword,
@@ -295,6 +297,36 @@ fn read_property<'a, 'r, 'i>(
     read_site(reading, &inner, member, at, progress, observer)
 }
 
+// What an applicator tells.
+#[cycle(read)]
+fn read_applicator<'r, 'i>(
+    reading: &Reading<'i>,
+    site: &Site<'r>,
+    applicator: Applicator<'r>,
+    value: &'i Value,
+    roads: Roads<'_>,
+    progress: &Progress<'_>,
+    observer: &mut Observer<'i>,
+) -> Result<(), AllocError>
+    requires shallow { depth (view site.now.contents.now) ≤ deepest (documents_at site.now) }
+    requires within { Within (view value.now) (instance_in roads) (view reading.now.whole.now) }
+    requires values { asks_values applicator ≡ true }
+    requires inside { EachInside site.now applicator }
+    ensures { OnOk result (TellsShapes site.now (view reading.now.whole.now) (view value.now) roads.entry (keys_in progress.now) (applied_leads applicator.entry) (applied_shapes applicator.entry) observer.old observer.new) }
+{
+    let asked = questions(reading.alloc, &applicator, value)?;
+    let asked = asked.as_slice();
+    if applicator.is_every() {
+        read_questions(
+            reading, site, applicator, asked, value, roads, progress, observer,
+        )
+    } else {
+        read_combined(
+            reading, site, applicator, asked, value, roads, progress, observer,
+        )
+    }
+}
+
 // What the questions of an applicator tell.
 #[cycle(read)]
 fn read_questions<'r, 'i>(
@@ -309,7 +341,7 @@ fn read_questions<'r, 'i>(
 ) -> Result<(), AllocError>
     requires shallow { depth (view site.now.contents.now) ≤ deepest (documents_at site.now) }
     requires within { Within (view value.now) (instance_in roads) (view reading.now.whole.now) }
-    requires every { is_every applicator ≡ true }
+    requires values { asks_values applicator ≡ true }
     requires inside { EachInside site.now applicator }
     requires asked { AreAsked applicator (view value.now) asked.now }
     ensures { OnOk result (TellsQuestions site.now (view reading.now.whole.now) (view value.now) roads.entry (keys_in progress.now) (applied_leads applicator.entry) (applied_questions applicator.entry (view value.now)) observer.old observer.new) }
@@ -321,6 +353,121 @@ fn read_questions<'r, 'i>(
         read_question(reading, site, *question, value, roads, progress, observer)?;
     }
     Ok(())
+}
+
+// What an applicator tells whose verdict the answers to its questions make together: one fault at most.
+#[cycle(read)]
+fn read_combined<'r, 'i>(
+    reading: &Reading<'i>,
+    site: &Site<'r>,
+    applicator: Applicator<'r>,
+    asked: &[Question<'r, 'i>],
+    value: &'i Value,
+    roads: Roads<'_>,
+    progress: &Progress<'_>,
+    observer: &mut Observer<'i>,
+) -> Result<(), AllocError>
+    requires shallow { depth (view site.now.contents.now) ≤ deepest (documents_at site.now) }
+    requires within { Within (view value.now) (instance_in roads) (view reading.now.whole.now) }
+    requires values { asks_values applicator ≡ true }
+    requires once { is_every applicator ≡ false }
+    requires inside { EachInside site.now applicator }
+    requires asked { AreAsked applicator (view value.now) asked.now }
+    ensures { OnOk result (TellsShapes site.now (view reading.now.whole.now) (view value.now) roads.entry (keys_in progress.now) (applied_leads applicator.entry) (applied_shapes applicator.entry) observer.old observer.new) }
+{
+    let accepted = count_accepted(reading, site, applicator, asked, value, roads, progress)?;
+    if applicator.accepts(asked.len(), accepted) {
+        return Ok(());
+    }
+    if !observer.hear() {
+        return Ok(());
+    }
+    let context = if carries_branches(&applicator) {
+        read_branches(reading, site, applicator, asked, value, roads, progress)?
+    } else {
+        Vec::new(reading.alloc)
+    };
+    tell_refusal(
+        reading.alloc,
+        applicator,
+        accepted,
+        context,
+        value,
+        roads,
+        observer,
+    )
+}
+
+// How many of the answers to an applicator's questions are yes.
+#[cycle(read)]
+fn count_accepted<'r, 'i>(
+    reading: &Reading<'i>,
+    site: &Site<'r>,
+    applicator: Applicator<'r>,
+    asked: &[Question<'r, 'i>],
+    value: &'i Value,
+    roads: Roads<'_>,
+    progress: &Progress<'_>,
+) -> Result<usize, AllocError>
+    requires shallow { depth (view site.now.contents.now) ≤ deepest (documents_at site.now) }
+    requires within { Within (view value.now) (instance_in roads) (view reading.now.whole.now) }
+    requires values { asks_values applicator ≡ true }
+    requires inside { EachInside site.now applicator }
+    requires asked { AreAsked applicator (view value.now) asked.now }
+    ensures { IfOk result (λ n. Counts site.now (view reading.now.whole.now) (view value.now) roads.entry (keys_in progress.now) applicator.entry n) }
+{
+    let mut accepted = 0;
+    for question in asked {
+        let mut answer = Observer::Verdict(Verdict::new());
+        read_question(
+            reading,
+            site,
+            *question,
+            value,
+            roads,
+            progress,
+            &mut answer,
+        )?;
+        if heard_none(answer) {
+            accepted += 1;
+        }
+    }
+    Ok(accepted)
+}
+
+// The errors of each of an applicator's questions.
+#[cycle(read)]
+fn read_branches<'r, 'i>(
+    reading: &Reading<'i>,
+    site: &Site<'r>,
+    applicator: Applicator<'r>,
+    asked: &[Question<'r, 'i>],
+    value: &'i Value,
+    roads: Roads<'_>,
+    progress: &Progress<'_>,
+) -> Result<Vec<Vec<ValidationError<'i>>>, AllocError>
+    requires shallow { depth (view site.now.contents.now) ≤ deepest (documents_at site.now) }
+    requires within { Within (view value.now) (instance_in roads) (view reading.now.whole.now) }
+    requires values { asks_values applicator ≡ true }
+    requires inside { EachInside site.now applicator }
+    requires asked { AreAsked applicator (view value.now) asked.now }
+    ensures { IfOk result (λ context. HasBranches site.now (view reading.now.whole.now) (view value.now) roads.entry (keys_in progress.now) applicator.entry context.items) }
+{
+    let mut context = Vec::new(reading.alloc);
+    for question in asked {
+        let mut answer = Observer::All(AllFaults::new(reading.alloc));
+        read_question(
+            reading,
+            site,
+            *question,
+            value,
+            roads,
+            progress,
+            &mut answer,
+        )?;
+        context.push(all_heard(reading.alloc, answer))?;
+    }
+    Ok(context)
 }
 
 // What a question tells: what its subschema does of what it asks of.

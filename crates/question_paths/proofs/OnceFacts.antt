@@ -1,11 +1,11 @@
 -- Of the questions of an applicator, texts lead to one at most.
-use Rattle.std.proofs.Common.{◌≡◌, ◌∙◌, ◌+◌, ◌<◌, ◌^◌, ℕ, List, Some, length, Bool, true, codes, sym, ap, subst, arith}
+use Rattle.std.proofs.Common.{◌≡◌, ◌∙◌, ◌+◌, ◌<◌, ◌^◌, ◌∷◌, ℕ, List, [], Some, length, Bool, true, codes, refl, sym, ap, subst, arith}
 use Rattle.serde_json.specs.Data.{Data, Members}
 use Rattle.serde_json.specs.Find.{get, get_item, get_member}
 use Rattle.serde_json.specs.Find as finding
 use Rattle.serde_json.specs.View.{view, items_view, members_view}
 use Rattle.json_paths.specs.Parts.{Part}
-use Rattle.schema_meaning.specs.Members.{In}
+use Rattle.schema_meaning.specs.Members.{In, first, later}
 use Rattle.schema_meaning.specs.Places.{stay, to_item, to_member}
 use Rattle.schema_meaning.specs.Questions.{Question, question, at, at_name, at_index, items_of, items_from, each_branch, each_item, item_by_item, each_declared, each_triggered}
 use Rattle.schema_meaning.specs.Rules.{asks}
@@ -16,7 +16,7 @@ use Rattle.walk_laws.proofs.Listed.{item_question, item_further, declared_questi
 use Rattle.path_parts.specs.Found.{IsIndexed}
 use Rattle.path_parts.proofs.ItemFacts.{at_items, some_one}
 use Rattle.applicators.specs.Shapes.{shape_of, site_of, sites_of_list, sites_of_map}
-use Rattle.applicators.specs.Combined.{is_every}
+use Rattle.applicators.specs.Combined.{asks_values}
 use Rattle.applicators.specs.declared.applicator.Applicator.{Applicator}
 use Rattle.applicators.specs.declared.applicator.Applicator.TheVariants as code
 use Rattle.question_paths.specs.Laws.{NamesRise, BranchesFit, OneAhead}
@@ -98,19 +98,27 @@ module _ (site : List Part → Data → Site) (k : List ℕ) (d : Data) (ms : Me
       let same : w.0 ≡ v.0 = same_named w.0 v.0 w.1 v.1 named in
       w.2 ∙ ap (λ (x : List ℕ × Site). question x.1 stay (at_name k x.0)) same ∙ sym v.2
 
+-- ---- the only one
+
+only_one : {S : Type 0} (q p x : Question S) → In q (x ∷ []) → In p (x ∷ []) → q ≡ p
+only_one q p x first first = refl
+only_one q p x first (later j) = elim j [ ]
+only_one q p x (later i) j = elim i [ ]
+
 -- ---- by the kind of the applicator
 
 module _ (site : List Part → Data → Site) (matches : List ℕ → List ℕ → Bool) (d : Data) (indexed : IsIndexed d) (q p : Question Site) (h : AreAlike q p) where
   abbrev Asked : Question Site → Applicator → Type 0
   Asked x a = In x (asks (rule matches d (shape_of site a)))
 
-  pub asked_once : (a : Applicator) → NamesRise a → BranchesFit a → is_every a ≡ true → Asked q a → Asked p a → q ≡ p
+  pub asked_once : (a : Applicator) → NamesRise a → BranchesFit a → asks_values a ≡ true → Asked q a → Asked p a → q ≡ p
   asked_once (code.Items start schema) r f e i j = items_once (codes "items") d indexed q p h (site_of site (codes "items") (view schema.now)) start i j
   asked_once (code.ItemList schemas) r f e i j = list_once (codes "items") d indexed q p h (sites_of_list site (codes "items") 0 (items_view schemas.now)) i j
   asked_once (code.PrefixItems schemas) r f e i j = list_once (codes "prefixItems") d indexed q p h (sites_of_list site (codes "prefixItems") 0 (items_view schemas.now)) i j
   asked_once (code.AdditionalItems start schema) r f e i j =
       items_once (codes "additionalItems") d indexed q p h (site_of site (codes "additionalItems") (view schema.now)) start i j
-  asked_once (code.NoAdditionalItems start schema) r f e i j = cc
+  asked_once (code.NoAdditionalItems start schema) r f e i j =
+      items_once (codes "additionalItems") d indexed q p h (site_of site (codes "additionalItems") (view schema.now)) start i j
   asked_once (code.Contains schema least most) r f e i j = cc
   asked_once (code.Properties schemas) r f e i j = declared_once site (codes "properties") d (members_view schemas.now.entries) r q p h i j
   asked_once (code.NoProperties schema) r f e i j = cc
@@ -120,9 +128,13 @@ module _ (site : List Part → Data → Site) (matches : List ℕ → List ℕ �
   asked_once (code.AllOf schemas) r f e i j =
       let count = sites_counted site (codes "allOf") 0 schemas.now in
       branches_once (codes "allOf") q p h (sites_of_list site (codes "allOf") 0 (items_view schemas.now)) (omega (arith, count, f)) i j
-  asked_once (code.AnyOf schemas) r f e i j = cc
-  asked_once (code.OneOf schemas) r f e i j = cc
-  asked_once (code.Not schema) r f e i j = cc
+  asked_once (code.AnyOf schemas) r f e i j =
+      let count = sites_counted site (codes "anyOf") 0 schemas.now in
+      branches_once (codes "anyOf") q p h (sites_of_list site (codes "anyOf") 0 (items_view schemas.now)) (omega (arith, count, f)) i j
+  asked_once (code.OneOf schemas) r f e i j =
+      let count = sites_counted site (codes "oneOf") 0 schemas.now in
+      branches_once (codes "oneOf") q p h (sites_of_list site (codes "oneOf") 0 (items_view schemas.now)) (omega (arith, count, f)) i j
+  asked_once (code.Not schema) r f e i j = only_one q p _ i j
   asked_once (code.If condition then_schema else_schema) r f e i j = cc
 
 pub one_ahead : (a : Applicator) (d : Data) → NamesRise a → BranchesFit a → IsIndexed d → OneAhead a d

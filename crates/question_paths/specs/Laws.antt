@@ -13,7 +13,7 @@ use Rattle.schema_meaning.specs.Keywords.{rule}
 use Rattle.place_laws.specs.Rising.{are_rising}
 use Rattle.walk_laws.specs.Words.{IsRest}
 use Rattle.applicators.specs.Shapes.{shape_of}
-use Rattle.applicators.specs.Combined.{is_every}
+use Rattle.applicators.specs.Combined.{asks_values}
 use Rattle.applicators.specs.declared.applicator.Applicator.{Applicator}
 use Rattle.applicators.specs.declared.applicator.Applicator.TheVariants as code
 
@@ -50,15 +50,15 @@ BranchesFit (code.PropertyNames schema) = ⊤
 BranchesFit (code.NoPropertyNames schema) = ⊤
 BranchesFit (code.DependentSchemas schemas) = ⊤
 BranchesFit (code.AllOf schemas) = length schemas.now < 2 ^ 64
-BranchesFit (code.AnyOf schemas) = ⊤
-BranchesFit (code.OneOf schemas) = ⊤
+BranchesFit (code.AnyOf schemas) = length schemas.now < 2 ^ 64
+BranchesFit (code.OneOf schemas) = length schemas.now < 2 ^ 64
 BranchesFit (code.Not schema) = ⊤
 BranchesFit (code.If condition then_schema else_schema) = ⊤
 
 -- two questions that lead on from the same texts are one
 abbrev pub OneAhead : Applicator → Data → Type 0
 OneAhead a d =
-    is_every a ≡ true → (site : List Part → Data → Site) (matches : List ℕ → List ℕ → Bool) (q p : told.Question Site)
+    asks_values a ≡ true → (site : List Part → Data → Site) (matches : List ℕ → List ℕ → Bool) (q p : told.Question Site)
     → In q (asks (rule matches d (shape_of site a))) → In p (asks (rule matches d (shape_of site a)))
     → (instance evaluation i e j f : List ℕ) → IsRest i → IsRest e → IsRest j → IsRest f
     → instance ≡ path_text (path_after [] q.step) ++ i → evaluation ≡ path_text q.added ++ e

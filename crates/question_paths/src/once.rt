@@ -29,11 +29,13 @@ fn schemas_stand(applicator: &Applicator<'_>)
         Applicator::Properties(schemas) => names_rise(schemas),
         Applicator::DependentSchemas(schemas) => names_rise(schemas),
         Applicator::AllOf(schemas) => list_fits(schemas),
+        Applicator::AnyOf(schemas) => list_fits(schemas),
+        Applicator::OneOf(schemas) => list_fits(schemas),
         _ => {}
     }
 }
 
-/// Two paths lead to one question of an applicator at most, where every answer has to be yes. It does nothing.
+/// Two paths lead to one question of an applicator at most, where its verdict is by how many answers are yes. It does nothing.
 pub fn one_ahead(applicator: &Applicator<'_>, value: &Value)
     ensures { OneAhead applicator.now (view value.now) }
 {

@@ -6,7 +6,10 @@ use std::alloc::Global;
 use std::test::Fail;
 use uri_references::uri::from_str;
 
-fn prepared<'a>(alloc: Global, documents: &[(&str, &str)]) -> Result<Registry<'a>, Error> {
+pub(crate) fn prepared<'a>(
+    alloc: Global,
+    documents: &[(&str, &str)],
+) -> Result<Registry<'a>, Error> {
     let mut builder = Registry::new(alloc);
     for (uri, text) in documents {
         let Ok(document) = Value::from_str(alloc, text) else {

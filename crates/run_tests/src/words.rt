@@ -37,8 +37,10 @@ fn in_any_order(rt: HostRuntime) -> Result<(), Fail> {
     assert_eq!(rt; read.meta, Some("m"));
     let words = ["a"];
     let read = ProgramWords::read(rt.alloc(), &words)?;
-    assert!(rt; read.files.is_empty() && read.base.is_none());
-    assert!(rt; read.draft.is_none() && read.meta.is_none());
+    assert!(rt; read.files.is_empty());
+    assert!(rt; read.base.is_none());
+    assert!(rt; read.draft.is_none());
+    assert!(rt; read.meta.is_none());
     Ok(())
 }
 

@@ -1,5 +1,5 @@
 -- What the kinds of the code stand for.
-use Rattle.std.specs.Prelude.{ℕ, ℤ, pos, unsigned_abs, List, codes, string_bytes}
+use Rattle.std.specs.Prelude.{ℕ, ℤ, pos, unsigned_abs, List, map, codes, string_bytes}
 use Rattle.serde_json.specs.Data.{Data}
 use Rattle.serde_json.specs.View.{view}
 use Rattle.schema_values.specs.Numbers.{whole}
@@ -7,35 +7,57 @@ use Rattle.schema_meaning.specs.Faults as told
 use Rattle.schema_meaning.specs.Questions.{items_of}
 use Rattle.schema_documents.specs.Words.{or}
 use Rattle.schema_types.specs.Named.{names_in}
-use Rattle.schema_reports.specs.declared.kind.ValidationErrorKind.{ValidationErrorKind}
+use Rattle.schema_reports.specs.declared.kind.ValidationErrorKind.{ValidationErrorKind, Row_of-ValidationError, end_of-ValidationError, more_of-ValidationError, Row_of-ValidationErrorKind-AnyOf-0-1, end_of-ValidationErrorKind-AnyOf-0-1, more_of-ValidationErrorKind-AnyOf-0-1}
 use Rattle.schema_reports.specs.declared.kind.ValidationErrorKind.TheVariants as kind
 
 -- the whole number that a kind carries; a value that is none stands for zero
 abbrev pub number_of : Data → ℤ
 number_of d = or (pos 0) (whole d)
 
-abbrev pub kind_of : ValidationErrorKind → told.Kind
-kind_of (kind.Constant expected_value) = told.Constant (view expected_value)
-kind_of (kind.Enumeration options) = told.Enumeration (items_of (view options))
-kind_of (kind.ExclusiveMaximum limit) = told.ExclusiveMaximum (number_of (view limit))
-kind_of (kind.ExclusiveMinimum limit) = told.ExclusiveMinimum (number_of (view limit))
-kind_of kind.FalseSchema = told.FalseSchema
-kind_of (kind.MaxItems limit) = told.MaxItems limit
-kind_of (kind.Maximum limit) = told.Maximum (number_of (view limit))
-kind_of (kind.MaxLength limit) = told.MaxLength limit
-kind_of (kind.MaxProperties limit) = told.MaxProperties limit
-kind_of (kind.MinItems limit) = told.MinItems limit
-kind_of (kind.Minimum limit) = told.Minimum (number_of (view limit))
-kind_of (kind.MinLength limit) = told.MinLength limit
-kind_of (kind.MinProperties limit) = told.MinProperties limit
-kind_of (kind.MultipleOf multiple_of) = told.MultipleOf (unsigned_abs (number_of (view multiple_of)))
-kind_of (kind.Required property) = told.Required (string_bytes property)
-kind_of (kind.Types names) = told.Types (names_in names)
-kind_of kind.UniqueItems = told.UniqueItems
+-- each kind with the faults that its errors stand for; a row holds the items of a list of errors, and of a list of such lists
+abbrev mutual
+  pub kind_of : ValidationErrorKind → told.Kind
+  kind_of kind.AdditionalItems = told.AdditionalItems
+  kind_of (kind.AdditionalProperties unexpected) = told.AdditionalProperties (map string_bytes unexpected.items)
+  kind_of (kind.AnyOf' shape all) = told.AnyOf (row_branches all)
+  kind_of (kind.Constant expected_value) = told.Constant (view expected_value)
+  kind_of kind.Contains = told.Contains
+  kind_of (kind.Enumeration options) = told.Enumeration (items_of (view options))
+  kind_of (kind.ExclusiveMaximum limit) = told.ExclusiveMaximum (number_of (view limit))
+  kind_of (kind.ExclusiveMinimum limit) = told.ExclusiveMinimum (number_of (view limit))
+  kind_of kind.FalseSchema = told.FalseSchema
+  kind_of (kind.MaxItems limit) = told.MaxItems limit
+  kind_of (kind.Maximum limit) = told.Maximum (number_of (view limit))
+  kind_of (kind.MaxLength limit) = told.MaxLength limit
+  kind_of (kind.MaxProperties limit) = told.MaxProperties limit
+  kind_of (kind.MinItems limit) = told.MinItems limit
+  kind_of (kind.Minimum limit) = told.Minimum (number_of (view limit))
+  kind_of (kind.MinLength limit) = told.MinLength limit
+  kind_of (kind.MinProperties limit) = told.MinProperties limit
+  kind_of (kind.MultipleOf multiple_of) = told.MultipleOf (unsigned_abs (number_of (view multiple_of)))
+  kind_of (kind.Not schema) = told.Not (view schema)
+  kind_of (kind.OneOfMultipleValid' shape all) = told.OneOfMultipleValid (row_branches all)
+  kind_of (kind.OneOfNotValid' shape all) = told.OneOfNotValid (row_branches all)
+  kind_of (kind.PropertyNames' p k v i s e) = told.PropertyNames (told.fault (kind_of k) (view v.now) i s e)
+  kind_of (kind.Required property) = told.Required (string_bytes property)
+  kind_of (kind.Types names) = told.Types (names_in names)
+  kind_of kind.UniqueItems = told.UniqueItems
+
+  pub row_faults : {n : _} → Row_of-ValidationError n → told.Faults
+  row_faults end_of-ValidationError = told.none
+  row_faults (more_of-ValidationError k v i s e rest) = told.also (told.fault (kind_of k) (view v.now) i s e) (row_faults rest)
+
+  pub row_branches : {n : _} → Row_of-ValidationErrorKind-AnyOf-0-1 n → told.Branches
+  row_branches end_of-ValidationErrorKind-AnyOf-0-1 = told.no_branch
+  row_branches (more_of-ValidationErrorKind-AnyOf-0-1 shape errors rest) = told.branch (row_faults errors) (row_branches rest)
 
 -- the name that is printed
 abbrev pub kind_name : ValidationErrorKind → List ℕ
+kind_name kind.AdditionalItems = codes "AdditionalItems"
+kind_name (kind.AdditionalProperties unexpected) = codes "AdditionalProperties"
+kind_name (kind.AnyOf' shape all) = codes "AnyOf"
 kind_name (kind.Constant expected_value) = codes "Constant"
+kind_name kind.Contains = codes "Contains"
 kind_name (kind.Enumeration options) = codes "Enumeration"
 kind_name (kind.ExclusiveMaximum limit) = codes "ExclusiveMaximum"
 kind_name (kind.ExclusiveMinimum limit) = codes "ExclusiveMinimum"
@@ -49,6 +71,10 @@ kind_name (kind.Minimum limit) = codes "Minimum"
 kind_name (kind.MinLength limit) = codes "MinLength"
 kind_name (kind.MinProperties limit) = codes "MinProperties"
 kind_name (kind.MultipleOf multiple_of) = codes "MultipleOf"
+kind_name (kind.Not schema) = codes "Not"
+kind_name (kind.OneOfMultipleValid' shape all) = codes "OneOfMultipleValid"
+kind_name (kind.OneOfNotValid' shape all) = codes "OneOfNotValid"
+kind_name (kind.PropertyNames' p k v i s e) = codes "PropertyNames"
 kind_name (kind.Required property) = codes "Required"
 kind_name (kind.Types names) = codes "Types"
 kind_name kind.UniqueItems = codes "UniqueItems"

@@ -1,8 +1,10 @@
 -- What the errors of the code stand for.
 use Rattle.std.specs.Prelude.{List, [], ◌∷◌}
+use Rattle.std.specs.declared.alloc.Global.{Global}
+use Rattle.std.specs.declared.vec.Vec.{Vec}
 use Rattle.serde_json.specs.Data.{Data}
 use Rattle.serde_json.specs.View.{view}
-use Rattle.schema_meaning.specs.Faults.{Fault, fault, Kind, Faults, none, also}
+use Rattle.schema_meaning.specs.Faults.{Fault, fault, Kind, Faults, none, also, Branches, no_branch, branch}
 use Rattle.schema_reports.specs.Kinds.{kind_of}
 use Rattle.schema_reports.specs.declared.error.ValidationError.{ValidationError}
 
@@ -12,6 +14,11 @@ fault_of e = fault (kind_of e.kind) (view e.instance.now) e.instance_path e.sche
 abbrev pub faults_of : List ValidationError → Faults
 faults_of [] = none
 faults_of (e ∷ es) = also (fault_of e) (faults_of es)
+
+-- the faults of each branch, as a context has them
+abbrev pub branches_in : List (Vec ValidationError Global) → Branches
+branches_in [] = no_branch
+branches_in (es ∷ rest) = branch (faults_of es.items) (branches_in rest)
 
 abbrev pub fault_kind : Fault → Kind
 fault_kind (fault k d i s e) = k

@@ -47,12 +47,12 @@ impl<'i> AllFaults<'i> {
     pub(crate) fn tell(
         &mut self,
         alloc: Global,
-        kind: ValidationErrorKind,
+        kind: ValidationErrorKind<'i>,
         instance: &'i Value,
         roads: Roads<'_>,
     ) -> Result<(), AllocError>
         ensures { OnOk result ((fs : Faults) → all_stand self.old fs → all_stand self.new
-            (joined fs (also (fault (kind_of kind) (view instance.now) (instance_in roads.entry) (schema_in roads.entry) (evaluation_in roads.entry)) none))) }
+            (joined fs (also (fault (kind_of kind.entry) (view instance.now) (instance_in roads.entry) (schema_in roads.entry) (evaluation_in roads.entry)) none))) }
     {
         self.errors.push(roads.error(alloc, kind, instance)?)?;
         Ok(())

@@ -12,8 +12,9 @@ use std::fmt;
 /// Why a value is refused, and where: the value, its path in the instance, the path of the schema from where it began,
 /// and the path by which evaluation came to the schema.
 #[derive(Debug, Drop)]
+#[cycle(errors)]
 pub struct ValidationError<'i> {
-    kind: ValidationErrorKind,
+    kind: ValidationErrorKind<'i>,
     instance: &'i Value,
     instance_path: Path,
     schema_path: Path,
@@ -26,13 +27,13 @@ impl<'i> ValidationError<'i> {
 
     /// An error of these parts.
     pub const fn new(
-        kind: ValidationErrorKind,
+        kind: ValidationErrorKind<'i>,
         instance: &'i Value,
         instance_path: Path,
         schema_path: Path,
         evaluation_path: Path,
     ) -> Self
-        ensures { fault_of result ≡ told.fault (kind_of kind) (view instance.now) instance_path schema_path evaluation_path }
+        ensures { fault_of result ≡ told.fault (kind_of kind.entry) (view instance.now) instance_path schema_path evaluation_path }
     {
         ValidationError {
             kind,
@@ -44,7 +45,7 @@ impl<'i> ValidationError<'i> {
     }
 
     /// Why the value is refused.
-    pub const fn kind(&self) -> &ValidationErrorKind
+    pub const fn kind(&self) -> &ValidationErrorKind<'i>
         ensures { kind_of result.now ≡ fault_kind (fault_of self.now) }
     {
         &self.kind

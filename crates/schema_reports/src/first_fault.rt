@@ -51,12 +51,12 @@ impl<'i> FirstFault<'i> {
     pub(crate) fn tell(
         &mut self,
         alloc: Global,
-        kind: ValidationErrorKind,
+        kind: ValidationErrorKind<'i>,
         instance: &'i Value,
         roads: Roads<'_>,
     ) -> Result<(), AllocError>
         ensures { OnOk result ((fs : Faults) → first_stands self.old fs → first_stands self.new
-            (joined fs (also (fault (kind_of kind) (view instance.now) (instance_in roads.entry) (schema_in roads.entry) (evaluation_in roads.entry)) none))) }
+            (joined fs (also (fault (kind_of kind.entry) (view instance.now) (instance_in roads.entry) (schema_in roads.entry) (evaluation_in roads.entry)) none))) }
     {
         if self.error.is_none() {
             self.error = Some(roads.error(alloc, kind, instance)?);

@@ -77,12 +77,12 @@ impl<'i> Observer<'i> {
     pub fn tell(
         &mut self,
         alloc: Global,
-        kind: ValidationErrorKind,
+        kind: ValidationErrorKind<'i>,
         instance: &'i Value,
         roads: Roads<'_>,
     ) -> Result<(), AllocError>
         ensures { OnOk result ((kept : Observation) (fs : Faults) → Hears kept self.old fs → Hears kept self.new
-            (joined fs (also (fault (kind_of kind) (view instance.now) (instance_in roads.entry) (schema_in roads.entry) (evaluation_in roads.entry)) none))) }
+            (joined fs (also (fault (kind_of kind.entry) (view instance.now) (instance_in roads.entry) (schema_in roads.entry) (evaluation_in roads.entry)) none))) }
     {
         match self {
             Observer::Verdict(verdict) => {

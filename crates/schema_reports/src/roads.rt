@@ -34,11 +34,11 @@ impl Roads<'_> {
     pub fn error<'i>(
         self,
         alloc: Global,
-        kind: ValidationErrorKind,
+        kind: ValidationErrorKind<'i>,
         instance: &'i Value,
     ) -> Result<ValidationError<'i>, AllocError>
         ensures { IfOk result (λ error. fault_of error
-            ≡ fault (kind_of kind) (view instance.now) (instance_in self.entry) (schema_in self.entry) (evaluation_in self.entry)) }
+            ≡ fault (kind_of kind.entry) (view instance.now) (instance_in self.entry) (schema_in self.entry) (evaluation_in self.entry)) }
     {
         let start = self.reference.path(alloc)?;
         Ok(ValidationError::new(

@@ -3,7 +3,10 @@ pub use Rattle.retrieval_rounds.specs.Rounds.{Asking}
 pub use Rattle.document_retrieval.specs.Stages.{asking, IsGathered, AnswersNothing, Stops}
 pub use Rattle.referencing.specs.Prepared.{HasCause, RefusesRegistry}
 pub use Rattle.referencing.specs.Seen.{retrieved_by}
-pub use Rattle.schema_registries.specs.Seen.{documents_in_registry, documents_given, documents_shared, retrieved_shared}
+pub use Rattle.schema_registries.specs.Seen.{given_under, documents_in_registry, documents_given, documents_shared, retrieved_shared}
 pub use Rattle.schema_registries.specs.Retrieval.{may_answer_whole, may_refuse_whole, IsPrepared, beside}
 pub use Rattle.schema_registries.specs.declared.registry.SharedRegistry.{SharedRegistry}
 pub use Rattle.schema_registries.specs.declared.registry.SchemaRegistry.{SchemaRegistry}
+pub use Rattle.schema_registries.specs.Refused.{RefusesValue}
+pub use Rattle.schema_registries.specs.declared.error.DocumentError.{DocumentError}
+pub use Rattle.schema_registries.specs.declared.error.DocumentError.TheVariants.{InvalidUri, JsonText, OtherNumber, Memory}

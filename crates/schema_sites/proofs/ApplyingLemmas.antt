@@ -6,7 +6,7 @@ use Rattle.serde_json.specs.View.{members_view}
 use Rattle.schema_meaning.specs.Members.{is_listed}
 use Rattle.schema_reading.specs.Rows.{Row, BuildCause, Context, counts_here, nothing_read, readers, read_among, row_at}
 use Rattle.applicator_reading.specs.Beside as beside
-use Rattle.applicator_reading.specs.Names.{applicator_names, every_names, is_read, needs_no_names}
+use Rattle.applicator_reading.specs.Names.{applicator_names, valued_names, is_read, needs_no_names}
 use Rattle.applicator_reading.specs.Reads as applying
 use Rattle.applicator_reading.specs.declared.neighbours.Neighbours.{Neighbours}
 use Rattle.assertions.specs.Reads.{IsCause}
@@ -29,9 +29,9 @@ surrounded c ms n x dialect members s = record {
 }
 
 -- such a name is read
-pub never-other : (k : List ℕ) (d : Data) (x : Context) → is_listed k every_names ≡ true → is_read x k d ≡ false → ⊥
+pub never-other : (k : List ℕ) (d : Data) (x : Context) → is_listed k valued_names ≡ true → is_read x k d ≡ false → ⊥
 never-other k d x listed other =
-    let among = every-listed (λ n. is_listed n applicator_names) k every_names refl listed in
+    let among = every-listed (λ n. is_listed n applicator_names) k valued_names refl listed in
     let yes : is_read x k d ≡ true = ap (λ (b : Bool). b || (bytes_eq k (codes "additionalProperties") && needs_no_names x d)) among in
     true≢false (sym yes ∙ other)
 

@@ -85,7 +85,9 @@ no-reference k e =
 
 -- the names that are read and are neither a reference's nor an assertion's
 abbrev pub applied_names : List (List ℕ)
-applied_names = codes "items" ∷ codes "properties" ∷ codes "unevaluatedItems" ∷ codes "unevaluatedProperties" ∷ codes "prefixItems" ∷ codes "dependentSchemas" ∷ codes "allOf" ∷ []
+applied_names =
+    codes "items" ∷ codes "properties" ∷ codes "unevaluatedItems" ∷ codes "unevaluatedProperties" ∷ codes "prefixItems" ∷ codes "dependentSchemas" ∷ codes "allOf" ∷ codes "additionalItems"
+    ∷ codes "anyOf" ∷ codes "oneOf" ∷ codes "not" ∷ []
 
 pub none-read : (k : List ℕ) → named k ≡ None → is_listed k assertion_names ≡ false → is_listed k applied_names ≡ false → is_listed k read_now ≡ false
 none-read k reference assertion other =

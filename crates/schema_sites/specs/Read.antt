@@ -12,7 +12,7 @@ use Rattle.schema_reading.specs.Sites.{Site, below, target_site}
 use Rattle.schema_reading.specs.Rows.{Row, reads, at, assertion, sites_named, Context}
 use Rattle.assertions.specs.Shapes.{assertion_of}
 use Rattle.applicators.specs.Shapes as applied
-use Rattle.applicators.specs.Combined.{is_every}
+use Rattle.applicators.specs.Combined.{asks_values}
 use Rattle.schema_sites.specs.Seen.{documents_at, Stands}
 use Rattle.schema_sites.specs.References.{kind_of, looked_up, MayBe}
 use Rattle.schema_sites.specs.declared.reference_keyword.ReferenceKeyword.{ReferenceKeyword}
@@ -67,11 +67,11 @@ pub record FindsTarget (c : code.Site) (keyword : ReferenceKeyword) (text : List
   pub documents : documents_in target.resolver ≡ documents_in c.resolver
   pub scope : scope_of target.resolver ≡ entered_scope (base_of target.resolver) (base_of c.resolver) (scope_of c.resolver)
 
--- where a keyword's subschemas lie: in its value; which rule it follows; and what its reference leads to
+-- where a keyword's subschemas lie: in its value; how its verdict is made; and what its reference leads to
 abbrev pub Finds : code.Site → Data → Keyword → Type 0
 Finds c d Nothing = Unit {0}
 Finds c d (Assertion a) = Unit {0}
 Finds c d (Items start schema) = d ≡ view schema.now
 Finds c d (Properties map) = d ≡ object (members_view map.now.entries)
-Finds c d (Applicator a) = is_every a ≡ true
+Finds c d (Applicator a) = asks_values a ≡ true
 Finds c d (Reference keyword text target) = FindsTarget c keyword text.now target

@@ -19,7 +19,7 @@ pub enum Keyword<'r> {
         schema: &'r Value,
     },
     Properties(&'r Map<String, Value>),
-    /// Another keyword that applies the schemas in its value, and accepts what all of them accept.
+    /// Another keyword that applies the schemas in its value, whose verdict is by how many of them accept.
     Applicator(Applicator<'r>),
     /// A reference with what it leads to, which for those by the dynamic scope depends on the site's.
     Reference {

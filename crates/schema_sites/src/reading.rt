@@ -5,7 +5,7 @@ ghost use Rattle.serde_json.specs.Data.{Data, Members};
 ghost use Rattle.serde_json.specs.View.{view, members_view};
 ghost use Rattle.referencing.specs.Resolved.{scope_of};
 ghost use Rattle.schema_meaning.specs.Members.{is_listed};
-ghost use Rattle.applicator_reading.specs.Names.{every_names};
+ghost use Rattle.applicator_reading.specs.Names.{valued_names};
 ghost use Rattle.assertions.specs.Names.{assertion_names};
 ghost use Rattle.unread_keywords.specs.NotYet.{is_unread};
 ghost use Rattle.schema_reading.specs.Rows as rows;
@@ -31,14 +31,14 @@ use schema_places::place::is_schema;
 use serde_json::{Map, Value};
 use std::alloc::Global;
 
-// What a member is whose keyword applies every schema in its value.
-fn applying_every<'r>(
+// What a member is whose keyword asks the schemas in its value.
+fn applying_values<'r>(
     site: &Site<'r>,
     members: &'r Map<String, Value>,
     name: &str,
     value: &'r Value,
 ) -> Result<Keyword<'r>, Refusal<'r>>
-    requires every { is_listed name.now every_names ≡ true }
+    requires values { is_listed name.now valued_names ≡ true }
     ensures read { IfOk result (λ k. (x : rows.Context) → Surrounds site.now (members_view members.now.entries) x → rows.read_among rows.readers x name.now (view value.now) ≡ row_of x.documents x.site k) }
     ensures found { IfOk result (λ k. Finds site.now (view value.now) k) }
     ensures refused { IfErr result (λ e. (x : rows.Context) → Surrounds site.now (members_view members.now.entries) x → Refuses x name.now (view value.now) (rows.read_among rows.readers x name.now (view value.now)) e) }
@@ -68,7 +68,7 @@ fn items<'r>(
             schema: value,
         })
     } else {
-        applying_every(site, members, "items", value)
+        applying_values(site, members, "items", value)
     }
 }
 
@@ -163,9 +163,13 @@ fn applied<'r>(
         "properties" => properties(value),
         "unevaluatedItems" => Err(Refusal::LeftOut),
         "unevaluatedProperties" => Err(Refusal::LeftOut),
-        "prefixItems" => applying_every(site, members, name, value),
-        "dependentSchemas" => applying_every(site, members, name, value),
-        "allOf" => applying_every(site, members, name, value),
+        "prefixItems" => applying_values(site, members, name, value),
+        "dependentSchemas" => applying_values(site, members, name, value),
+        "allOf" => applying_values(site, members, name, value),
+        "additionalItems" => applying_values(site, members, name, value),
+        "anyOf" => applying_values(site, members, name, value),
+        "oneOf" => applying_values(site, members, name, value),
+        "not" => applying_values(site, members, name, value),
         _ => Err(Refusal::NotYet),
     }
 }

@@ -3,6 +3,8 @@
 use schema_drafts::draft::Draft;
 use schema_drafts::subschemas::{Subschemas, held_by};
 use serde_json::Value;
+use std::alloc::Global;
+use std::process::Abort;
 use std::test::Fail;
 
 #[test]
@@ -57,62 +59,84 @@ const WITH_MANY: &str = r#"{"type": "object", "not": false, "items": [{"a": 1}, 
     "definitions": {"g": {"h": 6}}, "prefixItems": [{"i": 7}], "if": {"j": 8}, "contains": {"k": 9},
     "unevaluatedItems": {"l": 10}, "const": {"m": 11}, "additionalProperties": null}"#;
 
-#[test]
-fn children_go_by_draft(rt: HostRuntime) -> Result<(), Fail> {
-    let schema = Value::from_str(rt.alloc(), WITH_MANY)?;
-    for (draft, want) in [
-        (
-            Draft::Draft4,
-            r#"{"d":4} {"h":6} {"a":1} true {"b":2} false {"c":3} true "#,
-        ),
-        (
-            Draft::Draft6,
-            r#"{"d":4} {"k":9} {"h":6} {"a":1} true {"b":2} false {"c":3} true "#,
-        ),
-        (
-            Draft::Draft7,
-            r#"{"d":4} {"k":9} {"h":6} {"j":8} {"a":1} true {"b":2} false {"c":3} true "#,
-        ),
-        (
-            Draft::Draft201909,
-            r#"{"f":5} {"d":4} {"k":9} {"h":6} {"j":8} {"a":1} true {"b":2} false {"c":3} true {"l":10} "#,
-        ),
-        (
-            Draft::Draft202012,
-            r#"{"f":5} {"d":4} {"k":9} {"h":6} {"j":8} false {"i":7} {"c":3} true {"l":10} "#,
-        ),
-    ] {
-        let mut found = String::new(rt.alloc());
-        for child in draft.subresources_of(&schema) {
-            found.push_str(child.to_string(rt.alloc())?.as_str())?;
-            found.push(' ')?;
-        }
-        assert_eq!(rt; found.as_str(), want);
+fn children(alloc: Global, draft: Draft, schema: &Value) -> Result<String, Fail> {
+    let mut found = String::new(alloc);
+    for child in draft.subresources_of(schema) {
+        found.push_str(child.to_string(alloc)?.as_str())?;
+        found.push(' ')?;
+    }
+    Ok(found)
+}
+
+fn assert_children(
+    rt: &impl Abort,
+    alloc: Global,
+    text: &str,
+    rows: &[(Draft, &str)],
+) -> Result<(), Fail> {
+    let schema = Value::from_str(alloc, text)?;
+    for (draft, want) in rows {
+        assert_eq!(rt; children(alloc, *draft, &schema)?.as_str(), *want);
     }
     Ok(())
 }
 
 #[test]
+fn children_go_by_draft(rt: HostRuntime) -> Result<(), Fail> {
+    assert_children(
+        &rt,
+        rt.alloc(),
+        WITH_MANY,
+        &[
+            (
+                Draft::Draft4,
+                r#"{"d":4} {"h":6} {"a":1} true {"b":2} false {"c":3} true "#,
+            ),
+            (
+                Draft::Draft6,
+                r#"{"d":4} {"k":9} {"h":6} {"a":1} true {"b":2} false {"c":3} true "#,
+            ),
+            (
+                Draft::Draft7,
+                r#"{"d":4} {"k":9} {"h":6} {"j":8} {"a":1} true {"b":2} false {"c":3} true "#,
+            ),
+            (
+                Draft::Draft201909,
+                r#"{"f":5} {"d":4} {"k":9} {"h":6} {"j":8} {"a":1} true {"b":2} false {"c":3} true {"l":10} "#,
+            ),
+            (
+                Draft::Draft202012,
+                r#"{"f":5} {"d":4} {"k":9} {"h":6} {"j":8} false {"i":7} {"c":3} true {"l":10} "#,
+            ),
+        ],
+    )
+}
+
+#[test]
 fn references_hide_children(rt: HostRuntime) -> Result<(), Fail> {
-    let schema = Value::from_str(
+    assert_children(
+        &rt,
         rt.alloc(),
         r##"{"$ref": "#/definitions/g", "definitions": {"g": {"h": 6}}, "items": {"a": 1}}"##,
-    )?;
-    let mut hidden = Draft::Draft7.subresources_of(&schema);
-    assert!(rt; hidden.next().is_some_and(|child| child.get("h").is_some()));
-    assert!(rt; hidden.next().is_none());
-    assert!(rt; hidden.next().is_none());
-    let mut beside = Draft::Draft201909.subresources_of(&schema);
-    assert!(rt; beside.next().is_some_and(|child| child.get("h").is_some()));
-    assert!(rt; beside.next().is_some_and(|child| child.get("a").is_some()));
-    assert!(rt; beside.next().is_none());
-    let list = Value::from_str(rt.alloc(), r#"[{"a": 1}]"#)?;
-    assert!(rt; Draft::Draft7.subresources_of(&list).next().is_none());
-    assert!(rt;
-        Draft::Draft7
-            .subresources_of(&Value::Bool(true))
-            .next()
-            .is_none()
-    );
+        &[
+            (Draft::Draft7, r#"{"h":6} "#),
+            (Draft::Draft201909, r#"{"h":6} {"a":1} "#),
+        ],
+    )
+}
+
+#[test]
+fn others_have_no_children(rt: HostRuntime) -> Result<(), Fail> {
+    assert_children(&rt, rt.alloc(), r#"[{"a": 1}]"#, &[(Draft::Draft7, "")])?;
+    assert_children(&rt, rt.alloc(), "true", &[(Draft::Draft7, "")])
+}
+
+#[test]
+fn no_child_is_behind_the_last(rt: HostRuntime) -> Result<(), Fail> {
+    let schema = Value::from_str(rt.alloc(), r#"{"not": {"a": 1}}"#)?;
+    let mut children = Draft::Draft7.subresources_of(&schema);
+    assert!(rt; children.next().is_some());
+    assert!(rt; children.next().is_none());
+    assert!(rt; children.next().is_none());
     Ok(())
 }

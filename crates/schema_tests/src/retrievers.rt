@@ -3,6 +3,7 @@
 use document_retrievers::{DefaultRetriever, MapRetriever, Retrieve};
 use serde_json::Value;
 use std::alloc::Global;
+use std::process::Abort;
 use std::test::Fail;
 use uri_references::uri::from_str;
 
@@ -13,25 +14,46 @@ fn answer<R: Retrieve>(alloc: Global, retriever: &R, uri: &str) -> Result<String
     }
 }
 
-#[test]
-fn given_documents(rt: HostRuntime) -> Result<(), Fail> {
-    let alloc = rt.alloc();
+fn retriever_of(alloc: Global, rows: &[(&str, &str)]) -> Result<MapRetriever, Fail> {
     let mut retriever = MapRetriever::new(alloc);
-    for (uri, document) in [
-        ("HTTP://a.test/x#", "1"),
-        ("other.json", "2"),
-        ("http://a.test/%78", "3"),
-    ] {
+    for (uri, document) in rows {
         retriever.add(alloc, uri, Value::from_str(alloc, document)?)?;
     }
-    for (uri, want) in [
-        ("http://a.test/x", "3"),
-        ("json-schema:///other.json", "2"),
-        ("http://a.test/y", "Retrieving was refused"),
-    ] {
-        assert_eq!(rt; answer(alloc, &retriever, uri)?.as_str(), want);
+    Ok(retriever)
+}
+
+fn assert_answers(
+    rt: &impl Abort,
+    alloc: Global,
+    retriever: &MapRetriever,
+    rows: &[(&str, &str)],
+) -> Result<(), Fail> {
+    for (uri, want) in rows {
+        assert_eq!(rt; answer(alloc, retriever, uri)?.as_str(), *want);
     }
     Ok(())
+}
+
+#[test]
+fn given_documents(rt: HostRuntime) -> Result<(), Fail> {
+    let retriever = retriever_of(
+        rt.alloc(),
+        &[
+            ("HTTP://a.test/x#", "1"),
+            ("other.json", "2"),
+            ("http://a.test/%78", "3"),
+        ],
+    )?;
+    assert_answers(
+        &rt,
+        rt.alloc(),
+        &retriever,
+        &[
+            ("http://a.test/x", "3"),
+            ("json-schema:///other.json", "2"),
+            ("http://a.test/y", "Retrieving was refused"),
+        ],
+    )
 }
 
 #[test]

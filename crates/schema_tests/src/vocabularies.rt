@@ -4,8 +4,9 @@ use schema_drafts::draft::Draft;
 use schema_vocabularies::{
     Dialect, MetaSchemas, Vocabulary, VocabularySet, counts, find_vocabularies,
 };
-use serde_json::{Value, json};
+use serde_json::Value;
 use std::alloc::Global;
+use std::process::Abort;
 use std::test::Fail;
 
 fn kind(alloc: Global, uri: &str) -> Result<String, Fail> {
@@ -13,89 +14,154 @@ fn kind(alloc: Global, uri: &str) -> Result<String, Fail> {
     Ok(format!(in alloc; "{vocabulary:?}")?)
 }
 
-#[test]
-fn known_uris_of_2019(rt: HostRuntime) -> Result<(), Fail> {
-    let alloc = rt.alloc();
-    for (name, want) in [
-        ("core", "Core"),
-        ("applicator", "Applicator"),
-        ("validation", "Validation"),
-        ("meta-data", "Metadata"),
-        ("format", "Format"),
-        ("content", "Content"),
-    ] {
-        let uri = format!(in alloc; "https://json-schema.org/draft/2019-09/vocab/{name}")?;
-        assert_eq!(rt; kind(alloc, uri.as_str())?.as_str(), want);
+fn assert_kinds(
+    rt: &impl Abort,
+    alloc: Global,
+    release: &str,
+    rows: &[(&str, &str)],
+) -> Result<(), Fail> {
+    for (name, want) in rows {
+        let uri = format!(in alloc; "https://json-schema.org/draft/{release}/vocab/{name}")?;
+        assert_eq!(rt; kind(alloc, uri.as_str())?.as_str(), *want);
     }
     Ok(())
 }
 
 #[test]
+fn known_uris_of_2019(rt: HostRuntime) -> Result<(), Fail> {
+    assert_kinds(
+        &rt,
+        rt.alloc(),
+        "2019-09",
+        &[
+            ("core", "Core"),
+            ("applicator", "Applicator"),
+            ("validation", "Validation"),
+            ("meta-data", "Metadata"),
+            ("format", "Format"),
+            ("content", "Content"),
+        ],
+    )
+}
+
+#[test]
 fn known_uris_of_2020(rt: HostRuntime) -> Result<(), Fail> {
+    assert_kinds(
+        &rt,
+        rt.alloc(),
+        "2020-12",
+        &[
+            ("core", "Core"),
+            ("applicator", "Applicator"),
+            ("unevaluated", "Unevaluated"),
+            ("validation", "Validation"),
+            ("meta-data", "Metadata"),
+            ("format-annotation", "FormatAnnotation"),
+            ("format-assertion", "FormatAssertion"),
+            ("content", "Content"),
+        ],
+    )
+}
+
+#[test]
+fn other_uris(rt: HostRuntime) -> Result<(), Fail> {
     let alloc = rt.alloc();
-    for (name, want) in [
-        ("core", "Core"),
-        ("applicator", "Applicator"),
-        ("unevaluated", "Unevaluated"),
-        ("validation", "Validation"),
-        ("meta-data", "Metadata"),
-        ("format-annotation", "FormatAnnotation"),
-        ("format-assertion", "FormatAssertion"),
-        ("content", "Content"),
-    ] {
-        let uri = format!(in alloc; "https://json-schema.org/draft/2020-12/vocab/{name}")?;
-        assert_eq!(rt; kind(alloc, uri.as_str())?.as_str(), want);
+    let custom = Vocabulary::parse(alloc, "https://example.com/vocab#")?;
+    let want = Vocabulary::Custom(String::from_str(alloc, "https://example.com/vocab#")?);
+    assert!(rt; custom == want);
+    assert!(rt; Vocabulary::Content < custom);
+    Ok(())
+}
+
+// What is said of a text that is no URI.
+fn refused(alloc: Global, text: &str) -> Result<String, Fail> {
+    match Vocabulary::parse(alloc, text) {
+        Ok(_) => Ok(String::from_str(alloc, "a vocabulary")?),
+        Err(error) => Ok(format!(in alloc; "{error}")?),
+    }
+}
+
+fn assert_refused(rt: &impl Abort, alloc: Global, texts: &[&str]) -> Result<(), Fail> {
+    for text in texts {
+        let want = format!(in alloc; "Invalid URI '{text}'")?;
+        assert_eq!(rt; refused(alloc, text)?.as_str(), want.as_str());
     }
     Ok(())
 }
 
 #[test]
 fn other_texts(rt: HostRuntime) -> Result<(), Fail> {
-    let alloc = rt.alloc();
-    let custom = Vocabulary::parse(alloc, "https://example.com/vocab#")?;
-    let want = Vocabulary::Custom(String::from_str(alloc, "https://example.com/vocab#")?);
-    assert!(rt; custom == want);
-    assert!(rt; Vocabulary::Content < custom);
-    for text in ["", "vocab/core", "//a.test/core", "http://a b"] {
-        match Vocabulary::parse(alloc, text) {
-            Ok(_) => assert!(rt; false),
-            Err(error) => assert_eq!(rt;
-                format!(in alloc; "{error}")?.as_str(),
-                format!(in alloc; "Invalid URI '{text}'")?.as_str()
-            ),
-        }
-    }
-    Ok(())
+    assert_refused(
+        &rt,
+        rt.alloc(),
+        &["", "vocab/core", "//a.test/core", "http://a b"],
+    )
 }
 
 fn named(alloc: Global, text: &str) -> Result<Vocabulary, Fail> {
     Ok(Vocabulary::named(alloc, text)?)
 }
 
-#[test]
-fn sets(rt: HostRuntime) -> Result<(), Fail> {
-    let alloc = rt.alloc();
-    let mut set = VocabularySet::new(alloc);
-    assert!(rt; !set.contains(&Vocabulary::Core));
-    set.add(Vocabulary::Core)?;
-    for uri in ["urn:b", "urn:a", "urn:b"] {
-        set.add(named(alloc, uri)?)?;
+// Each vocabulary, and whether it is in the set.
+fn assert_known(rt: &impl Abort, set: &VocabularySet, rows: &[(Vocabulary, bool)]) {
+    for (vocabulary, want) in rows {
+        assert_eq!(rt; set.contains(vocabulary), *want);
     }
-    assert!(rt; set.contains(&Vocabulary::Core));
-    assert!(rt; !set.contains(&Vocabulary::Content));
-    assert!(rt; set.contains(&named(alloc, "urn:a")?));
-    assert!(rt; !set.contains(&named(alloc, "urn:c")?));
+}
+
+// Each name of a vocabulary, and whether it is in the set.
+fn assert_named(
+    rt: &impl Abort,
+    alloc: Global,
+    set: &VocabularySet,
+    rows: &[(&str, bool)],
+) -> Result<(), Fail> {
+    for (text, want) in rows {
+        assert_eq!(rt; set.contains(&named(alloc, text)?), *want, "{text}");
+    }
+    Ok(())
+}
+
+fn customs(alloc: Global, set: &VocabularySet) -> Result<String, Fail> {
     let mut text = String::new(alloc);
     for uri in set.custom() {
         text.push_str(uri.as_str())?;
         text.push(' ')?;
     }
-    assert_eq!(rt; text.as_str(), "urn:a urn:b ");
+    Ok(text)
+}
+
+fn set_of(alloc: Global, texts: &[&str]) -> Result<VocabularySet, Fail> {
+    let mut set = VocabularySet::new(alloc);
+    for text in texts {
+        set.add(named(alloc, text)?)?;
+    }
+    Ok(set)
+}
+
+#[test]
+fn sets(rt: HostRuntime) -> Result<(), Fail> {
+    let mut set = VocabularySet::new(rt.alloc());
+    assert!(rt; !set.contains(&Vocabulary::Core));
+    set.add(Vocabulary::Core)?;
+    assert!(rt; set.contains(&Vocabulary::Core));
+    assert!(rt; !set.contains(&Vocabulary::Content));
     Ok(())
 }
 
 #[test]
-fn sets_of_drafts(rt: HostRuntime) -> Result<(), Fail> {
+fn sets_of_custom_ones(rt: HostRuntime) -> Result<(), Fail> {
+    let alloc = rt.alloc();
+    let mut set = set_of(alloc, &["urn:b", "urn:a", "urn:b"])?;
+    set.add(Vocabulary::Core)?;
+    assert!(rt; set.contains(&Vocabulary::Core));
+    assert_named(&rt, alloc, &set, &[("urn:a", true), ("urn:c", false)])?;
+    assert_eq!(rt; customs(alloc, &set)?.as_str(), "urn:a urn:b ");
+    Ok(())
+}
+
+#[test]
+fn sets_of_drafts(rt: HostRuntime) {
     let alloc = rt.alloc();
     let set = VocabularySet::all_of(alloc, Draft::Draft201909);
     assert!(rt; set.contains(&Vocabulary::Format));
@@ -105,42 +171,84 @@ fn sets_of_drafts(rt: HostRuntime) -> Result<(), Fail> {
     assert!(rt; !set.contains(&Vocabulary::FormatAssertion));
     let set = VocabularySet::all_of(alloc, Draft::Draft7);
     assert!(rt; !set.contains(&Vocabulary::Core));
-    Ok(())
 }
 
 // The example of Core 8.1.2, with a custom vocabulary that is not required and a name that is no URI.
-fn example(alloc: Global) -> Result<Value, Fail> {
-    Ok(json!(in alloc; {
-        "$id": "https://example.com/meta/general-use-example",
-        "$vocabulary": {
-            "https://json-schema.org/draft/2020-12/vocab/core": true,
-            "https://json-schema.org/draft/2020-12/vocab/applicator": true,
-            "https://json-schema.org/draft/2020-12/vocab/validation": false,
-            "https://example.com/vocab/example-vocab": true,
-            "https://example.com/vocab/other": "true",
-            "no uri": true
-        }
-    })?)
+const EXAMPLE: &str = r#"{"$id": "https://example.com/meta/general-use-example",
+    "$vocabulary": {
+        "https://json-schema.org/draft/2020-12/vocab/core": true,
+        "https://json-schema.org/draft/2020-12/vocab/applicator": true,
+        "https://json-schema.org/draft/2020-12/vocab/validation": false,
+        "https://example.com/vocab/example-vocab": true,
+        "https://example.com/vocab/other": "true",
+        "no uri": true}}"#;
+
+// In another order, by the URIs of 2019-09, and with no custom ones.
+const ALIKE: &str = r#"{"$vocabulary": {
+    "https://json-schema.org/draft/2019-09/vocab/applicator": true,
+    "https://json-schema.org/draft/2019-09/vocab/core": true}}"#;
+
+const LISTED: &str = r#"{"$vocabulary": ["https://json-schema.org/draft/2020-12/vocab/core"]}"#;
+
+fn json(alloc: Global, text: &str) -> Result<Value, Fail> {
+    Ok(Value::from_str(alloc, text)?)
+}
+
+// Each draft and keyword, and whether it counts where no reference is beside it.
+fn assert_counts(rt: &impl Abort, set: &VocabularySet, rows: &[(Draft, &str, bool)]) {
+    for (draft, name, want) in rows {
+        assert_eq!(rt; counts(*draft, set, false, name), *want, "{name}");
+    }
 }
 
 #[test]
 fn found(rt: HostRuntime) -> Result<(), Fail> {
     let alloc = rt.alloc();
-    let set = find_vocabularies(alloc, Draft::Draft202012, &example(alloc)?)?;
-    assert!(rt; set.contains(&Vocabulary::Core));
-    assert!(rt; set.contains(&Vocabulary::Applicator));
-    assert!(rt; !set.contains(&Vocabulary::Validation));
-    assert!(rt; set.contains(&named(alloc, "https://example.com/vocab/example-vocab")?));
-    assert!(rt; !set.contains(&named(alloc, "https://example.com/vocab/other")?));
-    assert!(rt; set.contains(&named(alloc, "no uri")?));
-    assert!(rt; counts(Draft::Draft202012, &set, false, "items"));
-    assert!(rt; counts(Draft::Draft202012, &set, false, "$ref"));
-    assert!(rt; !counts(Draft::Draft202012, &set, false, "minimum"));
-    assert!(rt; !counts(Draft::Draft202012, &set, false, "unevaluatedItems"));
-    assert!(rt; counts(Draft::Draft201909, &set, false, "unevaluatedItems"));
-    assert!(rt; counts(Draft::Draft7, &set, false, "minimum"));
-    let absent =
-        json!(in alloc; {"$vocabulary": ["https://json-schema.org/draft/2020-12/vocab/core"]})?;
+    let set = find_vocabularies(alloc, Draft::Draft202012, &json(alloc, EXAMPLE)?)?;
+    assert_known(
+        &rt,
+        &set,
+        &[
+            (Vocabulary::Core, true),
+            (Vocabulary::Applicator, true),
+            (Vocabulary::Validation, false),
+        ],
+    );
+    assert_named(
+        &rt,
+        alloc,
+        &set,
+        &[
+            ("https://example.com/vocab/example-vocab", true),
+            ("https://example.com/vocab/other", false),
+            ("no uri", true),
+        ],
+    )
+}
+
+#[test]
+fn counting_by_what_is_found(rt: HostRuntime) -> Result<(), Fail> {
+    let alloc = rt.alloc();
+    let set = find_vocabularies(alloc, Draft::Draft202012, &json(alloc, EXAMPLE)?)?;
+    assert_counts(
+        &rt,
+        &set,
+        &[
+            (Draft::Draft202012, "items", true),
+            (Draft::Draft202012, "$ref", true),
+            (Draft::Draft202012, "minimum", false),
+            (Draft::Draft202012, "unevaluatedItems", false),
+            (Draft::Draft201909, "unevaluatedItems", true),
+            (Draft::Draft7, "minimum", true),
+        ],
+    );
+    Ok(())
+}
+
+#[test]
+fn none_found(rt: HostRuntime) -> Result<(), Fail> {
+    let alloc = rt.alloc();
+    let absent = json(alloc, LISTED)?;
     let whole = find_vocabularies(alloc, Draft::Draft202012, &absent)?;
     assert!(rt; whole.contains(&Vocabulary::Validation));
     assert!(rt; counts(Draft::Draft202012, &whole, false, "minimum"));
@@ -149,44 +257,63 @@ fn found(rt: HostRuntime) -> Result<(), Fail> {
 
 #[test]
 fn counting(rt: HostRuntime) -> Result<(), Fail> {
-    let alloc = rt.alloc();
-    let mut set = VocabularySet::new(alloc);
-    for name in ["type", "properties", "unevaluatedProperties"] {
-        assert!(rt; !counts(Draft::Draft202012, &set, false, name));
-    }
-    assert!(rt; counts(Draft::Draft202012, &set, false, "$dynamicRef"));
+    let mut set = VocabularySet::new(rt.alloc());
+    assert_counts(
+        &rt,
+        &set,
+        &[
+            (Draft::Draft202012, "type", false),
+            (Draft::Draft202012, "properties", false),
+            (Draft::Draft202012, "unevaluatedProperties", false),
+            (Draft::Draft202012, "$dynamicRef", true),
+        ],
+    );
     set.add(Vocabulary::Validation)?;
     assert!(rt; counts(Draft::Draft202012, &set, false, "type"));
     set.add(Vocabulary::Applicator)?;
     assert!(rt; counts(Draft::Draft202012, &set, false, "properties"));
     set.add(Vocabulary::Unevaluated)?;
     assert!(rt; counts(Draft::Draft202012, &set, false, "unevaluatedProperties"));
-    assert!(rt; counts(Draft::Draft202012, &set, true, "type"));
-    assert!(rt; !counts(Draft::Draft7, &set, true, "type"));
-    assert!(rt; counts(Draft::Draft7, &set, true, "$ref"));
     assert!(rt; !counts(Draft::Draft202012, &set, false, "title"));
     Ok(())
 }
 
 #[test]
+fn counting_beside_a_reference(rt: HostRuntime) -> Result<(), Fail> {
+    let mut set = VocabularySet::new(rt.alloc());
+    set.add(Vocabulary::Validation)?;
+    set.add(Vocabulary::Applicator)?;
+    set.add(Vocabulary::Unevaluated)?;
+    assert!(rt; counts(Draft::Draft202012, &set, true, "type"));
+    assert!(rt; !counts(Draft::Draft7, &set, true, "type"));
+    assert!(rt; counts(Draft::Draft7, &set, true, "$ref"));
+    Ok(())
+}
+
+#[test]
 fn dialects(rt: HostRuntime) -> Result<(), Fail> {
-    let alloc = rt.alloc();
-    let dialect = Dialect::by_meta_schema(Draft::Draft202012, &example(alloc)?);
+    let dialect = Dialect::by_meta_schema(Draft::Draft202012, &json(rt.alloc(), EXAMPLE)?);
     assert!(rt; dialect.counts(false, "items"));
     assert!(rt; dialect.counts(false, "$ref"));
     assert!(rt; !dialect.counts(false, "minimum"));
     assert!(rt; !dialect.counts(false, "unevaluatedItems"));
     assert!(rt; dialect != Dialect::standard(Draft::Draft202012));
-    // in another order, by the URIs of 2019-09, and with no custom ones
-    let alike = json!(in alloc; {
-        "$vocabulary": {
-            "https://json-schema.org/draft/2019-09/vocab/applicator": true,
-            "https://json-schema.org/draft/2019-09/vocab/core": true
-        }
-    })?;
+    Ok(())
+}
+
+#[test]
+fn dialects_that_are_alike(rt: HostRuntime) -> Result<(), Fail> {
+    let alloc = rt.alloc();
+    let dialect = Dialect::by_meta_schema(Draft::Draft202012, &json(alloc, EXAMPLE)?);
+    let alike = json(alloc, ALIKE)?;
     assert!(rt; dialect == Dialect::by_meta_schema(Draft::Draft202012, &alike));
     assert!(rt; dialect != Dialect::by_meta_schema(Draft::Draft201909, &alike));
-    let absent = json!(in alloc; {"$vocabulary": true})?;
+    Ok(())
+}
+
+#[test]
+fn dialects_of_a_draft(rt: HostRuntime) -> Result<(), Fail> {
+    let absent = json(rt.alloc(), r#"{"$vocabulary": true}"#)?;
     let whole = Dialect::by_meta_schema(Draft::Draft7, &absent);
     assert!(rt; whole == Dialect::standard(Draft::Draft7));
     assert!(rt; !whole.counts(true, "type"));

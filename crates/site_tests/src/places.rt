@@ -96,14 +96,17 @@ fn places_share_bases(rt: HostRuntime) -> Result<(), Fail> {
     let uri = Rc::new(rt.alloc(), Uri::parse(rt.alloc(), "http://a.test/")?)?;
     let known = MetaSchemas::none(rt.alloc());
     let whole = root(rt.alloc(), &known, &uri, Draft::Draft4, &contents)?;
-    assert!(rt; Rc::ptr_eq(&uri, &whole.base) && whole.dialect.draft == Draft::Draft4);
+    assert!(rt; Rc::ptr_eq(&uri, &whole.base));
+    assert!(rt; whole.dialect.draft == Draft::Draft4);
     let inner = contents.get("not").ok_or("no member")?;
-    assert!(rt; is_schema(inner) && !is_schema(inner.get("$id").ok_or("no member")?));
+    assert!(rt; is_schema(inner));
+    assert!(rt; !is_schema(inner.get("$id").ok_or("no member")?));
     let path = Path::root().push_name(rt.alloc(), "not")?;
     let dialect = Dialect::standard(Draft::Draft6);
     let place = enter(rt.alloc(), &known, &uri, dialect, path, inner)?;
     let copy = place.clone()?;
     assert_eq!(rt; copy.base.as_str(), "http://a.test/e");
-    assert!(rt; Rc::ptr_eq(&place.base, &copy.base) && copy.path == place.path);
+    assert!(rt; Rc::ptr_eq(&place.base, &copy.base));
+    assert!(rt; copy.path == place.path);
     Ok(())
 }

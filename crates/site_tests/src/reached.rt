@@ -73,16 +73,16 @@ fn causes(rt: HostRuntime) -> Result<(), Fail> {
         ),
         ("{\"$ref\":\"#/x\"}", "Pointer '/x' does not exist"),
         (
-            "{\"items\":{\"not\":{}}}",
-            "Keyword at 'http://a.test/r#/items/not' is not there yet",
+            "{\"items\":{\"contains\":{}}}",
+            "Keyword at 'http://a.test/r#/items/contains' is not there yet",
         ),
         (
             "{\"$schema\":\"http://json-schema.org/draft-07/schema#\"}",
             "accepted",
         ),
         (
-            "{\"$schema\":\"http://json-schema.org/draft-07/schema#\",\"items\":[true,{\"not\":{}}]}",
-            "Keyword at 'http://a.test/r#/items/1/not' is not there yet",
+            "{\"$schema\":\"http://json-schema.org/draft-07/schema#\",\"items\":[true,{\"anyOf\":[{\"contains\":{}}]}]}",
+            "Keyword at 'http://a.test/r#/items/1/anyOf/0/contains' is not there yet",
         ),
         (
             "{\"$schema\":\"http://json-schema.org/draft-07/schema#\",\"$ref\":\"#/x\",\"type\":5,\"x\":true}",

@@ -15,7 +15,8 @@ read_now =
     codes "$ref" ∷ codes "$dynamicRef" ∷ codes "$recursiveRef" ∷ codes "type" ∷ codes "enum" ∷ codes "const" ∷ codes "multipleOf" ∷ codes "maximum" ∷ codes "minimum"
     ∷ codes "exclusiveMaximum" ∷ codes "exclusiveMinimum" ∷ codes "maxLength" ∷ codes "minLength" ∷ codes "maxItems" ∷ codes "minItems" ∷ codes "maxProperties"
     ∷ codes "minProperties" ∷ codes "uniqueItems" ∷ codes "required" ∷ codes "dependentRequired" ∷ codes "items" ∷ codes "properties" ∷ codes "unevaluatedItems"
-    ∷ codes "unevaluatedProperties" ∷ codes "prefixItems" ∷ codes "dependentSchemas" ∷ codes "allOf" ∷ []
+    ∷ codes "unevaluatedProperties" ∷ codes "prefixItems" ∷ codes "dependentSchemas" ∷ codes "allOf" ∷ codes "additionalItems" ∷ codes "anyOf"
+    ∷ codes "oneOf" ∷ codes "not" ∷ []
 
 abbrev pub place_of : Site → List Part → Place
 place_of s added = record { document = s.document; path = added ++ s.path }

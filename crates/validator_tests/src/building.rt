@@ -1,5 +1,6 @@
 // What refuses a build, by the texts of the errors.
 use json_schema_validator::{Documents, Draft, Validator};
+use serde_json::Value;
 use std::alloc::Global;
 use std::test::Fail;
 use uri_references::uri::from_str;
@@ -183,5 +184,45 @@ fn by_the_draft_of_the_options(rt: HostRuntime) -> Result<(), Fail> {
     let old = Validator::options(alloc)?.with_draft(Draft::Draft7);
     assert!(rt; old.build(&documents, "").is_ok());
     assert!(rt; Validator::options(alloc)?.build(&documents, "").is_err());
+    Ok(())
+}
+
+// The verdict of a schema alone, or why it is refused.
+fn by_schema(alloc: Global, schema: &str, instance: &str) -> Result<String, Fail> {
+    let schema = Value::from_str(alloc, schema)?;
+    let value = Value::from_str(alloc, instance)?;
+    match Validator::new(alloc, schema) {
+        Ok(validator) => {
+            let is_valid = validator.is_valid(&value)?;
+            Ok(format!(in alloc; "{is_valid}")?)
+        }
+        Err(error) => Ok(format!(in alloc; "{error}")?),
+    }
+}
+
+#[test]
+fn by_one_schema(rt: HostRuntime) -> Result<(), Fail> {
+    let alloc = rt.alloc();
+    for (schema, value, want) in [
+        ("{\"type\":\"integer\"}", "1", "true"),
+        ("{\"type\":\"integer\"}", "\"a\"", "false"),
+        (
+            "{\"$ref\":\"#/$defs/a\",\"$defs\":{\"a\":{\"minimum\":2}}}",
+            "2",
+            "true",
+        ),
+        (
+            "{\"type\":5}",
+            "1",
+            "Keyword value at 'json-schema:///#/type': expected type name",
+        ),
+        (
+            "{\"minimum\":1.5}",
+            "1",
+            "Number at 'json-schema:///#/minimum' is no whole number of 64 bits",
+        ),
+    ] {
+        assert_eq!(rt; by_schema(alloc, schema, value)?.as_str(), want);
+    }
     Ok(())
 }

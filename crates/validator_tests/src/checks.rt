@@ -192,3 +192,29 @@ fn paths_beside_the_verdict(rt: HostRuntime) -> Result<(), Fail> {
     }
     Ok(())
 }
+
+#[test]
+fn into_branches(rt: HostRuntime) -> Result<(), Fail> {
+    let alloc = rt.alloc();
+    let root =
+        "{\"properties\":{\"a\":{\"anyOf\":[{\"minimum\":2}]},\"b\":{\"anyOf\":[false,{\"minimum\":2}]},\"c\":{\"oneOf\":[{\"minimum\":2}]},\"d\":{\"oneOf\":[{\"minimum\":2},{\"maximum\":0}]},\"e\":{\"not\":{\"minimum\":1}},\"f\":{\"allOf\":[true,{\"minimum\":2}]}}}";
+    let registry = registry(alloc, root)?;
+    let value = "{\"a\":1,\"b\":1,\"c\":1,\"d\":1,\"e\":1,\"f\":1}";
+    for (instance, evaluation, want) in [
+        ("/a", "/properties/a/anyOf", "accepted"),
+        ("/a", "/properties/a/anyOf/0/minimum", "accepted"),
+        ("/b", "/properties/b/anyOf", "accepted"),
+        ("/b", "/properties/b/anyOf/0", "refused"),
+        ("/b", "/properties/b/anyOf/1/minimum", "refused"),
+        ("/c", "/properties/c/oneOf/0/minimum", "accepted"),
+        ("/d", "/properties/d/oneOf", "accepted"),
+        ("/d", "/properties/d/oneOf/0/minimum", "refused"),
+        ("/e", "/properties/e/not", "accepted"),
+        ("/e", "/properties/e/not/minimum", "refused"),
+        ("/f", "/properties/f/allOf/1/minimum", "accepted"),
+        ("/f", "/properties/f/allOf", "accepted"),
+    ] {
+        assert_eq!(rt; said(alloc, &registry, value, instance, evaluation)?, want);
+    }
+    Ok(())
+}

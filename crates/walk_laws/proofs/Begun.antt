@@ -6,8 +6,8 @@ use Rattle.json_paths.specs.Parts.{Part, name}
 use Rattle.json_paths.specs.Pointers.{escape}
 use Rattle.schema_meaning.specs.Members.{In, first, later}
 use Rattle.schema_meaning.specs.Places.{stay}
-use Rattle.schema_meaning.specs.Questions.{Question, at, listed_members, items_from, items_of}
-use Rattle.schema_meaning.specs.Rules.{Rule, refuses_at, obliged}
+use Rattle.schema_meaning.specs.Questions.{Question, at, listed_members, items_from, items_of, each_branch}
+use Rattle.schema_meaning.specs.Rules.{Rule, refuses_at, obliged, lone}
 use Rattle.schema_meaning.specs.Keywords.{Shape, never, asserts, items, item_list, prefix_items, additional_items, no_additional_items, contains, properties, pattern_properties, additional_properties, no_additional_properties, no_properties, property_names, no_property_names, dependent_schemas, dependencies, all_of, any_of, one_of, negation, condition, reference, reference_name, rule}
 use Rattle.schema_meaning.specs.Readings.{Reading, rules}
 use Rattle.schema_documents.specs.Bearers.{Documents}
@@ -38,6 +38,12 @@ one_added : {S : Type 0} {k : List ℕ} (n : List ℕ) (s : S) → n ≡ k → (
 one_added n s e q first = ap at e
 one_added n s e q (later i) = elim i [ ]
 
+-- the only one of a list is one of it
+in_lone : {A : Type 0} (xs : List A) (x : A) → In x (lone xs) → In x xs
+in_lone [] x i = elim i [ ]
+in_lone (y ∷ []) x i = i
+in_lone (y ∷ z ∷ xs) x i = elim i [ ]
+
 module _ {S : Type 0} (matches : List ℕ → List ℕ → Bool) (d : Data) (k : List ℕ) where
   pub shape_begins : (x : Shape S) → IsOf k x → Begins k (rule matches d x)
   shape_begins never h = absurd h
@@ -54,8 +60,14 @@ module _ {S : Type 0} (matches : List ℕ → List ℕ → Bool) (d : Data) (k :
     own = λ bs. ap at h;
     on = λ bs q i. let w = by_item_added (codes "prefixItems") ss 0 (items_of d) q i in (w.0, w.1 ∙ ap (λ n. w.0 ++ at n) h);
   }
-  shape_begins (additional_items start s) h = absurd h
-  shape_begins (no_additional_items start s) h = absurd h
+  shape_begins (additional_items start s) h = record {
+    own = λ bs. ap at h;
+    on = λ bs q i. let w = item_question (codes "additionalItems") s start (items_from start (items_of d)) q i in ([], ap (λ (x : Question S). x.added) w.3 ∙ ap at h);
+  }
+  shape_begins (no_additional_items start s) h = record {
+    own = λ bs. ap at h;
+    on = λ bs q i. let w = item_question (codes "additionalItems") s start (items_from start (items_of d)) q i in ([], ap (λ (x : Question S). x.added) w.3 ∙ ap at h);
+  }
   shape_begins (contains s least most) h = absurd h
   shape_begins (properties ps) h = record {
     own = λ bs. ap at h;
@@ -78,9 +90,15 @@ module _ {S : Type 0} (matches : List ℕ → List ℕ → Bool) (d : Data) (k :
     own = λ bs. ap at h;
     on = λ bs q i. let w = branch_added (codes "allOf") 0 ss q i in (w.0, w.1 ∙ ap (λ n. w.0 ++ at n) h);
   }
-  shape_begins (any_of ss) h = absurd h
-  shape_begins (one_of ss) h = absurd h
-  shape_begins (negation schema s) h = absurd h
+  shape_begins (any_of ss) h = record {
+    own = λ bs. ap at h;
+    on = λ bs q i. let w = branch_added (codes "anyOf") 0 ss q (in_lone (each_branch (codes "anyOf") 0 ss) q i) in (w.0, w.1 ∙ ap (λ n. w.0 ++ at n) h);
+  }
+  shape_begins (one_of ss) h = record {
+    own = λ bs. ap at h;
+    on = λ bs q i. let w = branch_added (codes "oneOf") 0 ss q (in_lone (each_branch (codes "oneOf") 0 ss) q i) in (w.0, w.1 ∙ ap (λ n. w.0 ++ at n) h);
+  }
+  shape_begins (negation schema s) h = record { own = λ bs. ap at h; on = λ bs q i. elim i [ ] }
   shape_begins (condition s t e) h = absurd h
   shape_begins (reference r s) h = record { own = λ bs. ap at h; on = λ bs q i. ([], one_added (reference_name r) s h q i) }
 

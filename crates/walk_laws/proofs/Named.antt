@@ -1,20 +1,21 @@
 -- The shapes of the keywords that are read, by the names under which they refuse.
 use Rattle.std.proofs.Common.{◌≡◌, ◌++◌, ℕ, ℤ, List, [], ◌∷◌, Bool, true, false, not, ◌&&◌, ◌||◌, bytes_eq, codes, is_some, Option, Some, None, Result, Ok, Err, refl, sym, subst, true≢false}
 use Rattle.std.specs.List.{AllByRecursion}
-use Rattle.std.specs.Prelude.{if◌then◌else◌}
+use Rattle.std.specs.Prelude.{if◌then◌else◌, option_and_then}
 use Rattle.std.proofs.lemmas.Slice.Eq.{bytes_eq-Decides}
-use Rattle.serde_json.specs.Data.{Data, null, boolean, number, string, array, object}
+use Rattle.serde_json.specs.Data.{Data, null, boolean, number, string, array, object, Items}
 use Rattle.serde_json.specs.Find.{as_str, as_array, as_bool}
 use Rattle.json_paths.specs.Pointers.{escape}
 use Rattle.schema_documents.specs.Places.{is_schema}
+use Rattle.schema_values.specs.Texts.{count_items}
 use Rattle.schema_documents.specs.Lookup.{Target, LookupCause, lookup}
 use Rattle.schema_documents.specs.Scopes.{dynamic_lookup, recursive_lookup}
 use Rattle.schema_meaning.specs.Members.{In, first, later, is_listed}
-use Rattle.schema_meaning.specs.Keywords.{Assertion, named, types, constant, enumeration, multiple_of, maximum, exclusive_maximum, minimum, exclusive_minimum, maximum_of_draft_4, minimum_of_draft_4, max_length, min_length, max_items, min_items, max_properties, min_properties, dependent_required, Shape, asserts, items, item_list, prefix_items, properties, dependent_schemas, all_of, Reference, static, dynamic, recursive, reference_name, reference}
+use Rattle.schema_meaning.specs.Keywords.{Assertion, named, types, constant, enumeration, multiple_of, maximum, exclusive_maximum, minimum, exclusive_minimum, maximum_of_draft_4, minimum_of_draft_4, max_length, min_length, max_items, min_items, max_properties, min_properties, dependent_required, Shape, asserts, items, item_list, prefix_items, properties, dependent_schemas, all_of, any_of, one_of, negation, additional_items, no_additional_items, Reference, static, dynamic, recursive, reference_name, reference}
 use Rattle.unread_keywords.specs.NotYet.{is_unread, read_now}
 use Rattle.schema_reading.specs.Sites.{Site, target_site}
 use Rattle.schema_reading.specs.Values.{type_names, count_of, positive_of, whole_number, unique_names}
-use Rattle.schema_reading.specs.Rows.{BuildCause, Row, nothing_read, reads, Context, counts_here, at, bad_value, subschema, each_subschema, each_named, row_of, one_schema, schema_list, sites_named, schema_map, asserted, assertion, length_of_list, beside, takes_list, items_row, with_causes, target_causes, no_schema_there, led_to, ref_row, dynamic_row, is_hash, recursive_row, is_draft_4, is_true, unique_row, unless_empty, required_entries, dependent_required_row, readers, read_among, row_at}
+use Rattle.schema_reading.specs.Rows.{BuildCause, behind_items, additional_items_row, is_false, Row, nothing_read, reads, Context, counts_here, at, bad_value, subschema, each_subschema, each_named, row_of, one_schema, schema_list, sites_named, schema_map, asserted, assertion, length_of_list, beside, takes_list, items_row, with_causes, target_causes, no_schema_there, led_to, ref_row, dynamic_row, is_hash, recursive_row, is_draft_4, is_true, unique_row, unless_empty, required_entries, dependent_required_row, readers, read_among, row_at}
 use Rattle.walk_laws.specs.Words.{IsOf, IsUnder, member_of}
 
 abbrev AreOf : List ℕ → Row → Type 0
@@ -79,6 +80,19 @@ of_items x d = by (is_schema d) (takes_list x.site.dialect.draft)
     by true c = of_row (codes "items") (λ s. s ∷ []) (λ s. items (length_of_list (beside x (codes "prefixItems"))) s ∷ []) (λ s. (refl, tt)) (subschema x (at (codes "items")) d)
     by false true = of_list x (codes "items") (codes "schema or list") item_list (λ ss. refl) d
     by false false = tt
+
+of_additional : (x : Context) (d : Data) → AreOf (codes "additionalItems") (additional_items_row x (codes "additionalItems") d)
+of_additional x d = by (option_and_then as_array (beside x (codes "items")))
+  where
+    shape_of : (b : Bool) (start : ℕ) (s : Site) → IsOf (codes "additionalItems") (if b then no_additional_items start s else additional_items start s)
+    shape_of true start s = refl
+    shape_of false start s = refl
+
+    by : (o : Option Items) → AreOf (codes "additionalItems") (behind_items x (codes "additionalItems") d o)
+    by None = tt
+    by (Some ds) =
+        of_row (codes "additionalItems") (λ s. s ∷ []) (λ s. (if is_false d then no_additional_items (count_items ds) s else additional_items (count_items ds) s) ∷ [])
+        (λ s. (shape_of (is_false d) (count_items ds) s, tt)) (subschema x (at (codes "additionalItems")) d)
 
 of_map : (x : Context) (k : List ℕ) (shape : List (List ℕ × Site) → Shape Site) → ((ps : List (List ℕ × Site)) → IsOf k (shape ps)) → (d : Data) → AreOf k (schema_map x k shape d)
 of_map x k shape h null = tt
@@ -194,7 +208,11 @@ of_read x _ d (later (later (later (later (later (later (later (later (later (la
 of_read x _ d (later (later (later (later (later (later (later (later (later (later (later (later (later (later (later (later (later (later (later (later (later (later (later (later first)))))))))))))))))))))))) = own (is_draft_4 x.site.dialect.draft) (codes "prefixItems") refl refl _ (of_list x (codes "prefixItems") (codes "list") prefix_items (λ ss. refl) d)
 of_read x _ d (later (later (later (later (later (later (later (later (later (later (later (later (later (later (later (later (later (later (later (later (later (later (later (later (later first))))))))))))))))))))))))) = own (is_draft_4 x.site.dialect.draft) (codes "dependentSchemas") refl refl _ (of_map x (codes "dependentSchemas") dependent_schemas (λ ps. refl) d)
 of_read x _ d (later (later (later (later (later (later (later (later (later (later (later (later (later (later (later (later (later (later (later (later (later (later (later (later (later (later first)))))))))))))))))))))))))) = own (is_draft_4 x.site.dialect.draft) (codes "allOf") refl refl _ (of_list x (codes "allOf") (codes "list") all_of (λ ss. refl) d)
-of_read x k d (later (later (later (later (later (later (later (later (later (later (later (later (later (later (later (later (later (later (later (later (later (later (later (later (later (later (later i))))))))))))))))))))))))))) = elim i [ ]
+of_read x _ d (later (later (later (later (later (later (later (later (later (later (later (later (later (later (later (later (later (later (later (later (later (later (later (later (later (later (later first))))))))))))))))))))))))))) = own (is_draft_4 x.site.dialect.draft) (codes "additionalItems") refl refl _ (of_additional x d)
+of_read x _ d (later (later (later (later (later (later (later (later (later (later (later (later (later (later (later (later (later (later (later (later (later (later (later (later (later (later (later (later first)))))))))))))))))))))))))))) = own (is_draft_4 x.site.dialect.draft) (codes "anyOf") refl refl _ (of_list x (codes "anyOf") (codes "list") any_of (λ ss. refl) d)
+of_read x _ d (later (later (later (later (later (later (later (later (later (later (later (later (later (later (later (later (later (later (later (later (later (later (later (later (later (later (later (later (later first))))))))))))))))))))))))))))) = own (is_draft_4 x.site.dialect.draft) (codes "oneOf") refl refl _ (of_list x (codes "oneOf") (codes "list") one_of (λ ss. refl) d)
+of_read x _ d (later (later (later (later (later (later (later (later (later (later (later (later (later (later (later (later (later (later (later (later (later (later (later (later (later (later (later (later (later (later first)))))))))))))))))))))))))))))) = own (is_draft_4 x.site.dialect.draft) (codes "not") refl refl _ (of_row (codes "not") (λ s. s ∷ []) (λ s. negation d s ∷ []) (λ s. (refl, tt)) (subschema x (at (codes "not")) d))
+of_read x k d (later (later (later (later (later (later (later (later (later (later (later (later (later (later (later (later (later (later (later (later (later (later (later (later (later (later (later (later (later (later (later i))))))))))))))))))))))))))))))) = elim i [ ]
 
 counted : (b c : Bool) → b ≡ true → (b && not c) ≡ false → c ≡ true
 counted true true h f = refl

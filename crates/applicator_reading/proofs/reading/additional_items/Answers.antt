@@ -16,26 +16,26 @@ list-there : (n : Neighbours) (x : Context) (o : Option ℕ) → Surrounds n x �
     → o ≡ option_map (λ ds. count_items ds) (option_and_then as_array (beside x (codes "items")))
 list-there n x o s h = h ∙ sym (ap (λ e. option_map count_items (option_and_then as_array e)) (neighbour n x s (codes "items")))
 
-pub returns-in_default : goal.returns-in_default
-returns-in_default c = λ x s.
+pub returns-in_default-clause-read : goal.returns-in_default-clause-read
+returns-in_default-clause-read c = λ x s.
     behind-none x (codes "additionalItems") (view c.args.value.now) (option_and_then as_array (beside x (codes "items"))) (list-there c.args.neighbours x None s c.in_default.ensures)
 
-pub returns-then-is_false : goal.returns-then-is_false
-returns-then-is_false c = λ x s.
+pub returns-then-is_false-clause-read : goal.returns-then-is_false-clause-read
+returns-then-is_false-clause-read c = λ x s.
     let k = codes "additionalItems" in
     let d = view c.args.value.now in
     let start = c.in-Some.start in
     let t = site_in x (at k) d in
     subst (λ (row : Row). ReadsAs x k row c.if_schema.result) (sym (behind-some x k d (option_and_then as_array (beside x (codes "items"))) start (list-there c.args.neighbours x (Some start) s c.in-Some.ensures)))
-    (c.if_schema.ensures x k (behind_shape x k d start)
+    (c.if_schema.ensures.read x k (behind_shape x k d start)
     (ap (λ shape. reads (t ∷ []) (shape ∷ [])) (if-true (is_false d) (no_additional_items start t) (additional_items start t) (sym c.is_false.ensures ∙ c.if-is_false.true))))
 
-pub returns-else-is_false : goal.returns-else-is_false
-returns-else-is_false c = λ x s.
+pub returns-else-is_false-clause-read : goal.returns-else-is_false-clause-read
+returns-else-is_false-clause-read c = λ x s.
     let k = codes "additionalItems" in
     let d = view c.args.value.now in
     let start = c.in-Some.start in
     let t = site_in x (at k) d in
     subst (λ (row : Row). ReadsAs x k row c.if_schema-else-is_false.result) (sym (behind-some x k d (option_and_then as_array (beside x (codes "items"))) start (list-there c.args.neighbours x (Some start) s c.in-Some.ensures)))
-    (c.if_schema-else-is_false.ensures x k (behind_shape x k d start)
+    (c.if_schema-else-is_false.ensures.read x k (behind_shape x k d start)
     (ap (λ shape. reads (t ∷ []) (shape ∷ [])) (if-false (is_false d) (no_additional_items start t) (additional_items start t) (sym c.is_false.ensures ∙ c.if-is_false.false))))

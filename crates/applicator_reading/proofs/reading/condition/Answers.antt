@@ -20,7 +20,7 @@ returns-then-has_consequent c = λ x s.
     let d = view c.args.value.now in
     let t = site_in x (at (codes "if")) d in
     subst (λ (row : Row). ReadsAs x (codes "if") row c.if_schema.result) (sym (condition-there x (codes "if") d (either-beside n x s ∙ sym c.has_consequent.ensures ∙ c.if-has_consequent.true)))
-    (c.if_schema.ensures x (codes "if") (condition_shape x (codes "if") d)
+    (c.if_schema.ensures.read x (codes "if") (condition_shape x (codes "if") d)
     (ap₂ (λ a b. reads (t ∷ []) (condition t a b ∷ []))
     (schema-there x (codes "then") c.schema_beside-then_schema.result (c.schema_beside-then_schema.ensures ∙ sym (ap schema_in (neighbour n x s (codes "then")))))
     (schema-there x (codes "else") c.schema_beside-else_schema.result (c.schema_beside-else_schema.ensures ∙ sym (ap schema_in (neighbour n x s (codes "else")))))))

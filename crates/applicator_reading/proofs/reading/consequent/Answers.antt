@@ -11,7 +11,7 @@ pub returns-then-is_beside : goal.returns-then-is_beside
 returns-then-is_beside c = λ x k s.
     let d = view c.args.value.now in
     subst (λ (row : Row). ReadsAs x k row c.if_schema.result)
-    (sym (consequent-there x k d (ap is_some (neighbour c.args.neighbours x s (codes "if")) ∙ sym c.is_beside.ensures ∙ c.if-is_beside.true))) (c.if_schema.ensures x k (λ s. []) refl)
+    (sym (consequent-there x k d (ap is_some (neighbour c.args.neighbours x s (codes "if")) ∙ sym c.is_beside.ensures ∙ c.if-is_beside.true))) (c.if_schema.ensures.read x k (λ s. []) refl)
 
 pub returns-else-is_beside : goal.returns-else-is_beside
 returns-else-is_beside c = λ x k s.

@@ -11,7 +11,7 @@ use Rattle.applicator_reading.proofs.reading.contains.Goals as goal
 pub returns : goal.returns
 returns c = λ x s.
     let t = site_in x (at (codes "contains")) (view c.args.value.now) in
-    c.if_schema.ensures x (codes "contains") (λ s. contains s (option_and_then count_of (beside x (codes "minContains"))) (option_and_then count_of (beside x (codes "maxContains"))) ∷ [])
+    c.if_schema.ensures.read x (codes "contains") (λ s. contains s (option_and_then count_of (beside x (codes "minContains"))) (option_and_then count_of (beside x (codes "maxContains"))) ∷ [])
     (ap₂ (λ least most. reads (t ∷ []) (contains t least most ∷ []))
     (ap (option_and_then count_of) (neighbour c.args.neighbours x s (codes "minContains")) ∙ sym c.count_beside-least.ensures)
     (ap (option_and_then count_of) (neighbour c.args.neighbours x s (codes "maxContains")) ∙ sym c.count_beside-most.ensures))

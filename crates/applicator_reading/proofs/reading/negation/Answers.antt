@@ -3,5 +3,5 @@ use Rattle.serde_json.specs.View.{view}
 use Rattle.schema_meaning.specs.Keywords.{negation}
 use Rattle.applicator_reading.proofs.reading.negation.Goals as goal
 
-pub returns : goal.returns
-returns c = λ x. c.if_schema.ensures x (codes "not") (λ s. negation (view c.args.value.now) s ∷ []) refl
+pub returns-clause-read : goal.returns-clause-read
+returns-clause-read c = λ x. c.if_schema.ensures.read x (codes "not") (λ s. negation (view c.args.value.now) s ∷ []) refl

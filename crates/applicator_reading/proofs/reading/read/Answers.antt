@@ -1,6 +1,6 @@
 use Rattle.std.proofs.Common.{codes, refl}
 use Rattle.serde_json.specs.View.{view}
-use Rattle.applicator_reading.proofs.NamedLemmas.{read-at, named-at, not-every, some-every, additional-read, additional-named, additional-unread}
+use Rattle.applicator_reading.proofs.NamedLemmas.{read-at, named-at, not-valued, some-valued, additional-read, additional-named, additional-unread}
 use Rattle.applicator_reading.proofs.reading.read.Goals as goal
 
 pub returns-in-items-clause-read : goal.returns-in-items-clause-read
@@ -16,7 +16,7 @@ pub returns-in-prefixItems-clause-named : goal.returns-in-prefixItems-clause-nam
 returns-in-prefixItems-clause-named c = λ x s. named-at c.args.name.now (codes "prefixItems") x (view c.args.value.now) c.in-prefixItems.is refl
 
 pub returns-in-additionalItems-clause-read : goal.returns-in-additionalItems-clause-read
-returns-in-additionalItems-clause-read c = read-at c.args.name.now (codes "additionalItems") c.args.neighbours (view c.args.value.now) c.additional_items.result c.in-additionalItems.is (λ x s. c.additional_items.ensures x s)
+returns-in-additionalItems-clause-read c = read-at c.args.name.now (codes "additionalItems") c.args.neighbours (view c.args.value.now) c.additional_items.result c.in-additionalItems.is (λ x s. c.additional_items.ensures.read x s)
 
 pub returns-in-additionalItems-clause-named : goal.returns-in-additionalItems-clause-named
 returns-in-additionalItems-clause-named c = λ x s. named-at c.args.name.now (codes "additionalItems") x (view c.args.value.now) c.in-additionalItems.is refl
@@ -76,7 +76,7 @@ pub returns-in-oneOf-clause-named : goal.returns-in-oneOf-clause-named
 returns-in-oneOf-clause-named c = λ x s. named-at c.args.name.now (codes "oneOf") x (view c.args.value.now) c.in-oneOf.is refl
 
 pub returns-in-not-clause-read : goal.returns-in-not-clause-read
-returns-in-not-clause-read c = read-at c.args.name.now (codes "not") c.args.neighbours (view c.args.value.now) c.negation.result c.in-not.is (λ x s. c.negation.ensures x)
+returns-in-not-clause-read c = read-at c.args.name.now (codes "not") c.args.neighbours (view c.args.value.now) c.negation.result c.in-not.is (λ x s. c.negation.ensures.read x)
 
 pub returns-in-not-clause-named : goal.returns-in-not-clause-named
 returns-in-not-clause-named c = λ x s. named-at c.args.name.now (codes "not") x (view c.args.value.now) c.in-not.is refl
@@ -111,54 +111,54 @@ pub returns-in-additionalProperties-clause-other : goal.returns-in-additionalPro
 returns-in-additionalProperties-clause-other c =
     additional-unread c.args.name.now c.args.neighbours (view c.args.value.now) c.in-additionalProperties.is c.additional_properties.result c.additional_properties.ensures.other
 
-pub returns-in-items-clause-every : goal.returns-in-items-clause-every
-returns-in-items-clause-every c = λ l. c.items.ensures.every
+pub returns-in-items-clause-values : goal.returns-in-items-clause-values
+returns-in-items-clause-values c = λ l. c.items.ensures.values
 
-pub returns-in-prefixItems-clause-every : goal.returns-in-prefixItems-clause-every
-returns-in-prefixItems-clause-every c = λ l. c.list.ensures.every refl
+pub returns-in-prefixItems-clause-values : goal.returns-in-prefixItems-clause-values
+returns-in-prefixItems-clause-values c = λ l. c.list.ensures.values
 
-pub returns-in-additionalItems-clause-every : goal.returns-in-additionalItems-clause-every
-returns-in-additionalItems-clause-every c = λ l. absurd (not-every c.args.name.now (codes "additionalItems") c.in-additionalItems.is refl l)
+pub returns-in-additionalItems-clause-values : goal.returns-in-additionalItems-clause-values
+returns-in-additionalItems-clause-values c = λ l. c.additional_items.ensures.values
 
-pub returns-in-contains-clause-every : goal.returns-in-contains-clause-every
-returns-in-contains-clause-every c = λ l. absurd (not-every c.args.name.now (codes "contains") c.in-contains.is refl l)
+pub returns-in-contains-clause-values : goal.returns-in-contains-clause-values
+returns-in-contains-clause-values c = λ l. absurd (not-valued c.args.name.now (codes "contains") c.in-contains.is refl l)
 
-pub returns-in-minContains-clause-every : goal.returns-in-minContains-clause-every
-returns-in-minContains-clause-every c = λ l. absurd (not-every c.args.name.now (codes "minContains") c.in-minContains.is refl l)
+pub returns-in-minContains-clause-values : goal.returns-in-minContains-clause-values
+returns-in-minContains-clause-values c = λ l. absurd (not-valued c.args.name.now (codes "minContains") c.in-minContains.is refl l)
 
-pub returns-in-maxContains-clause-every : goal.returns-in-maxContains-clause-every
-returns-in-maxContains-clause-every c = λ l. absurd (not-every c.args.name.now (codes "maxContains") c.in-maxContains.is refl l)
+pub returns-in-maxContains-clause-values : goal.returns-in-maxContains-clause-values
+returns-in-maxContains-clause-values c = λ l. absurd (not-valued c.args.name.now (codes "maxContains") c.in-maxContains.is refl l)
 
-pub returns-in-properties-clause-every : goal.returns-in-properties-clause-every
-returns-in-properties-clause-every c = λ l. c.map.ensures.every
+pub returns-in-properties-clause-values : goal.returns-in-properties-clause-values
+returns-in-properties-clause-values c = λ l. c.map.ensures.values
 
-pub returns-in-propertyNames-clause-every : goal.returns-in-propertyNames-clause-every
-returns-in-propertyNames-clause-every c = λ l. absurd (not-every c.args.name.now (codes "propertyNames") c.in-propertyNames.is refl l)
+pub returns-in-propertyNames-clause-values : goal.returns-in-propertyNames-clause-values
+returns-in-propertyNames-clause-values c = λ l. absurd (not-valued c.args.name.now (codes "propertyNames") c.in-propertyNames.is refl l)
 
-pub returns-in-dependentSchemas-clause-every : goal.returns-in-dependentSchemas-clause-every
-returns-in-dependentSchemas-clause-every c = λ l. c.map-in-dependentSchemas.ensures.every
+pub returns-in-dependentSchemas-clause-values : goal.returns-in-dependentSchemas-clause-values
+returns-in-dependentSchemas-clause-values c = λ l. c.map-in-dependentSchemas.ensures.values
 
-pub returns-in-allOf-clause-every : goal.returns-in-allOf-clause-every
-returns-in-allOf-clause-every c = λ l. c.list-in-allOf.ensures.every refl
+pub returns-in-allOf-clause-values : goal.returns-in-allOf-clause-values
+returns-in-allOf-clause-values c = λ l. c.list-in-allOf.ensures.values
 
-pub returns-in-anyOf-clause-every : goal.returns-in-anyOf-clause-every
-returns-in-anyOf-clause-every c = λ l. absurd (not-every c.args.name.now (codes "anyOf") c.in-anyOf.is refl l)
+pub returns-in-anyOf-clause-values : goal.returns-in-anyOf-clause-values
+returns-in-anyOf-clause-values c = λ l. c.list-in-anyOf.ensures.values
 
-pub returns-in-oneOf-clause-every : goal.returns-in-oneOf-clause-every
-returns-in-oneOf-clause-every c = λ l. absurd (not-every c.args.name.now (codes "oneOf") c.in-oneOf.is refl l)
+pub returns-in-oneOf-clause-values : goal.returns-in-oneOf-clause-values
+returns-in-oneOf-clause-values c = λ l. c.list-in-oneOf.ensures.values
 
-pub returns-in-not-clause-every : goal.returns-in-not-clause-every
-returns-in-not-clause-every c = λ l. absurd (not-every c.args.name.now (codes "not") c.in-not.is refl l)
+pub returns-in-not-clause-values : goal.returns-in-not-clause-values
+returns-in-not-clause-values c = λ l. c.negation.ensures.values
 
-pub returns-in-if-clause-every : goal.returns-in-if-clause-every
-returns-in-if-clause-every c = λ l. absurd (not-every c.args.name.now (codes "if") c.in-if.is refl l)
+pub returns-in-if-clause-values : goal.returns-in-if-clause-values
+returns-in-if-clause-values c = λ l. absurd (not-valued c.args.name.now (codes "if") c.in-if.is refl l)
 
-pub returns-in-then-clause-every : goal.returns-in-then-clause-every
-returns-in-then-clause-every c = λ l. absurd (not-every c.args.name.now (codes "then") c.in-then.is refl l)
+pub returns-in-then-clause-values : goal.returns-in-then-clause-values
+returns-in-then-clause-values c = λ l. absurd (not-valued c.args.name.now (codes "then") c.in-then.is refl l)
 
-pub returns-in-else-clause-every : goal.returns-in-else-clause-every
-returns-in-else-clause-every c = λ l. absurd (not-every c.args.name.now (codes "else") c.in-else.is refl l)
+pub returns-in-else-clause-values : goal.returns-in-else-clause-values
+returns-in-else-clause-values c = λ l. absurd (not-valued c.args.name.now (codes "else") c.in-else.is refl l)
 
-pub returns-in-additionalProperties-clause-every : goal.returns-in-additionalProperties-clause-every
-returns-in-additionalProperties-clause-every c =
-    some-every c.additional_properties.result (λ l. not-every c.args.name.now (codes "additionalProperties") c.in-additionalProperties.is refl l)
+pub returns-in-additionalProperties-clause-values : goal.returns-in-additionalProperties-clause-values
+returns-in-additionalProperties-clause-values c =
+    some-valued c.additional_properties.result (λ l. not-valued c.args.name.now (codes "additionalProperties") c.in-additionalProperties.is refl l)

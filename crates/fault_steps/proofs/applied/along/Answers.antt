@@ -18,8 +18,8 @@ to_question-requires c =
     let e = text_left c.args.after in
     let found = subst (λ (o : Option Ahead). MatchOption o (NoneAhead qs i e) (IsAhead qs i e)) c.in-Some.is c.in_ok-question_ahead.ensures.ahead in
     record {
-      inside = question_inside a d qs c.requires.asked c.requires.applies.every c.in-Some.ahead.question found.among c.args.walk.site c.requires.applies.inside;
-      part = question_part a d qs c.requires.asked c.requires.applies.every c.in-Some.ahead.question found.among c.args.walk.site;
+      inside = question_inside a d qs c.requires.asked c.requires.applies.values c.in-Some.ahead.question found.among c.args.walk.site c.requires.applies.inside;
+      part = question_part a d qs c.requires.asked c.requires.applies.values c.in-Some.ahead.question found.among c.args.walk.site;
     }
 
 pub returns-in-None-clause-passes : goal.returns-in-None-clause-passes
@@ -28,7 +28,7 @@ returns-in-None-clause-passes c =
     let i = text_left c.args.walk.instance in
     let e = text_left c.args.after in
     let nowhere = subst (λ (o : Option Ahead). MatchOption o (NoneAhead qs i e) (IsAhead qs i e)) c.in-None.is c.in_ok-question_ahead.ensures.ahead in
-    applied_nowhere c.args.walk c.args.applicator c.args.after qs c.requires.asked c.requires.applies c.requires.more nowhere
+    applied_nowhere c.args.walk c.args.applicator c.args.after qs c.requires.asked c.requires.applies c.requires.more c.requires.obliging nowhere
 
 pub returns-clause-passes : goal.returns-clause-passes
 returns-clause-passes c =
@@ -37,7 +37,7 @@ returns-clause-passes c =
     let e = text_left c.args.after in
     let found = subst (λ (o : Option Ahead). MatchOption o (NoneAhead qs i e) (IsAhead qs i e)) c.in-Some.is c.in_ok-question_ahead.ensures.ahead in
     IfOk-weaker c.to_question.result _ _
-    (λ st h. applied_to c.args.walk c.args.applicator c.args.after qs c.in-Some.ahead st c.requires.asked c.requires.applies c.requires.more c.requires.once found h) c.to_question.ensures
+    (λ st h. applied_to c.args.walk c.args.applicator c.args.after qs c.in-Some.ahead st c.requires.asked c.requires.applies c.requires.more c.requires.obliging c.requires.once found h) c.to_question.ensures
 
 pub returns-clause-shorter : goal.returns-clause-shorter
 returns-clause-shorter c =

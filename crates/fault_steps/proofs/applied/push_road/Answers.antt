@@ -1,5 +1,4 @@
-use Rattle.std.proofs.Common.{◌≡◌, ◌∙◌, ◌++◌, [], ◌∷◌, List, ap, sym}
-use Rattle.json_paths.specs.Parts.{Part}
+use Rattle.std.proofs.Common.{◌∙◌, ◌++◌, [], ap, sym}
 use Rattle.applicators.specs.Shapes.{added_at}
 use Rattle.keyword_refusals.specs.Scenes.{behind}
 use Rattle.fault_steps.proofs.Going.{behind_more, behind_twice}

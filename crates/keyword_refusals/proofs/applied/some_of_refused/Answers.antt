@@ -27,8 +27,8 @@ is_question_refused-requires c =
     let among = left.among q first in
     record {
       shallow = c.requires.shallow;
-      inside = question_inside a d qs c.requires.asked c.requires.every q among c.args.site.now c.requires.inside;
-      part = question_part a d qs c.requires.asked c.requires.every q among c.args.site.now;
+      inside = question_inside a d qs c.requires.asked c.requires.values q among c.args.site.now c.requires.inside;
+      part = question_part a d qs c.requires.asked c.requires.values q among c.args.site.now;
     }
 
 pub returns-then-branch : goal.returns-then-branch
@@ -41,7 +41,7 @@ returns-then-branch c =
     let path = location_of c.args.schema.now ++ path_of_reference (text_of c.args.reference) in
     let left = subst (λ (xs : List Question). Accepts c.args.site.now path d qs xs) next c.loop-question.invariant in
     let answer = subst (λ b. IsAnswered c.args.site.now path d q (not b)) c.if-branch.true c.in_ok-is_question_refused.ensures in
-    one_refused c.args.site.now path d c.args.applicator qs c.requires.asked c.requires.every q (left.among q first) answer
+    one_refused c.args.site.now path d c.args.applicator qs c.requires.asked c.requires.values q (left.among q first) answer
 
 pub loop-question-preserved : goal.loop-question-preserved
 loop-question-preserved c =
@@ -62,4 +62,4 @@ returns c =
     let path = location_of c.args.schema.now ++ path_of_reference (text_of c.args.reference) in
     let nothing : drop c.loop-question.question-index qs ≡ [] = drop_all c.loop-question.question-index qs (omega (arith, c.loop-question-test.false)) in
     let left = subst (λ (xs : List Question). Accepts c.args.site.now path d qs xs) nothing c.loop-question.invariant in
-    none_refused c.args.site.now path d c.args.applicator qs c.requires.asked c.requires.every (accepts_all c.args.site.now path d qs left)
+    none_refused c.args.site.now path d c.args.applicator qs c.requires.asked c.requires.values (accepts_all c.args.site.now path d qs left)

@@ -1,4 +1,4 @@
-use Rattle.std.proofs.Common.{◌++◌, ap, refl, subst, codes}
+use Rattle.std.proofs.Common.{◌++◌, ap, refl, sym, subst, codes}
 use Rattle.std.proofs.lemmas.Result.{IfOk-weaker}
 use Rattle.serde_json.specs.View.{view, members_view}
 use Rattle.schema_meaning.specs.Questions as asking
@@ -9,9 +9,8 @@ use Rattle.plain_reader.specs.Passed.{name_of}
 use Rattle.schema_reports.specs.Locations.{location_of}
 use Rattle.schema_reports.specs.References.{text_of}
 use Rattle.keyword_refusals.specs.Rows.{items_row, items_questions, properties_row, properties_questions, reference_row, reference_questions}
-use Rattle.keyword_refusals.specs.Verdicts.{rules_by, LiesIn}
+use Rattle.keyword_refusals.specs.Verdicts.{rules_by, IsRefusal, LiesIn}
 use Rattle.keyword_refusals.proofs.Gathered.{by_questions, by_assertion, by_nothing}
-use Rattle.keyword_refusals.proofs.AppliedQuestions.{by_applicator}
 use Rattle.keyword_refusals.proofs.refusing.keyword_refuses.Goals as goal
 
 pub returns-in-Nothing : goal.returns-in-Nothing
@@ -32,19 +31,13 @@ some_item_refused-requires c = record { shallow = c.requires.shallow; inside = s
 pub some_member_refused-requires : goal.some_member_refused-requires
 some_member_refused-requires c = record { shallow = c.requires.shallow; inside = subst (LiesIn c.args.site.now) c.in-Properties.is c.requires.lies }
 
-pub some_question_refused-requires : goal.some_question_refused-requires
-some_question_refused-requires c =
-    let lies = subst (LiesIn c.args.site.now) c.in-Applicator.is c.requires.lies in
-    record { shallow = c.requires.shallow; every = lies.every; inside = lies.inside }
+pub applicator_refuses-requires : goal.applicator_refuses-requires
+applicator_refuses-requires c = record { shallow = c.requires.shallow; applies = subst (LiesIn c.args.site.now) c.in-Applicator.is c.requires.lies }
 
 pub returns-in-Applicator : goal.returns-in-Applicator
 returns-in-Applicator c =
-    let d = view c.args.value.now in
     let path = location_of c.args.schema.now ++ path_of_reference (text_of c.args.reference) in
-    let lies = subst (LiesIn c.args.site.now) c.in-Applicator.is c.requires.lies in
-    IfOk-weaker c.some_question_refused.result _ _
-    (λ b h. by_applicator c.args.site.now path d c.args.keyword c.in-Applicator.applicator b c.requires.shallow lies.every (λ x s. ap (λ k. row_of x.documents s k) c.in-Applicator.is) h)
-    c.some_question_refused.ensures
+    IfOk-weaker c.applicator_refuses.result _ _ (λ b h. subst (λ k. IsRefusal c.args.site.now path (view c.args.value.now) k b) (sym c.in-Applicator.is) h) c.applicator_refuses.ensures
 
 pub is_target_refused-requires : goal.is_target_refused-requires
 is_target_refused-requires c = record { shallow = c.requires.shallow; found = subst (LiesIn c.args.site.now) c.in-Reference.is c.requires.lies }

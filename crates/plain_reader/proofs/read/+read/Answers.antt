@@ -10,7 +10,7 @@ use Rattle.schema_sites.specs.References.{kind_of, name_of}
 use Rattle.schema_sites.specs.Seen.{documents_at}
 use Rattle.schema_reports.specs.RoadPaths.{instance_in, evaluation_in}
 use Rattle.plain_reader.specs.Keys.{key, keys_in}
-use Rattle.plain_reader.proofs.Left.{MembersLeft, ItemsLeft, QuestionsLeft, DeclaredLeft}
+use Rattle.plain_reader.proofs.Left.{MembersLeft, ItemsLeft, QuestionsLeft, DeclaredLeft, CountLeft, BranchesLeft}
 use Rattle.plain_reader.proofs.MemberTelling.{members_first, members_settled, members_step, members_last, members_listed}
 use Rattle.plain_reader.proofs.LookedLemmas.{looked_up_lies, looked_up_reads}
 use Rattle.plain_reader.proofs.TargetTelling.{target_deeper, target_back, target_on, falls_by_target, shallow_by_target, at_target_told}
@@ -18,7 +18,6 @@ use Rattle.schema_meaning.specs.Members.{In, first}
 use Rattle.applicators.specs.declared.question.Question.{Question}
 use Rattle.applicators.specs.declared.subschema.Entry.TheVariants as entry
 use Rattle.schema_reports.specs.References.{text_of}
-use Rattle.schema_sites.specs.Read.{Finds}
 use Rattle.schema_meaning.specs.Questions.{each_item, items_from, items_of}
 use Rattle.plain_reader.specs.Tellings.{TellsQuestions}
 use Rattle.plain_reader.specs.Shapes.{keyword_leads, keyword_shapes, property_leads, property_questions, items_site}
@@ -30,9 +29,13 @@ use Rattle.plain_reader.proofs.ItemTelling.{Child, Where, child_falls, child_sha
 use Rattle.std.proofs.lemmas.Result.{on_ok_weaker}
 use Rattle.schema_sites.specs.Passed.{assertion_of}
 use Rattle.plain_reader.proofs.AppliedTelling.{asks_inside, question_inside, question_part, told_of_value, told_of_item, told_of_member, behind_entry, question_told, questions_init, questions_settled, questions_step, questions_done}
+use Rattle.std.proofs.lemmas.Bool.{false≢true}
+use Rattle.plain_reader.specs.Combined.{HasBranches}
+use Rattle.plain_reader.specs.Refusals.{carries_branches}
+use Rattle.plain_reader.proofs.CombinedTelling.{count_yes, count_no, branches_step, branches_done, combined_accepted, combined_heard, combined_told}
 use Rattle.plain_reader.proofs.Reading.{member_inside}
-use Rattle.plain_reader.proofs.KeywordTelling.{tells_nothing, tells_assertion, tells_items, tells_properties, tells_applicator, tells_reference, tells_member, tells_refused, tells_object, tells_false, tells_no_object}
-use Rattle.plain_reader.proofs.read.+read.Goals.{read_member-in-Memory, read_member-in_default}
+use Rattle.plain_reader.proofs.KeywordTelling.{tells_nothing, tells_assertion, tells_items, tells_properties, tells_every, tells_applicator, tells_reference, tells_member, tells_refused, tells_object, tells_false, tells_no_object}
+use Rattle.plain_reader.proofs.read.+read.Goals.{read_member-in-Memory, read_member-in_default, count_accepted-then-heard_none, count_accepted-else-heard_none, read_combined-then-carries_branches+in_ok-context, read_combined-else-carries_branches}
 use Rattle.plain_reader.proofs.read.+read.Goals as goal
 
 pub read_items-returns-in_default : goal.read_items-returns-in_default
@@ -406,15 +409,14 @@ read_entry-returns-in-Index t c =
     (behind_entry c.args.inner.now _ _ c.args.roads _ _ c.args.question.asked c.args.question.subschema.entry (entry.Index c.in-Index.index) _ _ c.in-Index.is refl (ap road c.push_index-schema.ensures) c.push_index-evaluation.ensures)
     c.read_asked-in-Index.ensures
 
-pub read_keyword-returns-in_ok-asked-in-Applicator : goal.read_keyword-returns-in_ok-asked-in-Applicator
-read_keyword-returns-in_ok-asked-in-Applicator t c =
+pub read_keyword-returns-in-Applicator : goal.read_keyword-returns-in-Applicator
+read_keyword-returns-in-Applicator t c =
     let whole = view c.args.reading.now.whole.now in
     let d = view c.args.value.now in
     let keys = keys_in c.args.progress.now in
-    on_ok_weaker c.read_questions.result
-    (tells_applicator c.args.site.now whole d c.args.roads keys c.args.keyword c.in-Applicator.applicator c.args.observer.now c.read_questions.new.observer
-    (subst (λ k. Finds c.args.site.now (view c.args.part.now) k) c.in-Applicator.is c.requires.found) (λ x. ap (λ k. keyword_leads k x) c.in-Applicator.is) (λ x. ap (λ k. keyword_shapes k x) c.in-Applicator.is))
-    c.read_questions.ensures
+    on_ok_weaker c.read_applicator.result
+    (tells_applicator c.args.site.now whole d c.args.roads keys c.args.keyword c.in-Applicator.applicator c.args.observer.now c.read_applicator.new.observer c.in-Applicator.is)
+    c.read_applicator.ensures
 
 pub read_question-returns : goal.read_question-returns
 read_question-returns t c =
@@ -448,7 +450,7 @@ read_questions-read_question-requires t c =
     let a = c.args.applicator in
     let d = view c.args.value.now in (
       omega arith,
-      (c.requires.shallow, (c.requires.within, (question_inside a d qs c.requires.asked c.requires.every q among c.args.site.now c.requires.inside, question_part a d qs c.requires.asked c.requires.every q among c.args.site.now))),
+      (c.requires.shallow, (c.requires.within, (question_inside a d qs c.requires.asked c.requires.values q among c.args.site.now c.requires.inside, question_part a d qs c.requires.asked c.requires.values q among c.args.site.now))),
     )
 
 pub read_questions-loop-question-preserved : goal.read_questions-loop-question-preserved
@@ -461,7 +463,7 @@ read_questions-loop-question-preserved t c =
     let d = view c.args.value.now in
     let keys = keys_in c.args.progress.now in
     let left = subst (λ (xs : List Question). QuestionsLeft c.args.site.now whole d c.args.roads keys c.args.applicator qs xs c.args.observer.now c.loop-question.observer) next c.loop-question.invariant in
-    questions_step c.args.site.now whole d c.args.roads keys c.args.applicator qs (drop (i + 1) qs) q c.args.observer.now c.loop-question.observer c.read_question.new.observer c.requires.asked c.requires.every
+    questions_step c.args.site.now whole d c.args.roads keys c.args.applicator qs (drop (i + 1) qs) q c.args.observer.now c.loop-question.observer c.read_question.new.observer c.requires.asked c.requires.values
     c.in_ok-read_question.ensures left
 
 pub read_questions-returns : goal.read_questions-returns
@@ -473,3 +475,125 @@ read_questions-returns t c =
     let nothing : drop c.loop-question.question-index qs ≡ [] = drop_all c.loop-question.question-index qs (omega (arith, c.loop-question-test.false)) in
     let left = subst (λ (xs : List Question). QuestionsLeft c.args.site.now whole d c.args.roads keys c.args.applicator qs xs c.args.observer.now c.loop-question.observer) nothing c.loop-question.invariant in
     questions_done c.args.site.now whole d c.args.roads keys c.args.applicator qs c.args.observer.now c.loop-question.observer left
+
+pub read_applicator-returns-then-is_every : goal.read_applicator-returns-then-is_every
+read_applicator-returns-then-is_every t c =
+    let whole = view c.args.reading.now.whole.now in
+    let d = view c.args.value.now in
+    let keys = keys_in c.args.progress.now in
+    let a = c.args.applicator in
+    on_ok_weaker c.read_questions.result
+    (tells_every c.args.site.now whole d c.args.roads keys a c.args.observer.now c.read_questions.new.observer (sym c.is_every.ensures.every ∙ c.if-is_every.true))
+    c.read_questions.ensures
+
+pub count_accepted-read_question-requires : goal.count_accepted-read_question-requires
+count_accepted-read_question-requires t c =
+    let qs = c.args.asked.now in
+    let i = c.loop-question.question-index in
+    let q = c.question-item.result in
+    let next : drop i qs ≡ q ∷ drop (i + 1) qs = drop_more qs i q c.loop-question-test.true ∙ ap (λ x. x ∷ drop (i + 1) qs) (sym c.question-item.is) in
+    let among = c.loop-question.invariant.left.among q (subst (λ (xs : List Question). In q xs) (sym next) first) in
+    let a = c.args.applicator in
+    let d = view c.args.value.now in (
+      omega arith,
+      (c.requires.shallow, (c.requires.within, (question_inside a d qs c.requires.asked c.requires.values q among c.args.site.now c.requires.inside, question_part a d qs c.requires.asked c.requires.values q among c.args.site.now))),
+    )
+
+pub count_accepted-loop-question-preserved : goal.count_accepted-loop-question-preserved
+count_accepted-loop-question-preserved t c =
+    let qs = c.args.asked.now in
+    let i = c.loop-question.question-index in
+    let q = c.question-item.result in
+    let next : drop i qs ≡ q ∷ drop (i + 1) qs = drop_more qs i q c.loop-question-test.true ∙ ap (λ x. x ∷ drop (i + 1) qs) (sym c.question-item.is) in
+    let whole = view c.args.reading.now.whole.now in
+    let d = view c.args.value.now in
+    let keys = keys_in c.args.progress.now in
+    let a = c.args.applicator in
+    let n = c.loop-question.accepted in
+    let left = subst (λ (xs : List Question). CountLeft c.args.site.now whole d c.args.roads keys a qs xs n) next c.loop-question.invariant.left in
+    elim c.if-heard_none.branch [
+      | count_accepted-then-heard_none w ↦ rw w.accepted-is (record {
+        few = omega (arith, c.loop-question.invariant.few);
+        left = count_yes c.args.site.now whole d c.args.roads keys a qs (drop (i + 1) qs) q n c.heard_none.result _ c.read_question.new.observer c.requires.asked c.requires.values c.new.ensures
+            c.in_ok-read_question.ensures c.heard_none.ensures w.if-heard_none.true left;
+      })
+      | count_accepted-else-heard_none w ↦ rw w.accepted-is (record {
+        few = omega (arith, c.loop-question.invariant.few);
+        left = count_no c.args.site.now whole d c.args.roads keys a qs (drop (i + 1) qs) q n c.heard_none.result _ c.read_question.new.observer c.requires.asked c.requires.values c.new.ensures
+            c.in_ok-read_question.ensures c.heard_none.ensures w.if-heard_none.false left;
+      })
+    ]
+
+pub read_branches-read_question-requires : goal.read_branches-read_question-requires
+read_branches-read_question-requires t c =
+    let qs = c.args.asked.now in
+    let i = c.loop-question.question-index in
+    let q = c.question-item.result in
+    let next : drop i qs ≡ q ∷ drop (i + 1) qs = drop_more qs i q c.loop-question-test.true ∙ ap (λ x. x ∷ drop (i + 1) qs) (sym c.question-item.is) in
+    let among = c.loop-question.invariant.among q (subst (λ (xs : List Question). In q xs) (sym next) first) in
+    let a = c.args.applicator in
+    let d = view c.args.value.now in (
+      omega arith,
+      (c.requires.shallow, (c.requires.within, (question_inside a d qs c.requires.asked c.requires.values q among c.args.site.now c.requires.inside, question_part a d qs c.requires.asked c.requires.values q among c.args.site.now))),
+    )
+
+pub read_branches-loop-question-preserved : goal.read_branches-loop-question-preserved
+read_branches-loop-question-preserved t c =
+    let qs = c.args.asked.now in
+    let i = c.loop-question.question-index in
+    let q = c.question-item.result in
+    let next : drop i qs ≡ q ∷ drop (i + 1) qs = drop_more qs i q c.loop-question-test.true ∙ ap (λ x. x ∷ drop (i + 1) qs) (sym c.question-item.is) in
+    let whole = view c.args.reading.now.whole.now in
+    let d = view c.args.value.now in
+    let keys = keys_in c.args.progress.now in
+    let a = c.args.applicator in
+    let context = c.loop-question.context.items in
+    let left = subst (λ (xs : List Question). BranchesLeft c.args.site.now whole d c.args.roads keys a qs xs context) next c.loop-question.invariant in
+    branches_step c.args.site.now whole d c.args.roads keys a qs (drop (i + 1) qs) q context c.push.new.self.items c.all_heard.result _ c.read_question.new.observer c.requires.asked c.requires.values c.new.ensures
+    c.in_ok-read_question.ensures c.all_heard.ensures c.in_ok-push.ensures.items left
+
+pub read_branches-returns : goal.read_branches-returns
+read_branches-returns t c =
+    let qs = c.args.asked.now in
+    let nothing : drop c.loop-question.question-index qs ≡ [] = drop_all c.loop-question.question-index qs (omega (arith, c.loop-question-test.false)) in
+    let whole = view c.args.reading.now.whole.now in
+    let d = view c.args.value.now in
+    let keys = keys_in c.args.progress.now in
+    let a = c.args.applicator in
+    let context = c.loop-question.context.items in
+    let left = subst (λ (xs : List Question). BranchesLeft c.args.site.now whole d c.args.roads keys a qs xs context) nothing c.loop-question.invariant in
+    branches_done c.args.site.now whole d c.args.roads keys a qs context left
+
+pub read_combined-returns-then-accepts : goal.read_combined-returns-then-accepts
+read_combined-returns-then-accepts t c =
+    let whole = view c.args.reading.now.whole.now in
+    let d = view c.args.value.now in
+    let keys = keys_in c.args.progress.now in
+    let a = c.args.applicator in
+    combined_accepted c.args.site.now whole d c.args.roads keys a c.args.asked.now c.requires.values c.requires.once c.requires.asked c.in_ok-accepted.accepted c.accepts.result c.args.observer.now
+    c.in_ok-accepted.ensures c.accepts.ensures c.if-accepts.true
+
+pub read_combined-returns-then-not-hear : goal.read_combined-returns-then-not-hear
+read_combined-returns-then-not-hear t c =
+    let whole = view c.args.reading.now.whole.now in
+    let d = view c.args.value.now in
+    let keys = keys_in c.args.progress.now in
+    let a = c.args.applicator in
+    combined_heard c.args.site.now whole d c.args.roads keys a c.args.asked.now c.requires.values c.requires.once c.requires.asked c.in_ok-accepted.accepted c.accepts.result c.args.observer.now
+    c.hear.new.self c.in_ok-accepted.ensures c.accepts.ensures c.if-accepts.false (λ k fs f h. c.hear.ensures.heard c.if-not-hear.true k fs f h)
+
+pub read_combined-returns : goal.read_combined-returns
+read_combined-returns t c =
+    let whole = view c.args.reading.now.whole.now in
+    let d = view c.args.value.now in
+    let keys = keys_in c.args.progress.now in
+    let a = c.args.applicator in
+    let branches : carries_branches a ≡ true → HasBranches c.args.site.now whole d c.args.roads keys a c.if-carries_branches.context.items =
+    elim c.if-carries_branches.branch [
+      | read_combined-then-carries_branches+in_ok-context w ↦ rw w.context-is (λ carries. w.in_ok-context.ensures)
+      | read_combined-else-carries_branches w ↦ λ carries. absurd (false≢true (sym w.if-carries_branches.false ∙ c.carries_branches.ensures ∙ carries))
+    ] in
+    on_ok_weaker c.tell_refusal.result
+    (combined_told c.args.site.now whole d c.args.roads keys a c.args.asked.now c.requires.values c.requires.once c.requires.asked c.in_ok-accepted.accepted c.accepts.result c.args.observer.now
+    c.hear.new.self c.tell_refusal.new.observer _ c.in_ok-accepted.ensures c.accepts.ensures c.if-accepts.false (λ k fs h. c.hear.ensures.unheard c.if-not-hear.false k fs h) branches)
+    c.tell_refusal.ensures

@@ -1,46 +1,58 @@
-use Rattle.std.proofs.Common.{◌≡◌, ◌+◌, ◌*◌, drop}
+use Rattle.std.proofs.Common.{◌≡◌, ◌≤◌, ◌+◌, ◌*◌, drop}
 use Rattle.serde_json.specs.View.{view, items_view, members_view}
 use Rattle.schema_sites.specs.Seen.{documents_at}
 use Rattle.plain_reader.specs.Keys.{keys_in}
 use Rattle.plain_reader.specs.Tellings.{room}
-use Rattle.plain_reader.proofs.Left.{MembersLeft, ItemsLeft, QuestionsLeft, DeclaredLeft}
+use Rattle.plain_reader.proofs.Left.{MembersLeft, ItemsLeft, QuestionsLeft, DeclaredLeft, CountLeft, BranchesLeft}
 use Rattle.plain_reader.proofs.read.+read.Given as goal
 
 abbrev pub decreases-read_site : goal.decreases-read_site
-decreases-read_site l = 8 * room (documents_at l.site.now) (view l.reading.now.whole.now) (keys_in l.progress.now) (view l.site.now.contents.now) + 7
+decreases-read_site l = 12 * room (documents_at l.site.now) (view l.reading.now.whole.now) (keys_in l.progress.now) (view l.site.now.contents.now) + 11
 
 abbrev pub decreases-read_members : goal.decreases-read_members
-decreases-read_members l = 8 * room (documents_at l.site.now) (view l.reading.now.whole.now) (keys_in l.progress.now) (view l.site.now.contents.now) + 6
+decreases-read_members l = 12 * room (documents_at l.site.now) (view l.reading.now.whole.now) (keys_in l.progress.now) (view l.site.now.contents.now) + 10
 
 abbrev pub decreases-read_member : goal.decreases-read_member
-decreases-read_member l = 8 * room (documents_at l.site.now) (view l.reading.now.whole.now) (keys_in l.progress.now) (view l.site.now.contents.now) + 5
+decreases-read_member l = 12 * room (documents_at l.site.now) (view l.reading.now.whole.now) (keys_in l.progress.now) (view l.site.now.contents.now) + 9
 
 abbrev pub decreases-read_keyword : goal.decreases-read_keyword
-decreases-read_keyword l = 8 * room (documents_at l.site.now) (view l.reading.now.whole.now) (keys_in l.progress.now) (view l.site.now.contents.now) + 4
+decreases-read_keyword l = 12 * room (documents_at l.site.now) (view l.reading.now.whole.now) (keys_in l.progress.now) (view l.site.now.contents.now) + 8
 
 abbrev pub decreases-read_items : goal.decreases-read_items
-decreases-read_items l = 8 * room (documents_at l.site.now) (view l.reading.now.whole.now) (keys_in l.progress.now) (view l.site.now.contents.now) + 3
+decreases-read_items l = 12 * room (documents_at l.site.now) (view l.reading.now.whole.now) (keys_in l.progress.now) (view l.site.now.contents.now) + 3
 
 abbrev pub decreases-read_properties : goal.decreases-read_properties
-decreases-read_properties l = 8 * room (documents_at l.site.now) (view l.reading.now.whole.now) (keys_in l.progress.now) (view l.site.now.contents.now) + 3
+decreases-read_properties l = 12 * room (documents_at l.site.now) (view l.reading.now.whole.now) (keys_in l.progress.now) (view l.site.now.contents.now) + 3
 
 abbrev pub decreases-read_property : goal.decreases-read_property
-decreases-read_property l = 8 * room (documents_at l.site.now) (view l.reading.now.whole.now) (keys_in l.progress.now) (view l.site.now.contents.now) + 2
+decreases-read_property l = 12 * room (documents_at l.site.now) (view l.reading.now.whole.now) (keys_in l.progress.now) (view l.site.now.contents.now) + 2
+
+abbrev pub decreases-read_applicator : goal.decreases-read_applicator
+decreases-read_applicator l = 12 * room (documents_at l.site.now) (view l.reading.now.whole.now) (keys_in l.progress.now) (view l.site.now.contents.now) + 7
+
+abbrev pub decreases-read_combined : goal.decreases-read_combined
+decreases-read_combined l = 12 * room (documents_at l.site.now) (view l.reading.now.whole.now) (keys_in l.progress.now) (view l.site.now.contents.now) + 6
+
+abbrev pub decreases-count_accepted : goal.decreases-count_accepted
+decreases-count_accepted l = 12 * room (documents_at l.site.now) (view l.reading.now.whole.now) (keys_in l.progress.now) (view l.site.now.contents.now) + 5
+
+abbrev pub decreases-read_branches : goal.decreases-read_branches
+decreases-read_branches l = 12 * room (documents_at l.site.now) (view l.reading.now.whole.now) (keys_in l.progress.now) (view l.site.now.contents.now) + 5
 
 abbrev pub decreases-read_questions : goal.decreases-read_questions
-decreases-read_questions l = 8 * room (documents_at l.site.now) (view l.reading.now.whole.now) (keys_in l.progress.now) (view l.site.now.contents.now) + 3
+decreases-read_questions l = 12 * room (documents_at l.site.now) (view l.reading.now.whole.now) (keys_in l.progress.now) (view l.site.now.contents.now) + 5
 
 abbrev pub decreases-read_question : goal.decreases-read_question
-decreases-read_question l = 8 * room (documents_at l.site.now) (view l.reading.now.whole.now) (keys_in l.progress.now) (view l.site.now.contents.now) + 2
+decreases-read_question l = 12 * room (documents_at l.site.now) (view l.reading.now.whole.now) (keys_in l.progress.now) (view l.site.now.contents.now) + 4
 
 abbrev pub decreases-read_entry : goal.decreases-read_entry
-decreases-read_entry l = 8 * room (documents_at l.inner.now) (view l.reading.now.whole.now) (keys_in l.progress.now) (view l.inner.now.contents.now) + 9
+decreases-read_entry l = 12 * room (documents_at l.inner.now) (view l.reading.now.whole.now) (keys_in l.progress.now) (view l.inner.now.contents.now) + 13
 
 abbrev pub decreases-read_asked : goal.decreases-read_asked
-decreases-read_asked l = 8 * room (documents_at l.inner.now) (view l.reading.now.whole.now) (keys_in l.progress.now) (view l.inner.now.contents.now) + 8
+decreases-read_asked l = 12 * room (documents_at l.inner.now) (view l.reading.now.whole.now) (keys_in l.progress.now) (view l.inner.now.contents.now) + 12
 
 abbrev pub decreases-read_target : goal.decreases-read_target
-decreases-read_target l = 8 * room (documents_at l.site.now) (view l.reading.now.whole.now) (keys_in l.progress.now) (view l.site.now.contents.now) + 3
+decreases-read_target l = 12 * room (documents_at l.site.now) (view l.reading.now.whole.now) (keys_in l.progress.now) (view l.site.now.contents.now) + 3
 
 abbrev pub invariant-read_members-loop-name : goal.invariant-read_members-loop-name
 invariant-read_members-loop-name l =
@@ -67,3 +79,14 @@ invariant-read_properties-loop-name l =
 abbrev pub invariant-read_questions-loop-question : goal.invariant-read_questions-loop-question
 invariant-read_questions-loop-question l =
     QuestionsLeft l.site (view l.reading.whole.now) (view l.value) l.roads (keys_in l.progress) l.applicator l.asked (drop l.question-index l.asked) l.fn.observer l.observer
+
+abbrev pub invariant-count_accepted-loop-question : goal.invariant-count_accepted-loop-question
+invariant-count_accepted-loop-question l =
+    record {
+      few : l.accepted ≤ l.question-index;
+      left : CountLeft l.site (view l.reading.whole.now) (view l.value) l.roads (keys_in l.progress) l.applicator l.asked (drop l.question-index l.asked) l.accepted;
+    }
+
+abbrev pub invariant-read_branches-loop-question : goal.invariant-read_branches-loop-question
+invariant-read_branches-loop-question l =
+    BranchesLeft l.site (view l.reading.whole.now) (view l.value) l.roads (keys_in l.progress) l.applicator l.asked (drop l.question-index l.asked) l.context.items

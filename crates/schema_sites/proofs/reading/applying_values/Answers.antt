@@ -3,7 +3,7 @@ use Rattle.serde_json.specs.View.{view, members_view}
 use Rattle.schema_reading.specs.Rows.{readers, read_among}
 use Rattle.schema_sites.proofs.ApplyingLemmas.{surrounded, never-other}
 use Rattle.schema_sites.proofs.ResultLemmas.{if-ok, if-err}
-use Rattle.schema_sites.proofs.reading.applying_every.Goals as goal
+use Rattle.schema_sites.proofs.reading.applying_values.Goals as goal
 
 pub returns-in-Some-clause-read : goal.returns-in-Some-clause-read
 returns-in-Some-clause-read c =
@@ -25,4 +25,4 @@ returns-in-Some-clause-refused c =
 
 pub returns-in-None-clause-refused : goal.returns-in-None-clause-refused
 returns-in-None-clause-refused c = λ x s.
-    absurd (never-other c.args.name.now (view c.args.value.now) x c.requires.every (c.in-None.ensures.other x (surrounded c.args.site.now (members_view c.args.members.now.entries) _ x refl refl s)))
+    absurd (never-other c.args.name.now (view c.args.value.now) x c.requires.values (c.in-None.ensures.other x (surrounded c.args.site.now (members_view c.args.members.now.entries) _ x refl refl s)))

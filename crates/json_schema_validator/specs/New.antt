@@ -1,0 +1,50 @@
+-- Validators of one schema, by the options that stand until it is said otherwise.
+use Rattle.std.specs.Prelude.{◌≡◌, ◌⊎◌, ℕ, List, [], ◌∷◌, None, codes}
+use Rattle.serde_json.specs.Data.{Data}
+use Rattle.schema_drafts.specs.Drafts.{newest}
+use Rattle.given_documents.specs.Given.{Given}
+use Rattle.schema_roots.specs.Passed.{given_under, RefusesValue, DocumentError}
+use Rattle.schema_roots.specs.Passed as document
+use Rattle.json_schema_validator.specs.Prepared.{IsRegistry}
+use Rattle.json_schema_validator.specs.Refused.{RefusesPreparing}
+use Rattle.json_schema_validator.specs.Built.{IsBuilt, RefusesBuilding}
+use Rattle.json_schema_validator.specs.declared.error.BuildError.{BuildError}
+use Rattle.json_schema_validator.specs.declared.error.BuildError.TheVariants as error
+use Rattle.json_schema_validator.specs.declared.options.ValidationOptions.{ValidationOptions}
+use Rattle.json_schema_validator.specs.declared.validator.Validator.{Validator}
+
+-- the newest draft, the base of schemas that have none, at most 256 documents retrieved, and no meta-schemas
+pub record AreDefault {R : Type 0} (o : ValidationOptions R) : Type 0 where
+  pub draft : o.draft ≡ newest
+  pub base : o.base ≡ codes "json-schema:///"
+  pub limit : o.limit ≡ 256
+  pub meta_schemas : o.meta_schemas ≡ None
+
+-- the schema as the only document, under the empty reference
+abbrev pub alone : Data → List Given
+alone d = given_under [] d ∷ []
+
+-- the validator at its root
+pub record IsNew {R : Type 0} (may_answer : R → List ℕ → Data → Type 0) (may_refuse : R → List ℕ → Type 0) (d : Data) (v : Validator) : Type 0 where
+  pub options : ValidationOptions R
+  pub default : AreDefault options
+  pub built : IsBuilt may_answer may_refuse options (alone d) [] v
+
+-- the error that one of a document becomes
+abbrev pub IsOfDocument : DocumentError → BuildError → Type 0
+IsOfDocument e b = ((e ≡ document.Memory) × (b ≡ error.Memory)) ⊎ ((e ≡ document.Memory → ⊥) × (b ≡ error.Document e))
+
+-- the schema is no document
+pub record RefusesAlone (d : Data) (b : BuildError) : Type 0 where
+  pub cause : DocumentError
+  pub refused : RefusesValue [] d cause
+  pub told : IsOfDocument cause b
+
+pub record RefusesNew {R : Type 0} (may_answer : R → List ℕ → Data → Type 0) (may_refuse : R → List ℕ → Type 0) (d : Data) (b : BuildError) : Type 0 where
+  pub options : ValidationOptions R
+  pub default : AreDefault options
+  pub refused : RefusesPreparing may_answer may_refuse options (alone d) b ⊎ RefusesBuilding may_answer may_refuse options (alone d) [] b
+
+-- want of memory, a schema that is no document, or one that is refused
+abbrev pub Refuses : {R : Type 0} → (R → List ℕ → Data → Type 0) → (R → List ℕ → Type 0) → Data → BuildError → Type 0
+Refuses may_answer may_refuse d b = (b ≡ error.Memory) ⊎ (RefusesAlone d b ⊎ RefusesNew may_answer may_refuse d b)

@@ -1,0 +1,52 @@
+-- The one fault of a keyword whose verdict is by the number of answers that are yes.
+use Rattle.std.specs.Prelude.{◌≡◌, ℕ, List, Bool, true, false}
+use Rattle.std.specs.declared.alloc.Global.{Global}
+use Rattle.std.specs.declared.vec.Vec.{Vec}
+use Rattle.serde_json.specs.Data.{Data}
+use Rattle.schema_meaning.specs.Members.{count_true}
+use Rattle.schema_meaning.specs.Faults.{Faults, none, also, joined, branches_of}
+use Rattle.schema_meaning.specs.Rules.{verdicts_of}
+use Rattle.applicators.specs.Combined.{name_of}
+use Rattle.applicators.specs.declared.applicator.Applicator.{Applicator}
+use Rattle.applicators.specs.declared.applicator.Applicator.TheVariants as code
+use Rattle.applied_laws.specs.Notes.{kind_by}
+use Rattle.schema_reports.specs.Kinds.{kind_of}
+use Rattle.schema_reports.specs.Told.{branches_in}
+use Rattle.schema_reports.specs.Observers.{Hears}
+use Rattle.schema_reports.specs.declared.error.ValidationError.{ValidationError}
+use Rattle.schema_reports.specs.declared.kind.ValidationErrorKind.{ValidationErrorKind}
+use Rattle.schema_reports.specs.declared.roads.Roads.{Roads}
+use Rattle.schema_reports.specs.declared.observer.Observation.{Observation}
+use Rattle.schema_reports.specs.declared.observer.Observer.{Observer}
+use Rattle.assertion_faults.specs.Tellings.{fault_at}
+
+-- whether it carries the faults of each subschema
+abbrev pub carries_branches : Applicator → Bool
+carries_branches (code.Items start schema) = false
+carries_branches (code.ItemList schemas) = false
+carries_branches (code.PrefixItems schemas) = false
+carries_branches (code.AdditionalItems start schema) = false
+carries_branches (code.NoAdditionalItems start schema) = false
+carries_branches (code.Contains schema least most) = false
+carries_branches (code.Properties schemas) = false
+carries_branches (code.NoProperties schema) = false
+carries_branches (code.PropertyNames schema) = false
+carries_branches (code.NoPropertyNames schema) = false
+carries_branches (code.DependentSchemas schemas) = false
+carries_branches (code.AllOf schemas) = false
+carries_branches (code.AnyOf schemas) = true
+carries_branches (code.OneOf schemas) = true
+carries_branches (code.Not schema) = false
+carries_branches (code.If condition then_schema else_schema) = false
+
+-- the number of answers that are yes, and the errors of each subschema, are those of these answers
+pub record AreOf (a : Applicator) (accepted : ℕ) (context : List (Vec ValidationError Global)) (answers : List Faults) : Type 0 where
+  pub counted : count_true (verdicts_of answers) ≡ accepted
+  pub told : carries_branches a ≡ true → branches_in context ≡ branches_of answers
+
+pub record IsRefusal (a : Applicator) (accepted : ℕ) (context : List (Vec ValidationError Global)) (kind : ValidationErrorKind) : Type 0 where
+  pub is : (answers : List Faults) → AreOf a accepted context answers → kind_of kind ≡ kind_by a answers
+
+pub record TellsRefusal (d : Data) (roads : Roads) (a : Applicator) (accepted : ℕ) (context : List (Vec ValidationError Global)) (old new : Observer) : Type 0 where
+  pub tells : (answers : List Faults) → AreOf a accepted context answers → (kept : Observation) (fs : Faults) → Hears kept old fs
+      → Hears kept new (joined fs (also (fault_at d roads (name_of a) (kind_by a answers)) none))

@@ -1,0 +1,65 @@
+//! The one fault of a keyword whose verdict is by the number of answers that are yes.
+ghost use Rattle.std.specs.Prelude.{◌≡◌, IfOk, OnOk, true};
+ghost use Rattle.serde_json.specs.View.{view};
+ghost use Rattle.plain_reader.specs.Refusals.{carries_branches as is_carrier, IsRefusal, TellsRefusal};
+
+use applicators::applicator::Applicator;
+use schema_reports::{Observer, Roads, ValidationError, ValidationErrorKind};
+use serde_json::Value;
+use std::alloc::{AllocError, Global};
+
+// Whether its fault carries the errors of each of its schemas.
+pub(crate) const fn carries_branches(applicator: &Applicator<'_>) -> bool
+    ensures { result ≡ is_carrier applicator.now }
+{
+    matches!(applicator, Applicator::AnyOf(_) | Applicator::OneOf(_))
+}
+
+// Its kind, where so many answers are yes.
+fn refusal<'i>(
+    applicator: Applicator<'_>,
+    accepted: usize,
+    context: Vec<Vec<ValidationError<'i>>>,
+) -> Result<ValidationErrorKind<'i>, AllocError>
+    ensures { IfOk result (λ kind. IsRefusal applicator.entry accepted context.entry.items kind) }
+{
+    Ok(match applicator {
+        Applicator::NoAdditionalItems { .. } => ValidationErrorKind::AdditionalItems,
+        Applicator::AnyOf(_) => ValidationErrorKind::AnyOf { context },
+        Applicator::OneOf(_) => {
+            if accepted > 0 {
+                ValidationErrorKind::OneOfMultipleValid { context }
+            } else {
+                ValidationErrorKind::OneOfNotValid { context }
+            }
+        }
+        Applicator::Not(schema) => ValidationErrorKind::Not {
+            schema: schema.clone()?,
+        },
+        _ => ValidationErrorKind::FalseSchema,
+    })
+}
+
+// Tells an observer of it.
+pub(crate) fn tell_refusal<'i>(
+    alloc: Global,
+    applicator: Applicator<'_>,
+    accepted: usize,
+    context: Vec<Vec<ValidationError<'i>>>,
+    value: &'i Value,
+    roads: Roads<'_>,
+    observer: &mut Observer<'i>,
+) -> Result<(), AllocError>
+    ensures { OnOk result (TellsRefusal (view value.now) roads.entry applicator.entry accepted context.entry.items observer.old observer.new) }
+{
+    let keyword = applicator.name();
+    let schema = roads.schema.push_name(keyword);
+    let evaluation = roads.evaluation.push_name(keyword);
+    let at = Roads {
+        schema: &schema,
+        evaluation: &evaluation,
+        ..roads
+    };
+    let kind = refusal(applicator, accepted, context)?;
+    observer.tell(alloc, kind, value, at)
+}

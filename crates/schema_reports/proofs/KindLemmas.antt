@@ -1,0 +1,35 @@
+-- Kinds with the faults of several schemas.
+use Rattle.std.proofs.Common.{◌≡◌, refl, sym, ap, ◌∙◌}
+use Rattle.std.specs.declared.alloc.Global.{Global}
+use Rattle.std.specs.declared.vec.Vec.{Vec}
+use Rattle.serde_json.specs.View.{view}
+use Rattle.schema_meaning.specs.Faults as told
+use Rattle.schema_reports.specs.Kinds.{kind_of, row_faults, row_branches}
+use Rattle.schema_reports.specs.Told.{faults_of, branches_in}
+use Rattle.schema_reports.specs.declared.error.ValidationError.{ValidationError}
+use Rattle.schema_reports.specs.declared.kind.ValidationErrorKind.{Row_of-ValidationError, end_of-ValidationError, more_of-ValidationError, items-the_row-ValidationError, items_shown-the_row-ValidationError-0, Row_of-ValidationErrorKind-AnyOf-0-1, end_of-ValidationErrorKind-AnyOf-0-1, more_of-ValidationErrorKind-AnyOf-0-1, items-the_row-ValidationErrorKind-AnyOf-0-1, items_hidden-the_row-ValidationErrorKind-AnyOf-0-1-1}
+use Rattle.schema_reports.specs.declared.kind.ValidationErrorKind.TheBlock.{hidden-the_row-ValidationErrorKind-AnyOf-0-1-1}
+use Rattle.schema_reports.specs.declared.kind.ValidationErrorKind.TheVariants as kind
+
+faults-row : {n : _} (k : Row_of-ValidationError n) → row_faults k ≡ faults_of (items-the_row-ValidationError n k)
+faults-row end_of-ValidationError = refl
+faults-row (more_of-ValidationError k v i s e rest) = ap (told.also (told.fault (kind_of k) (view v.now) i s e)) (faults-row rest)
+
+branches-row : {n : _} (k : Row_of-ValidationErrorKind-AnyOf-0-1 n) → row_branches k ≡ branches_in (items-the_row-ValidationErrorKind-AnyOf-0-1 n k)
+branches-row end_of-ValidationErrorKind-AnyOf-0-1 = refl
+branches-row (more_of-ValidationErrorKind-AnyOf-0-1 shape errors rest) =
+    let same = faults-row errors ∙ ap faults_of (sym (items_shown-the_row-ValidationError-0 shape errors)) in
+    λ j. told.branch (same j) (branches-row rest j)
+
+context-row : (context : Vec (Vec ValidationError Global) Global) → row_branches (hidden-the_row-ValidationErrorKind-AnyOf-0-1-1 context) ≡ branches_in context.items
+context-row context =
+    branches-row (hidden-the_row-ValidationErrorKind-AnyOf-0-1-1 context) ∙ ap branches_in (items_hidden-the_row-ValidationErrorKind-AnyOf-0-1-1 context)
+
+pub kind-AnyOf : (context : Vec (Vec ValidationError Global) Global) → kind_of (kind.AnyOf context) ≡ told.AnyOf (branches_in context.items)
+kind-AnyOf context = ap told.AnyOf (context-row context)
+
+pub kind-OneOfMultipleValid : (context : Vec (Vec ValidationError Global) Global) → kind_of (kind.OneOfMultipleValid context) ≡ told.OneOfMultipleValid (branches_in context.items)
+kind-OneOfMultipleValid context = ap told.OneOfMultipleValid (context-row context)
+
+pub kind-OneOfNotValid : (context : Vec (Vec ValidationError Global) Global) → kind_of (kind.OneOfNotValid context) ≡ told.OneOfNotValid (branches_in context.items)
+kind-OneOfNotValid context = ap told.OneOfNotValid (context-row context)
