@@ -10,6 +10,10 @@ use Rattle.schema_patterns.specs.declared.table.PatternTable.{PatternTable}
 abbrev pub entries_of : {M : Type 0} → PatternTable M → List (List ℕ × CompiledPattern M)
 entries_of table = map (λ e. (string_bytes e.0, e.1)) table.patterns.entries
 
+-- the texts, by numbers
+abbrev pub texts_of_table : {M : Type 0} → PatternTable M → List (List ℕ)
+texts_of_table table = map (λ e. e.0) (entries_of table)
+
 -- the pattern of a text
 abbrev pub pattern_for : {M : Type 0} → PatternTable M → List ℕ → Option (CompiledPattern M)
 pattern_for table text = get_by_text table.patterns text

@@ -1,6 +1,6 @@
 //! The patterns of a build, each text made once.
 
-ghost use Rattle.std.specs.Prelude.{◌≡◌, ℕ, List, [], Bool, Option, Ok, Err, IsOk, IsSome, IfSome, IfOk, IfErr, OnOk, OnErr, Some, None, false, slice_get, option_map, option_copied};
+ghost use Rattle.std.specs.Prelude.{◌≡◌, ℕ, List, [], Bool, Option, Ok, Err, IsOk, IsSome, IfSome, IfOk, IfErr, OnOk, OnErr, Some, None, false, slice_get, option_map, option_copied, length};
 ghost use Rattle.schema_values.specs.Patterns.{literal_of};
 ghost use Rattle.schema_patterns.specs.Tables.{pattern_for, entries_of, AreMadeBy, GrowsBy};
 ghost use Rattle.schema_patterns.specs.declared.matcher.PatternError.TheVariants.{BadPattern};
@@ -80,6 +80,13 @@ impl<M: PatternMatcher> PatternTable<M> {
             Ok(_) => Ok(number),
             Err(_) => Err(PatternError::Memory),
         }
+    }
+
+    /// How many patterns there are.
+    pub fn len(&self) -> usize
+        ensures { result ≡ length (entries_of self.now) }
+    {
+        self.patterns.len()
     }
 
     /// The pattern of a text that was added.
