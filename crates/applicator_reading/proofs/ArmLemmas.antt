@@ -1,5 +1,5 @@
 -- The rows of keywords that apply one schema, by what stands beside.
-use Rattle.std.proofs.Common.{◌≡◌, ℕ, List, [], ◌∷◌, Bool, true, false, ◌||◌, codes, Option, Some, None, option_map, Bor, refl, sym, ap, ◌∙◌}
+use Rattle.std.proofs.Common.{◌≡◌, ℕ, List, [], ◌∷◌, Bool, true, false, not, ◌&&◌, ◌||◌, codes, Option, Some, None, option_map, Bor, refl, sym, ap, ◌∙◌}
 use Rattle.std.specs.Prelude.{if◌then◌else◌, is_some, option_and_then, Ok, Err}
 use Rattle.serde_json.specs.Data.{Data, null, boolean, number, string, array, object, Items}
 use Rattle.serde_json.specs.Find.{as_bool}
@@ -7,13 +7,15 @@ use Rattle.serde_json.specs.View.{view}
 use Rattle.serde_json.specs.declared.value.Value.{Value}
 use Rattle.schema_documents.specs.Places.{is_schema}
 use Rattle.schema_values.specs.Texts.{count_items}
-use Rattle.schema_meaning.specs.Keywords.{Shape, items, item_list, additional_items, no_additional_items, no_properties, condition}
+use Rattle.schema_meaning.specs.Questions.{Declared}
+use Rattle.schema_meaning.specs.Keywords.{Shape, items, item_list, additional_items, no_additional_items, additional_properties, no_additional_properties, no_properties, condition}
 use Rattle.schema_reading.specs.Sites.{Site}
 use Rattle.schema_reading.specs.Values.{count_of}
-use Rattle.schema_reading.specs.Rows.{Row, nothing_read, reads, bad_value, keyword_value, place_at, at, Context, beside, subschema, one_schema, schema_list, length_of_list, takes_list, items_row, is_false, behind_items, asserted, bound_row, is_alone, additional_properties_row, schema_beside, if_row, consequent_row}
-use Rattle.applicators.specs.Shapes.{site_of}
+use Rattle.schema_reading.specs.Rows.{Row, nothing_read, reads, bad_value, keyword_value, place_at, at, Context, beside, subschema, one_schema, schema_list, length_of_list, takes_list, items_row, is_false, behind_items, asserted, bound_row, names_of_object, declared_beside, is_alone, refuses_others, additional_properties_row, schema_beside, if_row, consequent_row}
+use Rattle.applicators.specs.Shapes.{site_of, shape_of, leads_of, Schemas, names_declared, declared_by}
+use Rattle.applicators.specs.declared.applicator.Applicator.{Applicator}
 use Rattle.applicator_reading.specs.Beside.{schema_in}
-use Rattle.applicator_reading.specs.Names.{needs_no_names}
+use Rattle.applicator_reading.specs.Names.{has_no_patterns}
 use Rattle.applicator_reading.specs.Reads.{site_in, IsCause}
 use Rattle.applicator_reading.proofs.RowLemmas.{if-true, if-false, one-read, value-cause}
 
@@ -98,29 +100,56 @@ schema-there x k o e = schema_found x k (beside x k) ∙ ap (option_map (site_in
 
 -- ---- `additionalProperties`
 
-pub additional-alone : (x : Context) (k : List ℕ) (d : Data) → Some false ≡ as_bool d → is_alone x ≡ true
-    → additional_properties_row x k d ≡ reads (site_in x (at k) d ∷ []) (no_properties (site_in x (at k) d) ∷ [])
-additional-alone x k null e alone = cc
-additional-alone x k (boolean true) e alone = cc
-additional-alone x k (boolean false) e alone = rw alone refl
-additional-alone x k (number n) e alone = cc
-additional-alone x k (string s) e alone = cc
-additional-alone x k (array ds) e alone = cc
-additional-alone x k (object ms) e alone = cc
+-- it is read as one schema where it is no boolean
+pub others-row : (x : Context) (k : List ℕ) (d : Data) → None ≡ as_bool d → additional_properties_row x k d ≡ one_schema x k (λ s. additional_properties (declared_beside x) s ∷ []) d
+others-row x k null e = refl
+others-row x k (boolean b) e = cc
+others-row x k (number n) e = refl
+others-row x k (string s) e = refl
+others-row x k (array ds) e = refl
+others-row x k (object ms) e = refl
 
-pub needs-false : (x : Context) (d : Data) (b : Bool) → Some false ≡ as_bool d → is_alone x ≡ b → needs_no_names x d ≡ b
-needs-false x null b e alone = cc
-needs-false x (boolean true) b e alone = cc
-needs-false x (boolean false) b e alone = alone
-needs-false x (number n) b e alone = cc
-needs-false x (string s) b e alone = cc
-needs-false x (array ds) b e alone = cc
-needs-false x (object ms) b e alone = cc
+pub others-allowed : (x : Context) (k : List ℕ) (d : Data) → Some true ≡ as_bool d → additional_properties_row x k d ≡ nothing_read
+others-allowed x k null e = cc
+others-allowed x k (boolean true) e = refl
+others-allowed x k (boolean false) e = cc
+others-allowed x k (number n) e = cc
+others-allowed x k (string s) e = cc
+others-allowed x k (array ds) e = cc
+others-allowed x k (object ms) e = cc
 
-pub additional-other : (x : Context) (k : List ℕ) (d : Data) → None ≡ as_bool d → is_schema d ≡ false → IsCause (keyword_value (place_at x (at k)) (codes "schema")) (additional_properties_row x k d)
-additional-other x k null e h = value-cause x k (codes "schema") (bad_value x k (codes "schema")) refl
-additional-other x k (boolean b) e h = cc
-additional-other x k (number n) e h = value-cause x k (codes "schema") (bad_value x k (codes "schema")) refl
-additional-other x k (string s) e h = value-cause x k (codes "schema") (bad_value x k (codes "schema")) refl
-additional-other x k (array ds) e h = value-cause x k (codes "schema") (bad_value x k (codes "schema")) refl
-additional-other x k (object ms) e h = cc
+pub others-refused : (x : Context) (k : List ℕ) (d : Data) (a : Applicator) → Some false ≡ as_bool d → shape_of (site_in x) a ≡ refuses_others x (site_in x (at k) d)
+    → leads_of (site_in x) a ≡ site_in x (at k) d ∷ [] → additional_properties_row x k d ≡ reads (leads_of (site_in x) a) (shape_of (site_in x) a ∷ [])
+others-refused x k null a e shape leads = cc
+others-refused x k (boolean true) a e shape leads = cc
+others-refused x k (boolean false) a e shape leads = rw (shape, leads) refl
+others-refused x k (number n) a e shape leads = cc
+others-refused x k (string s) a e shape leads = cc
+others-refused x k (array ds) a e shape leads = cc
+others-refused x k (object ms) a e shape leads = cc
+
+no-names : (o : Option Data) → not (is_some o) ≡ true → names_of_object o ≡ []
+no-names None e = refl
+no-names (Some d) e = cc
+
+-- what stands beside declares by the names of `properties` alone
+pub declared-there : (x : Context) (declared : Option (Bor Schemas)) → has_no_patterns x ≡ true → names_declared declared ≡ names_of_object (beside x (codes "properties"))
+    → declared_by declared ≡ declared_beside x
+declared-there x declared none named =
+    let here : declared_by declared ≡ record { names = names_of_object (beside x (codes "properties")); patterns = [] } = ap (λ (ns : List (List ℕ)). record { names = ns; patterns = [] }) named in
+    here ∙ ap (λ (ps : List (List ℕ)). record { names = names_of_object (beside x (codes "properties")); patterns = ps }) (sym (no-names (beside x (codes "patternProperties")) none))
+
+alone-by : (p q : Bool) → not q ≡ true → (not p && not q) ≡ not p
+alone-by true q e = refl
+alone-by false q e = e
+
+pub alone-there : (x : Context) → has_no_patterns x ≡ true → is_alone x ≡ not (is_some (beside x (codes "properties")))
+alone-there x none = alone-by (is_some (beside x (codes "properties"))) (is_some (beside x (codes "patternProperties"))) none
+
+pub others-named : (x : Context) (s : Site) (declared : Option (Bor Schemas)) → is_alone x ≡ false → declared_by declared ≡ declared_beside x
+    → no_additional_properties (declared_by declared) s ≡ refuses_others x s
+others-named x s declared some is =
+    ap (λ (w : Declared). no_additional_properties w s) is ∙ sym (if-false (is_alone x) (no_properties s) (no_additional_properties (declared_beside x) s) some)
+
+pub others-alone : (x : Context) (s : Site) → is_alone x ≡ true → no_properties s ≡ refuses_others x s
+others-alone x s alone = sym (if-true (is_alone x) (no_properties s) (no_additional_properties (declared_beside x) s) alone)

@@ -1,5 +1,5 @@
 -- The rows of keywords whose values are lists or objects of schemas.
-use Rattle.std.specs.Prelude.{ℕ, List, Bool, true, false, codes}
+use Rattle.std.specs.Prelude.{ℕ, List, codes}
 use Rattle.serde_json.specs.Data.{Data}
 use Rattle.schema_meaning.specs.Keywords.{Shape, item_list, prefix_items, properties, dependent_schemas, all_of, any_of, one_of}
 use Rattle.schema_reading.specs.Sites.{Site}

@@ -1,10 +1,11 @@
 //! The neighbours of a member of a schema.
-ghost use Rattle.std.specs.Prelude.{◌≡◌, ◌&&◌, ◌||◌, not, codes, Some, is_some, option_map, option_and_then};
+ghost use Rattle.std.specs.Prelude.{◌≡◌, ◌||◌, codes, Some, is_some, option_map, option_and_then};
 ghost use Rattle.serde_json.specs.Find.{get_member, as_array};
 ghost use Rattle.serde_json.specs.View.{view, members_view};
 ghost use Rattle.schema_values.specs.Texts.{count_items};
 ghost use Rattle.schema_reading.specs.Values.{count_of};
 ghost use Rattle.schema_reading.specs.Rows as rows;
+ghost use Rattle.applicators.specs.Shapes.{names_declared};
 ghost use Rattle.applicator_reading.specs.Beside.{beside_in, schema_in, list_in};
 
 use schema_places::place::is_schema;
@@ -121,9 +122,12 @@ pub(crate) fn has_consequent(neighbours: Neighbours<'_>) -> bool
     is_beside(neighbours, "then") || is_beside(neighbours, "else")
 }
 
-// Whether neither `properties` nor `patternProperties` stands there.
-pub(crate) fn is_alone(neighbours: Neighbours<'_>) -> bool
-    ensures { result ≡ (not (is_some (beside_in neighbours.entry (codes "properties"))) && not (is_some (beside_in neighbours.entry (codes "patternProperties")))) }
+// The members of `properties`, where it counts and is an object.
+pub(crate) fn properties_beside<'r>(neighbours: Neighbours<'r>) -> Option<&'r Map<String, Value>>
+    ensures { names_declared result ≡ rows.names_of_object (beside_in neighbours.entry (codes "properties")) }
 {
-    !is_beside(neighbours, "properties") && !is_beside(neighbours, "patternProperties")
+    match beside(neighbours, "properties") {
+        Some(value) => value.as_object(),
+        None => None,
+    }
 }

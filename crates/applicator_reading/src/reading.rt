@@ -5,16 +5,18 @@ ghost use Rattle.schema_meaning.specs.Keywords.{Shape};
 ghost use Rattle.schema_meaning.specs.Members.{is_listed};
 ghost use Rattle.schema_reading.specs.Sites.{Site};
 ghost use Rattle.schema_reading.specs.Rows as rows;
+ghost use Rattle.applicators.specs.Shapes.{shape_of, leads_of};
+ghost use Rattle.applicators.specs.Combined.{asks_values};
 ghost use Rattle.applicator_reading.specs.Beside.{Surrounds};
-ghost use Rattle.applicator_reading.specs.Names.{is_read, needs_no_names, valued_names};
+ghost use Rattle.applicator_reading.specs.Names.{is_read, has_no_patterns, valued_names};
 ghost use Rattle.applicator_reading.specs.Arms.{list_name, list_row, map_name, map_row};
 ghost use Rattle.applicator_reading.specs.Reads.{ReadsAs, AsksValues, site_in};
 
 use crate::entries::{other_item, other_member};
 use crate::keyword::{ListKeyword, MapKeyword};
 use crate::neighbours::{
-    Neighbours, count_beside, has_consequent, is_alone, is_beside, items_length, prefix_length,
-    schema_beside,
+    Neighbours, count_beside, has_consequent, is_beside, items_length, prefix_length,
+    properties_beside, schema_beside,
 };
 use applicators::applicator::Applicator;
 use schema_drafts::draft::Draft;
@@ -178,28 +180,52 @@ fn bound<'r>(neighbours: Neighbours<'r>, value: &Value) -> Reading<'r>
     }
 }
 
-// `additionalProperties`, where it needs no names declared beside.
-fn additional_properties<'r>(neighbours: Neighbours<'r>, value: &'r Value) -> Option<Reading<'r>>
-    ensures read { IfSome result (λ r. (x : rows.Context) → Surrounds neighbours.entry x → ReadsAs x (codes "additionalProperties") (rows.additional_properties_row x (codes "additionalProperties") (view value.now)) r) }
-    ensures named { IfSome result (λ r. (x : rows.Context) → Surrounds neighbours.entry x → needs_no_names x (view value.now) ≡ true) }
-    ensures other { IfNone result ((x : rows.Context) → Surrounds neighbours.entry x → needs_no_names x (view value.now) ≡ false) }
+// `additionalProperties` as `false`, where no patterns stand beside.
+fn refusing_others<'r>(neighbours: Neighbours<'r>, schema: &'r Value) -> Applicator<'r>
+    ensures shape { (x : rows.Context) → Surrounds neighbours.entry x → has_no_patterns x ≡ true
+        → shape_of (site_in x) result ≡ rows.refuses_others x (site_in x (rows.at (codes "additionalProperties")) (view schema.now)) }
+    ensures leads { (x : rows.Context) → leads_of (site_in x) result ≡ site_in x (rows.at (codes "additionalProperties")) (view schema.now) ∷ [] }
+    ensures values { asks_values result ≡ true }
+{
+    if is_beside(neighbours, "properties") {
+        Applicator::NoAdditionalProperties {
+            declared: properties_beside(neighbours),
+            schema,
+        }
+    } else {
+        Applicator::NoProperties(schema)
+    }
+}
+
+// `additionalProperties`, where no patterns stand beside.
+fn other_properties<'r>(neighbours: Neighbours<'r>, value: &'r Value) -> Reading<'r>
+    ensures read { (x : rows.Context) → Surrounds neighbours.entry x → has_no_patterns x ≡ true → ReadsAs x (codes "additionalProperties") (rows.additional_properties_row x (codes "additionalProperties") (view value.now)) result }
+    ensures values { AsksValues result }
 {
     match value.as_bool() {
-        Some(true) => Some(Reading::Nothing),
-        Some(false) => {
-            if is_alone(neighbours) {
-                Some(Reading::Applied(Applicator::NoProperties(value)))
-            } else {
-                None
-            }
-        }
+        Some(true) => Reading::Nothing,
+        Some(false) => Reading::Applied(refusing_others(neighbours, value)),
         None => {
-            if is_schema(value) {
-                None
-            } else {
-                Some(Reading::Value { expected: "schema" })
-            }
+            let applicator = Applicator::AdditionalProperties {
+                declared: properties_beside(neighbours),
+                schema: value,
+            };
+            if_schema(value, Reading::Applied(applicator))
         }
+    }
+}
+
+// `additionalProperties`, which is left aside where patterns stand beside.
+fn additional_properties<'r>(neighbours: Neighbours<'r>, value: &'r Value) -> Option<Reading<'r>>
+    ensures read { IfSome result (λ r. (x : rows.Context) → Surrounds neighbours.entry x → ReadsAs x (codes "additionalProperties") (rows.additional_properties_row x (codes "additionalProperties") (view value.now)) r) }
+    ensures named { IfSome result (λ r. (x : rows.Context) → Surrounds neighbours.entry x → has_no_patterns x ≡ true) }
+    ensures other { IfNone result ((x : rows.Context) → Surrounds neighbours.entry x → has_no_patterns x ≡ false) }
+    ensures values { IfSome result (λ r. AsksValues r) }
+{
+    if is_beside(neighbours, "patternProperties") {
+        None
+    } else {
+        Some(other_properties(neighbours, value))
     }
 }
 
@@ -255,7 +281,7 @@ fn consequent<'r>(neighbours: Neighbours<'r>, value: &'r Value) -> Reading<'r>
 }
 
 /// What a member of a schema is that counts, where its name is that of a keyword that applies subschemas; for any other name there is
-/// none, and so for `additionalProperties` where it needs the names declared beside, `patternProperties` and `dependencies`.
+/// none, and so for `patternProperties`, for `additionalProperties` beside one that counts, and for `dependencies`.
 ///
 /// It reads the neighbours that count, and of an entry that is no schema it names the first. What is read lends the schema; it takes
 /// no memory.

@@ -70,6 +70,10 @@ fn applied<'r>(name: &str, schema: &'r Value) -> Option<Applicator<'r>> {
         "properties" => Some(Applicator::Properties(schema.as_object()?)),
         "dependentSchemas" => Some(Applicator::DependentSchemas(schema.as_object()?)),
         "additionalProperties" => Some(Applicator::NoProperties(schema)),
+        "other properties" => Some(Applicator::AdditionalProperties {
+            declared: schema.as_object(),
+            schema,
+        }),
         "propertyNames" => Some(Applicator::PropertyNames(schema)),
         "not" => Some(Applicator::Not(schema)),
         "if" => Some(Applicator::If {
@@ -137,6 +141,13 @@ fn asks_in_order(rt: HostRuntime) -> Result<(), Fail> {
             r#"{"b":1,"a":2}"#,
             "additionalProperties false member a 2; additionalProperties false member b 1; ",
         ),
+        (
+            "other properties",
+            r#"{"a":true,"c":{}}"#,
+            r#"{"d":1,"a":2,"b":3,"c":4}"#,
+            r#"additionalProperties {"a":true,"c":{}} member b 3; additionalProperties {"a":true,"c":{}} member d 1; "#,
+        ),
+        ("other properties", "false", "[1]", ""),
         (
             "propertyNames",
             "{}",

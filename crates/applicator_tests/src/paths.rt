@@ -12,6 +12,10 @@ fn applied<'r>(name: &str, schema: &'r Value) -> Option<Applicator<'r>> {
         "prefixItems" => Some(Applicator::PrefixItems(schema.as_array()?.as_slice())),
         "properties" => Some(Applicator::Properties(schema.as_object()?)),
         "dependentSchemas" => Some(Applicator::DependentSchemas(schema.as_object()?)),
+        "additionalProperties" => Some(Applicator::NoAdditionalProperties {
+            declared: schema.as_object(),
+            schema,
+        }),
         "allOf" => Some(Applicator::AllOf(schema.as_array()?.as_slice())),
         _ => None,
     }
@@ -86,6 +90,22 @@ fn paths_lead_to_questions(rt: HostRuntime) -> Result<(), Fail> {
             r#"{"a":1}"#,
             None,
             Some("a~1b"),
+            "none",
+        ),
+        (
+            "additionalProperties",
+            r#"{"a":true}"#,
+            r#"{"a":1,"b/":2,"c":3}"#,
+            Some("b~1/x"),
+            Some("type"),
+            r#"{"a":true} x type"#,
+        ),
+        (
+            "additionalProperties",
+            r#"{"a":true}"#,
+            r#"{"a":1,"b/":2,"c":3}"#,
+            Some("a"),
+            None,
             "none",
         ),
         ("allOf", lists, "7", Some("x"), Some("1/not"), "false x not"),

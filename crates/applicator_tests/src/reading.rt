@@ -195,9 +195,39 @@ fn reads_neighbours(rt: HostRuntime) -> Result<(), Fail> {
         ),
         (
             Draft::Draft202012,
-            r#"{"additionalProperties":{}}"#,
+            r#"{"additionalProperties":true,"patternProperties":{}}"#,
             "additionalProperties",
             "left",
+        ),
+        (
+            Draft::Draft202012,
+            r#"{"additionalProperties":{}}"#,
+            "additionalProperties",
+            "Applied(AdditionalProperties { declared: None, schema: Object {} })",
+        ),
+        (
+            Draft::Draft202012,
+            r#"{"additionalProperties":{},"properties":{"a":true}}"#,
+            "additionalProperties",
+            r#"Applied(AdditionalProperties { declared: Some({"a": Bool(true)}), schema: Object {} })"#,
+        ),
+        (
+            Draft::Draft4,
+            r#"{"additionalProperties":false,"properties":{}}"#,
+            "additionalProperties",
+            "Applied(NoAdditionalProperties { declared: Some({}), schema: Bool(false) })",
+        ),
+        (
+            Draft::Draft202012,
+            r#"{"additionalProperties":false,"properties":3}"#,
+            "additionalProperties",
+            "Applied(NoAdditionalProperties { declared: None, schema: Bool(false) })",
+        ),
+        (
+            Draft::Draft202012,
+            r#"{"additionalProperties":[],"properties":{}}"#,
+            "additionalProperties",
+            r#"Value { expected: "schema" }"#,
         ),
         (
             Draft::Draft202012,

@@ -20,6 +20,8 @@ every_rule (code.AdditionalItems start schema) h = λ site matches d. refl
 every_rule (code.NoAdditionalItems start schema) h = cc
 every_rule (code.Contains schema least most) h = cc
 every_rule (code.Properties schemas) h = λ site matches d. refl
+every_rule (code.AdditionalProperties declared schema) h = λ site matches d. refl
+every_rule (code.NoAdditionalProperties declared schema) h = cc
 every_rule (code.NoProperties schema) h = cc
 every_rule (code.PropertyNames schema) h = cc
 every_rule (code.NoPropertyNames schema) h = cc
@@ -68,7 +70,9 @@ decides (code.AdditionalItems start schema) n m b is = record { is = λ h site m
 decides (code.NoAdditionalItems start schema) n m b is = record { is = λ h site matches d bs is_n is_m. by_all n m bs is_n is_m ∙ sym is }
 decides (code.Contains schema least most) n m b is = record { is = λ h. absurd (cc) }
 decides (code.Properties schemas) n m b is = record { is = λ h site matches d bs is_n is_m. by_all n m bs is_n is_m ∙ sym is }
-decides (code.NoProperties schema) n m b is = record { is = λ h. absurd (cc) }
+decides (code.AdditionalProperties declared schema) n m b is = record { is = λ h site matches d bs is_n is_m. by_all n m bs is_n is_m ∙ sym is }
+decides (code.NoAdditionalProperties declared schema) n m b is = record { is = λ h site matches d bs is_n is_m. by_all n m bs is_n is_m ∙ sym is }
+decides (code.NoProperties schema) n m b is = record { is = λ h site matches d bs is_n is_m. by_all n m bs is_n is_m ∙ sym is }
 decides (code.PropertyNames schema) n m b is = record { is = λ h. absurd (cc) }
 decides (code.NoPropertyNames schema) n m b is = record { is = λ h. absurd (cc) }
 decides (code.DependentSchemas schemas) n m b is = record { is = λ h site matches d bs is_n is_m. by_all n m bs is_n is_m ∙ sym is }

@@ -2,3 +2,4 @@ pub mod ItemLemmas
 pub mod ContainsLemmas
 pub mod ConsequentLemmas
 pub mod CombinedLemmas
+pub mod DeclaredLemmas

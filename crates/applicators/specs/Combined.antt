@@ -19,6 +19,8 @@ name_of (code.AdditionalItems start schema) = codes "additionalItems"
 name_of (code.NoAdditionalItems start schema) = codes "additionalItems"
 name_of (code.Contains schema least most) = codes "contains"
 name_of (code.Properties schemas) = codes "properties"
+name_of (code.AdditionalProperties declared schema) = codes "additionalProperties"
+name_of (code.NoAdditionalProperties declared schema) = codes "additionalProperties"
 name_of (code.NoProperties schema) = codes "additionalProperties"
 name_of (code.PropertyNames schema) = codes "propertyNames"
 name_of (code.NoPropertyNames schema) = codes "propertyNames"
@@ -38,6 +40,8 @@ is_every (code.AdditionalItems start schema) = true
 is_every (code.NoAdditionalItems start schema) = false
 is_every (code.Contains schema least most) = false
 is_every (code.Properties schemas) = true
+is_every (code.AdditionalProperties declared schema) = true
+is_every (code.NoAdditionalProperties declared schema) = false
 is_every (code.NoProperties schema) = false
 is_every (code.PropertyNames schema) = false
 is_every (code.NoPropertyNames schema) = false
@@ -61,7 +65,9 @@ asks_values (code.AdditionalItems start schema) = true
 asks_values (code.NoAdditionalItems start schema) = true
 asks_values (code.Contains schema least most) = false
 asks_values (code.Properties schemas) = true
-asks_values (code.NoProperties schema) = false
+asks_values (code.AdditionalProperties declared schema) = true
+asks_values (code.NoAdditionalProperties declared schema) = true
+asks_values (code.NoProperties schema) = true
 asks_values (code.PropertyNames schema) = false
 asks_values (code.NoPropertyNames schema) = false
 asks_values (code.DependentSchemas schemas) = true
@@ -79,6 +85,8 @@ decided (code.AdditionalItems start schema) n m = m == n
 decided (code.NoAdditionalItems start schema) n m = m == n
 decided (code.Contains schema least most) n m = m == n
 decided (code.Properties schemas) n m = m == n
+decided (code.AdditionalProperties declared schema) n m = m == n
+decided (code.NoAdditionalProperties declared schema) n m = m == n
 decided (code.NoProperties schema) n m = m == n
 decided (code.PropertyNames schema) n m = m == n
 decided (code.NoPropertyNames schema) n m = m == n

@@ -30,6 +30,16 @@ pub enum Applicator<'r> {
         most: Option<u64>,
     },
     Properties(&'r Map<String, Value>),
+    /// One schema for the members that are not declared: `declared` is the object at `properties` beside, where there is one.
+    AdditionalProperties {
+        declared: Option<&'r Map<String, Value>>,
+        schema: &'r Value,
+    },
+    /// The same where the schema is `false`.
+    NoAdditionalProperties {
+        declared: Option<&'r Map<String, Value>>,
+        schema: &'r Value,
+    },
     /// `additionalProperties` as `false`, where neither `properties` nor `patternProperties` stands beside.
     NoProperties(&'r Value),
     PropertyNames(&'r Value),

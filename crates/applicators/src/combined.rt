@@ -17,6 +17,8 @@ impl Applicator<'_> {
             Applicator::NoAdditionalItems { .. } => "additionalItems",
             Applicator::Contains { .. } => "contains",
             Applicator::Properties(_) => "properties",
+            Applicator::AdditionalProperties { .. } => "additionalProperties",
+            Applicator::NoAdditionalProperties { .. } => "additionalProperties",
             Applicator::NoProperties(_) => "additionalProperties",
             Applicator::PropertyNames(_) => "propertyNames",
             Applicator::NoPropertyNames(_) => "propertyNames",
@@ -41,6 +43,7 @@ impl Applicator<'_> {
                 | Applicator::PrefixItems(_)
                 | Applicator::AdditionalItems { .. }
                 | Applicator::Properties(_)
+                | Applicator::AdditionalProperties { .. }
                 | Applicator::DependentSchemas(_)
                 | Applicator::AllOf(_)
         )

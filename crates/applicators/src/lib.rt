@@ -3,6 +3,7 @@
 
 pub mod applicator;
 pub mod combined;
+pub mod declared;
 pub mod question;
 pub mod questions;
 pub mod subschema;

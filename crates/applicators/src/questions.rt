@@ -9,10 +9,11 @@ ghost use Rattle.schema_meaning.specs.Places.{to_member};
 ghost use Rattle.schema_meaning.specs.Questions.{question, at, here, each_branch, items_of, items_from, each_item, item_by_item, listed_members, members_of, names_of, each_declared, each_member, each_name, each_triggered};
 ghost use Rattle.schema_meaning.specs.Rules.{asks, consequents};
 ghost use Rattle.schema_meaning.specs.Keywords.{rule, consequent};
-ghost use Rattle.applicators.specs.Shapes.{site_of, sites_of_list, sites_of_map, shape_of};
+ghost use Rattle.applicators.specs.Shapes.{site_of, sites_of_list, sites_of_map, undeclared_among, undeclared, shape_of};
 ghost use Rattle.applicators.specs.Questions.{step_of, questions_of};
 
 use crate::applicator::Applicator;
+use crate::declared::is_declared;
 use crate::question::{Asked, Question};
 use crate::subschema::{Entry, Subschema};
 use serde_json::{Map, Value};
@@ -223,6 +224,44 @@ fn push_members<'r, 'i>(
     }
 }
 
+fn push_undeclared_of_object<'r, 'i>(
+    questions: &mut Vec<Question<'r, 'i>>,
+    keyword: &'static str,
+    schema: &'r Value,
+    declared: Option<&Map<String, Value>>,
+    members: &'i Map<String, Value>,
+) -> Result<(), AllocError>
+    ensures { OnOk result ((site : List Part → Data → Site) → questions_of site questions.new.items
+        ≡ questions_of site questions.old.items ++ each_member keyword.now (site_of site keyword.now (view schema.now)) (undeclared_among declared.entry (listed_members (members_view members.now.entries)))) }
+{
+    for (name, member) in members.iter() {
+        let name = name.as_str();
+        if !is_declared(declared, name) {
+            push(questions, keyword, schema, Asked::Member { name, member })?;
+        }
+    }
+    Ok(())
+}
+
+// Each member that is not declared by one schema.
+fn push_undeclared<'r, 'i>(
+    questions: &mut Vec<Question<'r, 'i>>,
+    keyword: &'static str,
+    schema: &'r Value,
+    declared: Option<&Map<String, Value>>,
+    value: &'i Value,
+) -> Result<(), AllocError>
+    ensures { OnOk result ((site : List Part → Data → Site) → questions_of site questions.new.items
+        ≡ questions_of site questions.old.items ++ each_member keyword.now (site_of site keyword.now (view schema.now)) (undeclared declared.entry (view value.now))) }
+{
+    match value {
+        Value::Object(members) => {
+            push_undeclared_of_object(questions, keyword, schema, declared, members)
+        }
+        _ => Ok(()),
+    }
+}
+
 fn push_names_of_object<'r, 'i>(
     questions: &mut Vec<Question<'r, 'i>>,
     keyword: &'static str,
@@ -312,6 +351,12 @@ fn push_questions<'r, 'i>(
         }
         Applicator::Properties(schemas) => {
             push_declared(questions, "properties", schemas, value)
+        }
+        Applicator::AdditionalProperties { declared, schema } => {
+            push_undeclared(questions, "additionalProperties", schema, declared, value)
+        }
+        Applicator::NoAdditionalProperties { declared, schema } => {
+            push_undeclared(questions, "additionalProperties", schema, declared, value)
         }
         Applicator::NoProperties(schema) => {
             push_members(questions, "additionalProperties", schema, value)

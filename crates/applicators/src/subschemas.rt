@@ -83,6 +83,12 @@ fn push_subschemas<'r>(
         }
         Applicator::Contains { schema, .. } => push_whole(found, "contains", schema),
         Applicator::Properties(schemas) => push_map(found, "properties", schemas),
+        Applicator::AdditionalProperties { schema, .. } => {
+            push_whole(found, "additionalProperties", schema)
+        }
+        Applicator::NoAdditionalProperties { schema, .. } => {
+            push_whole(found, "additionalProperties", schema)
+        }
         Applicator::NoProperties(schema) => { push_whole(found, "additionalProperties", schema) }
         Applicator::PropertyNames(schema) => push_whole(found, "propertyNames", schema),
         Applicator::NoPropertyNames(schema) => push_whole(found, "propertyNames", schema),

@@ -13,7 +13,9 @@ tell_once (code.AdditionalItems start schema) values once = absurd (cc)
 tell_once (code.NoAdditionalItems start schema) values once = record { is = λ site matches w above answers. refl }
 tell_once (code.Contains schema least most) values once = absurd (cc)
 tell_once (code.Properties schemas) values once = absurd (cc)
-tell_once (code.NoProperties schema) values once = absurd (cc)
+tell_once (code.AdditionalProperties declared schema) values once = absurd (cc)
+tell_once (code.NoAdditionalProperties declared schema) values once = record { is = λ site matches w above answers. refl }
+tell_once (code.NoProperties schema) values once = record { is = λ site matches w above answers. refl }
 tell_once (code.PropertyNames schema) values once = absurd (cc)
 tell_once (code.NoPropertyNames schema) values once = absurd (cc)
 tell_once (code.DependentSchemas schemas) values once = absurd (cc)

@@ -8,13 +8,13 @@ use Rattle.serde_json.specs.View.{view, items_view, members_view}
 use Rattle.json_paths.specs.Parts.{Part}
 use Rattle.schema_meaning.specs.Members.{In, first, later}
 use Rattle.schema_meaning.specs.Places.{stay, to_member, called_after}
-use Rattle.schema_meaning.specs.Questions.{Question, question, at_name, each_branch, items_of, items_from, each_item, item_by_item, if_member, each_declared, each_triggered}
+use Rattle.schema_meaning.specs.Questions.{Question, question, at_name, each_branch, items_of, items_from, each_item, item_by_item, if_member, each_declared, members_of, each_member, each_triggered}
 use Rattle.schema_meaning.specs.Rules.{asks}
 use Rattle.schema_meaning.specs.Keywords.{rule}
 use Rattle.schema_reading.specs.Sites.{Site}
 use Rattle.plain_laws.proofs.Elements.{each_in, each_laid_flat, in_mapped}
 use Rattle.plain_laws.proofs.Asked.{Holds, Sound, all_sound}
-use Rattle.applicators.specs.Shapes.{shape_of, leads_of, site_of, sites_of_list, sites_of_map}
+use Rattle.applicators.specs.Shapes.{shape_of, leads_of, site_of, undeclared, sites_of_list, sites_of_map}
 use Rattle.applicators.specs.Combined.{asks_values}
 use Rattle.applicators.specs.declared.applicator.Applicator.{Applicator}
 use Rattle.applicators.specs.declared.applicator.Applicator.TheVariants as code
@@ -38,7 +38,9 @@ all_led site (code.NoAdditionalItems start schema) h = first
 all_led site (code.Contains schema least most) h = absurd (cc)
 all_led site (code.Properties schemas) h =
     let ps = sites_of_map site (codes "properties") (members_view schemas.now.entries) in each_among (λ p. p.1) ps (Led site (code.Properties schemas)) (λ p i. in_mapped (λ q. q.1) p ps i)
-all_led site (code.NoProperties schema) h = absurd (cc)
+all_led site (code.AdditionalProperties declared schema) h = first
+all_led site (code.NoAdditionalProperties declared schema) h = first
+all_led site (code.NoProperties schema) h = first
 all_led site (code.PropertyNames schema) h = absurd (cc)
 all_led site (code.NoPropertyNames schema) h = absurd (cc)
 all_led site (code.DependentSchemas schemas) h =
@@ -87,6 +89,10 @@ calm_triggered : (keyword : List ℕ) (d : Data) (ps : List (List ℕ × Site)) 
 calm_triggered keyword d ps =
     each_laid_flat (λ p. ⊤) IsCalm (λ p. if_member (get p.0 d) (λ e. question p.1 stay (at_name keyword p.0) ∷ [])) (λ p u. calm_trigger keyword p.0 p.1 (get p.0 d)) ps (any_pair ps)
 
+calm_members : (keyword : List ℕ) (s : Site) (ms : List (List ℕ × Data)) → AllByRecursion IsCalm (each_member keyword s ms)
+calm_members keyword s [] = tt
+calm_members keyword s (m ∷ ms) = ((refl, refl), calm_members keyword s ms)
+
 all_calm : (site : List Part → Data → Site) (matches : List ℕ → List ℕ → Bool) (d : Data) (a : Applicator) → asks_values a ≡ true → AllByRecursion IsCalm (asks (rule matches d (shape_of site a)))
 all_calm site matches d (code.Items start schema) h = calm_items (codes "items") (site_of site (codes "items") (view schema.now)) start (items_from start (items_of d))
 all_calm site matches d (code.ItemList schemas) h = calm_by_item (codes "items") (sites_of_list site (codes "items") 0 (items_view schemas.now)) 0 (items_of d)
@@ -97,7 +103,11 @@ all_calm site matches d (code.NoAdditionalItems start schema) h =
     calm_items (codes "additionalItems") (site_of site (codes "additionalItems") (view schema.now)) start (items_from start (items_of d))
 all_calm site matches d (code.Contains schema least most) h = absurd (cc)
 all_calm site matches d (code.Properties schemas) h = calm_declared (codes "properties") d (sites_of_map site (codes "properties") (members_view schemas.now.entries))
-all_calm site matches d (code.NoProperties schema) h = absurd (cc)
+all_calm site matches d (code.AdditionalProperties declared schema) h =
+    calm_members (codes "additionalProperties") (site_of site (codes "additionalProperties") (view schema.now)) (undeclared declared d)
+all_calm site matches d (code.NoAdditionalProperties declared schema) h =
+    calm_members (codes "additionalProperties") (site_of site (codes "additionalProperties") (view schema.now)) (undeclared declared d)
+all_calm site matches d (code.NoProperties schema) h = calm_members (codes "additionalProperties") (site_of site (codes "additionalProperties") (view schema.now)) (members_of d)
 all_calm site matches d (code.PropertyNames schema) h = absurd (cc)
 all_calm site matches d (code.NoPropertyNames schema) h = absurd (cc)
 all_calm site matches d (code.DependentSchemas schemas) h = calm_triggered (codes "dependentSchemas") d (sites_of_map site (codes "dependentSchemas") (members_view schemas.now.entries))

@@ -38,7 +38,9 @@ module _ (site : List Part → Data → Site) (matches : List ℕ → List ℕ �
   all_or_none (code.NoAdditionalItems start schema) n h is = refl
   all_or_none (code.Contains schema least most) n h is = absurd (cc)
   all_or_none (code.Properties schemas) n h is = refl
-  all_or_none (code.NoProperties schema) n h is = absurd (cc)
+  all_or_none (code.AdditionalProperties declared schema) n h is = refl
+  all_or_none (code.NoAdditionalProperties declared schema) n h is = refl
+  all_or_none (code.NoProperties schema) n h is = refl
   all_or_none (code.PropertyNames schema) n h is = absurd (cc)
   all_or_none (code.NoPropertyNames schema) n h is = absurd (cc)
   all_or_none (code.DependentSchemas schemas) n h is = refl

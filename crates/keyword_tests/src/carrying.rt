@@ -22,6 +22,13 @@ fn write_branches(
     Ok(())
 }
 
+fn write_names(text: &mut String, names: &[String]) -> Result<(), Fail> {
+    for name in names {
+        write!(text, "{name} ")?;
+    }
+    Ok(())
+}
+
 // The kinds of a value's faults with what they carry.
 fn carried(alloc: Global, schema: &str, instance: &str) -> Result<String, Fail> {
     let subject = built(alloc, schema)?;
@@ -40,6 +47,15 @@ fn carried(alloc: Global, schema: &str, instance: &str) -> Result<String, Fail> 
                 write_branches(alloc, &mut text, context.as_slice())?;
             }
             ValidationErrorKind::Not { schema } => write!(text, "{schema}")?,
+            ValidationErrorKind::AdditionalProperties { unexpected } => {
+                write_names(&mut text, unexpected.as_slice())?;
+                let instance = error.instance();
+                write!(text, "of {instance}")?;
+            }
+            ValidationErrorKind::FalseSchema => {
+                let instance = error.instance();
+                write!(text, "{instance}")?;
+            }
             _ => {}
         }
     }
@@ -58,7 +74,7 @@ fn carried_otherwise(alloc: Global, rows: &[(&str, &str, &str)]) -> Result<Strin
     Ok(text)
 }
 
-const CARRIED: [(&str, &str, &str); 7] = [
+const CARRIED: [(&str, &str, &str); 9] = [
     (
         "{\"anyOf\":[{\"minimum\":2,\"type\":\"null\"},{\"items\":{}},false]}",
         "[]",
@@ -93,6 +109,16 @@ const CARRIED: [(&str, &str, &str); 7] = [
         "{\"$schema\":\"http://json-schema.org/draft-07/schema#\",\"items\":[],\"additionalItems\":false}",
         "[1,2]",
         "AdditionalItems:",
+    ),
+    (
+        "{\"properties\":{\"a\":true},\"additionalProperties\":false}",
+        "{\"a\":1,\"b\":1,\"c\":1}",
+        "AdditionalProperties:b c of {\"a\":1,\"b\":1,\"c\":1}",
+    ),
+    (
+        "{\"additionalProperties\":false}",
+        "{\"a\":1,\"b\":2}",
+        "FalseSchema:1",
     ),
 ];
 

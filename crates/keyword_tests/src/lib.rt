@@ -8,4 +8,6 @@ mod branching;
 #[cfg(test)]
 mod carrying;
 #[cfg(test)]
+mod others;
+#[cfg(test)]
 mod subject;

@@ -16,7 +16,7 @@ use Rattle.applicators.specs.Combined.{name_of, is_every, asks_values, Decides}
 use Rattle.applicators.specs.Questions.{question_of, questions_of}
 use Rattle.applicators.specs.declared.applicator.Applicator.{Applicator}
 use Rattle.applicators.specs.declared.question.Question.{Question}
-use Rattle.applied_laws.specs.Notes.{kind_by}
+use Rattle.applied_laws.specs.Notes.{kind_by, value_by}
 use Rattle.applied_laws.proofs.Once.{tell_once}
 use Rattle.schema_sites.specs.Seen.{documents_at}
 use Rattle.schema_sites.specs.declared.site.Site as code
@@ -126,7 +126,7 @@ map-length f (x ∷ xs) = ap suc (map-length f xs)
 
 module _ (c : code.Site) (whole d : Data) (roads : Roads) (keys : List Key) (a : Applicator) (qs : List Question) (values : asks_values a ≡ true) (once : is_every a ≡ false) (are : AreAsked a d qs) where
   abbrev fault_by : List Faults → Fault
-  fault_by answers = own_fault (spot_at d roads) (schema_in roads) (at (name_of a)) (record { kind = kind_by a answers; value = d })
+  fault_by answers = own_fault (spot_at d roads) (schema_in roads) (at (name_of a)) (record { kind = kind_by a d answers; value = value_by a d })
 
   one_told : (n : ℕ) (b : Bool) → Counts c whole d roads keys a n → Decides a (length qs) n b → (x : Setting) → Fits c d roads keys x
       → ((t : Site) → In t (applied_leads a x) → AreRead x.documents x.makes t) → room (documents_at c) whole keys (view c.contents.now) ≤ x.depth

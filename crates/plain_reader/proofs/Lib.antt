@@ -7,6 +7,7 @@ pub mod TargetTelling
 pub mod RootTelling
 pub mod ItemTelling
 pub mod AppliedTelling
+pub mod FirstLemmas
 pub mod RefusalLemmas
 pub mod CombinedTelling
 pub mod Reading

@@ -9,7 +9,7 @@ use Rattle.schema_meaning.specs.Rules.{verdicts_of}
 use Rattle.applicators.specs.Combined.{name_of}
 use Rattle.applicators.specs.declared.applicator.Applicator.{Applicator}
 use Rattle.applicators.specs.declared.applicator.Applicator.TheVariants as code
-use Rattle.applied_laws.specs.Notes.{kind_by}
+use Rattle.applied_laws.specs.Notes.{kind_by, value_by}
 use Rattle.schema_reports.specs.Kinds.{kind_of}
 use Rattle.schema_reports.specs.Told.{branches_in}
 use Rattle.schema_reports.specs.Observers.{Hears}
@@ -29,6 +29,8 @@ carries_branches (code.AdditionalItems start schema) = false
 carries_branches (code.NoAdditionalItems start schema) = false
 carries_branches (code.Contains schema least most) = false
 carries_branches (code.Properties schemas) = false
+carries_branches (code.AdditionalProperties declared schema) = false
+carries_branches (code.NoAdditionalProperties declared schema) = false
 carries_branches (code.NoProperties schema) = false
 carries_branches (code.PropertyNames schema) = false
 carries_branches (code.NoPropertyNames schema) = false
@@ -44,9 +46,9 @@ pub record AreOf (a : Applicator) (accepted : ℕ) (context : List (Vec Validati
   pub counted : count_true (verdicts_of answers) ≡ accepted
   pub told : carries_branches a ≡ true → branches_in context ≡ branches_of answers
 
-pub record IsRefusal (a : Applicator) (accepted : ℕ) (context : List (Vec ValidationError Global)) (kind : ValidationErrorKind) : Type 0 where
-  pub is : (answers : List Faults) → AreOf a accepted context answers → kind_of kind ≡ kind_by a answers
+pub record IsRefusal (d : Data) (a : Applicator) (accepted : ℕ) (context : List (Vec ValidationError Global)) (kind : ValidationErrorKind) : Type 0 where
+  pub is : (answers : List Faults) → AreOf a accepted context answers → kind_of kind ≡ kind_by a d answers
 
 pub record TellsRefusal (d : Data) (roads : Roads) (a : Applicator) (accepted : ℕ) (context : List (Vec ValidationError Global)) (old new : Observer) : Type 0 where
   pub tells : (answers : List Faults) → AreOf a accepted context answers → (kept : Observation) (fs : Faults) → Hears kept old fs
-      → Hears kept new (joined fs (also (fault_at d roads (name_of a) (kind_by a answers)) none))
+      → Hears kept new (joined fs (also (fault_at (value_by a d) roads (name_of a) (kind_by a d answers)) none))

@@ -1,9 +1,13 @@
 //! The one fault of a keyword whose verdict is by the number of answers that are yes.
 ghost use Rattle.std.specs.Prelude.{◌≡◌, IfOk, OnOk, true};
 ghost use Rattle.serde_json.specs.View.{view};
+ghost use Rattle.schema_meaning.specs.Questions.{members_of};
+ghost use Rattle.schema_meaning.specs.Keywords.{first_value};
+ghost use Rattle.applied_laws.specs.Notes.{value_by};
 ghost use Rattle.plain_reader.specs.Refusals.{carries_branches as is_carrier, IsRefusal, TellsRefusal};
 
 use applicators::applicator::Applicator;
+use applicators::declared::undeclared_names;
 use schema_reports::{Observer, Roads, ValidationError, ValidationErrorKind};
 use serde_json::Value;
 use std::alloc::{AllocError, Global};
@@ -17,14 +21,21 @@ pub(crate) const fn carries_branches(applicator: &Applicator<'_>) -> bool
 
 // Its kind, where so many answers are yes.
 fn refusal<'i>(
+    alloc: Global,
     applicator: Applicator<'_>,
     accepted: usize,
     context: Vec<Vec<ValidationError<'i>>>,
+    value: &Value,
 ) -> Result<ValidationErrorKind<'i>, AllocError>
-    ensures { IfOk result (λ kind. IsRefusal applicator.entry accepted context.entry.items kind) }
+    ensures { IfOk result (λ kind. IsRefusal (view value.now) applicator.entry accepted context.entry.items kind) }
 {
     Ok(match applicator {
         Applicator::NoAdditionalItems { .. } => ValidationErrorKind::AdditionalItems,
+        Applicator::NoAdditionalProperties { declared, .. } => {
+            ValidationErrorKind::AdditionalProperties {
+                unexpected: undeclared_names(alloc, declared, value)?,
+            }
+        }
         Applicator::AnyOf(_) => ValidationErrorKind::AnyOf { context },
         Applicator::OneOf(_) => {
             if accepted > 0 {
@@ -38,6 +49,29 @@ fn refusal<'i>(
         },
         _ => ValidationErrorKind::FalseSchema,
     })
+}
+
+// The value of an object's first member.
+fn first_member(value: &Value) -> &Value
+    ensures { view result.now ≡ first_value (view value.now) (members_of (view value.now)) }
+{
+    let Value::Object(members) = value else {
+        return value;
+    };
+    match members.first_key_value() {
+        Some((_, member)) => member,
+        None => value,
+    }
+}
+
+// The value at fault.
+fn value_at_fault<'i>(applicator: &Applicator<'_>, value: &'i Value) -> &'i Value
+    ensures { view result.now ≡ value_by applicator.now (view value.now) }
+{
+    match applicator {
+        Applicator::NoProperties(_) => first_member(value),
+        _ => value,
+    }
 }
 
 // Tells an observer of it.
@@ -60,6 +94,6 @@ pub(crate) fn tell_refusal<'i>(
         evaluation: &evaluation,
         ..roads
     };
-    let kind = refusal(applicator, accepted, context)?;
-    observer.tell(alloc, kind, value, at)
+    let kind = refusal(alloc, applicator, accepted, context, value)?;
+    observer.tell(alloc, kind, value_at_fault(&applicator, value), at)
 }

@@ -1,6 +1,7 @@
 -- The questions of applicators, one by one.
-use Rattle.std.proofs.Common.{◌≡◌, ◌∙◌, ◌+◌, ◌<◌, ℕ, zero, suc, List, [], ◌∷◌, Option, Some, None, length, true, refl, sym, ap, arith, add-zero}
-use Rattle.serde_json.specs.Data.{Data, Items, no_items, item, Members, no_members, member}
+use Rattle.std.proofs.Common.{◌≡◌, ◌∙◌, ◌+◌, ◌<◌, ℕ, zero, suc, List, [], ◌∷◌, Option, Some, None, length, Bool, true, false, cond, refl, sym, ap, arith, add-zero}
+use Rattle.std.specs.List.{filter}
+use Rattle.serde_json.specs.Data.{Data, null, boolean, number, string, array, object, Items, no_items, item, Members, no_members, member}
 use Rattle.serde_json.specs.Find.{get, get_item, get_member}
 use Rattle.serde_json.specs.View.{items_view}
 use Rattle.serde_json.specs.declared.value.Value.{Value}
@@ -9,12 +10,13 @@ use Rattle.schema_values.specs.Equality.{rises_from}
 use Rattle.schema_values.proofs.Names.{get_same, get_other}
 use Rattle.schema_values.proofs.Kept.{first_rise, behind_none}
 use Rattle.schema_meaning.specs.Members.{In, first, later}
-use Rattle.schema_meaning.specs.Places.{stay, to_item}
-use Rattle.schema_meaning.specs.Questions.{Question, question, at_name, at_index, each_branch, item_by_item, if_member, each_triggered}
+use Rattle.schema_meaning.specs.Places.{stay, to_item, to_member}
+use Rattle.schema_meaning.specs.Questions.{Question, question, at, at_name, at_index, each_branch, item_by_item, listed_members, members_of, if_member, each_member, each_triggered}
 use Rattle.schema_reading.specs.Sites.{Site}
 use Rattle.place_laws.specs.Rising.{are_rising}
-use Rattle.walk_laws.proofs.Listed.{in_some}
+use Rattle.walk_laws.proofs.Listed.{in_some, in_mapped}
 use Rattle.applicators.specs.Shapes.{sites_of_list, sites_of_map}
+use Rattle.question_paths.specs.Laws.{MembersRise}
 
 -- ---- lists of schemas
 
@@ -82,3 +84,33 @@ site_found site k no_members p r i = elim i [ ]
 site_found site k (member n c ms) p r first = (c, get_same n n c ms refl, refl)
 site_found site k (member n c ms) p r (later i) =
     let w = site_found site k ms p (rising_rest n ms r) i in (w.0, get_other p.0 n c ms (apart p.0 n ms w.0 r w.1) ∙ w.1, w.2)
+
+-- ---- members by one schema
+
+-- a member is the one that its name finds
+listed_found : (k : List ℕ) (e : Data) (ms : Members) → are_rising ms ≡ true → In (k, e) (listed_members ms) → get_member k ms ≡ Some e
+listed_found k e no_members r h = elim h [ ]
+listed_found k e (member l d ms) r first = get_same k k e ms refl
+listed_found k e (member l d ms) r (later h) =
+    let g = listed_found k e ms (rising_rest l ms r) h in get_other k l d ms (apart k l ms e r g) ∙ g
+
+pub found_member : (d : Data) (m : List ℕ × Data) → MembersRise d → In m (members_of d) → get m.0 d ≡ Some m.1
+found_member null m r h = elim h [ ]
+found_member (boolean b) m r h = elim h [ ]
+found_member (number n) m r h = elim h [ ]
+found_member (string s) m r h = elim h [ ]
+found_member (array ds) m r h = elim h [ ]
+found_member (object ms) m r h = listed_found m.0 m.1 ms r h
+
+kept_or : {A : Type 0} (b : Bool) (y : A) (xs ys : List A) (x : A) → In x (cond b (y ∷ xs) xs) → (In x xs → In x ys) → In x (y ∷ ys)
+kept_or true y xs ys _ first rest = first
+kept_or true y xs ys x (later i) rest = later (rest i)
+kept_or false y xs ys x i rest = later (rest i)
+
+pub among_kept : {A : Type 0} (test : A → Bool) (xs : List A) (x : A) → In x (filter test xs) → In x xs
+among_kept test [] x h = h
+among_kept test (y ∷ ys) x h = kept_or (test y) y (filter test ys) ys x h (among_kept test ys x)
+
+pub member_question : {S : Type 0} (k : List ℕ) (s : S) (ms : List (List ℕ × Data)) (q : Question S) → In q (each_member k s ms)
+    → (m : List ℕ × Data) × In m ms × (q ≡ question s (to_member m.0 m.1) (at k))
+member_question k s ms q i = let w = in_mapped (λ m. question s (to_member m.0 m.1) (at k)) ms i in (w.0, w.1, sym w.2)

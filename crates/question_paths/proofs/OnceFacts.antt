@@ -1,5 +1,5 @@
 -- Of the questions of an applicator, texts lead to one at most.
-use Rattle.std.proofs.Common.{◌≡◌, ◌∙◌, ◌+◌, ◌<◌, ◌^◌, ◌∷◌, ℕ, List, [], Some, length, Bool, true, codes, refl, sym, ap, subst, arith}
+use Rattle.std.proofs.Common.{◌≡◌, ◌∙◌, ◌+◌, ◌<◌, ◌^◌, ◌∷◌, ℕ, List, [], Some, Option, Bor, length, Bool, true, false, not, codes, refl, sym, ap, subst, arith}
 use Rattle.serde_json.specs.Data.{Data, Members}
 use Rattle.serde_json.specs.Find.{get, get_item, get_member}
 use Rattle.serde_json.specs.Find as finding
@@ -7,7 +7,7 @@ use Rattle.serde_json.specs.View.{view, items_view, members_view}
 use Rattle.json_paths.specs.Parts.{Part}
 use Rattle.schema_meaning.specs.Members.{In, first, later}
 use Rattle.schema_meaning.specs.Places.{stay, to_item, to_member}
-use Rattle.schema_meaning.specs.Questions.{Question, question, at, at_name, at_index, items_of, items_from, each_branch, each_item, item_by_item, each_declared, each_triggered}
+use Rattle.schema_meaning.specs.Questions.{Question, question, at, at_name, at_index, items_of, items_from, each_branch, each_item, item_by_item, each_declared, is_declared, members_of, each_member, each_triggered}
 use Rattle.schema_meaning.specs.Rules.{asks}
 use Rattle.schema_meaning.specs.Keywords.{rule}
 use Rattle.schema_reading.specs.Sites.{Site}
@@ -15,12 +15,12 @@ use Rattle.place_laws.specs.Rising.{are_rising}
 use Rattle.walk_laws.proofs.Listed.{item_question, item_further, declared_question}
 use Rattle.path_parts.specs.Found.{IsIndexed}
 use Rattle.path_parts.proofs.ItemFacts.{at_items, some_one}
-use Rattle.applicators.specs.Shapes.{shape_of, site_of, sites_of_list, sites_of_map}
+use Rattle.applicators.specs.Shapes.{shape_of, site_of, sites_of_list, sites_of_map, Schemas, declared_by, undeclared}
 use Rattle.applicators.specs.Combined.{asks_values}
 use Rattle.applicators.specs.declared.applicator.Applicator.{Applicator}
 use Rattle.applicators.specs.declared.applicator.Applicator.TheVariants as code
-use Rattle.question_paths.specs.Laws.{NamesRise, BranchesFit, OneAhead}
-use Rattle.question_paths.proofs.AskedFacts.{nth, nth_short, sites_counted, branch_question, listed_question, triggered_question, site_found}
+use Rattle.question_paths.specs.Laws.{NamesRise, BranchesFit, MembersRise, OneAhead}
+use Rattle.question_paths.proofs.AskedFacts.{nth, nth_short, sites_counted, branch_question, listed_question, triggered_question, site_found, found_member, among_kept, member_question}
 use Rattle.question_paths.proofs.AlikeFacts.{AreAlike, same_items, same_members, same_indexes, same_names}
 
 module _ {S : Type 0} (k : List ℕ) (d : Data) (indexed : IsIndexed d) (q p : Question S) (h : AreAlike q p) where
@@ -98,6 +98,23 @@ module _ (site : List Part → Data → Site) (k : List ℕ) (d : Data) (ms : Me
       let same : w.0 ≡ v.0 = same_named w.0 v.0 w.1 v.1 named in
       w.2 ∙ ap (λ (x : List ℕ × Site). question x.1 stay (at_name k x.0)) same ∙ sym v.2
 
+-- ---- members by one schema
+
+module _ {S : Type 0} (k : List ℕ) (s : S) (d : Data) (rising : MembersRise d) (q p : Question S) (h : AreAlike q p) where
+  pub members_once : (ms : List (List ℕ × Data)) → ((m : List ℕ × Data) → In m ms → In m (members_of d)) → In q (each_member k s ms) → In p (each_member k s ms) → q ≡ p
+  members_once ms among i j =
+      let w = member_question k s ms q i in
+      let v = member_question k s ms p j in
+      let named : w.0.0 ≡ v.0.0 = same_members q p h w.0.0 v.0.0 w.0.1 v.0.1 (ap (λ (x : Question S). x.step) w.2) (ap (λ (x : Question S). x.step) v.2) in
+      let here : get w.0.0 d ≡ Some w.0.1 = found_member d w.0 rising (among w.0 w.1) in
+      let there : get v.0.0 d ≡ Some v.0.1 = found_member d v.0 rising (among v.0 v.1) in
+      let alike : w.0.1 ≡ v.0.1 = some_one (get v.0.0 d) w.0.1 v.0.1 (subst (λ (n : List ℕ). get n d ≡ Some w.0.1) named here) there in
+      w.2 ∙ ap (λ (n : List ℕ). question s (to_member n w.0.1) (at k)) named ∙ ap (λ (e : Data). question s (to_member v.0.0 e) (at k)) alike ∙ sym v.2
+
+  pub undeclared_once : (declared : Option (Bor Schemas)) → In q (each_member k s (undeclared declared d)) → In p (each_member k s (undeclared declared d)) → q ≡ p
+  undeclared_once declared i j =
+      members_once (undeclared declared d) (λ m h. among_kept (λ n. not (is_declared (λ p k. false) (declared_by declared) n.0)) (members_of d) m h) i j
+
 -- ---- the only one
 
 only_one : {S : Type 0} (q p x : Question S) → In q (x ∷ []) → In p (x ∷ []) → q ≡ p
@@ -107,7 +124,7 @@ only_one q p x (later i) j = elim i [ ]
 
 -- ---- by the kind of the applicator
 
-module _ (site : List Part → Data → Site) (matches : List ℕ → List ℕ → Bool) (d : Data) (indexed : IsIndexed d) (q p : Question Site) (h : AreAlike q p) where
+module _ (site : List Part → Data → Site) (matches : List ℕ → List ℕ → Bool) (d : Data) (indexed : IsIndexed d) (rising : MembersRise d) (q p : Question Site) (h : AreAlike q p) where
   abbrev Asked : Question Site → Applicator → Type 0
   Asked x a = In x (asks (rule matches d (shape_of site a)))
 
@@ -121,7 +138,12 @@ module _ (site : List Part → Data → Site) (matches : List ℕ → List ℕ �
       items_once (codes "additionalItems") d indexed q p h (site_of site (codes "additionalItems") (view schema.now)) start i j
   asked_once (code.Contains schema least most) r f e i j = cc
   asked_once (code.Properties schemas) r f e i j = declared_once site (codes "properties") d (members_view schemas.now.entries) r q p h i j
-  asked_once (code.NoProperties schema) r f e i j = cc
+  asked_once (code.AdditionalProperties declared schema) r f e i j =
+      undeclared_once (codes "additionalProperties") (site_of site (codes "additionalProperties") (view schema.now)) d rising q p h declared i j
+  asked_once (code.NoAdditionalProperties declared schema) r f e i j =
+      undeclared_once (codes "additionalProperties") (site_of site (codes "additionalProperties") (view schema.now)) d rising q p h declared i j
+  asked_once (code.NoProperties schema) r f e i j =
+      members_once (codes "additionalProperties") (site_of site (codes "additionalProperties") (view schema.now)) d rising q p h (members_of d) (λ m h. h) i j
   asked_once (code.PropertyNames schema) r f e i j = cc
   asked_once (code.NoPropertyNames schema) r f e i j = cc
   asked_once (code.DependentSchemas schemas) r f e i j = triggered_once site (codes "dependentSchemas") d (members_view schemas.now.entries) r q p h i j
@@ -137,9 +159,9 @@ module _ (site : List Part → Data → Site) (matches : List ℕ → List ℕ �
   asked_once (code.Not schema) r f e i j = only_one q p _ i j
   asked_once (code.If condition then_schema else_schema) r f e i j = cc
 
-pub one_ahead : (a : Applicator) (d : Data) → NamesRise a → BranchesFit a → IsIndexed d → OneAhead a d
-one_ahead a d rise fit indexed every site matches q p asked also instance evaluation i e j f rest_i rest_e rest_j rest_f at_q on_q at_p on_p =
-    asked_once site matches d indexed q p
+pub one_ahead : (a : Applicator) (d : Data) → NamesRise a → BranchesFit a → IsIndexed d → MembersRise d → OneAhead a d
+one_ahead a d rise fit indexed rising every site matches q p asked also instance evaluation i e j f rest_i rest_e rest_j rest_f at_q on_q at_p on_p =
+    asked_once site matches d indexed rising q p
     (record {
       instance = instance;
       evaluation = evaluation;

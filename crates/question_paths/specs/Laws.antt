@@ -1,6 +1,6 @@
 -- Of the questions of an applicator, paths lead to one at most.
 use Rattle.std.specs.Prelude.{◌≡◌, ◌<◌, ◌++◌, ◌^◌, ℕ, List, [], length, Bool, true, ⊤}
-use Rattle.serde_json.specs.Data.{Data}
+use Rattle.serde_json.specs.Data.{Data, null, boolean, number, string, array, object}
 use Rattle.serde_json.specs.View.{members_view}
 use Rattle.json_paths.specs.Parts.{Part}
 use Rattle.schema_reading.specs.Sites.{Site}
@@ -26,6 +26,8 @@ NamesRise (code.AdditionalItems start schema) = ⊤
 NamesRise (code.NoAdditionalItems start schema) = ⊤
 NamesRise (code.Contains schema least most) = ⊤
 NamesRise (code.Properties schemas) = are_rising (members_view schemas.now.entries) ≡ true
+NamesRise (code.AdditionalProperties declared schema) = ⊤
+NamesRise (code.NoAdditionalProperties declared schema) = ⊤
 NamesRise (code.NoProperties schema) = ⊤
 NamesRise (code.PropertyNames schema) = ⊤
 NamesRise (code.NoPropertyNames schema) = ⊤
@@ -45,6 +47,8 @@ BranchesFit (code.AdditionalItems start schema) = ⊤
 BranchesFit (code.NoAdditionalItems start schema) = ⊤
 BranchesFit (code.Contains schema least most) = ⊤
 BranchesFit (code.Properties schemas) = ⊤
+BranchesFit (code.AdditionalProperties declared schema) = ⊤
+BranchesFit (code.NoAdditionalProperties declared schema) = ⊤
 BranchesFit (code.NoProperties schema) = ⊤
 BranchesFit (code.PropertyNames schema) = ⊤
 BranchesFit (code.NoPropertyNames schema) = ⊤
@@ -54,6 +58,15 @@ BranchesFit (code.AnyOf schemas) = length schemas.now < 2 ^ 64
 BranchesFit (code.OneOf schemas) = length schemas.now < 2 ^ 64
 BranchesFit (code.Not schema) = ⊤
 BranchesFit (code.If condition then_schema else_schema) = ⊤
+
+-- the names of an object's members rise
+abbrev pub MembersRise : Data → Type 0
+MembersRise null = ⊤
+MembersRise (boolean b) = ⊤
+MembersRise (number n) = ⊤
+MembersRise (string s) = ⊤
+MembersRise (array ds) = ⊤
+MembersRise (object ms) = are_rising ms ≡ true
 
 -- two questions that lead on from the same texts are one
 abbrev pub OneAhead : Applicator → Data → Type 0

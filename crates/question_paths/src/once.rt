@@ -2,7 +2,7 @@
 ghost use Rattle.std.specs.Prelude.{◌≡◌, ◌<◌, ◌^◌, length, true};
 ghost use Rattle.serde_json.specs.View.{view, members_view};
 ghost use Rattle.place_laws.specs.Rising.{are_rising};
-ghost use Rattle.question_paths.specs.Laws.{NamesRise, BranchesFit, OneAhead};
+ghost use Rattle.question_paths.specs.Laws.{NamesRise, BranchesFit, MembersRise, OneAhead};
 
 use applicators::applicator::Applicator;
 use path_parts::items::indexes_fit;
@@ -35,10 +35,19 @@ fn schemas_stand(applicator: &Applicator<'_>)
     }
 }
 
+fn members_rise(value: &Value)
+    ensures { MembersRise (view value.now) }
+{
+    if let Value::Object(members) = value {
+        names_rise(members);
+    }
+}
+
 /// Two paths lead to one question of an applicator at most, where its verdict is by how many answers are yes. It does nothing.
 pub fn one_ahead(applicator: &Applicator<'_>, value: &Value)
     ensures { OneAhead applicator.now (view value.now) }
 {
     schemas_stand(applicator);
     indexes_fit(value);
+    members_rise(value);
 }

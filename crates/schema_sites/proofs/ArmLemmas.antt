@@ -9,7 +9,7 @@ use Rattle.schema_vocabularies.specs.declared.dialect.Dialect as vocabularies
 use Rattle.schema_meaning.specs.Keywords.{item_list}
 use Rattle.schema_meaning.specs.Members.{is_listed, first}
 use Rattle.referencing.specs.Resolved.{scope_of}
-use Rattle.unread_keywords.specs.NotYet.{is_unread, read_now}
+use Rattle.unread_keywords.specs.NotYet.{is_unread, is_read_beside, has_patterns, read_now}
 use Rattle.schema_reading.specs.Rows.{Row, nothing_read, refused, keyword_value, left_out, place_at, at, bad_value, Context, counts_here, has_reference, beside, takes_list, in_list, schema_list, row_of as row_by, each_subschema, row_at}
 use Rattle.schema_reading.specs.Sites.{Site}
 use Rattle.schema_sites.specs.Arms.{one_items_row, properties_row}
@@ -92,19 +92,20 @@ module _ (c : code.Site) (ms : Members) (k : List ℕ) (d : Data) (counted : cou
 
 -- ---- what is read, and what is not yet
 
-never-unread : (a b : Bool) → b ≡ true → (a && not b) ≡ false
+pub never-unread : (a b : Bool) → b ≡ true → (a && not b) ≡ false
 never-unread true b e = ap not e
 never-unread false b e = refl
 
 -- a name that is read
 pub is-read : (k known : List ℕ) (d : Data) → k ≡ known → is_listed known read_now ≡ true → (s : Site) (ms : Members) → is_unread s ms k d ≡ false
 is-read k known d is listed s ms =
-    never-unread (counts s.dialect.draft s.dialect.vocabularies (has_reference ms) k) (is_listed k read_now) (ap (λ (n : List ℕ). is_listed n read_now) is ∙ listed)
+    never-unread (counts s.dialect.draft s.dialect.vocabularies (has_reference ms) k) (is_read_beside s ms k)
+    (ap (λ (b : Bool). b || (bytes_eq k (codes "additionalProperties") && not (has_patterns s ms))) (ap (λ (n : List ℕ). is_listed n read_now) is ∙ listed))
 
 pub if-read : {E : Type 0} (r : Result Keyword E) (k known : List ℕ) (d : Data) → k ≡ known → is_listed known read_now ≡ true
-    → IfOk r (λ (w : Keyword). (s : Site) (ms : Members) → is_unread s ms k d ≡ false)
-if-read (Ok w) k known d is listed = is-read k known d is listed
-if-read (Err e) k known d is listed = tt
+    → (c : code.Site) (ms : Members) → IfOk r (λ (w : Keyword). (s : Site) → Stands c s → is_unread s ms k d ≡ false)
+if-read (Ok w) k known d is listed c ms = λ s stands. is-read k known d is listed s ms
+if-read (Err e) k known d is listed c ms = tt
 
 -- a name that does not count
 pub nothing-there : (c : code.Site) (ms : Members) (k : List ℕ) (d : Data) → counts_at c (has_reference ms) k ≡ false → (makes : List ℕ → Bool) (s : Site) → Stands c s
@@ -113,11 +114,15 @@ nothing-there c ms k d none makes s stands =
     let x = context_at c ms makes s in row-else (counts_here x k) _ nothing_read (counts-there c ms s stands k ∙ none)
 
 pub uncounted : (c : code.Site) (ms : Members) (k : List ℕ) (d : Data) → counts_at c (has_reference ms) k ≡ false → (s : Site) → Stands c s → is_unread s ms k d ≡ false
-uncounted c ms k d none s stands = ap (λ (b : Bool). b && not (is_listed k read_now)) (counts-there c ms s stands k ∙ none)
+uncounted c ms k d none s stands = ap (λ (b : Bool). b && not (is_read_beside s ms k)) (counts-there c ms s stands k ∙ none)
 
 -- a keyword that is none of those that are read
-pub not-yet : (x : Context) (k : List ℕ) (d : Data) → counts_here x k ≡ true → is_listed k read_now ≡ false → is_unread x.site x.members k d ≡ true
-not-yet x k d counted unlisted = ap (λ (b : Bool). b && not (is_listed k read_now)) counted ∙ ap not unlisted
+pub not-yet : (x : Context) (k : List ℕ) (d : Data) → counts_here x k ≡ true → is_listed k read_now ≡ false → bytes_eq k (codes "additionalProperties") ≡ false
+    → is_unread x.site x.members k d ≡ true
+not-yet x k d counted unlisted other =
+    let patterns = not (has_patterns x.site x.members) in
+    ap (λ (b : Bool). b && not (is_read_beside x.site x.members k)) counted
+    ∙ ap (λ (b : Bool). not (b || (bytes_eq k (codes "additionalProperties") && patterns))) unlisted ∙ ap (λ (b : Bool). not (b && patterns)) other
 
 -- a name that is none of the list
 abbrev pub IsNone : List ℕ → List (List ℕ) → Type 0

@@ -51,7 +51,7 @@ module _ (c : code.Site) (ms : Members) (k : List ℕ) (d : Data) (strict : Opti
 
 -- ---- its name is read
 
-abbrev every : (List ℕ → Bool) → List (List ℕ) → Bool
+abbrev pub every : (List ℕ → Bool) → List (List ℕ) → Bool
 every p [] = true
 every p (n ∷ ns) = p n && every p ns
 

@@ -41,7 +41,8 @@ fn applying_values<'r>(
     requires values { is_listed name.now valued_names ≡ true }
     ensures read { IfOk result (λ k. (x : rows.Context) → Surrounds site.now (members_view members.now.entries) x → rows.read_among rows.readers x name.now (view value.now) ≡ row_of x.documents x.site k) }
     ensures found { IfOk result (λ k. Finds site.now (view value.now) k) }
-    ensures refused { IfErr result (λ e. (x : rows.Context) → Surrounds site.now (members_view members.now.entries) x → Refuses x name.now (view value.now) (rows.read_among rows.readers x name.now (view value.now)) e) }
+    ensures counted { IfOk result (λ k. (s : sites.Site) → Stands site.now s → is_unread s (members_view members.now.entries) name.now (view value.now) ≡ false) }
+    ensures refused { IfErr result (λ e. (x : rows.Context) → Surrounds site.now (members_view members.now.entries) x → rows.counts_here x name.now ≡ true → Refuses x name.now (view value.now) (rows.read_among rows.readers x name.now (view value.now)) e) }
 {
     let neighbours = Neighbours {
         dialect: site.dialect,
@@ -154,7 +155,7 @@ fn applied<'r>(
     requires reference { references.named name.now ≡ None }
     requires assertion { is_listed name.now assertion_names ≡ false }
     ensures read { IfOk result (λ k. (x : rows.Context) → Surrounds site.now (members_view members.now.entries) x → rows.counts_here x name.now ≡ true → rows.row_at x name.now (view value.now) ≡ row_of x.documents x.site k) }
-    ensures counted { IfOk result (λ k. (s : sites.Site) (ms : Members) → is_unread s ms name.now (view value.now) ≡ false) }
+    ensures counted { IfOk result (λ k. (s : sites.Site) → Stands site.now s → is_unread s (members_view members.now.entries) name.now (view value.now) ≡ false) }
     ensures found { IfOk result (λ k. Finds site.now (view value.now) k) }
     ensures refused { IfErr result (λ e. (x : rows.Context) → Surrounds site.now (members_view members.now.entries) x → rows.counts_here x name.now ≡ true → Refuses x name.now (view value.now) (rows.row_at x name.now (view value.now)) e) }
 {
@@ -167,6 +168,7 @@ fn applied<'r>(
         "dependentSchemas" => applying_values(site, members, name, value),
         "allOf" => applying_values(site, members, name, value),
         "additionalItems" => applying_values(site, members, name, value),
+        "additionalProperties" => applying_values(site, members, name, value),
         "anyOf" => applying_values(site, members, name, value),
         "oneOf" => applying_values(site, members, name, value),
         "not" => applying_values(site, members, name, value),
@@ -184,7 +186,7 @@ fn counted<'r>(
 ) -> Result<Keyword<'r>, Refusal<'r>>
     requires other { references.named name.now ≡ None }
     ensures read { IfOk result (λ k. (x : rows.Context) → Surrounds site.now (members_view members.now.entries) x → rows.counts_here x name.now ≡ true → rows.row_at x name.now (view value.now) ≡ row_of x.documents x.site k) }
-    ensures counted { IfOk result (λ k. (s : sites.Site) (ms : Members) → is_unread s ms name.now (view value.now) ≡ false) }
+    ensures counted { IfOk result (λ k. (s : sites.Site) → Stands site.now s → is_unread s (members_view members.now.entries) name.now (view value.now) ≡ false) }
     ensures found { IfOk result (λ k. Finds site.now (view value.now) k) }
     ensures refused { IfErr result (λ e. (x : rows.Context) → Surrounds site.now (members_view members.now.entries) x → rows.counts_here x name.now ≡ true → Refuses x name.now (view value.now) (rows.row_at x name.now (view value.now)) e) }
 {

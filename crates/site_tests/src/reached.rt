@@ -77,6 +77,14 @@ fn causes(rt: HostRuntime) -> Result<(), Fail> {
             "Keyword at 'http://a.test/r#/items/contains' is not there yet",
         ),
         (
+            "{\"additionalProperties\":false,\"patternProperties\":{}}",
+            "Keyword at 'http://a.test/r#/additionalProperties' is not there yet",
+        ),
+        (
+            "{\"additionalProperties\":{\"items\":5},\"properties\":{}}",
+            "Keyword value at 'http://a.test/r#/additionalProperties/items': expected schema",
+        ),
+        (
             "{\"$schema\":\"http://json-schema.org/draft-07/schema#\"}",
             "accepted",
         ),

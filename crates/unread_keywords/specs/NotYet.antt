@@ -1,6 +1,7 @@
 -- What is not read yet: a scaffold, for as long as keywords are missing. A build that meets any of it refuses it.
-use Rattle.std.specs.Prelude.{ℕ, List, [], ◌∷◌, ◌++◌, Bool, not, ◌&&◌, codes, if◌then◌else◌}
+use Rattle.std.specs.Prelude.{ℕ, List, [], ◌∷◌, ◌++◌, Bool, not, ◌&&◌, ◌||◌, bytes_eq, codes, is_some, if◌then◌else◌, None}
 use Rattle.serde_json.specs.Data.{Data, null, boolean, number, string, array, object, Members, no_members, member}
+use Rattle.serde_json.specs.Find.{get_member}
 use Rattle.schema_drafts.specs.Counts.{counts}
 use Rattle.json_paths.specs.Parts.{Part, name}
 use Rattle.schema_meaning.specs.Members.{In, is_listed}
@@ -9,7 +10,7 @@ use Rattle.schema_reading.specs.Sites.{Site}
 use Rattle.schema_reading.specs.Rows.{Place, BuildCause, has_reference}
 use Rattle.schema_reading.specs.BuildCauses.{Reached, IsCauseOf}
 
--- the keywords that are read, and those that are left out by their own cause
+-- the keywords that are read whatever stands beside, and those that are left out by their own cause
 abbrev pub read_now : List (List ℕ)
 read_now =
     codes "$ref" ∷ codes "$dynamicRef" ∷ codes "$recursiveRef" ∷ codes "type" ∷ codes "enum" ∷ codes "const" ∷ codes "multipleOf" ∷ codes "maximum" ∷ codes "minimum"
@@ -21,9 +22,19 @@ read_now =
 abbrev pub place_of : Site → List Part → Place
 place_of s added = record { document = s.document; path = added ++ s.path }
 
+abbrev pub counts_at : Site → Members → List ℕ → Bool
+counts_at s ms k = counts s.dialect.draft s.dialect.vocabularies (has_reference ms) k
+
+-- patterns that count: none is matched yet, so `additionalProperties` is not read beside them
+abbrev pub has_patterns : Site → Members → Bool
+has_patterns s ms = is_some (if counts_at s ms (codes "patternProperties") then get_member (codes "patternProperties") ms else None)
+
+abbrev pub is_read_beside : Site → Members → List ℕ → Bool
+is_read_beside s ms k = is_listed k read_now || (bytes_eq k (codes "additionalProperties") && not (has_patterns s ms))
+
 -- a keyword that counts and is not read
 abbrev pub is_unread : Site → Members → List ℕ → Data → Bool
-is_unread s ms k d = counts s.dialect.draft s.dialect.vocabularies (has_reference ms) k && not (is_listed k read_now)
+is_unread s ms k d = counts_at s ms k && not (is_read_beside s ms k)
 
 abbrev pub unread_members : Site → Members → Members → List Place
 unread_members s all no_members = []

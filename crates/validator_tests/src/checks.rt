@@ -218,3 +218,28 @@ fn into_branches(rt: HostRuntime) -> Result<(), Fail> {
     }
     Ok(())
 }
+
+#[test]
+fn into_members_that_are_not_declared(rt: HostRuntime) -> Result<(), Fail> {
+    let alloc = rt.alloc();
+    let alone = "{\"additionalProperties\":false}";
+    let beside = "{\"properties\":{\"a\":true},\"additionalProperties\":false}";
+    let numbers = "{\"properties\":{\"a\":true},\"additionalProperties\":{\"minimum\":2}}";
+    for (root, instance, evaluation, want) in [
+        (alone, "", "/additionalProperties", "accepted"),
+        (alone, "/a", "/additionalProperties", "accepted"),
+        (alone, "/c", "/additionalProperties", "refused"),
+        (beside, "", "/additionalProperties", "accepted"),
+        (beside, "/a", "/additionalProperties", "refused"),
+        (beside, "/b", "/additionalProperties", "accepted"),
+        (beside, "/b", "/additionalProperties/b", "refused"),
+        (numbers, "/a", "/additionalProperties/minimum", "refused"),
+        (numbers, "/b", "/additionalProperties/minimum", "accepted"),
+        (numbers, "/b", "/additionalProperties", "refused"),
+    ] {
+        let registry = registry(alloc, root)?;
+        let word = said(alloc, &registry, "{\"a\":1,\"b\":1}", instance, evaluation)?;
+        assert_eq!(rt; word, want, "{root} {instance} {evaluation}");
+    }
+    Ok(())
+}

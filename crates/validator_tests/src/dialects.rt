@@ -12,14 +12,19 @@ const META: &str =
 const ABOVE: &str =
     "{\"$schema\":\"http://a.test/meta\",\"$id\":\"http://a.test/above\",\"$vocabulary\":{\"https://json-schema.org/draft/2020-12/vocab/core\":true,\"https://json-schema.org/draft/2020-12/vocab/validation\":true,\"https://json-schema.org/draft/2020-12/vocab/applicator\":false}}";
 
+// One that knows nothing of subschemas.
+const BARE: &str =
+    "{\"$schema\":\"https://json-schema.org/draft/2020-12/schema\",\"$id\":\"http://a.test/bare\",\"$vocabulary\":{\"https://json-schema.org/draft/2020-12/vocab/core\":true}}";
+
 const OLD: &str =
     "{\"$schema\":\"http://json-schema.org/draft-07/schema#\",\"$id\":\"http://a.test/old\"}";
 
-// What is told of an instance by a schema beside these three.
+// What is told of an instance by a schema beside these four.
 fn told_beside(alloc: Global, schema: &str, instance: &str) -> Result<String, Fail> {
     let documents = [
         ("http://a.test/meta", META),
         ("http://a.test/above", ABOVE),
+        ("http://a.test/bare", BARE),
         ("http://a.test/old", OLD),
         ("http://a.test/r", schema),
     ];
@@ -38,6 +43,13 @@ fn vocabularies_that_are_required(rt: HostRuntime) -> Result<(), Fail> {
     for (instance, want) in [("{}", ""), ("[]", ""), ("{\"a\":1}", "/a /properties/a\n")] {
         assert_eq!(rt; told_beside(alloc, schema, instance)?.as_str(), want);
     }
+    // where members are not declared, none is refused for that
+    let closed =
+        "{\"$schema\":\"http://a.test/bare\",\"properties\":{\"a\":false},\"additionalProperties\":false}";
+    assert_eq!(rt;
+        told_beside(alloc, closed, "{\"a\":1,\"b\":1}")?.as_str(),
+        ""
+    );
     let asserting =
         "{\"$schema\":\"http://a.test/above\",\"properties\":{\"a\":false},\"minItems\":3,\"type\":\"array\"}";
     for (instance, want) in [

@@ -1,13 +1,13 @@
 -- What questions add to the road begins by their keyword.
-use Rattle.std.proofs.Common.{◌≡◌, ◌++◌, ℕ, suc, List, [], ◌∷◌, Option, None, Some, refl}
+use Rattle.std.proofs.Common.{◌≡◌, ◌++◌, ℕ, suc, List, [], ◌∷◌, Option, None, Some, refl, sym, ap}
 use Rattle.std.specs.List.{AllByRecursion}
 use Rattle.serde_json.specs.Data.{Data, Items, no_items, item}
 use Rattle.serde_json.specs.Find.{get}
 use Rattle.json_paths.specs.Parts.{Part, name, index}
 use Rattle.schema_meaning.specs.Members.{In, first, later}
-use Rattle.schema_meaning.specs.Places.{stay}
-use Rattle.schema_meaning.specs.Questions.{Question, question, at, at_name, each_branch, item_by_item, if_member, each_triggered}
-use Rattle.walk_laws.proofs.Listed.{in_some}
+use Rattle.schema_meaning.specs.Places.{stay, to_member}
+use Rattle.schema_meaning.specs.Questions.{Question, question, at, at_name, each_branch, item_by_item, if_member, each_member, each_triggered}
+use Rattle.walk_laws.proofs.Listed.{in_some, in_mapped}
 
 abbrev pub AddsTo : {S : Type 0} → List ℕ → Question S → Type 0
 AddsTo k q = (ps : List Part) × (q.added ≡ ps ++ at k)
@@ -34,3 +34,6 @@ module _ {S : Type 0} (k : List ℕ) where
 
   pub triggered_added : (d : Data) (ps : List (List ℕ × S)) (q : Question S) → In q (each_triggered k d ps) → AddsTo k q
   triggered_added d ps q h = let w = in_some (trigger d) ps h in one_added w.0 (get w.0.0 d) q w.2
+
+  pub member_added : (s : S) (ms : List (List ℕ × Data)) (q : Question S) → In q (each_member k s ms) → q.added ≡ at k
+  member_added s ms q i = let w = in_mapped (λ m. question s (to_member m.0 m.1) (at k)) ms i in ap (λ (p : Question S). p.added) (sym w.2)

@@ -11,11 +11,11 @@ use Rattle.schema_values.specs.Texts.{count_items}
 use Rattle.schema_documents.specs.Lookup.{Target, LookupCause, lookup}
 use Rattle.schema_documents.specs.Scopes.{dynamic_lookup, recursive_lookup}
 use Rattle.schema_meaning.specs.Members.{In, first, later, is_listed}
-use Rattle.schema_meaning.specs.Keywords.{Assertion, named, types, constant, enumeration, multiple_of, maximum, exclusive_maximum, minimum, exclusive_minimum, maximum_of_draft_4, minimum_of_draft_4, max_length, min_length, max_items, min_items, max_properties, min_properties, dependent_required, Shape, asserts, items, item_list, prefix_items, properties, dependent_schemas, all_of, any_of, one_of, negation, additional_items, no_additional_items, Reference, static, dynamic, recursive, reference_name, reference}
-use Rattle.unread_keywords.specs.NotYet.{is_unread, read_now}
+use Rattle.schema_meaning.specs.Keywords.{Assertion, named, types, constant, enumeration, multiple_of, maximum, exclusive_maximum, minimum, exclusive_minimum, maximum_of_draft_4, minimum_of_draft_4, max_length, min_length, max_items, min_items, max_properties, min_properties, dependent_required, Shape, asserts, items, item_list, prefix_items, properties, dependent_schemas, all_of, any_of, one_of, negation, additional_items, no_additional_items, additional_properties, no_additional_properties, no_properties, Reference, static, dynamic, recursive, reference_name, reference}
+use Rattle.unread_keywords.specs.NotYet.{is_unread, is_read_beside, has_patterns, read_now}
 use Rattle.schema_reading.specs.Sites.{Site, target_site}
 use Rattle.schema_reading.specs.Values.{type_names, count_of, positive_of, whole_number, unique_names}
-use Rattle.schema_reading.specs.Rows.{BuildCause, behind_items, additional_items_row, is_false, Row, nothing_read, reads, Context, counts_here, at, bad_value, subschema, each_subschema, each_named, row_of, one_schema, schema_list, sites_named, schema_map, asserted, assertion, length_of_list, beside, takes_list, items_row, with_causes, target_causes, no_schema_there, led_to, ref_row, dynamic_row, is_hash, recursive_row, is_draft_4, is_true, unique_row, unless_empty, required_entries, dependent_required_row, readers, read_among, row_at}
+use Rattle.schema_reading.specs.Rows.{BuildCause, behind_items, additional_items_row, is_false, declared_beside, is_alone, refuses_others, additional_properties_row, Row, nothing_read, reads, Context, counts_here, at, bad_value, subschema, each_subschema, each_named, row_of, one_schema, schema_list, sites_named, schema_map, asserted, assertion, length_of_list, beside, takes_list, items_row, with_causes, target_causes, no_schema_there, led_to, ref_row, dynamic_row, is_hash, recursive_row, is_draft_4, is_true, unique_row, unless_empty, required_entries, dependent_required_row, readers, read_among, row_at}
 use Rattle.walk_laws.specs.Words.{IsOf, IsUnder, member_of}
 
 abbrev AreOf : List ℕ → Row → Type 0
@@ -214,6 +214,33 @@ of_read x _ d (later (later (later (later (later (later (later (later (later (la
 of_read x _ d (later (later (later (later (later (later (later (later (later (later (later (later (later (later (later (later (later (later (later (later (later (later (later (later (later (later (later (later (later (later first)))))))))))))))))))))))))))))) = own (is_draft_4 x.site.dialect.draft) (codes "not") refl refl _ (of_row (codes "not") (λ s. s ∷ []) (λ s. negation d s ∷ []) (λ s. (refl, tt)) (subschema x (at (codes "not")) d))
 of_read x k d (later (later (later (later (later (later (later (later (later (later (later (later (later (later (later (later (later (later (later (later (later (later (later (later (later (later (later (later (later (later (later i))))))))))))))))))))))))))))))) = elim i [ ]
 
+-- `additionalProperties` is read by what stands beside
+of_others : (x : Context) (d : Data) → AreOf (codes "additionalProperties") (additional_properties_row x (codes "additionalProperties") d)
+of_others x null = tt
+of_others x (boolean true) = tt
+of_others x (boolean false) =
+    of_row (codes "additionalProperties") (λ s. s ∷ []) (λ s. refuses_others x s ∷ []) (λ s. (refusing (is_alone x) s, tt)) (subschema x (at (codes "additionalProperties")) (boolean false))
+  where
+    refusing : (b : Bool) (s : Site) → IsOf (codes "additionalProperties") (if b then no_properties s else no_additional_properties (declared_beside x) s)
+    refusing true s = refl
+    refusing false s = refl
+of_others x (number n) = tt
+of_others x (string s) = tt
+of_others x (array ds) = tt
+of_others x (object ms) =
+    of_row (codes "additionalProperties") (λ s. s ∷ []) (λ s. additional_properties (declared_beside x) s ∷ []) (λ s. (refl, tt)) (subschema x (at (codes "additionalProperties")) (object ms))
+
+others_under : (x : Context) (d : Data) → AreUnder x (codes "additionalProperties") (read_among readers x (codes "additionalProperties") d)
+unfolding escape
+others_under x d = own (is_draft_4 x.site.dialect.draft) (codes "additionalProperties") refl refl _ (of_others x d)
+
+of_either : (x : Context) (k : List ℕ) (d : Data) (a b c : Bool) → is_listed k read_now ≡ a → bytes_eq k (codes "additionalProperties") ≡ b → (a || (b && c)) ≡ true
+    → AreUnder x k (read_among readers x k d)
+of_either x k d true b c listed other h = of_read x k d (listed_in k read_now listed)
+of_either x k d false true c listed other h =
+    subst (λ (n : List ℕ). AreUnder x n (read_among readers x n d)) (sym ((bytes_eq-Decides k (codes "additionalProperties")).0 other)) (others_under x d)
+of_either x k d false false c listed other h = absurd (true≢false (sym h))
+
 counted : (b c : Bool) → b ≡ true → (b && not c) ≡ false → c ≡ true
 counted true true h f = refl
 counted true false h f = absurd (true≢false f)
@@ -224,5 +251,7 @@ pub shapes_are_under : (x : Context) (k : List ℕ) (d : Data) → is_unread x.s
 shapes_are_under x k d read = by (counts_here x k) refl
   where
     by : (b : Bool) → counts_here x k ≡ b → AreUnder x k (if b then read_among readers x k d else nothing_read)
-    by true e = of_read x k d (listed_in k read_now (counted (counts_here x k) (is_listed k read_now) e read))
+    by true e =
+        of_either x k d (is_listed k read_now) (bytes_eq k (codes "additionalProperties")) (not (has_patterns x.site x.members)) refl refl
+        (counted (counts_here x k) (is_read_beside x.site x.members k) e read)
     by false e = tt

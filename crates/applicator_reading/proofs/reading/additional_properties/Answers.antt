@@ -1,29 +1,21 @@
-use Rattle.std.proofs.Common.{◌≡◌, ◌∙◌, ◌&&◌, not, false, true, Some, codes, sym, ap, ap₂}
+use Rattle.std.proofs.Common.{◌≡◌, ◌∙◌, Bool, not, codes, sym, ap}
 use Rattle.std.specs.Prelude.{is_some}
-use Rattle.serde_json.specs.View.{view}
-use Rattle.schema_reading.specs.Rows.{Context, is_alone}
+use Rattle.schema_reading.specs.Rows.{Context}
 use Rattle.applicator_reading.specs.Beside.{Surrounds, beside_in}
+use Rattle.applicator_reading.specs.Names.{has_no_patterns}
 use Rattle.applicator_reading.specs.declared.neighbours.Neighbours.{Neighbours}
 use Rattle.applicator_reading.proofs.RowLemmas.{neighbour}
-use Rattle.applicator_reading.proofs.ArmLemmas.{additional-alone, additional-other, needs-false}
 use Rattle.applicator_reading.proofs.reading.additional_properties.Goals as goal
 
-alone-there : (n : Neighbours) (x : Context) → Surrounds n x
-    → is_alone x ≡ (not (is_some (beside_in n (codes "properties"))) && not (is_some (beside_in n (codes "patternProperties"))))
-alone-there n x s = ap₂ (λ a b. not (is_some a) && not (is_some b)) (neighbour n x s (codes "properties")) (neighbour n x s (codes "patternProperties"))
+patterns-there : (n : Neighbours) (x : Context) (b : Bool) → Surrounds n x → is_some (beside_in n (codes "patternProperties")) ≡ b → has_no_patterns x ≡ not b
+patterns-there n x b s e = ap (λ o. not (is_some o)) (neighbour n x s (codes "patternProperties")) ∙ ap not e
 
-pub returns-then-is_alone-clause-read : goal.returns-then-is_alone-clause-read
-returns-then-is_alone-clause-read c = λ x s.
-    additional-alone x (codes "additionalProperties") (view c.args.value.now) (ap Some (sym c.in-Some-false.field-0-test) ∙ c.in-Some-false.ensures)
-    (alone-there c.args.neighbours x s ∙ sym c.is_alone.ensures ∙ c.if-is_alone.true)
+pub returns-then-is_beside-clause-other : goal.returns-then-is_beside-clause-other
+returns-then-is_beside-clause-other c = λ x s. patterns-there c.args.neighbours x _ s (sym c.is_beside.ensures ∙ c.if-is_beside.true)
 
-pub returns-then-is_alone-clause-named : goal.returns-then-is_alone-clause-named
-returns-then-is_alone-clause-named c = λ x s.
-    needs-false x (view c.args.value.now) true (ap Some (sym c.in-Some-false.field-0-test) ∙ c.in-Some-false.ensures) (alone-there c.args.neighbours x s ∙ sym c.is_alone.ensures ∙ c.if-is_alone.true)
+pub returns-else-is_beside-clause-read : goal.returns-else-is_beside-clause-read
+returns-else-is_beside-clause-read c = λ x s.
+    c.other_properties.ensures.read x s (patterns-there c.args.neighbours x _ s (sym c.is_beside.ensures ∙ c.if-is_beside.false))
 
-pub returns-else-is_alone-clause-other : goal.returns-else-is_alone-clause-other
-returns-else-is_alone-clause-other c = λ x s.
-    needs-false x (view c.args.value.now) false (ap Some (sym c.in-Some-false.field-0-test) ∙ c.in-Some-false.ensures) (alone-there c.args.neighbours x s ∙ sym c.is_alone.ensures ∙ c.if-is_alone.false)
-
-pub returns-else-is_schema-clause-read : goal.returns-else-is_schema-clause-read
-returns-else-is_schema-clause-read c = λ x s. additional-other x (codes "additionalProperties") (view c.args.value.now) c.in-None.ensures (sym c.is_schema.ensures ∙ c.if-is_schema.false)
+pub returns-else-is_beside-clause-named : goal.returns-else-is_beside-clause-named
+returns-else-is_beside-clause-named c = λ x s. patterns-there c.args.neighbours x _ s (sym c.is_beside.ensures ∙ c.if-is_beside.false)

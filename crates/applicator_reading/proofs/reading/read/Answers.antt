@@ -161,4 +161,4 @@ returns-in-else-clause-values c = λ l. absurd (not-valued c.args.name.now (code
 
 pub returns-in-additionalProperties-clause-values : goal.returns-in-additionalProperties-clause-values
 returns-in-additionalProperties-clause-values c =
-    some-valued c.additional_properties.result (λ l. not-valued c.args.name.now (codes "additionalProperties") c.in-additionalProperties.is refl l)
+    some-valued _ c.additional_properties.result c.additional_properties.ensures.values

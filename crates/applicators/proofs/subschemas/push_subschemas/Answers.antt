@@ -17,6 +17,16 @@ returns-in-NoAdditionalItems c =
     subst (λ (a : Applicator). OnOk c.push_whole-in-NoAdditionalItems.result ((site : List Part → Data → Site) → map (place_of site) c.push_whole-in-NoAdditionalItems.new.found.items ≡ map (place_of site) c.args.found.now.items ++ leads_of site a))
     (sym c.in-NoAdditionalItems.is) c.push_whole-in-NoAdditionalItems.ensures
 
+pub returns-in-AdditionalProperties : goal.returns-in-AdditionalProperties
+returns-in-AdditionalProperties c =
+    subst (λ (a : Applicator). OnOk c.push_whole-in-AdditionalProperties.result ((site : List Part → Data → Site) → map (place_of site) c.push_whole-in-AdditionalProperties.new.found.items ≡ map (place_of site) c.args.found.now.items ++ leads_of site a))
+    (sym c.in-AdditionalProperties.is) c.push_whole-in-AdditionalProperties.ensures
+
+pub returns-in-NoAdditionalProperties : goal.returns-in-NoAdditionalProperties
+returns-in-NoAdditionalProperties c =
+    subst (λ (a : Applicator). OnOk c.push_whole-in-NoAdditionalProperties.result ((site : List Part → Data → Site) → map (place_of site) c.push_whole-in-NoAdditionalProperties.new.found.items ≡ map (place_of site) c.args.found.now.items ++ leads_of site a))
+    (sym c.in-NoAdditionalProperties.is) c.push_whole-in-NoAdditionalProperties.ensures
+
 pub returns-in-NoProperties : goal.returns-in-NoProperties
 returns-in-NoProperties c =
     subst (λ (a : Applicator). OnOk c.push_whole-in-NoProperties.result ((site : List Part → Data → Site) → map (place_of site) c.push_whole-in-NoProperties.new.found.items ≡ map (place_of site) c.args.found.now.items ++ leads_of site a))

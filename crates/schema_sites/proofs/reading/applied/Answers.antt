@@ -28,28 +28,32 @@ returns-in-unevaluatedProperties-clause-refused c =
 
 pub returns-in-prefixItems-clause-refused : goal.returns-in-prefixItems-clause-refused
 returns-in-prefixItems-clause-refused c =
-    if-err _ _ c.applying_values.result (λ e h x s counted. refused-counted x c.args.name.now (view c.args.value.now) counted e (h x s)) c.applying_values.ensures.refused
+    if-err _ _ c.applying_values.result (λ e h x s counted. refused-counted x c.args.name.now (view c.args.value.now) counted e (h x s counted)) c.applying_values.ensures.refused
 
 pub returns-in-dependentSchemas-clause-refused : goal.returns-in-dependentSchemas-clause-refused
 returns-in-dependentSchemas-clause-refused c =
-    if-err _ _ c.applying_values-in-dependentSchemas.result (λ e h x s counted. refused-counted x c.args.name.now (view c.args.value.now) counted e (h x s)) c.applying_values-in-dependentSchemas.ensures.refused
+    if-err _ _ c.applying_values-in-dependentSchemas.result (λ e h x s counted. refused-counted x c.args.name.now (view c.args.value.now) counted e (h x s counted)) c.applying_values-in-dependentSchemas.ensures.refused
 
 pub returns-in-allOf-clause-refused : goal.returns-in-allOf-clause-refused
 returns-in-allOf-clause-refused c =
-    if-err _ _ c.applying_values-in-allOf.result (λ e h x s counted. refused-counted x c.args.name.now (view c.args.value.now) counted e (h x s)) c.applying_values-in-allOf.ensures.refused
+    if-err _ _ c.applying_values-in-allOf.result (λ e h x s counted. refused-counted x c.args.name.now (view c.args.value.now) counted e (h x s counted)) c.applying_values-in-allOf.ensures.refused
 
 pub returns-in-additionalItems-clause-refused : goal.returns-in-additionalItems-clause-refused
 returns-in-additionalItems-clause-refused c =
-    if-err _ _ c.applying_values-in-additionalItems.result (λ e h x s counted. refused-counted x c.args.name.now (view c.args.value.now) counted e (h x s)) c.applying_values-in-additionalItems.ensures.refused
+    if-err _ _ c.applying_values-in-additionalItems.result (λ e h x s counted. refused-counted x c.args.name.now (view c.args.value.now) counted e (h x s counted)) c.applying_values-in-additionalItems.ensures.refused
+
+pub returns-in-additionalProperties-clause-refused : goal.returns-in-additionalProperties-clause-refused
+returns-in-additionalProperties-clause-refused c =
+    if-err _ _ c.applying_values-in-additionalProperties.result (λ e h x s counted. refused-counted x c.args.name.now (view c.args.value.now) counted e (h x s counted)) c.applying_values-in-additionalProperties.ensures.refused
 
 pub returns-in-anyOf-clause-refused : goal.returns-in-anyOf-clause-refused
 returns-in-anyOf-clause-refused c =
-    if-err _ _ c.applying_values-in-anyOf.result (λ e h x s counted. refused-counted x c.args.name.now (view c.args.value.now) counted e (h x s)) c.applying_values-in-anyOf.ensures.refused
+    if-err _ _ c.applying_values-in-anyOf.result (λ e h x s counted. refused-counted x c.args.name.now (view c.args.value.now) counted e (h x s counted)) c.applying_values-in-anyOf.ensures.refused
 
 pub returns-in-oneOf-clause-refused : goal.returns-in-oneOf-clause-refused
 returns-in-oneOf-clause-refused c =
-    if-err _ _ c.applying_values-in-oneOf.result (λ e h x s counted. refused-counted x c.args.name.now (view c.args.value.now) counted e (h x s)) c.applying_values-in-oneOf.ensures.refused
+    if-err _ _ c.applying_values-in-oneOf.result (λ e h x s counted. refused-counted x c.args.name.now (view c.args.value.now) counted e (h x s counted)) c.applying_values-in-oneOf.ensures.refused
 
 pub returns-in-not-clause-refused : goal.returns-in-not-clause-refused
 returns-in-not-clause-refused c =
-    if-err _ _ c.applying_values-in-not.result (λ e h x s counted. refused-counted x c.args.name.now (view c.args.value.now) counted e (h x s)) c.applying_values-in-not.ensures.refused
+    if-err _ _ c.applying_values-in-not.result (λ e h x s counted. refused-counted x c.args.name.now (view c.args.value.now) counted e (h x s counted)) c.applying_values-in-not.ensures.refused

@@ -15,4 +15,4 @@ returns-in-Some-clause-read c =
 pub returns-in-Some-clause-counted : goal.returns-in-Some-clause-counted
 returns-in-Some-clause-counted c =
     let listed = some-of _ c.in_ok-reading.field-0 c.in-Some.reading c.in-Some.is c.in_ok-reading.ensures.named in
-    ok-always _ c.asserting.result (λ w. assertion-read c.args.name.now (view c.args.value.now) listed)
+    ok-always _ c.asserting.result (λ w s stands. assertion-read c.args.name.now (view c.args.value.now) listed s (members_view c.args.members.now.entries))

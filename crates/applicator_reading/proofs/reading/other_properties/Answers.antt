@@ -1,0 +1,28 @@
+use Rattle.std.proofs.Common.{[], ◌∷◌, ◌∙◌, Some, codes, sym, ap, subst}
+use Rattle.serde_json.specs.View.{view}
+use Rattle.schema_meaning.specs.Questions.{Declared}
+use Rattle.schema_meaning.specs.Keywords.{additional_properties}
+use Rattle.schema_reading.specs.Rows.{Row, reads, at, names_of_object, declared_beside}
+use Rattle.applicator_reading.specs.Reads.{ReadsAs, site_in}
+use Rattle.applicator_reading.proofs.RowLemmas.{neighbour}
+use Rattle.applicator_reading.proofs.ArmLemmas.{others-row, others-allowed, others-refused, declared-there}
+use Rattle.applicator_reading.proofs.reading.other_properties.Goals as goal
+
+pub returns-in-Some-true-clause-read : goal.returns-in-Some-true-clause-read
+returns-in-Some-true-clause-read c = λ x s none.
+    others-allowed x (codes "additionalProperties") (view c.args.value.now) (ap Some (sym c.in-Some-true.field-0-test) ∙ c.in-Some-true.ensures)
+
+pub returns-in-Some-false-clause-read : goal.returns-in-Some-false-clause-read
+returns-in-Some-false-clause-read c = λ x s none.
+    others-refused x (codes "additionalProperties") (view c.args.value.now) c.refusing_others.result (ap Some (sym c.in-Some-false.field-0-test) ∙ c.in-Some-false.ensures)
+    (c.refusing_others.ensures.shape x s none) (c.refusing_others.ensures.leads x)
+
+pub returns-in-None-clause-read : goal.returns-in-None-clause-read
+returns-in-None-clause-read c = λ x s none.
+    let k = codes "additionalProperties" in
+    let d = view c.args.value.now in
+    let t = site_in x (at k) d in
+    let declared = declared-there x _ none (c.properties_beside.ensures ∙ ap names_of_object (sym (neighbour c.args.neighbours x s (codes "properties")))) in
+    subst (λ (row : Row). ReadsAs x k row c.if_schema.result) (sym (others-row x k d c.in-None.ensures))
+    (c.if_schema.ensures.read x k (λ s. additional_properties (declared_beside x) s ∷ [])
+    (ap (λ (w : Declared). reads (t ∷ []) (additional_properties w t ∷ [])) (sym declared)))
