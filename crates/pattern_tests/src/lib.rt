@@ -2,6 +2,8 @@
 #![tactic(auto)]
 
 #[cfg(test)]
+mod keywords;
+#[cfg(test)]
 mod makers;
 #[cfg(test)]
 mod read;
