@@ -2,3 +2,4 @@ pub mod RowLemmas
 pub mod ListLemmas
 pub mod ArmLemmas
 pub mod NamedLemmas
+pub mod DependencyLemmas

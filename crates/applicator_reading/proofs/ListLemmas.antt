@@ -18,7 +18,7 @@ use Rattle.applicator_reading.specs.Reads.{site_in, IsCause, IsRefusedFor}
 use Rattle.applicator_reading.specs.declared.keyword.ListKeyword.{ListKeyword}
 use Rattle.applicator_reading.specs.declared.keyword.MapKeyword.{MapKeyword}
 
-list-there : {A : Type 0} (f : Items → A) (other : A) (d : Data) (ds : Items) → Some ds ≡ as_array d → in_list f other d ≡ f ds
+pub list-there : {A : Type 0} (f : Items → A) (other : A) (d : Data) (ds : Items) → Some ds ≡ as_array d → in_list f other d ≡ f ds
 list-there f other null ds e = cc
 list-there f other (boolean b) ds e = cc
 list-there f other (number n) ds e = cc
@@ -26,7 +26,7 @@ list-there f other (string s) ds e = cc
 list-there f other (array es) ds e = let same : ds ≡ es = cc in ap f (sym same)
 list-there f other (object ms) ds e = cc
 
-no-list : {A : Type 0} (f : Items → A) (other : A) (d : Data) → None ≡ as_array d → in_list f other d ≡ other
+pub no-list : {A : Type 0} (f : Items → A) (other : A) (d : Data) → None ≡ as_array d → in_list f other d ≡ other
 no-list f other null e = refl
 no-list f other (boolean b) e = refl
 no-list f other (number n) e = refl
@@ -34,7 +34,7 @@ no-list f other (string s) e = refl
 no-list f other (array es) e = cc
 no-list f other (object ms) e = refl
 
-object-there : {A : Type 0} (f : Members → A) (other : A) (d : Data) (ms : Members) → Some ms ≡ as_object d → in_object f other d ≡ f ms
+pub object-there : {A : Type 0} (f : Members → A) (other : A) (d : Data) (ms : Members) → Some ms ≡ as_object d → in_object f other d ≡ f ms
 object-there f other null ms e = cc
 object-there f other (boolean b) ms e = cc
 object-there f other (number n) ms e = cc
@@ -42,7 +42,7 @@ object-there f other (string s) ms e = cc
 object-there f other (array es) ms e = cc
 object-there f other (object ns) ms e = let same : ms ≡ ns = cc in ap f (sym same)
 
-no-object : {A : Type 0} (f : Members → A) (other : A) (d : Data) → None ≡ as_object d → in_object f other d ≡ other
+pub no-object : {A : Type 0} (f : Members → A) (other : A) (d : Data) → None ≡ as_object d → in_object f other d ≡ other
 no-object f other null e = refl
 no-object f other (boolean b) e = refl
 no-object f other (number n) e = refl
@@ -55,16 +55,16 @@ in_front x [] ys h = elim h [ ]
 in_front x (y ∷ xs) ys first = first
 in_front x (y ∷ xs) ys (later h) = later (in_front x xs ys h)
 
-refused_first : {A : Type 0} (cause : BuildCause) (r : Result A (List BuildCause)) (rest : Result (List A) (List BuildCause)) → IsRefusedFor cause r → IsRefusedFor cause (and_more r rest)
+pub refused_first : {A : Type 0} (cause : BuildCause) (r : Result A (List BuildCause)) (rest : Result (List A) (List BuildCause)) → IsRefusedFor cause r → IsRefusedFor cause (and_more r rest)
 refused_first cause (Ok x) rest h = absurd h
 refused_first cause (Err wrong) (Ok xs) h = h
 refused_first cause (Err wrong) (Err more) h = in_front cause wrong more h
 
-refused_more : {A : Type 0} (cause : BuildCause) (x : A) (r : Result (List A) (List BuildCause)) → IsRefusedFor cause r → IsRefusedFor cause (and_more (Ok x) r)
+pub refused_more : {A : Type 0} (cause : BuildCause) (x : A) (r : Result (List A) (List BuildCause)) → IsRefusedFor cause r → IsRefusedFor cause (and_more (Ok x) r)
 refused_more cause x (Ok xs) h = absurd h
 refused_more cause x (Err more) h = h
 
-row_refused : {A : Type 0} (leads : A → List Site) (shapes : A → List (Shape Site)) (cause : BuildCause) (r : Result A (List BuildCause)) → IsRefusedFor cause r → IsCause cause (row_of leads shapes r)
+pub row_refused : {A : Type 0} (leads : A → List Site) (shapes : A → List (Shape Site)) (cause : BuildCause) (r : Result A (List BuildCause)) → IsRefusedFor cause r → IsCause cause (row_of leads shapes r)
 row_refused leads shapes cause (Ok x) h = absurd h
 row_refused leads shapes cause (Err causes) h = record { stands = h; alone = refl }
 

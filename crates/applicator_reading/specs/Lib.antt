@@ -4,3 +4,4 @@ pub mod Others
 pub mod Arms
 pub mod Names
 pub mod Reads
+pub mod Dependencies

@@ -13,10 +13,11 @@ applicator_names =
 abbrev pub has_no_patterns : Context → Bool
 has_no_patterns x = not (is_some (beside x (codes "patternProperties")))
 
--- the names of those whose verdict is by the number of answers that are yes
+-- the names of those whose verdict is by the number of answers that are yes, and of the bounds that one of them reads
 abbrev pub valued_names : List (List ℕ)
 valued_names =
-    codes "items" ∷ codes "prefixItems" ∷ codes "additionalItems" ∷ codes "properties" ∷ codes "additionalProperties" ∷ codes "dependentSchemas" ∷ codes "allOf" ∷ codes "anyOf" ∷ codes "oneOf" ∷ codes "not" ∷ []
+    codes "items" ∷ codes "prefixItems" ∷ codes "additionalItems" ∷ codes "properties" ∷ codes "additionalProperties" ∷ codes "dependentSchemas" ∷ codes "allOf" ∷ codes "anyOf" ∷ codes "oneOf" ∷ codes "not"
+    ∷ codes "contains" ∷ codes "minContains" ∷ codes "maxContains" ∷ []
 
 abbrev pub is_read : Context → List ℕ → Data → Bool
 is_read x k d = is_listed k applicator_names || (bytes_eq k (codes "additionalProperties") && has_no_patterns x)

@@ -154,7 +154,8 @@ fn additional_items<'r>(neighbours: Neighbours<'r>, value: &'r Value) -> Reading
 }
 
 fn contains<'r>(neighbours: Neighbours<'r>, value: &'r Value) -> Reading<'r>
-    ensures { (x : rows.Context) → Surrounds neighbours.entry x → ReadsAs x (codes "contains") (rows.contains_row x (codes "contains") (view value.now)) result }
+    ensures read { (x : rows.Context) → Surrounds neighbours.entry x → ReadsAs x (codes "contains") (rows.contains_row x (codes "contains") (view value.now)) result }
+    ensures values { AsksValues result }
 {
     let least = count_beside(neighbours, "minContains");
     let most = count_beside(neighbours, "maxContains");
@@ -168,7 +169,8 @@ fn contains<'r>(neighbours: Neighbours<'r>, value: &'r Value) -> Reading<'r>
 
 // `minContains` and `maxContains`, which the `contains` beside reads.
 fn bound<'r>(neighbours: Neighbours<'r>, value: &Value) -> Reading<'r>
-    ensures { (x : rows.Context) (k : List ℕ) → Surrounds neighbours.entry x → ReadsAs x k (rows.bound_row x k (view value.now)) result }
+    ensures read { (x : rows.Context) (k : List ℕ) → Surrounds neighbours.entry x → ReadsAs x k (rows.bound_row x k (view value.now)) result }
+    ensures values { AsksValues result }
 {
     if is_beside(neighbours, "contains") {
         match value.as_u64() {

@@ -69,6 +69,7 @@ fn applied<'r>(name: &str, schema: &'r Value) -> Option<Applicator<'r>> {
         "anyOf" => Some(Applicator::AnyOf(schema.as_array()?.as_slice())),
         "properties" => Some(Applicator::Properties(schema.as_object()?)),
         "dependentSchemas" => Some(Applicator::DependentSchemas(schema.as_object()?)),
+        "dependencies" => Some(Applicator::Dependencies(schema.as_object()?)),
         "additionalProperties" => Some(Applicator::NoProperties(schema)),
         "other properties" => Some(Applicator::AdditionalProperties {
             declared: schema.as_object(),
@@ -136,6 +137,12 @@ fn asks_in_order(rt: HostRuntime) -> Result<(), Fail> {
             "dependentSchemas/b false the value; ",
         ),
         (
+            "dependencies",
+            r#"{"a":["b"],"b":{},"c":true}"#,
+            r#"{"a":1,"b":1}"#,
+            "dependencies/b {} the value; ",
+        ),
+        (
             "additionalProperties",
             "false",
             r#"{"b":1,"a":2}"#,
@@ -191,6 +198,11 @@ fn leads_in_order(rt: HostRuntime) -> Result<(), Fail> {
             "dependentSchemas",
             r#"{"a":false}"#,
             "dependentSchemas/a false; ",
+        ),
+        (
+            "dependencies",
+            r#"{"a":["b"],"b":{},"c":true}"#,
+            "dependencies/b {}; dependencies/c true; ",
         ),
         (
             "additionalProperties",

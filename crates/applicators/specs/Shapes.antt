@@ -9,9 +9,10 @@ use Rattle.serde_json.specs.View.{view, items_view, members_view}
 use Rattle.json_paths.specs.Parts.{Part}
 use Rattle.schema_reading.specs.Sites.{Site}
 use Rattle.serde_json.specs.declared.value.Value.{Value}
-use Rattle.schema_reading.specs.Rows.{sites_named, member_names}
+use Rattle.schema_reading.specs.Rows.{sites_named, member_names, in_list, sites_applied}
 use Rattle.schema_meaning.specs.Questions.{at, at_name, at_index, Declared, is_declared, members_of}
-use Rattle.schema_meaning.specs.Keywords.{Shape, items, item_list, prefix_items, additional_items, no_additional_items, contains, properties, additional_properties, no_additional_properties, no_properties, property_names, no_property_names, dependent_schemas, all_of, any_of, one_of, negation, condition}
+use Rattle.schema_meaning.specs.Keywords.{Shape, items, item_list, prefix_items, additional_items, no_additional_items, contains, properties, additional_properties, no_additional_properties, no_properties, property_names, no_property_names, dependent_schemas, all_of, any_of, one_of, negation, condition, Dependency, needs, applies, dependencies}
+use Rattle.assertions.specs.Texts.{texts_of}
 use Rattle.applicators.specs.declared.applicator.Applicator.{Applicator}
 use Rattle.applicators.specs.declared.applicator.Applicator.TheVariants as code
 use Rattle.applicators.specs.declared.subschema.Entry.{Entry}
@@ -40,6 +41,14 @@ sites_of_list site k i (item d ds) = site (at_index k i) d ∷ sites_of_list sit
 abbrev pub sites_of_map : (List Part → Data → Site) → List ℕ → Members → List (List ℕ × Site)
 sites_of_map site k no_members = []
 sites_of_map site k (member n d ms) = (n, site (at_name k n) d) ∷ sites_of_map site k ms
+
+-- an entry of `dependencies`: the texts of a list, or a schema
+abbrev pub dependency_at : (List Part → Data → Site) → List ℕ → Data → Dependency Site
+dependency_at site n d = in_list (λ ds. needs (texts_of ds)) (applies (site (at_name (codes "dependencies") n) d)) d
+
+abbrev pub dependencies_in : (List Part → Data → Site) → Members → List (List ℕ × Dependency Site)
+dependencies_in site no_members = []
+dependencies_in site (member n d ms) = (n, dependency_at site n d) ∷ dependencies_in site ms
 
 abbrev pub site_of : (List Part → Data → Site) → List ℕ → Data → Site
 site_of site k d = site (at k) d
@@ -73,6 +82,7 @@ shape_of site (code.NoProperties schema) = no_properties (site_of site (codes "a
 shape_of site (code.PropertyNames schema) = property_names (site_of site (codes "propertyNames") (view schema.now))
 shape_of site (code.NoPropertyNames schema) = no_property_names (site_of site (codes "propertyNames") (view schema.now))
 shape_of site (code.DependentSchemas schemas) = dependent_schemas (sites_of_map site (codes "dependentSchemas") (members_view schemas.now.entries))
+shape_of site (code.Dependencies entries) = dependencies (dependencies_in site (members_view entries.now.entries))
 shape_of site (code.AllOf schemas) = all_of (sites_of_list site (codes "allOf") 0 (items_view schemas.now))
 shape_of site (code.AnyOf schemas) = any_of (sites_of_list site (codes "anyOf") 0 (items_view schemas.now))
 shape_of site (code.OneOf schemas) = one_of (sites_of_list site (codes "oneOf") 0 (items_view schemas.now))
@@ -95,6 +105,7 @@ leads_of site (code.NoProperties schema) = site_of site (codes "additionalProper
 leads_of site (code.PropertyNames schema) = site_of site (codes "propertyNames") (view schema.now) ∷ []
 leads_of site (code.NoPropertyNames schema) = site_of site (codes "propertyNames") (view schema.now) ∷ []
 leads_of site (code.DependentSchemas schemas) = sites_named (sites_of_map site (codes "dependentSchemas") (members_view schemas.now.entries))
+leads_of site (code.Dependencies entries) = sites_applied (dependencies_in site (members_view entries.now.entries))
 leads_of site (code.AllOf schemas) = sites_of_list site (codes "allOf") 0 (items_view schemas.now)
 leads_of site (code.AnyOf schemas) = sites_of_list site (codes "anyOf") 0 (items_view schemas.now)
 leads_of site (code.OneOf schemas) = sites_of_list site (codes "oneOf") 0 (items_view schemas.now)

@@ -46,6 +46,8 @@ pub enum Applicator<'r> {
     /// The same where the schema is `false`.
     NoPropertyNames(&'r Value),
     DependentSchemas(&'r Map<String, Value>),
+    /// For each name that is a member: names that must be members too, or a schema for the object.
+    Dependencies(&'r Map<String, Value>),
     AllOf(&'r [Value]),
     AnyOf(&'r [Value]),
     OneOf(&'r [Value]),

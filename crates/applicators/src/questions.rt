@@ -6,11 +6,11 @@ ghost use Rattle.serde_json.specs.Find.{get, get_member};
 ghost use Rattle.json_paths.specs.Parts.{Part};
 ghost use Rattle.schema_reading.specs.Sites.{Site};
 ghost use Rattle.schema_meaning.specs.Places.{to_member};
-ghost use Rattle.schema_meaning.specs.Questions.{question, at, here, each_branch, items_of, items_from, each_item, item_by_item, listed_members, members_of, names_of, each_declared, each_member, each_name, each_triggered};
+ghost use Rattle.schema_meaning.specs.Questions.{question, at, here, each_branch, items_of, items_from, each_item, item_by_item, listed_members, members_of, names_of, if_member, each_declared, each_member, each_name, each_triggered};
 ghost use Rattle.schema_meaning.specs.Rules.{asks, consequents};
-ghost use Rattle.schema_meaning.specs.Keywords.{rule, consequent};
-ghost use Rattle.applicators.specs.Shapes.{site_of, sites_of_list, sites_of_map, undeclared_among, undeclared, shape_of};
-ghost use Rattle.applicators.specs.Questions.{step_of, questions_of};
+ghost use Rattle.schema_meaning.specs.Keywords.{rule, consequent, applied};
+ghost use Rattle.applicators.specs.Shapes.{site_of, sites_of_list, sites_of_map, undeclared_among, undeclared, shape_of, dependency_at, dependencies_in};
+ghost use Rattle.applicators.specs.Questions.{step_of, questions_of, each_dependency};
 
 use crate::applicator::Applicator;
 use crate::declared::is_declared;
@@ -188,6 +188,62 @@ fn push_triggered<'r, 'i>(
                 asked: Asked::Value,
             })?;
         }
+    }
+    Ok(())
+}
+
+// The value by an entry of `dependencies` that is a schema.
+fn push_dependency<'r, 'i>(
+    questions: &mut Vec<Question<'r, 'i>>,
+    name: &'r str,
+    entry: &'r Value,
+) -> Result<(), AllocError>
+    ensures { OnOk result ((site : List Part → Data → Site) → questions_of site questions.new.items
+        ≡ questions_of site questions.old.items ++ applied name.now (dependency_at site name.now (view entry.now))) }
+{
+    match entry {
+        Value::Array(_) => Ok(()),
+        _ => {
+            questions.push(Question {
+                subschema: Subschema {
+                    keyword: "dependencies",
+                    entry: Entry::Name(name),
+                    schema: entry,
+                },
+                asked: Asked::Value,
+            })?;
+            Ok(())
+        }
+    }
+}
+
+// The same where its name is a member.
+fn push_dependency_of_member<'r, 'i>(
+    questions: &mut Vec<Question<'r, 'i>>,
+    name: &'r str,
+    entry: &'r Value,
+    value: &Value,
+) -> Result<(), AllocError>
+    ensures { OnOk result ((site : List Part → Data → Site) → questions_of site questions.new.items
+        ≡ questions_of site questions.old.items ++ if_member (get name.now (view value.now)) (λ e. applied name.now (dependency_at site name.now (view entry.now)))) }
+{
+    match value.get(name) {
+        Some(_) => push_dependency(questions, name, entry),
+        None => Ok(()),
+    }
+}
+
+// The same of each entry.
+fn push_dependencies<'r, 'i>(
+    questions: &mut Vec<Question<'r, 'i>>,
+    entries: &'r Map<String, Value>,
+    value: &Value,
+) -> Result<(), AllocError>
+    ensures { OnOk result ((site : List Part → Data → Site) → questions_of site questions.new.items
+        ≡ questions_of site questions.old.items ++ each_dependency (view value.now) (dependencies_in site (members_view entries.now.entries))) }
+{
+    for (name, entry) in entries.iter() {
+        push_dependency_of_member(questions, name.as_str(), entry, value)?;
     }
     Ok(())
 }
@@ -370,6 +426,7 @@ fn push_questions<'r, 'i>(
         Applicator::DependentSchemas(schemas) => {
             push_triggered(questions, "dependentSchemas", schemas, value)
         }
+        Applicator::Dependencies(entries) => push_dependencies(questions, entries, value),
         Applicator::AllOf(schemas) => push_branches(questions, "allOf", schemas),
         Applicator::AnyOf(schemas) => push_branches(questions, "anyOf", schemas),
         Applicator::OneOf(schemas) => push_branches(questions, "oneOf", schemas),

@@ -4,8 +4,8 @@ ghost use Rattle.serde_json.specs.Data.{Data};
 ghost use Rattle.serde_json.specs.View.{view, items_view, members_view};
 ghost use Rattle.json_paths.specs.Parts.{Part};
 ghost use Rattle.schema_reading.specs.Sites.{Site};
-ghost use Rattle.schema_reading.specs.Rows.{sites_named};
-ghost use Rattle.applicators.specs.Shapes.{place_of, site_of, sites_of_list, sites_of_map, leads_of};
+ghost use Rattle.schema_reading.specs.Rows.{sites_named, sites_applied};
+ghost use Rattle.applicators.specs.Shapes.{place_of, site_of, sites_of_list, sites_of_map, dependency_at, dependencies_in, leads_of};
 
 use crate::applicator::Applicator;
 use crate::subschema::{Entry, Subschema};
@@ -64,6 +64,41 @@ fn push_map<'r>(
     Ok(())
 }
 
+// An entry of `dependencies` that is a schema.
+fn push_dependency<'r>(
+    found: &mut Vec<Subschema<'r>>,
+    name: &'r str,
+    entry: &'r Value,
+) -> Result<(), AllocError>
+    ensures { OnOk result ((site : List Part → Data → Site) → map (place_of site) found.new.items
+        ≡ map (place_of site) found.old.items ++ sites_applied ((name.now, dependency_at site name.now (view entry.now)) ∷ [])) }
+{
+    match entry {
+        Value::Array(_) => Ok(()),
+        _ => {
+            found.push(Subschema {
+                keyword: "dependencies",
+                entry: Entry::Name(name),
+                schema: entry,
+            })?;
+            Ok(())
+        }
+    }
+}
+
+fn push_dependencies<'r>(
+    found: &mut Vec<Subschema<'r>>,
+    entries: &'r Map<String, Value>,
+) -> Result<(), AllocError>
+    ensures { OnOk result ((site : List Part → Data → Site) → map (place_of site) found.new.items
+        ≡ map (place_of site) found.old.items ++ sites_applied (dependencies_in site (members_view entries.now.entries))) }
+{
+    for (name, entry) in entries.iter() {
+        push_dependency(found, name.as_str(), entry)?;
+    }
+    Ok(())
+}
+
 fn push_subschemas<'r>(
     found: &mut Vec<Subschema<'r>>,
     applicator: &Applicator<'r>,
@@ -93,6 +128,7 @@ fn push_subschemas<'r>(
         Applicator::PropertyNames(schema) => push_whole(found, "propertyNames", schema),
         Applicator::NoPropertyNames(schema) => push_whole(found, "propertyNames", schema),
         Applicator::DependentSchemas(schemas) => { push_map(found, "dependentSchemas", schemas) }
+        Applicator::Dependencies(entries) => push_dependencies(found, entries),
         Applicator::AllOf(schemas) => push_list(found, "allOf", schemas),
         Applicator::AnyOf(schemas) => push_list(found, "anyOf", schemas),
         Applicator::OneOf(schemas) => push_list(found, "oneOf", schemas),

@@ -1,8 +1,8 @@
 -- Each question of a keyword whose verdict is by the number of answers that are yes.
-use Rattle.std.proofs.Common.{◌≡◌, ℕ, suc, List, [], ◌∷◌, Bool, true, false, codes, Option, None, Some, refl}
+use Rattle.std.proofs.Common.{◌≡◌, ℕ, suc, List, [], ◌∷◌, ◌++◌, Bool, true, false, codes, Option, None, Some, refl}
 use Rattle.std.specs.List.{AllByRecursion}
 use Rattle.std.specs.Prelude.{⊤}
-use Rattle.serde_json.specs.Data.{Data, Items, no_items, item}
+use Rattle.serde_json.specs.Data.{Data, null, boolean, number, string, array, object, Items, no_items, item}
 use Rattle.serde_json.specs.Find.{get}
 use Rattle.serde_json.specs.View.{view, items_view, members_view}
 use Rattle.json_paths.specs.Parts.{Part}
@@ -10,11 +10,13 @@ use Rattle.schema_meaning.specs.Members.{In, first, later}
 use Rattle.schema_meaning.specs.Places.{stay, to_member, called_after}
 use Rattle.schema_meaning.specs.Questions.{Question, question, at_name, each_branch, items_of, items_from, each_item, item_by_item, if_member, each_declared, members_of, each_member, each_triggered}
 use Rattle.schema_meaning.specs.Rules.{asks}
-use Rattle.schema_meaning.specs.Keywords.{rule}
+use Rattle.schema_meaning.specs.Keywords.{counting, rule, Dependency, needs, applies, applied}
 use Rattle.schema_reading.specs.Sites.{Site}
+use Rattle.schema_reading.specs.Rows.{sites_applied}
 use Rattle.plain_laws.proofs.Elements.{each_in, each_laid_flat, in_mapped}
-use Rattle.plain_laws.proofs.Asked.{Holds, Sound, all_sound}
-use Rattle.applicators.specs.Shapes.{shape_of, leads_of, site_of, undeclared, sites_of_list, sites_of_map}
+use Rattle.plain_laws.proofs.Asked.{Holds, Sound, all_sound, IsApplied}
+use Rattle.applicators.specs.Shapes.{shape_of, leads_of, site_of, undeclared, sites_of_list, sites_of_map, dependencies_in}
+use Rattle.applicators.specs.Questions.{each_dependency}
 use Rattle.applicators.specs.Combined.{asks_values}
 use Rattle.applicators.specs.declared.applicator.Applicator.{Applicator}
 use Rattle.applicators.specs.declared.applicator.Applicator.TheVariants as code
@@ -26,6 +28,19 @@ each_among : {A B : Type 0} (f : A → B) (xs : List A) (P : B → Type 0) → (
 each_among f [] P h = tt
 each_among f (x ∷ xs) P h = (h x first, each_among f xs P (λ y i. h y (later i)))
 
+module _ (P : Site → Type 0) where
+  one_applied : (x : Dependency Site) (rest : List Site) → ((s : Site) → In s (elim x [ needs names ↦ [] | applies s ↦ s ∷ [] ] ++ rest) → P s) → IsApplied P x
+  one_applied (needs names) rest h = tt
+  one_applied (applies s) rest h = h s first
+
+  rest_applied : (x : Dependency Site) (rest : List Site) → ((s : Site) → In s (elim x [ needs names ↦ [] | applies s ↦ s ∷ [] ] ++ rest) → P s) → (s : Site) → In s rest → P s
+  rest_applied (needs names) rest h s i = h s i
+  rest_applied (applies t) rest h s i = h s (later i)
+
+  applied_among : (ps : List (List ℕ × Dependency Site)) → ((s : Site) → In s (sites_applied ps) → P s) → AllByRecursion (λ p. IsApplied P p.1) ps
+  applied_among [] h = tt
+  applied_among (p ∷ ps) h = (one_applied p.1 (sites_applied ps) h, applied_among ps (rest_applied p.1 (sites_applied ps) h))
+
 abbrev Led : (List Part → Data → Site) → Applicator → Site → Type 0
 Led site a s = In s (leads_of site a)
 
@@ -35,7 +50,7 @@ all_led site (code.ItemList schemas) h = each_among (λ s. s) (sites_of_list sit
 all_led site (code.PrefixItems schemas) h = each_among (λ s. s) (sites_of_list site (codes "prefixItems") 0 (items_view schemas.now)) (Led site (code.PrefixItems schemas)) (λ s i. i)
 all_led site (code.AdditionalItems start schema) h = first
 all_led site (code.NoAdditionalItems start schema) h = first
-all_led site (code.Contains schema least most) h = absurd (cc)
+all_led site (code.Contains schema least most) h = first
 all_led site (code.Properties schemas) h =
     let ps = sites_of_map site (codes "properties") (members_view schemas.now.entries) in each_among (λ p. p.1) ps (Led site (code.Properties schemas)) (λ p i. in_mapped (λ q. q.1) p ps i)
 all_led site (code.AdditionalProperties declared schema) h = first
@@ -45,6 +60,7 @@ all_led site (code.PropertyNames schema) h = absurd (cc)
 all_led site (code.NoPropertyNames schema) h = absurd (cc)
 all_led site (code.DependentSchemas schemas) h =
     let ps = sites_of_map site (codes "dependentSchemas") (members_view schemas.now.entries) in each_among (λ p. p.1) ps (Led site (code.DependentSchemas schemas)) (λ p i. in_mapped (λ q. q.1) p ps i)
+all_led site (code.Dependencies entries) h = applied_among (Led site (code.Dependencies entries)) (dependencies_in site (members_view entries.now.entries)) (λ s i. i)
 all_led site (code.AllOf schemas) h = each_among (λ s. s) (sites_of_list site (codes "allOf") 0 (items_view schemas.now)) (Led site (code.AllOf schemas)) (λ s i. i)
 all_led site (code.AnyOf schemas) h = each_among (λ s. s) (sites_of_list site (codes "anyOf") 0 (items_view schemas.now)) (Led site (code.AnyOf schemas)) (λ s i. i)
 all_led site (code.OneOf schemas) h = each_among (λ s. s) (sites_of_list site (codes "oneOf") 0 (items_view schemas.now)) (Led site (code.OneOf schemas)) (λ s i. i)
@@ -69,7 +85,7 @@ calm_branches : (keyword : List ℕ) (i : ℕ) (ss : List Site) → AllByRecursi
 calm_branches keyword i [] = tt
 calm_branches keyword i (s ∷ ss) = ((refl, refl), calm_branches keyword (suc i) ss)
 
-any_pair : (ps : List (List ℕ × Site)) → AllByRecursion (λ p. ⊤) ps
+any_pair : {A : Type 0} (ps : List A) → AllByRecursion (λ p. ⊤) ps
 any_pair [] = tt
 any_pair (p ∷ ps) = (tt, any_pair ps)
 
@@ -93,6 +109,25 @@ calm_members : (keyword : List ℕ) (s : Site) (ms : List (List ℕ × Data)) �
 calm_members keyword s [] = tt
 calm_members keyword s (m ∷ ms) = ((refl, refl), calm_members keyword s ms)
 
+calm_counted : (s : Site) (least most : Option ℕ) (d : Data) → AllByRecursion IsCalm (asks (counting d least most (each_item (codes "contains") s 0 (items_of d))))
+calm_counted s least most null = tt
+calm_counted s least most (boolean b) = tt
+calm_counted s least most (number n) = tt
+calm_counted s least most (string t) = tt
+calm_counted s least most (array ds) = calm_items (codes "contains") s 0 ds
+calm_counted s least most (object ms) = tt
+
+calm_applied : (k : List ℕ) (x : Dependency Site) → AllByRecursion IsCalm (applied k x)
+calm_applied k (needs names) = tt
+calm_applied k (applies s) = ((refl, refl), tt)
+
+calm_dependency : (k : List ℕ) (x : Dependency Site) (o : Option Data) → AllByRecursion IsCalm (if_member o (λ e. applied k x))
+calm_dependency k x None = tt
+calm_dependency k x (Some e) = calm_applied k x
+
+calm_dependencies : (d : Data) (ps : List (List ℕ × Dependency Site)) → AllByRecursion IsCalm (each_dependency d ps)
+calm_dependencies d ps = each_laid_flat (λ p. ⊤) IsCalm (λ p. if_member (get p.0 d) (λ e. applied p.0 p.1)) (λ p u. calm_dependency p.0 p.1 (get p.0 d)) ps (any_pair ps)
+
 all_calm : (site : List Part → Data → Site) (matches : List ℕ → List ℕ → Bool) (d : Data) (a : Applicator) → asks_values a ≡ true → AllByRecursion IsCalm (asks (rule matches d (shape_of site a)))
 all_calm site matches d (code.Items start schema) h = calm_items (codes "items") (site_of site (codes "items") (view schema.now)) start (items_from start (items_of d))
 all_calm site matches d (code.ItemList schemas) h = calm_by_item (codes "items") (sites_of_list site (codes "items") 0 (items_view schemas.now)) 0 (items_of d)
@@ -101,7 +136,7 @@ all_calm site matches d (code.AdditionalItems start schema) h =
     calm_items (codes "additionalItems") (site_of site (codes "additionalItems") (view schema.now)) start (items_from start (items_of d))
 all_calm site matches d (code.NoAdditionalItems start schema) h =
     calm_items (codes "additionalItems") (site_of site (codes "additionalItems") (view schema.now)) start (items_from start (items_of d))
-all_calm site matches d (code.Contains schema least most) h = absurd (cc)
+all_calm site matches d (code.Contains schema least most) h = calm_counted (site_of site (codes "contains") (view schema.now)) least most d
 all_calm site matches d (code.Properties schemas) h = calm_declared (codes "properties") d (sites_of_map site (codes "properties") (members_view schemas.now.entries))
 all_calm site matches d (code.AdditionalProperties declared schema) h =
     calm_members (codes "additionalProperties") (site_of site (codes "additionalProperties") (view schema.now)) (undeclared declared d)
@@ -111,6 +146,7 @@ all_calm site matches d (code.NoProperties schema) h = calm_members (codes "addi
 all_calm site matches d (code.PropertyNames schema) h = absurd (cc)
 all_calm site matches d (code.NoPropertyNames schema) h = absurd (cc)
 all_calm site matches d (code.DependentSchemas schemas) h = calm_triggered (codes "dependentSchemas") d (sites_of_map site (codes "dependentSchemas") (members_view schemas.now.entries))
+all_calm site matches d (code.Dependencies entries) h = calm_dependencies d (dependencies_in site (members_view entries.now.entries))
 all_calm site matches d (code.AllOf schemas) h = calm_branches (codes "allOf") 0 (sites_of_list site (codes "allOf") 0 (items_view schemas.now))
 all_calm site matches d (code.AnyOf schemas) h = calm_branches (codes "anyOf") 0 (sites_of_list site (codes "anyOf") 0 (items_view schemas.now))
 all_calm site matches d (code.OneOf schemas) h = calm_branches (codes "oneOf") 0 (sites_of_list site (codes "oneOf") 0 (items_view schemas.now))

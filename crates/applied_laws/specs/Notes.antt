@@ -1,17 +1,17 @@
 -- The one fault of a keyword that tells no fault of its subschemas as its own.
-use Rattle.std.specs.Prelude.{◌≡◌, ℕ, List, map, Bool, true, false}
+use Rattle.std.specs.Prelude.{◌≡◌, ℕ, List, map, Bool, true, false, length}
 use Rattle.serde_json.specs.Data.{Data}
 use Rattle.serde_json.specs.View.{view}
 use Rattle.json_paths.specs.Parts.{Part}
 use Rattle.schema_meaning.specs.Members.{count_true}
 use Rattle.schema_meaning.specs.Places.{Spot}
-use Rattle.schema_meaning.specs.Faults.{Kind, AdditionalItems, AdditionalProperties, AnyOf, FalseSchema, Not, Faults, branches_of}
+use Rattle.schema_meaning.specs.Faults.{Kind, AdditionalItems, AdditionalProperties, AnyOf, Contains, FalseSchema, Not, Faults, branches_of}
 use Rattle.schema_meaning.specs.Questions.{at, members_of}
-use Rattle.schema_meaning.specs.Rules.{accepts, faults, one_fault, one_of_kind, own_fault, verdicts_of}
+use Rattle.schema_meaning.specs.Rules.{accepts, asks, faults, one_fault, one_of_kind, own_fault, verdicts_of}
 use Rattle.schema_meaning.specs.Keywords.{rule, first_value}
 use Rattle.schema_reading.specs.Sites.{Site}
 use Rattle.applicators.specs.Shapes.{shape_of, undeclared}
-use Rattle.applicators.specs.Combined.{name_of, is_every, asks_values}
+use Rattle.applicators.specs.Combined.{refused_name, is_every, asks_values}
 use Rattle.applicators.specs.declared.applicator.Applicator.{Applicator}
 use Rattle.applicators.specs.declared.applicator.Applicator.TheVariants as code
 
@@ -22,7 +22,7 @@ kind_by (code.ItemList schemas) d answers = FalseSchema
 kind_by (code.PrefixItems schemas) d answers = FalseSchema
 kind_by (code.AdditionalItems start schema) d answers = FalseSchema
 kind_by (code.NoAdditionalItems start schema) d answers = AdditionalItems
-kind_by (code.Contains schema least most) d answers = FalseSchema
+kind_by (code.Contains schema least most) d answers = Contains
 kind_by (code.Properties schemas) d answers = FalseSchema
 kind_by (code.AdditionalProperties declared schema) d answers = FalseSchema
 kind_by (code.NoAdditionalProperties declared schema) d answers = AdditionalProperties (map (λ m. m.0) (undeclared declared d))
@@ -30,6 +30,7 @@ kind_by (code.NoProperties schema) d answers = FalseSchema
 kind_by (code.PropertyNames schema) d answers = FalseSchema
 kind_by (code.NoPropertyNames schema) d answers = FalseSchema
 kind_by (code.DependentSchemas schemas) d answers = FalseSchema
+kind_by (code.Dependencies entries) d answers = FalseSchema
 kind_by (code.AllOf schemas) d answers = FalseSchema
 kind_by (code.AnyOf schemas) d answers = AnyOf (branches_of answers)
 kind_by (code.OneOf schemas) d answers = one_of_kind (count_true (verdicts_of answers)) (branches_of answers)
@@ -45,6 +46,7 @@ value_by (code.AdditionalItems start schema) d = d
 value_by (code.NoAdditionalItems start schema) d = d
 value_by (code.Contains schema least most) d = d
 value_by (code.Properties schemas) d = d
+value_by (code.Dependencies entries) d = d
 value_by (code.AdditionalProperties declared schema) d = d
 value_by (code.NoAdditionalProperties declared schema) d = d
 value_by (code.NoProperties schema) d = first_value d (members_of d)
@@ -57,11 +59,12 @@ value_by (code.OneOf schemas) d = d
 value_by (code.Not schema) d = d
 value_by (code.If condition then_schema else_schema) d = d
 
--- it tells that fault alone, where it refuses
+-- it tells that fault alone, where it refuses, under the name by the number of answers that are yes
 pub record TellsOnce (a : Applicator) : Type 0 where
   pub is : (site : List Part → Data → Site) (matches : List ℕ → List ℕ → Bool) (w : Spot) (above : List Part) (answers : List Faults)
+      → length answers ≡ length (asks (rule matches w.value (shape_of site a)))
       → faults (rule matches w.value (shape_of site a)) w above answers
-      ≡ one_fault (accepts (rule matches w.value (shape_of site a)) (verdicts_of answers)) (own_fault w above (at (name_of a)) (record { kind = kind_by a w.value answers; value = value_by a w.value }))
+      ≡ one_fault (accepts (rule matches w.value (shape_of site a)) (verdicts_of answers)) (own_fault w above (at (refused_name a (count_true (verdicts_of answers)))) (record { kind = kind_by a w.value answers; value = value_by a w.value }))
 
 abbrev pub TellOnce : Type 0
 TellOnce = (a : Applicator) → asks_values a ≡ true → is_every a ≡ false → TellsOnce a

@@ -102,3 +102,15 @@ module _ (d : Data) (roads : Roads) (a : Assertion) where
 
   pub tells_settled : (o : Observer) → ((k : Observation) (fs gs : Faults) → Hears k o fs → Hears k o (joined fs gs)) → TellsAssertion d roads a o o
   tells_settled o settled = record { tells = λ m k fs h. settled k fs _ h }
+
+-- ---- notes, by the first of them
+
+module _ (d : Data) (roads : Roads) (keyword : List ℕ) where
+  pub notes_headed : (w : Wrong) (notes : List Note) (old new : Observer) → Some (note_of d w) ≡ head notes → is_for_all old ≡ false → TellsOne d roads keyword (kind_of w) old new
+      → TellsNotes d roads keyword notes old new
+  notes_headed w notes old new found last one =
+      let split = headed notes (note_of d w) found in
+      subst (λ ns. TellsNotes d roads keyword ns old new) (sym split.1) (tells_first d roads keyword w split.0 old new last one)
+
+  pub notes_missing : (notes : List Note) (o : Observer) → None ≡ head notes → TellsNotes d roads keyword notes o o
+  notes_missing notes o none_found = subst (λ ns. TellsNotes d roads keyword ns o o) (sym (headless notes none_found)) (tells_none d roads keyword o)

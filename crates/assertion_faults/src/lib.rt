@@ -4,4 +4,4 @@
 mod kinds;
 mod telling;
 
-pub use telling::tell_assertion;
+pub use telling::{tell_assertion, tell_missing_beside};

@@ -1,6 +1,8 @@
 //! What keywords that only assert tell.
 ghost use Rattle.std.specs.Prelude.{◌≡◌, false, OnOk};
-ghost use Rattle.serde_json.specs.View.{view};
+ghost use Rattle.serde_json.specs.View.{view, members_view};
+ghost use Rattle.schema_meaning.specs.Keywords.{missing_beside};
+ghost use Rattle.assertions.specs.Texts.{entries_of};
 ghost use Rattle.schema_reports.specs.Observers.{is_for_all};
 ghost use Rattle.assertions.specs.Shapes.{assertion_of};
 ghost use Rattle.assertions.specs.Wrong.{kind_of as kind_of_wrong, notes_of};
@@ -8,8 +10,9 @@ ghost use Rattle.assertion_faults.specs.Tellings.{TellsOne, TellsNotes, TellsAss
 
 use crate::kinds::kind_of_wrong;
 use assertions::assertion::{Assertion, Wrong};
+use assertions::missing::{all_missing_beside, first_missing_beside};
 use schema_reports::{Observer, Roads};
-use serde_json::Value;
+use serde_json::{Map, Value};
 use std::alloc::{AllocError, Global};
 
 // A fault of a keyword, which is made where the observer wants it.
@@ -112,5 +115,71 @@ pub fn tell_assertion<'i>(
         tell_all(alloc, assertion, value, roads, observer)
     } else {
         tell_first(alloc, assertion, value, roads, observer)
+    }
+}
+
+fn tell_all_missing<'i>(
+    alloc: Global,
+    keyword: &str,
+    entries: &Map<String, Value>,
+    value: &'i Value,
+    roads: Roads<'_>,
+    observer: &mut Observer<'i>,
+) -> Result<(), AllocError>
+    ensures { OnOk result (TellsNotes (view value.now) roads.entry keyword.now (missing_beside (entries_of (members_view entries.now.entries)) (view value.now)) observer.old observer.new) }
+{
+    let found = all_missing_beside(alloc, entries, value)?;
+    tell_each(alloc, keyword, found.as_slice(), value, roads, observer)
+}
+
+fn tell_first_missing<'i>(
+    alloc: Global,
+    keyword: &str,
+    entries: &Map<String, Value>,
+    value: &'i Value,
+    roads: Roads<'_>,
+    observer: &mut Observer<'i>,
+) -> Result<(), AllocError>
+    requires { is_for_all observer.now ≡ false }
+    ensures { OnOk result (TellsNotes (view value.now) roads.entry keyword.now (missing_beside (entries_of (members_view entries.now.entries)) (view value.now)) observer.old observer.new) }
+{
+    match first_missing_beside(entries, value) {
+        Some(name) => tell_wrong(
+            alloc,
+            keyword,
+            Wrong::Required(name),
+            value,
+            roads,
+            observer,
+        ),
+        None => Ok(()),
+    }
+}
+
+/// Tells an observer of the names that are missing beside the names of the entries that are lists, each by itself, in order, under
+/// the keyword's name.
+///
+/// It looks for no more than the observer is to hear.
+///
+/// # Errors
+///
+/// Where memory was refused or a count of owners is full.
+pub fn tell_missing_beside<'i>(
+    alloc: Global,
+    keyword: &str,
+    entries: &Map<String, Value>,
+    value: &'i Value,
+    roads: Roads<'_>,
+    observer: &mut Observer<'i>,
+) -> Result<(), AllocError>
+    ensures { OnOk result (TellsNotes (view value.now) roads.entry keyword.now (missing_beside (entries_of (members_view entries.now.entries)) (view value.now)) observer.old observer.new) }
+{
+    if observer.is_settled() {
+        return Ok(());
+    }
+    if observer.keeps_all() {
+        tell_all_missing(alloc, keyword, entries, value, roads, observer)
+    } else {
+        tell_first_missing(alloc, keyword, entries, value, roads, observer)
     }
 }

@@ -6,7 +6,7 @@ pub mod assertion;
 pub mod keyword;
 pub mod missing;
 pub mod named;
-mod names;
+pub mod names;
 pub mod reading;
 mod values;
 pub mod whole_number;

@@ -77,11 +77,9 @@ fn first_missing_of_entry<'a>(name: &str, entry: &'a Value, value: &Value) -> Op
     }
 }
 
-/// The same of the entries whose name is a member.
-pub(crate) fn first_missing_beside<'a>(
-    entries: &'a Map<String, Value>,
-    value: &Value,
-) -> Option<&'a str>
+/// The first text of the lists among the entries whose name is a member that is the name of no member. Entries of another kind are let
+/// alone.
+pub fn first_missing_beside<'a>(entries: &'a Map<String, Value>, value: &Value) -> Option<&'a str>
     ensures { option_map (λ t. note_of_name (view value.now) t.now) result
         ≡ head (missing_beside (entries_of (members_view entries.now.entries)) (view value.now)) }
 {
@@ -167,8 +165,12 @@ pub(crate) fn all_missing<'a>(
     Ok(found)
 }
 
-/// The same of the entries whose name is a member.
-pub(crate) fn all_missing_beside<'a>(
+/// All of these.
+///
+/// # Errors
+///
+/// Where memory is refused.
+pub fn all_missing_beside<'a>(
     alloc: Global,
     entries: &'a Map<String, Value>,
     value: &Value,

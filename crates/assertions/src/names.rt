@@ -12,7 +12,7 @@ use value_order::distinct::all_distinct;
 
 /// What a list is that should hold names.
 #[derive(Clone, Copy)]
-pub(crate) enum NameList {
+pub enum NameList {
     /// Texts, none of them twice.
     Unique,
     /// Texts, one of them twice.
@@ -32,8 +32,12 @@ fn are_texts(names: &[Value]) -> bool
     true
 }
 
-/// What a list is. The error is want of memory, which it takes to sort references to the names.
-pub(crate) fn name_list(alloc: Global, names: &[Value]) -> Result<NameList, AllocError>
+/// What a list is.
+///
+/// # Errors
+///
+/// Where memory is refused, which it takes to sort references to the names.
+pub fn name_list(alloc: Global, names: &[Value]) -> Result<NameList, AllocError>
     ensures { IfOk result (λ n. IsNameList (items_view names.now) n) }
 {
     if !are_texts(names) {

@@ -14,7 +14,7 @@ use Rattle.schema_meaning.specs.Circular.{IsCircular}
 use Rattle.schema_reading.specs.Sites.{Site, below}
 use Rattle.schema_reading.specs.PathTexts.{path_text}
 use Rattle.applicators.specs.Shapes.{shape_of, place_of, added_at}
-use Rattle.applicators.specs.Combined.{asks_values, name_of}
+use Rattle.applicators.specs.Combined.{asks_values}
 use Rattle.applicators.specs.Questions.{step_of, question_of}
 use Rattle.applicators.specs.declared.applicator.Applicator.{Applicator}
 use Rattle.applicators.specs.declared.applicator.Applicator.TheVariants as code
@@ -22,9 +22,9 @@ use Rattle.applicators.specs.declared.question.Question.{Question}
 use Rattle.applied_laws.proofs.Sound.{questions_are_sound}
 use Rattle.check_laws.specs.Spelled.{AreSpelled}
 use Rattle.check_laws.proofs.Answers.{answers_there}
-use Rattle.walk_laws.specs.Words.{IsOf, IsRest}
+use Rattle.walk_laws.specs.Words.{IsOf, Bears, IsRest}
 use Rattle.walk_laws.proofs.Cuts.{rest_of}
-use Rattle.walk_laws.proofs.Begun.{shape_begins, rules_stand}
+use Rattle.walk_laws.proofs.Begun.{shape_begins, shape_bears, rules_stand}
 use Rattle.walk_laws.proofs.Listed.{in_mapped}
 use Rattle.path_parts.specs.Texts.{text_left}
 use Rattle.path_parts.proofs.TextFacts.{rest_left, tail_is, behind_same}
@@ -47,29 +47,30 @@ use Rattle.fault_steps.specs.declared.walk.Step.TheVariants.{Answered, On}
 use Rattle.fault_steps.specs.Steps.{path_at, IsLeft, IsMore, IsNotLonger, GoesInto, LeadsInto, PassesThrough}
 use Rattle.fault_steps.specs.Obliged.{obliges}
 use Rattle.fault_steps.proofs.ObligedFacts.{AllOrNone, all_or_none}
-use Rattle.fault_steps.proofs.Going.{Goes, going_by, gone_by, not_last}
+use Rattle.fault_steps.proofs.Going.{Goes, going_by, gone_by, not_named}
 
--- ---- the keyword's own name
+-- ---- a keyword whose questions oblige refuses under its own name
 
-pub named_as : (site : List Part → Data → Site) (a : Applicator) (k : List ℕ) → IsOf k (shape_of site a) → name_of a ≡ k
-named_as site (code.Items start schema) k is = is
-named_as site (code.ItemList schemas) k is = is
-named_as site (code.PrefixItems schemas) k is = is
-named_as site (code.AdditionalItems start schema) k is = is
-named_as site (code.NoAdditionalItems start schema) k is = is
-named_as site (code.Contains schema least most) k is = absurd is
-named_as site (code.Properties schemas) k is = is
-named_as site (code.AdditionalProperties declared schema) k is = is
-named_as site (code.NoAdditionalProperties declared schema) k is = is
-named_as site (code.NoProperties schema) k is = is
-named_as site (code.PropertyNames schema) k is = absurd is
-named_as site (code.NoPropertyNames schema) k is = absurd is
-named_as site (code.DependentSchemas schemas) k is = is
-named_as site (code.AllOf schemas) k is = is
-named_as site (code.AnyOf schemas) k is = is
-named_as site (code.OneOf schemas) k is = is
-named_as site (code.Not schema) k is = is
-named_as site (code.If condition then_schema else_schema) k is = absurd is
+is_one : (site : List Part → Data → Site) (a : Applicator) (k : List ℕ) (n : ℕ) → obliges a n ≡ true → Bears k (shape_of site a) → IsOf k (shape_of site a)
+is_one site (code.Items start schema) k n obliging is = is
+is_one site (code.ItemList schemas) k n obliging is = is
+is_one site (code.PrefixItems schemas) k n obliging is = is
+is_one site (code.AdditionalItems start schema) k n obliging is = is
+is_one site (code.NoAdditionalItems start schema) k n obliging is = is
+is_one site (code.Contains schema least most) k n obliging is = cc
+is_one site (code.Properties schemas) k n obliging is = is
+is_one site (code.AdditionalProperties declared schema) k n obliging is = is
+is_one site (code.NoAdditionalProperties declared schema) k n obliging is = is
+is_one site (code.NoProperties schema) k n obliging is = is
+is_one site (code.PropertyNames schema) k n obliging is = is
+is_one site (code.NoPropertyNames schema) k n obliging is = is
+is_one site (code.DependentSchemas schemas) k n obliging is = is
+is_one site (code.Dependencies entries) k n obliging is = is
+is_one site (code.AllOf schemas) k n obliging is = is
+is_one site (code.AnyOf schemas) k n obliging is = is
+is_one site (code.OneOf schemas) k n obliging is = is
+is_one site (code.Not schema) k n obliging is = is
+is_one site (code.If condition then_schema else_schema) k n obliging is = cc
 
 -- ---- the last part
 
@@ -87,7 +88,7 @@ one_last p q ps qs e = sym (last_is p p ps) ∙ ap (last_of p) e ∙ last_is p q
 one_name : (k n : List ℕ) → name k ≡ name n → k ≡ n
 one_name k n e = cc
 
-module _ (x : Scene) (s : Site) (d : Data) (a : Applicator) (values : asks_values a ≡ true) (n : List ℕ) (of : IsOf n (shape_of (below x.documents s) a)) (plain : escape n ≡ n) where
+module _ (x : Scene) (s : Site) (d : Data) (a : Applicator) (values : asks_values a ≡ true) (n : List ℕ) (of : Bears n (shape_of (below x.documents s) a)) (plain : escape n ≡ n) where
   abbrev the_rule : Rule Site
   the_rule = rule x.matches d (shape_of (below x.documents s) a)
 
@@ -97,7 +98,8 @@ module _ (x : Scene) (s : Site) (d : Data) (a : Applicator) (values : asks_value
   -- where something is left, the keyword is not the last
   not_here : (instance after : Option (Bor (List ℕ))) → IsMore instance after → (bs : List Bool) → text_left instance ≡ [] → 47 ∷ (n ++ text_left after) ≡ path_text (refuses_at the_rule bs) → ⊥
   not_here instance after more bs none is =
-      not_last instance after n n more refl plain none (is ∙ ap path_text ((shape_begins x.matches d n (shape_of (below x.documents s) a) of).own bs))
+      let begins = shape_bears x.matches d n (shape_of (below x.documents s) a) of in
+      not_named instance after n (begins.name bs) more plain none (is ∙ ap path_text (begins.own bs))
 
   module _ (qs : List Question) (are : AreAsked a d qs) where
     -- all of its questions oblige, or none
@@ -118,7 +120,7 @@ module _ (x : Scene) (s : Site) (d : Data) (a : Applicator) (values : asks_value
         let e = q.subschema.entry in
         let there : In (question_of (below x.documents s) q) (obliged the_rule []) =
         subst (λ ks. In (question_of (below x.documents s) q) ks) (sym (steps_are qs are true obliging [])) (asked_here qs are q i) in
-        let begins = (shape_begins x.matches d n (shape_of (below x.documents s) a) of).on [] (question_of (below x.documents s) q) there in
+        let begins = (shape_begins x.matches d n (shape_of (below x.documents s) a) (is_one (below x.documents s) a n (length qs) obliging of)).on [] (question_of (below x.documents s) q) there in
         one_name k n (one_last (name k) (name n) (entry_parts e) begins.0 (sym (added_parts k e) ∙ begins.1))
 
     -- what it adds to the road

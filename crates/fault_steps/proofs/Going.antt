@@ -1,5 +1,5 @@
 -- The step of a certificate by a keyword behind whose name something is left.
-use Rattle.std.proofs.Common.{◌≡◌, ◌∙◌, ◌++◌, ℕ, List, [], ◌∷◌, Bool, true, false, true≢false, Bor, Option, None, Some, is_some, not, ◌||◌, map, refl, sym, ap, subst, append-nil, length, suc, ◌+◌, ◌<◌, ◌≤◌, length-append, arith}
+use Rattle.std.proofs.Common.{◌≡◌, ◌∙◌, ◌++◌, ℕ, List, [], ◌∷◌, All, Bool, true, false, true≢false, Bor, Option, None, Some, is_some, not, ◌||◌, map, refl, sym, ap, subst, append-nil, length, suc, ◌+◌, ◌<◌, ◌≤◌, length-append, arith}
 use Rattle.serde_json.specs.Data.{Data, boolean, depth}
 use Rattle.json_paths.specs.Parts.{Part}
 use Rattle.json_paths.specs.Pointers.{escape}
@@ -19,8 +19,10 @@ use Rattle.keyword_refusals.specs.Passed.{Finds}
 use Rattle.keyword_refusals.specs.Passed.{AsksInside}
 use Rattle.keyword_refusals.specs.Passed as code
 use Rattle.keyword_refusals.specs.Passed.{Keyword}
-use Rattle.walk_laws.specs.Words.{cuts, cuts_behind}
-use Rattle.walk_laws.proofs.Cuts.{cut_joined}
+use Rattle.serde_json.specs.Find.{unescape}
+use Rattle.json_pointers.proofs.EscapeLemmas.{unescape-escape}
+use Rattle.walk_laws.specs.Words.{cuts, cuts_behind, IsRest, nothing}
+use Rattle.walk_laws.proofs.Cuts.{NotSlash, cut_is, cut_joined, cuts_first, escape_no_slash}
 use Rattle.fault_steps.specs.declared.walk.Step.{Step}
 use Rattle.fault_steps.specs.declared.walk.Step.TheVariants.{Answered, On}
 use Rattle.path_parts.specs.Texts.{text_left}
@@ -64,6 +66,17 @@ going r d p notes qs i e own h = going_by r d (every p notes qs) qs i e (λ bs. 
 pub gone : (r : Reading Site) (d : Data) (p : List Part) (notes : List Note) (qs : List (Question Site)) (i e : List ℕ) (bs : List Bool)
     → AreAnswers r (whole d) (every p notes qs) bs → Goes r d qs i e → AreSpelledBy r d (every p notes qs ∷ []) i e
 gone r d p notes qs i e bs a g = gone_by r d (every p notes qs) qs i e bs (λ bs. refl) a g
+
+-- a text goes on behind one name alone
+pub one_begun : (n m rest : List ℕ) (after : Option (Bor (List ℕ))) → escape n ≡ n → IsRest rest → 47 ∷ (n ++ text_left after) ≡ 47 ∷ (escape m ++ rest) → (n ≡ m) × (text_left after ≡ rest)
+one_begun n m rest after plain is_rest e =
+    let clean : All NotSlash n = subst (All NotSlash) plain (escape_no_slash n) in
+    let both = cut_is (n ++ text_left after) n (text_left after) (escape m) rest (cuts_first n (text_left after) clean (rest_left after)) (rest_left after) (escape_no_slash m) is_rest (tail_is 47 _ _ e) in
+    (sym (unescape-escape n) ∙ ap unescape (plain ∙ both.0) ∙ unescape-escape m, both.1)
+
+-- where something is left, the keyword is not the last, under whichever name
+pub not_named : (instance after : Option (Bor (List ℕ))) (n m : List ℕ) → IsMore instance after → escape n ≡ n → text_left instance ≡ [] → 47 ∷ (n ++ text_left after) ≡ path_text (at m) → ⊥
+not_named instance after n m more plain none is = more.more none (one_begun n m [] after plain nothing is).1
 
 -- where something is left, the keyword is not the last
 pub not_last : (instance after : Option (Bor (List ℕ))) (k n : List ℕ) → IsMore instance after → k ≡ n → escape n ≡ n

@@ -1,12 +1,14 @@
 -- The obliged steps of an applicator are all of its questions, or none.
 use Rattle.std.proofs.lemmas.Bool.Decides.{nat_tests}
-use Rattle.std.proofs.Common.{◌≡◌, ◌==◌, ℕ, List, [], ◌∷◌, Bool, true, false, length, refl, arith}
-use Rattle.serde_json.specs.Data.{Data}
+use Rattle.std.proofs.Common.{◌≡◌, ◌==◌, ℕ, List, [], ◌∷◌, Bool, true, false, Option, codes, length, refl, arith}
+use Rattle.serde_json.specs.Data.{Data, null, boolean, number, string, array, object}
+use Rattle.serde_json.specs.View.{view}
 use Rattle.json_paths.specs.Parts.{Part}
+use Rattle.schema_meaning.specs.Questions.{each_item, items_of}
 use Rattle.schema_meaning.specs.Rules.{Rule, asks, lone, obliged}
-use Rattle.schema_meaning.specs.Keywords.{rule}
+use Rattle.schema_meaning.specs.Keywords.{counting, rule}
 use Rattle.schema_reading.specs.Sites.{Site}
-use Rattle.applicators.specs.Shapes.{shape_of}
+use Rattle.applicators.specs.Shapes.{shape_of, site_of}
 use Rattle.applicators.specs.Combined.{asks_values}
 use Rattle.applicators.specs.declared.applicator.Applicator.{Applicator}
 use Rattle.applicators.specs.declared.applicator.Applicator.TheVariants as code
@@ -25,6 +27,15 @@ by_lone (x ∷ []) n is false e = absurd (grind (arith, nat_tests))
 by_lone (x ∷ y ∷ xs) n is true e = absurd (grind (arith, nat_tests))
 by_lone (x ∷ y ∷ xs) n is false e = refl
 
+-- `contains` obliges none
+none_obliged : (s : Site) (least most : Option ℕ) (d : Data) (bs : List Bool) → obliged (counting d least most (each_item (codes "contains") s 0 (items_of d))) bs ≡ []
+none_obliged s least most null bs = refl
+none_obliged s least most (boolean b) bs = refl
+none_obliged s least most (number n) bs = refl
+none_obliged s least most (string t) bs = refl
+none_obliged s least most (array ds) bs = refl
+none_obliged s least most (object ms) bs = refl
+
 abbrev rule_of : (List Part → Data → Site) → (List ℕ → List ℕ → Bool) → Data → Applicator → Rule Site
 rule_of site matches d a = rule matches d (shape_of site a)
 
@@ -36,7 +47,7 @@ module _ (site : List Part → Data → Site) (matches : List ℕ → List ℕ �
   all_or_none (code.PrefixItems schemas) n h is = refl
   all_or_none (code.AdditionalItems start schema) n h is = refl
   all_or_none (code.NoAdditionalItems start schema) n h is = refl
-  all_or_none (code.Contains schema least most) n h is = absurd (cc)
+  all_or_none (code.Contains schema least most) n h is = none_obliged (site_of site (codes "contains") (view schema.now)) least most d bs
   all_or_none (code.Properties schemas) n h is = refl
   all_or_none (code.AdditionalProperties declared schema) n h is = refl
   all_or_none (code.NoAdditionalProperties declared schema) n h is = refl
@@ -44,6 +55,7 @@ module _ (site : List Part → Data → Site) (matches : List ℕ → List ℕ �
   all_or_none (code.PropertyNames schema) n h is = absurd (cc)
   all_or_none (code.NoPropertyNames schema) n h is = absurd (cc)
   all_or_none (code.DependentSchemas schemas) n h is = refl
+  all_or_none (code.Dependencies entries) n h is = refl
   all_or_none (code.AllOf schemas) n h is = refl
   all_or_none (code.AnyOf schemas) n h is = by_lone _ n is (n == 1) refl
   all_or_none (code.OneOf schemas) n h is = by_lone _ n is (n == 1) refl

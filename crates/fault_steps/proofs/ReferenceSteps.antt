@@ -20,7 +20,7 @@ use Rattle.keyword_refusals.specs.Passed.{Keyword}
 use Rattle.schema_reading.specs.PathTexts.{path_text}
 use Rattle.check_laws.specs.Spelled.{AreSpelled, AreSpelledBy, refuses, goes}
 use Rattle.check_laws.proofs.Answers.{answers_there}
-use Rattle.walk_laws.specs.Words.{IsOf}
+use Rattle.walk_laws.specs.Words.{Bears}
 use Rattle.walk_laws.proofs.Begun.{rules_stand}
 use Rattle.fault_steps.specs.declared.walk.Walk.{Walk}
 use Rattle.fault_steps.specs.declared.walk.Step.{Step}
@@ -89,12 +89,12 @@ reference_on w v by text target after more at path value instance left = record 
 
 -- ---- keywords that ask nothing
 
-pub asserted_passes : (w : Walk) (k : Keyword) (a : Assertion) (after : Option (Bor (List ℕ))) → IsMore w.instance after
-    → ((x : Scene) (s : Site) → (row_of x.documents s k).shapes ≡ asserts a ∷ []) → PassesBy w k after (Answered false)
-asserted_passes w k a after more is = record {
-  outcome = λ x s n stage h.
+pub asserted_passes : (w : Walk) (k : Keyword) (a : Assertion) (n : List ℕ) (after : Option (Bor (List ℕ))) → IsMore w.instance after
+    → ((x : Scene) (s : Site) → (row_of x.documents s k).shapes ≡ asserts a ∷ []) → PassesBy w k n after (Answered false)
+asserted_passes w k a n after more is = record {
+  outcome = λ x s stage h.
       let d = view w.value.now in
-      let named_is : named a ≡ n = (subst (λ shapes. AllByRecursion (IsOf n) shapes) (is x s) stage.named).0 in
+      let named_is : named a ≡ n = (subst (λ shapes. AllByRecursion (Bears n) shapes) (is x s) stage.named).0 in
       let plain = stage.plain (asserts a) (subst (λ shapes. In (asserts a) shapes) (sym (is x s)) first) in
       let one : AreSpelledBy (reading_of x) d (every (asking.at (named a)) (wrong x.matches a d) [] ∷ []) (text_left w.instance) (47 ∷ (n ++ text_left after)) =
       subst (λ shapes. AreSpelledBy (reading_of x) d (map (rule x.matches d) shapes) (text_left w.instance) (47 ∷ (n ++ text_left after))) (is x s) h in
@@ -106,18 +106,18 @@ no_rule : (r : Reading Site) (d : Data) (i e : List ℕ) → AreSpelledBy r d []
 no_rule r d i e (refuses k bs j a wrong at on) = elim j [ ]
 no_rule r d i e (goes k bs q x y j a o under at on) = elim j [ ]
 
-pub nothing_passes : (w : Walk) (k : Keyword) (after : Option (Bor (List ℕ))) → ((x : Scene) (s : Site) → (row_of x.documents s k).shapes ≡ []) → PassesBy w k after (Answered false)
-nothing_passes w k after is = record {
-  outcome = λ x s n stage h.
+pub nothing_passes : (w : Walk) (k : Keyword) (n : List ℕ) (after : Option (Bor (List ℕ))) → ((x : Scene) (s : Site) → (row_of x.documents s k).shapes ≡ []) → PassesBy w k n after (Answered false)
+nothing_passes w k n after is = record {
+  outcome = λ x s stage h.
       let d = view w.value.now in
       no_rule (reading_of x) d _ _ (subst (λ shapes. AreSpelledBy (reading_of x) d (map (rule x.matches d) shapes) (text_left w.instance) (47 ∷ (n ++ text_left after))) (is x s) h);
 }
 
 -- by the row of the keyword
-pub by_row : (w : Walk) (k : Keyword) (row : Scene → Site → Row) (after : Option (Bor (List ℕ))) (step : Step) → ((x : Scene) (s : Site) → row_of x.documents s k ≡ row x s)
-    → PassesThrough w row after step → PassesBy w k after step
-by_row w k row after step is h = record {
-  outcome = λ x s n stage.
+pub by_row : (w : Walk) (k : Keyword) (row : Scene → Site → Row) (n : List ℕ) (after : Option (Bor (List ℕ))) (step : Step) → ((x : Scene) (s : Site) → row_of x.documents s k ≡ row x s)
+    → PassesThrough w row after step → PassesBy w k n after step
+by_row w k row n after step is h = record {
+  outcome = λ x s stage.
       let d = view w.value.now in
       subst (λ (r : Row). Outcome x s d (AreSpelledBy (reading_of x) d (map (rule x.matches d) r.shapes) (text_left w.instance) (47 ∷ (n ++ text_left after))) step) (sym (is x s))
       (h.outcome x s n (subst (λ r. Stage w.site (path_at w) d n r x s) (is x s) stage));

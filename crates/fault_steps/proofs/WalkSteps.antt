@@ -6,7 +6,7 @@ use Rattle.serde_json.specs.Data.{Data, null, boolean, number, string, array, ob
 use Rattle.serde_json.specs.Find.{get_member}
 use Rattle.serde_json.specs.View.{view}
 use Rattle.json_paths.specs.Pointers.{escape}
-use Rattle.schema_meaning.specs.Members.{In, first}
+use Rattle.schema_meaning.specs.Members.{In, first, later}
 use Rattle.schema_meaning.specs.Places.{whole}
 use Rattle.schema_meaning.specs.Circular.{IsCircular}
 use Rattle.schema_meaning.specs.Questions.{at, listed_members}
@@ -27,26 +27,30 @@ use Rattle.keyword_refusals.specs.PassedRefusals as refusal
 use Rattle.place_laws.specs.Rising.{are_rising}
 use Rattle.schema_reading.specs.PathTexts.{path_text}
 use Rattle.check_laws.specs.Spelled.{AreSpelled, AreSpelledBy, refuses, goes}
-use Rattle.check_laws.proofs.Answers.{obliged_refuses}
 use Rattle.check_laws.proofs.Steps.{from_step}
-use Rattle.walk_laws.specs.Words.{IsOf, IsUnder, member_of, IsRest, cuts, cuts_behind}
+use Rattle.walk_laws.specs.Words.{Bears, IsUnder, member_of, cuts, cuts_behind}
 use Rattle.walk_laws.proofs.Cuts.{cut_is, cut_joined, escape_no_slash}
 use Rattle.walk_laws.proofs.Listed.{each_in, in_mapped}
-use Rattle.walk_laws.proofs.Begun.{shape_begins, begun, one_rule, context, rules_of, spelled_member, rules_stand, member_row, not_spelled, false_spelled, spelled_false}
+use Rattle.walk_laws.proofs.Begun.{Begun, begun, one_rule, context, rules_of, spelled_member, rules_stand, member_row, not_spelled, false_spelled, spelled_false}
 use Rattle.fault_steps.specs.declared.walk.Walk.{Walk}
 use Rattle.fault_steps.specs.declared.walk.Step.{Step}
 use Rattle.fault_steps.specs.declared.walk.Step.TheVariants.{Answered, On}
 use Rattle.path_parts.specs.Texts.{text_left}
 use Rattle.fault_steps.specs.Steps.{path_at, Outcome, IsLeft, Passes, PassesAs, PassesBy}
-use Rattle.fault_steps.specs.Names.{own_name}
+use Rattle.fault_steps.specs.Names.{bears}
 use Rattle.keyword_refusals.specs.Scenes.{Scene, reading_of, IsRight, Meets, Stage}
-use Rattle.keyword_refusals.specs.Verdicts.{SomeRefuses, rules_by, IsRefusal}
+use Rattle.keyword_refusals.specs.Verdicts.{SomeRefusesAt, rules_by, IsRefusalAt}
 use Rattle.keyword_refusals.proofs.Names.{listed_found, found_listed}
 use Rattle.keyword_refusals.proofs.Right.{no_cause, member_read, member_named}
 use Rattle.path_parts.proofs.ItemFacts.{some_one}
 use Rattle.path_parts.proofs.TextFacts.{rest_left, no_part}
-use Rattle.fault_steps.proofs.Going.{name_text}
-use Rattle.fault_steps.proofs.OwnNames.{IsOwn, own_named, are_named}
+use Rattle.fault_steps.proofs.Going.{name_text, one_begun}
+use Rattle.fault_steps.proofs.OwnNames.{IsOwn, own_named, named_own, are_named}
+
+in_map : {A B : Type 0} (f : A → B) (x : A) (xs : List A) → In x xs → In (f x) (map f xs)
+in_map f x [] i = elim i [ ]
+in_map f x (y ∷ xs) first = first
+in_map f x (y ∷ xs) (later i) = later (in_map f x xs i)
 
 -- ---- one step behind another
 
@@ -69,11 +73,23 @@ passes_first w = record { outcome = λ x s meets straight. record { site = s; me
 
 -- ---- the keyword of a member under a name
 
-pub as_other : (w : Walk) (k : Keyword) (n member : List ℕ) (after : Option (Bor (List ℕ))) → (own_name k member ≡ n → ⊥) → PassesAs w k n member after (Answered false)
-as_other w k n member after other = record { same = λ e. absurd (other e); other = λ e. refl }
+pub as_other : (w : Walk) (k : Keyword) (n member : List ℕ) (after : Option (Bor (List ℕ))) → bears k member n ≡ false → PassesAs w k n member after (Answered false)
+as_other w k n member after other = record { same = λ e. absurd (true≢false (sym e ∙ other)); other = λ e. refl }
 
-pub as_own : (w : Walk) (k : Keyword) (n member : List ℕ) (after : Option (Bor (List ℕ))) (step : Step) → own_name k member ≡ n → PassesBy w k after step → PassesAs w k n member after step
-as_own w k n member after step same p = record { same = λ e. p; other = λ e. absurd (e same) }
+pub as_own : (w : Walk) (k : Keyword) (n member : List ℕ) (after : Option (Bor (List ℕ))) (step : Step) → bears k member n ≡ true → PassesBy w k n after step → PassesAs w k n member after step
+as_own w k n member after step same p = record { same = λ e. p; other = λ e. absurd (true≢false (sym same ∙ e)) }
+
+-- ---- the shape by whose rule a certificate begins
+
+pub begun_among : (x : Scene) (d : Data) (shapes : List (Shape Site)) (P : Shape Site → Type 0) → ((shape : Shape Site) → P shape → (k : List ℕ) × Bears k shape) → AllByRecursion P shapes
+    → (i e : List ℕ) → AreSpelledBy (reading_of x) d (map (rule x.matches d) shapes) i e → (shape : Shape Site) × In shape shapes × P shape × Begun (reading_of x) d shape e
+begun_among x d shapes P named each i e h =
+    let one = one_rule (reading_of x) d _ i e h in
+    let shape = in_mapped (rule x.matches d) shapes one.1 in
+    let holds = each_in P shapes each shape.0 shape.1 in
+    let alone = one.2 (rule x.matches d shape.0 ∷ []) (subst (λ r. In r (rule x.matches d shape.0 ∷ [])) shape.2 first) in
+    let bears_some = named shape.0 holds in
+    (shape.0, shape.1, holds, begun (reading_of x) d bears_some.0 shape.0 bears_some.1 i e alone)
 
 -- ---- nothing is left of the evaluation path
 
@@ -81,18 +97,12 @@ module _ (x : Scene) (s : Site) (d : Data) (right : IsRight x s) where
   abbrev of_draft_4 : Bool
   of_draft_4 = is_draft_4 s.dialect.draft
 
-  -- the name under which the shape refuses by whose rule a member's certificate begins
+  -- the shape by whose rule a member's certificate begins, and the name under which it refuses
   under : (ms : Members) (k : List ℕ) (v : Data) (i e : List ℕ) → s.contents ≡ object ms → In (k, v) (listed_members ms)
       → AreSpelledBy (reading_of x) d (rules_of x.documents x.makes x.matches s ms d k v) i e
-      → (shape : Shape Site) × (u : IsUnder of_draft_4 k shape) × (rest : List ℕ) × (e ≡ 47 ∷ (escape u.name ++ rest)) × IsRest rest
+      → (shape : Shape Site) × In shape (row_at (context x.documents x.makes x.matches s ms) k v).shapes × IsUnder of_draft_4 k shape × Begun (reading_of x) d shape e
   under ms k v i e is listed h =
-      let shapes = (row_at (context x.documents x.makes x.matches s ms) k v).shapes in
-      let one = one_rule (reading_of x) d _ i e h in
-      let shape = in_mapped (rule x.matches d) shapes one.1 in
-      let u = each_in (IsUnder of_draft_4 k) shapes (member_named x s ms k v right is listed) shape.0 shape.1 in
-      let alone = one.2 (rule x.matches d shape.0 ∷ []) (subst (λ r. In r (rule x.matches d shape.0 ∷ [])) shape.2 first) in
-      let b = begun (reading_of x) d u.name (shape.0 ∷ []) i e (u.named, tt) alone in
-      (shape.0, u, b.0, b.1, b.2)
+      begun_among x d (row_at (context x.documents x.makes x.matches s ms) k v).shapes (IsUnder of_draft_4 k) (λ shape u. (u.name, u.named)) (member_named x s ms k v right is listed) i e h
 
   ends_false : (i e : List ℕ) → e ≡ [] → AreSpelled (reading_of x) s d i e → (c : Data) → s.contents ≡ c → (c ≡ boolean false) × (i ≡ [])
   ends_false i e none h null is = absurd (not_spelled x.documents x.makes x.matches s null d i e is refl h)
@@ -104,7 +114,7 @@ module _ (x : Scene) (s : Site) (d : Data) (right : IsRight x s) where
   ends_false i e none h (object ms) is =
       let m = spelled_member x.documents x.makes x.matches s ms d i e is h in
       let u = under ms m.0 m.1 i e is m.2 m.3 in
-      absurd (no_part 47 _ (sym u.3 ∙ none))
+      absurd (no_part 47 _ (sym u.3.text ∙ none))
 
   -- a part is left where there are no members
   abbrev IsObject : Data → Type 0
@@ -127,9 +137,11 @@ module _ (x : Scene) (s : Site) (d : Data) (right : IsRight x s) where
   name_found ms i text token after is rising cut h =
       let m = spelled_member x.documents x.makes x.matches s ms d i (47 ∷ text) is h in
       let u = under ms m.0 m.1 i (47 ∷ text) is m.2 m.3 in
-      let both = cut_is text token (text_left after) (escape u.1.name) u.2 cut (rest_left after) (escape_no_slash u.1.name) u.4 (let e : 47 ∷ text ≡ 47 ∷ (escape u.1.name ++ u.2) = u.3 in cc) in
-      let same : token ≡ u.1.name = both.0 ∙ u.1.plain in
-      let member : m.0 ≡ member_of of_draft_4 token = sym (ap (member_of of_draft_4) same ∙ u.1.of_member) in (
+      let b = u.3 in
+      let both = cut_is text token (text_left after) (escape b.name) b.rest cut (rest_left after) (escape_no_slash b.name) b.is_rest (let e : 47 ∷ text ≡ 47 ∷ (escape b.name ++ b.rest) = b.text in cc) in
+      let back = u.2.back b.name b.named in
+      let same : token ≡ b.name = both.0 ∙ back.plain in
+      let member : m.0 ≡ member_of of_draft_4 token = sym (ap (member_of of_draft_4) same ∙ back.of_member) in (
         m.1,
         subst (λ k. get_member k ms ≡ Some m.1) member (listed_found m.0 m.1 ms rising m.2),
         subst (λ k. AreSpelledBy (reading_of x) d (rules_of x.documents x.makes x.matches s ms d k m.1) i (47 ∷ text)) member m.3,
@@ -202,21 +214,20 @@ module _ (w : Walk) (text : List ℕ) (is : text_left w.evaluation ≡ 47 ∷ te
           (subst (λ u. AreSpelledBy (reading_of x) d (rules_of x.documents x.makes x.matches s ms d member u) (text_left w.instance) (47 ∷ text))
           (some_one (get_member member ms) f.0 v f.1 found) f.2)
 
-      own_here : (x : Scene) (s : Site) → Meets w.site (path_at w) x s → AllByRecursion (IsOwn (own_name k member)) (row_of x.documents s k).shapes
-      own_here x s meets =
-          own_named (is_draft_4 s.dialect.draft) k member x.documents s
-          (subst (λ (r : Row). AllByRecursion (IsUnder (is_draft_4 s.dialect.draft) member) r.shapes) (row_here x s meets)
-          (member_named x s ms member v meets.right (meets.stands.contents ∙ contents) (found_listed member v ms found)))
+      under_here : (x : Scene) (s : Site) → Meets w.site (path_at w) x s → AllByRecursion (IsUnder (is_draft_4 s.dialect.draft) member) (row_of x.documents s k).shapes
+      under_here x s meets =
+          subst (λ (r : Row). AllByRecursion (IsUnder (is_draft_4 s.dialect.draft) member) r.shapes) (row_here x s meets)
+          (member_named x s ms member v meets.right (meets.stands.contents ∙ contents) (found_listed member v ms found))
 
       -- where the keyword refuses under the name
-      under_name : (step : Step) → own_name k member ≡ token → PassesBy w k after step → Passes w step
+      under_name : (step : Step) → bears k member token ≡ true → PassesBy w k token after step → Passes w step
       under_name step same p = record {
         outcome = λ x s meets straight.
             let d = view w.value.now in
             let stands : In (row_of x.documents s k) (rows_at x.documents x.makes s) =
             subst (λ r. In r (rows_at x.documents x.makes s)) (row_here x s meets)
             (member_row x.documents x.makes x.matches s ms member v (meets.stands.contents ∙ contents) (found_listed member v ms found)) in
-            let own = subst (λ n. AllByRecursion (IsOwn n) (row_of x.documents s k).shapes) same (own_here x s meets) in
+            let own = own_named (is_draft_4 s.dialect.draft) member token k x.documents s (under_here x s meets) same in
             let stage : Stage w.site (path_at w) d token (row_of x.documents s k) x s = record {
               meets = meets;
               straight = straight;
@@ -230,34 +241,30 @@ module _ (w : Walk) (text : List ℕ) (is : text_left w.evaluation ≡ 47 ∷ te
             subst (λ e. AreSpelled (reading_of x) s d (text_left w.instance) e) (sym (is ∙ joined))
             (from_step (reading_of x) s d (rules_by x s d k) (text_left w.instance) (47 ∷ (token ++ text_left after))
             (rules_stand x.documents x.makes x.matches s (row_of x.documents s k) d stands) h) in
-            outcome_through x s s d d (IsLeft x w s) _ step (λ c. c) to from (p.outcome x s token stage);
+            outcome_through x s s d d (IsLeft x w s) _ step (λ c. c) to from (p.outcome x s stage);
       }
 
-      -- where it refuses under another
-      under_other : (own_name k member ≡ token → ⊥) → Passes w (Answered false)
+      -- where it does under others alone
+      under_other : bears k member token ≡ false → Passes w (Answered false)
       under_other other = record {
         outcome = λ x s meets straight h.
             let d = view w.value.now in
             let shapes = (row_of x.documents s k).shapes in
-            let spelled = spelled_here x s meets h in
-            let own = own_here x s meets in
-            let one = one_rule (reading_of x) d _ (text_left w.instance) (47 ∷ text) spelled in
-            let shape = in_mapped (rule x.matches d) shapes one.1 in
-            let plain = (each_in (IsOwn (own_name k member)) shapes own shape.0 shape.1).plain in
-            let b = begun (reading_of x) d (own_name k member) shapes (text_left w.instance) (47 ∷ text) (are_named (own_name k member) shapes own) spelled in
-            let both = cut_is text token (text_left after) (escape (own_name k member)) b.0 cut (rest_left after) (escape_no_slash (own_name k member)) b.2
-            (let e : 47 ∷ text ≡ 47 ∷ (escape (own_name k member) ++ b.0) = b.1 in cc) in
-            other (sym (both.0 ∙ plain));
+            let old = is_draft_4 s.dialect.draft in
+            let u = begun_among x d shapes (IsUnder old member) (λ shape u. (u.name, u.named)) (under_here x s meets) (text_left w.instance) (47 ∷ text) (spelled_here x s meets h) in
+            let b = u.3 in
+            let both = cut_is text token (text_left after) (escape b.name) b.rest cut (rest_left after) (escape_no_slash b.name) b.is_rest
+            (let e : 47 ∷ text ≡ 47 ∷ (escape b.name ++ b.rest) = b.text in cc) in
+            let same : b.name ≡ token = sym (both.0 ∙ (u.2.back b.name b.named).plain) in
+            true≢false (sym (named_own old member token k x.documents s u.0 u.1 (under_here x s meets) (subst (λ n. Bears n u.0) same b.named)) ∙ other);
       }
 
       pub by_member : (step : Step) → PassesAs w k token member after step → Passes w step
-      by_member step p = by (bytes_eq (own_name k member) token) refl
+      by_member step p = by (bears k member token) refl
         where
-          by : (b : Bool) → bytes_eq (own_name k member) token ≡ b → Passes w step
-          by true e = (let same = (bytes_eq-Decides (own_name k member) token).0 e in under_name step same (p.same same))
-          by false e =
-              let other : own_name k member ≡ token → ⊥ = λ same. true≢false (sym ((bytes_eq-Decides (own_name k member) token).1 same) ∙ e) in
-              subst (λ st. Passes w st) (sym (p.other other)) (under_other other)
+          by : (b : Bool) → bears k member token ≡ b → Passes w step
+          by true e = under_name step e (p.same e)
+          by false e = subst (λ st. Passes w st) (sym (p.other e)) (under_other e)
 
     stands_there : (x : Scene) (s : Site) (v : Data) → s.contents ≡ object ms → get_member member ms ≡ Some v
         → In (row_at (context x.documents x.makes x.matches s ms) member v) (rows_at x.documents x.makes s)
@@ -287,23 +294,25 @@ module _ (w : Walk) (text : List ℕ) (is : text_left w.evaluation ≡ 47 ∷ te
 
 -- ---- the last keyword
 
-by_refuses : (r : Reading Site) (d : Data) (ks : List (Rule Site)) (i e : List ℕ) → AreSpelledBy r d ks i e → SomeRefuses r d ks
-by_refuses r d ks i e (refuses k bs j a wrong at_i on_e) = (k, bs, j, a, wrong)
-by_refuses r d ks i e (goes k bs q x y j a o under at_i on_e) = (k, bs, j, a, obliged_refuses r d k bs q x y a o under)
+by_refuses : (x : Scene) (d : Data) (shapes : List (Shape Site)) (n : List ℕ) (after : Option (Bor (List ℕ))) (i : List ℕ) → AllByRecursion (Bears n) shapes
+    → ((shape : Shape Site) → In shape shapes → escape n ≡ n) → AreSpelledBy (reading_of x) d (map (rule x.matches d) shapes) i (47 ∷ (n ++ text_left after))
+    → SomeRefusesAt n (reading_of x) d (map (rule x.matches d) shapes)
+by_refuses x d shapes n after i named plain h =
+    let u = begun_among x d shapes (Bears n) (λ shape g. (n, g)) named i _ h in
+    let b = u.3 in
+    let same : n ≡ b.name = (one_begun n b.name b.rest after (plain u.0 u.1) b.is_rest b.text).0 in
+    (rule x.matches d u.0, b.answers, in_map (rule x.matches d) u.0 shapes u.1, b.are, b.wrong, b.under ∙ ap at (sym same))
 
-pub last_passes : (w : Walk) (k : Keyword) (after : Option (Bor (List ℕ))) (b : Bool) → text_left w.instance ≡ [] → text_left after ≡ [] → IsRefusal w.site (path_at w) (view w.value.now) k b
-    → PassesBy w k after (Answered b)
-last_passes w k after true at_i on_e h = record {
-  outcome = λ x s n stage.
+pub last_passes : (w : Walk) (k : Keyword) (n : List ℕ) (after : Option (Bor (List ℕ))) (b : Bool) → text_left w.instance ≡ [] → text_left after ≡ []
+    → IsRefusalAt w.site (path_at w) (view w.value.now) k n b → PassesBy w k n after (Answered b)
+last_passes w k n after true at_i on_e h = record {
+  outcome = λ x s stage.
       let d = view w.value.now in
-      let shapes = (row_of x.documents s k).shapes in
-      let f = h.decides x s n stage in
-      let shape = in_mapped (rule x.matches d) shapes f.2 in
-      let at_k : refuses_at f.0 f.1 ≡ at n =
-      subst (λ (r : Rule Site). refuses_at r f.1 ≡ at n) shape.2 ((shape_begins x.matches d n shape.0 (each_in (IsOf n) shapes stage.named shape.0 shape.1)).own f.1) in
+      let f = h.decides x s stage in
+      let shape = in_mapped (rule x.matches d) (row_of x.documents s k).shapes f.2 in
       refuses f.0 f.1 f.2 f.3 f.4 at_i
-      (ap (λ t. 47 ∷ (n ++ t)) on_e ∙ ap (λ t. 47 ∷ t) (append-nil n) ∙ sym (ap path_text at_k ∙ name_text n n refl (stage.plain shape.0 shape.1)));
+      (ap (λ t. 47 ∷ (n ++ t)) on_e ∙ ap (λ t. 47 ∷ t) (append-nil n) ∙ sym (ap path_text f.5 ∙ name_text n n refl (stage.plain shape.0 shape.1)));
 }
-last_passes w k after false at_i on_e h = record {
-  outcome = λ x s n stage p. h.decides x s n stage (by_refuses (reading_of x) (view w.value.now) _ _ _ p);
+last_passes w k n after false at_i on_e h = record {
+  outcome = λ x s stage p. h.decides x s stage (by_refuses x (view w.value.now) (row_of x.documents s k).shapes n after (text_left w.instance) stage.named stage.plain p);
 }

@@ -18,6 +18,7 @@ obliges (code.NoProperties schema) n = true
 obliges (code.PropertyNames schema) n = true
 obliges (code.NoPropertyNames schema) n = true
 obliges (code.DependentSchemas schemas) n = true
+obliges (code.Dependencies entries) n = true
 obliges (code.AllOf schemas) n = true
 obliges (code.AnyOf schemas) n = n == 1
 obliges (code.OneOf schemas) n = n == 1

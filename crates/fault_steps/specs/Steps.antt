@@ -17,7 +17,7 @@ use Rattle.schema_reports.specs.References.{text_of}
 use Rattle.keyword_refusals.specs.Passed.{row_of, documents_at, Stands, base_of, scope_of}
 use Rattle.keyword_refusals.specs.Passed.{Keyword}
 use Rattle.check_laws.specs.Spelled.{AreSpelled, AreSpelledBy}
-use Rattle.fault_steps.specs.Names.{own_name}
+use Rattle.fault_steps.specs.Names.{bears}
 use Rattle.fault_steps.specs.declared.walk.Walk.{Walk}
 use Rattle.fault_steps.specs.declared.walk.Step.{Step}
 use Rattle.fault_steps.specs.declared.walk.Step.TheVariants.{Answered, On}
@@ -49,15 +49,15 @@ Outcome x s d P (On w) = GoesOn x s d P w
 pub record Passes (w : Walk) (step : Step) : Type 0 where
   pub outcome : (x : Scene) (s : Site) → Meets w.site (path_at w) x s → IsStraight x s (view w.value.now) → Outcome x s (view w.value.now) (IsLeft x w s) step
 
--- the step by a keyword, `after` being what is left of the evaluation path behind its name
-pub record PassesBy (w : Walk) (k : Keyword) (after : Option (Bor (List ℕ))) (step : Step) : Type 0 where
-  pub outcome : (x : Scene) (s : Site) (name : List ℕ) → Stage w.site (path_at w) (view w.value.now) name (row_of x.documents s k) x s
+-- the step by a keyword under a name, `after` being what is left of the evaluation path behind it
+pub record PassesBy (w : Walk) (k : Keyword) (name : List ℕ) (after : Option (Bor (List ℕ))) (step : Step) : Type 0 where
+  pub outcome : (x : Scene) (s : Site) → Stage w.site (path_at w) (view w.value.now) name (row_of x.documents s k) x s
       → Outcome x s (view w.value.now) (AreSpelledBy (reading_of x) (view w.value.now) (rules_by x s (view w.value.now) k) (text_left w.instance) (47 ∷ (name ++ text_left after))) step
 
 -- the same by the keyword of a member under a name
 pub record PassesAs (w : Walk) (k : Keyword) (n member : List ℕ) (after : Option (Bor (List ℕ))) (step : Step) : Type 0 where
-  pub same : own_name k member ≡ n → PassesBy w k after step
-  pub other : (own_name k member ≡ n → ⊥) → step ≡ Answered false
+  pub same : bears k member n ≡ true → PassesBy w k n after step
+  pub other : bears k member n ≡ false → step ≡ Answered false
 
 -- the same by its row, for the keywords that ask
 pub record PassesThrough (w : Walk) (row : Scene → Site → Row) (after : Option (Bor (List ℕ))) (step : Step) : Type 0 where

@@ -5,28 +5,41 @@ ghost use Rattle.walk_laws.specs.Words as words;
 ghost use Rattle.keyword_refusals.specs.Passed.{is_draft_4_at};
 ghost use Rattle.fault_steps.specs.Names as naming;
 
+use applicators::applicator::Applicator;
 use keyword_refusals::{Keyword, Site};
 
-/// The name of the member whose keyword may refuse under a name: of Draft 4's strict limits that of the limit itself.
+/// The name of the member whose keyword may refuse under a name: of Draft 4's strict limits that of the limit itself, of the bounds of
+/// `contains` that, of `then` and `else` the `if` beside.
 pub(crate) fn member_of<'p>(site: &Site<'_>, name: &'p str) -> &'p str
     ensures { result.now ≡ words.member_of (is_draft_4_at site.now) name.now }
 {
-    if !site.is_of_draft_4() {
-        return name;
-    }
+    let of_draft_4 = site.is_of_draft_4();
     match name {
-        "exclusiveMaximum" => "maximum",
-        "exclusiveMinimum" => "minimum",
+        "exclusiveMaximum" if of_draft_4 => "maximum",
+        "exclusiveMinimum" if of_draft_4 => "minimum",
+        "minContains" | "maxContains" => "contains",
+        "then" | "else" => "if",
         _ => name,
     }
 }
 
-/// The name under which the keyword of a member refuses.
-pub(crate) fn own_name<'a>(keyword: &'a Keyword<'_>, member: &'a str) -> &'a str
-    ensures { result.now ≡ naming.own_name keyword.now member.now }
+fn applicator_bears(applicator: &Applicator<'_>, member: &str, name: &str) -> bool
+    ensures { result ≡ naming.applicator_bears applicator.now member.now name.now }
+{
+    match applicator {
+        Applicator::Contains { .. } => matches!(name, "contains" | "minContains" | "maxContains"),
+        Applicator::If { .. } => matches!(name, "if" | "then" | "else"),
+        _ => member == name,
+    }
+}
+
+/// Whether the keyword of a member may refuse under a name.
+pub(crate) fn bears(keyword: &Keyword<'_>, member: &str, name: &str) -> bool
+    ensures { result ≡ naming.bears keyword.now member.now name.now }
 {
     match keyword {
-        Keyword::Assertion(assertion) => assertion.name(),
-        _ => member,
+        Keyword::Assertion(assertion) => assertion.name() == name,
+        Keyword::Applicator(applicator) => applicator_bears(applicator, member, name),
+        _ => member == name,
     }
 }

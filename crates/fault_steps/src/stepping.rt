@@ -1,5 +1,5 @@
 //! One step of a walk.
-ghost use Rattle.std.specs.Prelude.{◌≡◌, ◌<◌, ◌∷◌, ◌||◌, IfOk, is_some};
+ghost use Rattle.std.specs.Prelude.{◌≡◌, ◌<◌, ◌∷◌, ◌||◌, List, ℕ, IfOk, is_some};
 ghost use Rattle.serde_json.specs.Data.{depth};
 ghost use Rattle.serde_json.specs.View.{view};
 ghost use Rattle.keyword_refusals.specs.Passed.{target_in};
@@ -12,7 +12,7 @@ ghost use Rattle.fault_steps.specs.Steps.{Passes, PassesAs, PassesBy, PassesThro
 use crate::applied::through_applicator;
 use crate::items::through_items;
 use crate::members::through_properties;
-use crate::names::{member_of, own_name};
+use crate::names::{bears, member_of};
 use crate::walk::{Step, Walk};
 use keyword_refusals::members::names_rise;
 use keyword_refusals::refusing::refuses;
@@ -50,7 +50,7 @@ fn through_reference<'r, 'i, 'p>(
     }))
 }
 
-// The step by a keyword, where something is left of a path behind it.
+// The step by a keyword, where something is left of a path behind its name.
 fn through<'r, 'i, 'p>(
     alloc: Global,
     walk: Walk<'r, 'i, 'p>,
@@ -59,7 +59,7 @@ fn through<'r, 'i, 'p>(
 ) -> Result<Step<'r, 'i, 'p>, AllocError>
     requires lies { LiesIn walk.site keyword }
     requires more { IsMore walk.instance after }
-    ensures passes { IfOk result (PassesBy walk.entry keyword.entry after.entry) }
+    ensures passes { IfOk result (λ step. (name : List ℕ) → PassesBy walk.entry keyword.entry name after.entry step) }
     ensures shorter { IfOk result (IsNotLonger after.entry) }
 {
     match keyword {
@@ -83,15 +83,16 @@ fn is_more(instance: Option<&str>, after: Option<&str>) -> bool
     instance.is_some() || after.is_some()
 }
 
-// The step by a keyword: where nothing is left of the paths behind it, whether it refuses.
+// The step by a keyword under a name: where nothing is left of the paths behind it, whether it refuses.
 fn by_keyword<'r, 'i, 'p>(
     alloc: Global,
     walk: Walk<'r, 'i, 'p>,
     keyword: Keyword<'r>,
+    name: &str,
     after: Option<&'p str>,
 ) -> Result<Step<'r, 'i, 'p>, AllocError>
     requires lies { LiesIn walk.site keyword }
-    ensures passes { IfOk result (PassesBy walk.entry keyword.entry after.entry) }
+    ensures passes { IfOk result (PassesBy walk.entry keyword.entry name.now after.entry) }
     ensures shorter { IfOk result (IsNotLonger after.entry) }
 {
     if is_more(walk.instance, after) {
@@ -105,13 +106,14 @@ fn by_keyword<'r, 'i, 'p>(
         &start,
         walk.reference,
         keyword,
+        name,
         walk.value,
     )?;
     Ok(Step::Answered(refused))
 }
 
 // The step by the keyword of a member, where it may refuse under the name that the evaluation path goes on with.
-fn by_own_name<'r, 'i, 'p>(
+fn by_member<'r, 'i, 'p>(
     alloc: Global,
     walk: Walk<'r, 'i, 'p>,
     name: &str,
@@ -123,10 +125,10 @@ fn by_own_name<'r, 'i, 'p>(
     ensures passes { IfOk result (PassesAs walk.entry keyword.entry name.now member.now after.entry) }
     ensures shorter { IfOk result (IsNotLonger after.entry) }
 {
-    if own_name(&keyword, member) != name {
+    if !bears(&keyword, member, name) {
         return Ok(Step::Answered(false));
     }
-    by_keyword(alloc, walk, keyword, after)
+    by_keyword(alloc, walk, keyword, name, after)
 }
 
 // Whether a schema is `false` where nothing is left of the instance's path.
@@ -159,7 +161,7 @@ fn by_name<'r, 'i, 'p>(
         return Ok(Step::Answered(false));
     };
     match read_keyword(alloc, &walk.site, members, member, part) {
-        Ok(keyword) => by_own_name(alloc, walk, name, member, keyword, after),
+        Ok(keyword) => by_member(alloc, walk, name, member, keyword, after),
         Err(refusal) => match refusal {
             Refusal::Memory => Err(AllocError),
             _ => Ok(Step::Answered(false)),

@@ -8,11 +8,12 @@ use Rattle.schema_meaning.specs.Members.{In, first, later}
 use Rattle.schema_meaning.specs.Places.{whole, value_after, called_after}
 use Rattle.schema_meaning.specs.Questions as told
 use Rattle.schema_meaning.specs.Questions.{at}
+use Rattle.schema_meaning.specs.Rules.{every}
 use Rattle.schema_meaning.specs.Readings.{verdicts, IsTold}
 use Rattle.schema_reading.specs.Sites.{Site, below}
 use Rattle.schema_reading.specs.Plain.{deepest}
 use Rattle.applicators.specs.Shapes.{shape_of, place_of, added_at}
-use Rattle.applicators.specs.Combined.{is_every, asks_values, name_of}
+use Rattle.applicators.specs.Combined.{is_every, asks_values, name_of, notes_by}
 use Rattle.applicators.specs.Questions.{step_of, question_of}
 use Rattle.applicators.specs.declared.applicator.Applicator.{Applicator}
 use Rattle.applicators.specs.declared.question.Asked.{Asked}
@@ -111,8 +112,8 @@ accepts_all c path d all h = h.accepts (λ q i. elim i [ ])
 
 -- ---- the keyword
 
-pub by_applicator : (c : code.Site) (path : List Part) (d : Data) (a : Applicator) (b : Bool) → depth (view c.contents.now) ≤ deepest (documents_at c) → is_every a ≡ true
+pub by_applicator : (c : code.Site) (path : List Part) (d : Data) (a : Applicator) (b : Bool) → depth (view c.contents.now) ≤ deepest (documents_at c) → is_every a ≡ true → notes_by a d ≡ []
     → AreRefused c path d (applied_row a) (applied_questions a d) b → IsRefusal c path d (code.Applicator a) b
-by_applicator c path d a b shallow each h =
+by_applicator c path d a b shallow each plain h =
     by_questions c path d (code.Applicator a) (applied_row a) (at (name_of a)) (applied_questions a d) b shallow (λ x s. refl)
-    (λ x s. ap (λ r. r ∷ []) (every_rule a each (below x.documents s) x.matches d)) h
+    (λ x s. ap (λ r. r ∷ []) (every_rule a each (below x.documents s) x.matches d ∙ ap (λ notes. every (at (name_of a)) notes (applied_questions a d x s)) plain)) h

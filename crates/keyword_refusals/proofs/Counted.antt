@@ -1,13 +1,13 @@
 -- Whether an applicator refuses, by the number of its questions that are answered yes.
-use Rattle.std.proofs.Common.{◌≡◌, ◌+◌, ◌≤◌, ℕ, suc, List, [], ◌∷◌, length, map, Bool, true, false, not, Option, Some, None, refl, sym, ap, subst, ◌∙◌, arith}
+use Rattle.std.proofs.Common.{◌≡◌, ◌+◌, ◌≤◌, ℕ, suc, List, [], ◌∷◌, length, map, Bool, true, false, true≢false, not, Option, Some, None, refl, sym, ap, subst, ◌∙◌, arith}
 use Rattle.serde_json.specs.Data.{Data, depth}
 use Rattle.serde_json.specs.View.{view}
 use Rattle.json_paths.specs.Parts.{Part}
 use Rattle.schema_meaning.specs.Members.{In, first, later, known_too, all_known, count_true}
 use Rattle.schema_meaning.specs.Places.{whole, value_after}
 use Rattle.schema_meaning.specs.Questions as asking
-use Rattle.schema_meaning.specs.Questions.{asked_at}
-use Rattle.schema_meaning.specs.Rules.{Rule, asks, accepts}
+use Rattle.schema_meaning.specs.Questions.{at, asked_at}
+use Rattle.schema_meaning.specs.Rules.{Rule, asks, accepts, refuses_at}
 use Rattle.schema_meaning.specs.Keywords.{rule}
 use Rattle.schema_meaning.specs.Readings.{Reading, verdicts, told, IsTold}
 use Rattle.schema_meaning.specs.Certificates.{AreAnswers}
@@ -15,7 +15,7 @@ use Rattle.schema_reading.specs.Sites.{Site, below}
 use Rattle.schema_reading.specs.Plain.{deepest}
 use Rattle.meaning_laws.proofs.Refuses.{answers_once, told_once}
 use Rattle.applicators.specs.Shapes.{shape_of}
-use Rattle.applicators.specs.Combined.{asks_values, Decides}
+use Rattle.applicators.specs.Combined.{asks_values, has_notes, refused_name, Decides}
 use Rattle.applicators.specs.Questions.{question_of, questions_of}
 use Rattle.applicators.specs.declared.applicator.Applicator.{Applicator}
 use Rattle.applicators.specs.declared.question.Question.{Question}
@@ -28,9 +28,13 @@ use Rattle.plain_reader.specs.Passed as code
 use Rattle.walk_laws.proofs.Begun.{rules_stand}
 use Rattle.keyword_refusals.specs.Scenes.{Scene, reading_of, Stage}
 use Rattle.keyword_refusals.specs.Rows.{applied_row}
-use Rattle.keyword_refusals.specs.Verdicts.{IsDecided, SomeRefuses, IsAnswered, IsRefusal, AreCounted}
+use Rattle.keyword_refusals.specs.Verdicts.{IsDecided, SomeRefusesAt, IsAnswered, IsRefusalAt, AreCounted}
+use Rattle.keyword_refusals.proofs.NamedRefusals.{refused_under, as_many_answers}
 use Rattle.keyword_refusals.proofs.Right.{told_there}
 use Rattle.keyword_refusals.proofs.Children.{meets_shallow}
+
+one_part : (k n : List ℕ) → at k ≡ at n → k ≡ n
+one_part k n e = cc
 
 -- ---- the answers, by what is told of each question
 
@@ -125,21 +129,51 @@ module _ (c : code.Site) (path : List Part) (d : Data) where
 
 -- ---- the keyword
 
-decided_counted : (b : Bool) (r : Reading Site) (d : Data) (k : Rule Site) (bs : List Bool) → AreAnswers r (whole d) k bs → accepts k bs ≡ b → IsDecided (not b) (SomeRefuses r d (k ∷ []))
-decided_counted false r d k bs a e = (k, bs, first, a, e)
-decided_counted true r d k bs a e = λ h. none h.0 h.1 h.2 h.3 h.4
-  where
-    none : (j : Rule Site) (cs : List Bool) → In j (k ∷ []) → AreAnswers r (whole d) j cs → accepts j cs ≡ false → ⊥
-    none _ cs first other wrong =
-        let same : bs ≡ cs = answers_once verdicts r a.unfoldings other.unfoldings (whole d) (asks k) bs cs a.are other.are in
-        let no : true ≡ false = sym e ∙ ap (accepts k) same ∙ wrong in cc
-    none j cs (later i) other wrong = elim i [ ]
+module _ (c : code.Site) (path : List Part) (d : Data) (a : Applicator) (n m : ℕ) (name : List ℕ) (values : asks_values a ≡ true) (plain : has_notes a ≡ false) (counted : AreCounted c path d a n m) where
+  abbrev the_rule : Scene → Site → Rule Site
+  the_rule x s = rule x.matches d (shape_of (below x.documents s) a)
 
-pub by_count : (c : code.Site) (path : List Part) (d : Data) (a : Applicator) (n m : ℕ) (b : Bool) → asks_values a ≡ true → AreCounted c path d a n m → Decides a n m b
-    → IsRefusal c path d (code.Applicator a) (not b)
-by_count c path d a n m b values counted decides = record {
-  decides = λ x s k stage.
+  abbrev Staged : Scene → Site → Type 0
+  Staged x s = Stage c path d name (applied_row a x s) x s
+
+  abbrev Refuses : Scene → Site → Type 0
+  Refuses x s = SomeRefusesAt name (reading_of x) d (the_rule x s ∷ [])
+
+  -- it refuses by the answers that were counted, and under the name by their number
+  by_them : (x : Scene) (s : Site) → Staged x s → Refuses x s
+      → (bs : List Bool) × (length bs ≡ n) × (count_true bs ≡ m) × (accepts (the_rule x s) bs ≡ false) × (refuses_at (the_rule x s) bs ≡ at name)
+  by_them x s stage h = by h.0 h.1 h.2 h.3 h.4 h.5
+    where
+      by : (k : Rule Site) (cs : List Bool) → In k (the_rule x s ∷ []) → AreAnswers (reading_of x) (whole d) k cs → accepts k cs ≡ false → refuses_at k cs ≡ at name
+          → (bs : List Bool) × (length bs ≡ n) × (count_true bs ≡ m) × (accepts (the_rule x s) bs ≡ false) × (refuses_at (the_rule x s) bs ≡ at name)
+      by _ cs first other wrong named =
+          let w = counted.answers x s name stage in
+          let same : cs ≡ w.0 = answers_once verdicts (reading_of x) other.unfoldings w.1.unfoldings (whole d) (asks (the_rule x s)) cs w.0 other.are w.1.are in
+          (w.0, w.2, w.3, subst (λ xs. accepts (the_rule x s) xs ≡ false) same wrong, subst (λ xs. refuses_at (the_rule x s) xs ≡ at name) same named)
+      by k cs (later i) other wrong named = elim i [ ]
+
+  decided_by : (b : Bool) (x : Scene) (s : Site) → Decides a d n m b → refused_name a m ≡ name → Staged x s → IsDecided (not b) (Refuses x s)
+  decided_by false x s decides same stage =
+      let w = counted.answers x s name stage in
       let site = below x.documents s in
-      let w = counted.answers x s k stage in
-      decided_counted b (reading_of x) d (rule x.matches d (shape_of site a)) w.0 w.1 (decides.is values site x.matches d w.0 w.2 w.3);
-}
+      let wrong : accepts (the_rule x s) w.0 ≡ false = decides.is values plain site x.matches w.0 w.2 w.3 in
+      let under = refused_under site x.matches w.0 a d values (as_many_answers (reading_of x) d (the_rule x s) w.0 w.1) wrong in
+      (the_rule x s, w.0, first, w.1, wrong, under ∙ ap (λ j. at (refused_name a j)) w.3 ∙ ap at same)
+  decided_by true x s decides same stage = λ h.
+      let w = by_them x s stage h in
+      true≢false (sym (decides.is values plain (below x.documents s) x.matches w.0 w.1 w.2) ∙ w.3)
+
+  pub by_count : (b : Bool) → Decides a d n m b → refused_name a m ≡ name → IsRefusalAt c path d (code.Applicator a) name (not b)
+  by_count b decides same = record { decides = λ x s stage. decided_by b x s decides same stage }
+
+  -- under no other name
+  pub by_other : (refused_name a m ≡ name → ⊥) → IsRefusalAt c path d (code.Applicator a) name false
+  by_other other = record {
+    decides = λ x s stage h.
+        let w = counted.answers x s name stage in
+        let site = below x.documents s in
+        let v = by_them x s stage h in
+        let many : length v.0 ≡ length (asks (the_rule x s)) = v.1 ∙ sym w.2 ∙ as_many_answers (reading_of x) d (the_rule x s) w.0 w.1 in
+        let under = refused_under site x.matches v.0 a d values many v.3 ∙ ap (λ j. at (refused_name a j)) v.2 in
+        other (one_part (refused_name a m) name (sym under ∙ v.4));
+  }

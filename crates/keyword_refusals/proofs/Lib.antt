@@ -6,5 +6,7 @@ pub mod MemberQuestions
 pub mod Refusals
 pub mod Gathered
 pub mod AppliedQuestions
+pub mod NamedRefusals
 pub mod Counted
 pub mod Passed
+pub mod Noted

@@ -19,7 +19,7 @@ use Rattle.unread_keywords.specs.NotYet.{Cause, IsBuildCause}
 use Rattle.plain_reader.specs.Passed.{scope_of}
 use Rattle.plain_reader.specs.Passed.{documents_at, Stands}
 use Rattle.plain_reader.specs.Passed as code
-use Rattle.walk_laws.specs.Words.{IsOf}
+use Rattle.walk_laws.specs.Words.{Bears}
 
 -- the documents, and how patterns are made and matched
 pub record Scene : Type 0 where
@@ -46,12 +46,12 @@ pub record Meets (c : code.Site) (path : List Part) (x : Scene) (s : Site) : Typ
 abbrev pub IsStraight : Scene → Site → Data → Type 0
 IsStraight x s d = IsCircular (reading_of x) s (whole d) → ⊥
 
--- a row of the site, of the keyword of this name
+-- a row of the site, of a keyword that may refuse under this name
 pub record Stage (c : code.Site) (path : List Part) (d : Data) (keyword : List ℕ) (row : Row) (x : Scene) (s : Site) : Type 0 where
   pub meets : Meets c path x s
   pub straight : IsStraight x s d
   pub stands : In row (rows_at x.documents x.makes s)
-  pub named : AllByRecursion (IsOf keyword) row.shapes
+  pub named : AllByRecursion (Bears keyword) row.shapes
   pub plain : (shape : Shape Site) → In shape row.shapes → escape keyword ≡ keyword
 
 -- the path by these parts, the first of them first

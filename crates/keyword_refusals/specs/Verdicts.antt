@@ -6,8 +6,8 @@ use Rattle.serde_json.specs.View.{view, members_view}
 use Rattle.json_paths.specs.Parts.{Part}
 use Rattle.schema_meaning.specs.Members.{In, count_true}
 use Rattle.schema_meaning.specs.Places.{whole, value_after}
-use Rattle.schema_meaning.specs.Questions.{Question, listed_members}
-use Rattle.schema_meaning.specs.Rules.{Rule, accepts, asks}
+use Rattle.schema_meaning.specs.Questions.{Question, at, listed_members}
+use Rattle.schema_meaning.specs.Rules.{Rule, accepts, asks, refuses_at}
 use Rattle.schema_meaning.specs.Keywords.{rule}
 use Rattle.schema_meaning.specs.Readings.{Reading, verdicts, IsTold}
 use Rattle.schema_meaning.specs.Certificates.{AreAnswers}
@@ -58,9 +58,17 @@ pub record AreRefused (c : code.Site) (path : List Part) (d : Data) (row : Scene
 abbrev pub rules_by : Scene → Site → Data → Keyword → List (Rule Site)
 rules_by x s d k = map (rule x.matches d) (shapes_of x.documents s k)
 
+-- one of these rules refuses under a name
+abbrev pub SomeRefusesAt : List ℕ → Reading Site → Data → List (Rule Site) → Type 0
+SomeRefusesAt n r d ks = (k : Rule Site) × (bs : List Bool) × In k ks × AreAnswers r (whole d) k bs × (accepts k bs ≡ false) × (refuses_at k bs ≡ at n)
+
 -- whether the keyword refuses
 pub record IsRefusal (c : code.Site) (path : List Part) (d : Data) (k : Keyword) (b : Bool) : Type 0 where
   pub decides : (x : Scene) (s : Site) (name : List ℕ) → Stage c path d name (row_of x.documents s k) x s → IsDecided b (SomeRefuses (reading_of x) d (rules_by x s d k))
+
+-- whether it refuses under a name
+pub record IsRefusalAt (c : code.Site) (path : List Part) (d : Data) (k : Keyword) (name : List ℕ) (b : Bool) : Type 0 where
+  pub decides : (x : Scene) (s : Site) → Stage c path d name (row_of x.documents s k) x s → IsDecided b (SomeRefusesAt name (reading_of x) d (rules_by x s d k))
 
 -- its verdict is by the number of answers that are yes, and the schemas that it asks lie in the schema
 pub record AppliesIn (c : code.Site) (a : applied.Applicator) : Type 0 where

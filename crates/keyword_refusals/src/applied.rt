@@ -5,7 +5,8 @@ ghost use Rattle.serde_json.specs.View.{view};
 ghost use Rattle.schema_meaning.specs.Places.{value_after};
 ghost use Rattle.schema_reading.specs.Plain.{deepest};
 ghost use Rattle.schema_reading.specs.Sites.{path_of_reference};
-ghost use Rattle.applicators.specs.Combined.{asks_values};
+ghost use Rattle.schema_meaning.specs.Members.{is_empty};
+ghost use Rattle.applicators.specs.Combined.{asks_values, notes_by};
 ghost use Rattle.applicators.specs.Questions.{step_of};
 ghost use Rattle.plain_reader.specs.Applied.{EachInside, AreAsked, IsPart};
 ghost use Rattle.plain_reader.specs.Passed.{documents_at};
@@ -13,13 +14,14 @@ ghost use Rattle.schema_reports.specs.Locations.{location_of};
 ghost use Rattle.schema_reports.specs.References.{text_of};
 ghost use Rattle.keyword_refusals.specs.Rows.{applied_row, applied_questions};
 ghost use Rattle.plain_reader.specs.Passed as code;
-ghost use Rattle.keyword_refusals.specs.Verdicts.{AppliesIn, AreRefused, AreCounted, IsVerdict, IsAnswered, IsRefusal};
+ghost use Rattle.keyword_refusals.specs.Verdicts.{AppliesIn, AreRefused, AreCounted, IsVerdict, IsAnswered, IsRefusalAt};
 
 use crate::refusing::is_refused;
 use applicators::applicator::Applicator;
 use applicators::question::{Asked, Question};
 use applicators::questions::questions;
 use applicators::subschema::Entry;
+use assertions::missing::first_missing_beside;
 use plain_reader::Site;
 use schema_reports::{LazyLocation, Reference};
 use serde_json::Value;
@@ -124,7 +126,17 @@ fn accepted_of<'a, 'r>(
     Ok(accepted)
 }
 
-/// Whether an applicator refuses a value.
+// Whether it notes something of the value itself.
+fn is_noted(applicator: &Applicator<'_>, value: &Value) -> bool
+    ensures { result ≡ not (is_empty (notes_by applicator.now (view value.now))) }
+{
+    match *applicator {
+        Applicator::Dependencies(entries) => first_missing_beside(entries, value).is_some(),
+        _ => false,
+    }
+}
+
+/// Whether an applicator refuses a value under a name, where it may refuse under that name.
 ///
 /// It takes memory for the list of questions.
 pub fn applicator_refuses<'a, 'r>(
@@ -133,17 +145,24 @@ pub fn applicator_refuses<'a, 'r>(
     schema: &'a LazyLocation<'a, 'a>,
     reference: Reference<'a>,
     applicator: Applicator<'r>,
+    name: &str,
     value: &Value,
 ) -> Result<bool, AllocError>
     requires shallow { depth (view site.now.contents.now) ≤ deepest (documents_at site.now) }
     requires applies { AppliesIn site.now applicator }
-    ensures { IfOk result (IsRefusal site.now (location_of schema.now ++ path_of_reference (text_of reference.entry)) (view value.now) (code.Applicator applicator.entry)) }
+    ensures { IfOk result (IsRefusalAt site.now (location_of schema.now ++ path_of_reference (text_of reference.entry)) (view value.now) (code.Applicator applicator.entry) name.now) }
 {
     let asked = questions(alloc, &applicator, value)?;
     let asked = asked.as_slice();
     if applicator.is_every() {
+        if is_noted(&applicator, value) {
+            return Ok(true);
+        }
         return some_of_refused(alloc, site, schema, reference, applicator, asked, value);
     }
     let accepted = accepted_of(alloc, site, schema, reference, applicator, asked, value)?;
-    Ok(!applicator.accepts(asked.len(), accepted))
+    if applicator.refused_name(accepted) != name {
+        return Ok(false);
+    }
+    Ok(!applicator.accepts(value, asked.len(), accepted))
 }

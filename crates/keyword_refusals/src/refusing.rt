@@ -11,7 +11,7 @@ ghost use Rattle.schema_reports.specs.References.{text_of};
 ghost use Rattle.plain_reader.specs.Passed.{target_in};
 ghost use Rattle.keyword_refusals.specs.Scenes.{behind};
 ghost use Rattle.keyword_refusals.specs.Rows.{reference_row, reference_questions};
-ghost use Rattle.keyword_refusals.specs.Verdicts.{IsVerdict, IsRefusal, AreRefused, LiesIn};
+ghost use Rattle.keyword_refusals.specs.Verdicts.{IsVerdict, IsRefusalAt, AreRefused, LiesIn};
 
 use crate::applied::applicator_refuses;
 use crate::items::some_item_refused;
@@ -63,18 +63,19 @@ fn is_target_refused<'r>(
     is_refused(alloc, &inner, &start, Reference::followed(text), value)
 }
 
-// Whether a keyword refuses a value, where its schema has this path.
+// Whether a keyword refuses a value under a name, where its schema has this path.
 fn keyword_refuses<'a, 'r>(
     alloc: Global,
     site: &Site<'r>,
     schema: &'a LazyLocation<'a, 'a>,
     reference: Reference<'a>,
     keyword: Keyword<'r>,
+    name: &str,
     value: &Value,
 ) -> Result<bool, AllocError>
     requires shallow { depth (view site.now.contents.now) ≤ deepest (documents_at site.now) }
     requires lies { LiesIn site.now keyword }
-    ensures { IfOk result (IsRefusal site.now (location_of schema.now ++ path_of_reference (text_of reference.entry)) (view value.now) keyword.entry) }
+    ensures { IfOk result (IsRefusalAt site.now (location_of schema.now ++ path_of_reference (text_of reference.entry)) (view value.now) keyword.entry name.now) }
 {
     match keyword {
         Keyword::Nothing => Ok(false),
@@ -87,7 +88,7 @@ fn keyword_refuses<'a, 'r>(
             some_member_refused(alloc, site, &*schema, reference, schemas, value)
         }
         Keyword::Applicator(applicator) => {
-            applicator_refuses(alloc, site, &*schema, reference, applicator, value)
+            applicator_refuses(alloc, site, &*schema, reference, applicator, name, value)
         }
         Keyword::Reference {
             keyword: by,
@@ -97,7 +98,8 @@ fn keyword_refuses<'a, 'r>(
     }
 }
 
-/// Whether a keyword refuses a value, where the path of its schema goes on from `schema` by these parts.
+/// Whether a keyword refuses a value under a name, where it may refuse under that name and the path of its schema goes on from `schema`
+/// by these parts.
 pub fn refuses<'a, 'r, 'p>(
     alloc: Global,
     site: &Site<'r>,
@@ -105,17 +107,18 @@ pub fn refuses<'a, 'r, 'p>(
     schema: &'a LazyLocation<'a, 'a>,
     reference: Reference<'a>,
     keyword: Keyword<'r>,
+    name: &str,
     value: &Value,
 ) -> Result<bool, AllocError>
     requires shallow { depth (view site.now.contents.now) ≤ deepest (documents_at site.now) }
     requires lies { LiesIn site.now keyword }
-    ensures { IfOk result (IsRefusal site.now (behind parts.now (location_of schema.now) ++ path_of_reference (text_of reference.entry)) (view value.now) keyword.entry) }
+    ensures { IfOk result (IsRefusalAt site.now (behind parts.now (location_of schema.now) ++ path_of_reference (text_of reference.entry)) (view value.now) keyword.entry name.now) }
 {
     match parts.split_first() {
         Some((part, rest)) => {
             let below = part.below(schema);
-            refuses(alloc, site, rest, &below, reference, keyword, value)
+            refuses(alloc, site, rest, &below, reference, keyword, name, value)
         }
-        None => keyword_refuses(alloc, site, &*schema, reference, keyword, value),
+        None => keyword_refuses(alloc, site, &*schema, reference, keyword, name, value),
     }
 }

@@ -74,7 +74,7 @@ fn carried_otherwise(alloc: Global, rows: &[(&str, &str, &str)]) -> Result<Strin
     Ok(text)
 }
 
-const CARRIED: [(&str, &str, &str); 9] = [
+const CARRIED: [(&str, &str, &str); 10] = [
     (
         "{\"anyOf\":[{\"minimum\":2,\"type\":\"null\"},{\"items\":{}},false]}",
         "[]",
@@ -109,6 +109,11 @@ const CARRIED: [(&str, &str, &str); 9] = [
         "{\"$schema\":\"http://json-schema.org/draft-07/schema#\",\"items\":[],\"additionalItems\":false}",
         "[1,2]",
         "AdditionalItems:",
+    ),
+    (
+        "{\"contains\":{\"type\":\"integer\"},\"maxContains\":1}",
+        "[\"a\"]",
+        "Contains:",
     ),
     (
         "{\"properties\":{\"a\":true},\"additionalProperties\":false}",

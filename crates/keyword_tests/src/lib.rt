@@ -8,6 +8,10 @@ mod branching;
 #[cfg(test)]
 mod carrying;
 #[cfg(test)]
+mod counting;
+#[cfg(test)]
+mod depending;
+#[cfg(test)]
 mod others;
 #[cfg(test)]
 mod subject;

@@ -12,12 +12,12 @@ use Rattle.schema_meaning.specs.Rules.{asks, accepts, faults, one_fault, own_fau
 use Rattle.schema_meaning.specs.Keywords.{rule}
 use Rattle.schema_reading.specs.Sites.{Site, below}
 use Rattle.applicators.specs.Shapes.{shape_of}
-use Rattle.applicators.specs.Combined.{name_of, is_every, asks_values, Decides}
+use Rattle.applicators.specs.Combined.{refused_name, is_every, asks_values, Decides}
 use Rattle.applicators.specs.Questions.{question_of, questions_of}
 use Rattle.applicators.specs.declared.applicator.Applicator.{Applicator}
 use Rattle.applicators.specs.declared.question.Question.{Question}
 use Rattle.applied_laws.specs.Notes.{kind_by, value_by}
-use Rattle.applied_laws.proofs.Once.{tell_once}
+use Rattle.applied_laws.proofs.Once.{tell_once, once_plain}
 use Rattle.schema_sites.specs.Seen.{documents_at}
 use Rattle.schema_sites.specs.declared.site.Site as code
 use Rattle.schema_reports.specs.Observers.{Hears}
@@ -126,33 +126,33 @@ map-length f (x ∷ xs) = ap suc (map-length f xs)
 
 module _ (c : code.Site) (whole d : Data) (roads : Roads) (keys : List Key) (a : Applicator) (qs : List Question) (values : asks_values a ≡ true) (once : is_every a ≡ false) (are : AreAsked a d qs) where
   abbrev fault_by : List Faults → Fault
-  fault_by answers = own_fault (spot_at d roads) (schema_in roads) (at (name_of a)) (record { kind = kind_by a d answers; value = value_by a d })
+  fault_by answers = own_fault (spot_at d roads) (schema_in roads) (at (refused_name a (count_true (verdicts_of answers)))) (record { kind = kind_by a d answers; value = value_by a d })
 
-  one_told : (n : ℕ) (b : Bool) → Counts c whole d roads keys a n → Decides a (length qs) n b → (x : Setting) → Fits c d roads keys x
+  one_told : (n : ℕ) (b : Bool) → Counts c whole d roads keys a n → Decides a d (length qs) n b → (x : Setting) → Fits c d roads keys x
       → ((t : Site) → In t (applied_leads a x) → AreRead x.documents x.makes t) → room (documents_at c) whole keys (view c.contents.now) ≤ x.depth
       → told_by x (applied_shapes a x) ≡ one_fault b (fault_by (answers_in a d x))
   one_told n b counted decides x fits read enough =
       let site = below x.documents x.site in
       let shape = shape_of site a in
       let answers = answers_in a d x in
-      let many : length (verdicts_of answers) ≡ length qs =
-      map-length is_none answers ∙ map-length (asked_in x) (applied_questions a d x) ∙ ap length (sym (are x.matches site)) ∙ map-length (question_of site) qs in
-      let verdict : accepts (rule x.matches d shape) (verdicts_of answers) ≡ b = decides.is values site x.matches d (verdicts_of answers) many (counted.counted x fits read enough) in
+      let each : length answers ≡ length (asks (rule x.matches d shape)) = map-length (asked_in x) (applied_questions a d x) in
+      let many : length (verdicts_of answers) ≡ length qs = map-length is_none answers ∙ each ∙ ap length (sym (are x.matches site)) ∙ map-length (question_of site) qs in
+      let verdict : accepts (rule x.matches d shape) (verdicts_of answers) ≡ b = decides.is values (once_plain a once) site x.matches (verdicts_of answers) many (counted.counted x fits read enough) in
       told_by-one x shape
       ∙ ap (λ w. faults (rule x.matches w.value shape) w x.site.schema_path (map (asked_in x) (asks (rule x.matches w.value shape)))) fits.spot
       ∙ ap (λ p. faults (rule x.matches d shape) (spot_at d roads) p answers) fits.schema_path
-      ∙ (tell_once a values once).is site x.matches (spot_at d roads) (schema_in roads) answers
+      ∙ (tell_once a values once).is site x.matches (spot_at d roads) (schema_in roads) answers each
       ∙ ap (λ v. one_fault v (fault_by answers)) verdict
 
   -- no fault where it accepts
-  pub combined_accepted : (n : ℕ) (b : Bool) (o : Observer) → Counts c whole d roads keys a n → Decides a (length qs) n b → b ≡ true
+  pub combined_accepted : (n : ℕ) (b : Bool) (o : Observer) → Counts c whole d roads keys a n → Decides a d (length qs) n b → b ≡ true
       → TellsShapes c whole d roads keys (applied_leads a) (applied_shapes a) o o
   combined_accepted n b o counted decides is = record {
     tells = λ x fits read enough k fs h.
         hears_none k o fs (told_by x (applied_shapes a x)) (one_told n b counted decides x fits read enough ∙ ap (λ v. one_fault v (fault_by (answers_in a d x))) is) h;
   }
 
-  combined_refused : (n : ℕ) (b : Bool) (old new : Observer) → Counts c whole d roads keys a n → Decides a (length qs) n b → b ≡ false
+  combined_refused : (n : ℕ) (b : Bool) (old new : Observer) → Counts c whole d roads keys a n → Decides a d (length qs) n b → b ≡ false
       → ((x : Setting) → Fits c d roads keys x → ((t : Site) → In t (applied_leads a x) → AreRead x.documents x.makes t) → room (documents_at c) whole keys (view c.contents.now) ≤ x.depth
       → (k : Observation) (fs : Faults) → Hears k old fs → Hears k new (joined fs (also (fault_by (answers_in a d x)) none)))
       → TellsShapes c whole d roads keys (applied_leads a) (applied_shapes a) old new
@@ -163,17 +163,18 @@ module _ (c : code.Site) (whole d : Data) (roads : Roads) (keys : List Key) (a :
   }
 
   -- it is heard, and not to be told
-  pub combined_heard : (n : ℕ) (b : Bool) (old new : Observer) → Counts c whole d roads keys a n → Decides a (length qs) n b → b ≡ false
+  pub combined_heard : (n : ℕ) (b : Bool) (old new : Observer) → Counts c whole d roads keys a n → Decides a d (length qs) n b → b ≡ false
       → ((k : Observation) (fs : Faults) (f : Fault) → Hears k old fs → Hears k new (joined fs (also f none)))
       → TellsShapes c whole d roads keys (applied_leads a) (applied_shapes a) old new
   combined_heard n b old new counted decides is heard =
       combined_refused n b old new counted decides is (λ x fits read enough k fs h. heard k fs (fault_by (answers_in a d x)) h)
 
   -- it is told
-  pub combined_told : (n : ℕ) (b : Bool) (old now new : Observer) (context : List (Vec ValidationError Global)) → Counts c whole d roads keys a n → Decides a (length qs) n b
+  pub combined_told : (n : ℕ) (b : Bool) (old now new : Observer) (context : List (Vec ValidationError Global)) → Counts c whole d roads keys a n → Decides a d (length qs) n b
       → b ≡ false → ((k : Observation) (fs : Faults) → Hears k old fs → Hears k now fs) → (carries_branches a ≡ true → HasBranches c whole d roads keys a context)
       → TellsRefusal d roads a n context now new → TellsShapes c whole d roads keys (applied_leads a) (applied_shapes a) old new
   combined_told n b old now new context counted decides is unheard branches told = combined_refused n b old new counted decides is
       λ x fits read enough k fs h.
       let answers : AreOf a n context (answers_in a d x) = record { counted = counted.counted x fits read enough; told = λ carries. (branches carries).told x fits read enough } in
-      told.tells (answers_in a d x) answers k fs (unheard k fs h)
+      subst (λ m. Hears k new (joined fs (also (own_fault (spot_at d roads) (schema_in roads) (at (refused_name a m)) (record { kind = kind_by a d (answers_in a d x); value = value_by a d })) none)))
+      (sym answers.counted) (told.tells (answers_in a d x) answers k fs (unheard k fs h))

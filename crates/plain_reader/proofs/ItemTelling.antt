@@ -278,6 +278,12 @@ module _ (c : code.Site) (whole value : Data) (roads : Roads) (keys : List Key) 
     leads = λ x t i. l.leads x t (later i);
   }
 
+  -- a value that has no members at all
+  pub none_declared : (all rest : Members) (old now : Observer) → ((k : List ℕ) → get k value ≡ None) → DeclaredLeft c whole value roads keys all rest old now
+      → TellsQuestions c whole value roads keys (properties_leads all) (properties_questions all value) old now
+  none_declared all no_members old now absent l = declared_done all old now l
+  none_declared all (member k d rest) old now absent l = none_declared all rest old now absent (declared_absent k d all rest old now (absent k) l)
+
   pub declared_step : (k : List ℕ) (d e : Data) (all rest : Members) (old now new : Observer) → get k value ≡ Some e
       → TellsQuestions c whole value roads keys (property_leads k d) (property_questions k d e) now new
       → DeclaredLeft c whole value roads keys all (member k d rest) old now → DeclaredLeft c whole value roads keys all rest old new

@@ -14,7 +14,7 @@ use Rattle.schema_meaning.specs.Cut.{cut_within}
 use Rattle.schema_documents.specs.Lookup.{Target}
 use Rattle.schema_reading.specs.Sites.{Site, below, target_site}
 use Rattle.applicators.specs.Shapes.{shape_of}
-use Rattle.applicators.specs.Combined.{is_every, name_of as applicator_name}
+use Rattle.applicators.specs.Combined.{is_every, notes_by, name_of as applicator_name}
 use Rattle.applicators.specs.declared.applicator.Applicator.{Applicator}
 use Rattle.applicators.proofs.CombinedLemmas.{every_rule}
 use Rattle.plain_reader.specs.Applied.{applied_leads, applied_shapes, applied_questions}
@@ -35,12 +35,12 @@ use Rattle.schema_reports.specs.Observers.{Hears}
 use Rattle.schema_reports.specs.declared.roads.Roads.{Roads}
 use Rattle.schema_reports.specs.declared.observer.Observation.{Observation}
 use Rattle.schema_reports.specs.declared.observer.Observer.{Observer}
-use Rattle.assertion_faults.specs.Tellings.{TellsAssertion, spot_at}
+use Rattle.assertion_faults.specs.Tellings.{TellsAssertion, TellsNotes, spot_at}
 use Rattle.plain_reader.specs.Settings.{Setting, reading_in, told_in, told_by, asked_by}
 use Rattle.plain_reader.specs.Tellings.{Fits, AreRead, Tells, TellsShapes, TellsQuestions, room}
 use Rattle.plain_reader.specs.Shapes.{no_leads, context_in, shapes_at, shapes_among, keyword_leads, keyword_shapes, items_site, items_leads, items_questions, declared_in, properties_leads, properties_questions}
 use Rattle.plain_reader.specs.Targets.{reference_leads, reference_questions}
-use Rattle.schema_reports.proofs.FaultLemmas.{joined-none}
+use Rattle.schema_reports.proofs.FaultLemmas.{joined-none, joined-joined}
 use Rattle.plain_reader.proofs.ToldLemmas.{told_by-none, told_by-asserts, told_by-never, told_by-items, told_by-properties, told_by-every, told_by-reference, asked_by-none, asked_by-more, told_deeper}
 use Rattle.plain_reader.proofs.Reading.{read_here, read_on, read_each, row_here, keywords-of}
 
@@ -88,14 +88,22 @@ module _ (c : code.Site) (whole d : Data) (roads : Roads) (progress : List Key) 
   tells_properties k ms old new led shaped told = tells_questions k (properties_leads ms) (properties_questions ms d) old new led
       (λ x is. ap (told_by x) (shaped x) ∙ told_by-properties x (declared_in ms x) ∙ ap (λ v. asked_by x (properties_questions ms v x)) is) told
 
-  pub tells_every : (a : Applicator) (old new : Observer) → is_every a ≡ true → TellsQuestions c whole d roads progress (applied_leads a) (applied_questions a d) old new
+  -- what it notes of the value, and then its questions
+  pub tells_every : (a : Applicator) (old now new : Observer) → is_every a ≡ true → TellsNotes d roads (applicator_name a) (notes_by a d) old now
+      → TellsQuestions c whole d roads progress (applied_leads a) (applied_questions a d) now new
       → TellsShapes c whole d roads progress (applied_leads a) (applied_shapes a) old new
-  tells_every a old new every told = record {
+  tells_every a old now new every noted told = record {
     tells = λ x fits read deep kept fs h.
         let site = below x.documents x.site in
-        let same : told_by x (applied_shapes a x) ≡ asked_by x (applied_questions a d x) =
-        told_by-every x (shape_of site a) (at (applicator_name a)) (every_rule a every site x.matches x.spot.value) ∙ ap (λ w. asked_by x (applied_questions a w.value x)) fits.spot in
-        subst (λ gs. Hears kept new (joined fs gs)) (sym same) (told.tells x fits read deep kept fs h);
+        let k = at (applicator_name a) in
+        let notes = own_faults (spot_at d roads) (schema_in roads) k (notes_by a d) in
+        let asked = asked_by x (applied_questions a d x) in
+        let same : told_by x (applied_shapes a x) ≡ joined notes asked =
+        told_by-every x (shape_of site a) k (notes_by a x.spot.value) (every_rule a every site x.matches x.spot.value)
+        ∙ ap (λ w. joined (own_faults w x.site.schema_path k (notes_by a w.value)) (asked_by x (applied_questions a w.value x))) fits.spot
+        ∙ ap (λ p. joined (own_faults (spot_at d roads) p k (notes_by a d)) asked) fits.schema_path in
+        let both = told.tells x fits read deep kept (joined fs notes) (noted.tells kept fs h) in
+        subst (λ gs. Hears kept new (joined fs gs)) (sym same) (subst (Hears kept new) (joined-joined fs notes asked) both);
   }
 
   pub tells_applicator : (k : Keyword) (a : Applicator) (old new : Observer) → k ≡ keyword.Applicator a → TellsShapes c whole d roads progress (applied_leads a) (applied_shapes a) old new

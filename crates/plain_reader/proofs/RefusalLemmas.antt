@@ -56,27 +56,31 @@ module _ (d : Data) (n : ℕ) (context : Vec (Vec ValidationError Global) Global
   no_others_refused a declared schema unexpected is same =
       of_items a (code.NoAdditionalProperties declared schema) (kind.AdditionalProperties unexpected) is (record { is = λ answers are. ap told.AdditionalProperties same })
 
-  pub others_refused : (a : Applicator) → ((start : ℕ) (schema : Bor Value) → a ≡ code.NoAdditionalItems start schema → ⊥) → ((declared : Option (Bor Schemas)) (schema : Bor Value) → a ≡ code.NoAdditionalProperties declared schema → ⊥) → ((schemas : Bor (List Value)) → a ≡ code.AnyOf schemas → ⊥)
+  pub counted_refused : (a : Applicator) (schema : Bor Value) (least most : Option ℕ) → a ≡ code.Contains schema least most → IsRefusal d a n context.items kind.Contains
+  counted_refused a schema least most is = of_items a (code.Contains schema least most) kind.Contains is (record { is = λ answers are. refl })
+
+  pub others_refused : (a : Applicator) → ((start : ℕ) (schema : Bor Value) → a ≡ code.NoAdditionalItems start schema → ⊥) → ((declared : Option (Bor Schemas)) (schema : Bor Value) → a ≡ code.NoAdditionalProperties declared schema → ⊥) → ((schema : Bor Value) (least most : Option ℕ) → a ≡ code.Contains schema least most → ⊥) → ((schemas : Bor (List Value)) → a ≡ code.AnyOf schemas → ⊥)
       → ((schemas : Bor (List Value)) → a ≡ code.OneOf schemas → ⊥) → ((schema : Bor Value) → a ≡ code.Not schema → ⊥) → IsRefusal d a n context.items kind.FalseSchema
-  others_refused a not_items not_others not_any not_one not_not = record { is = λ answers are. by a not_items not_others not_any not_one not_not answers }
+  others_refused a not_items not_others not_contains not_any not_one not_not = record { is = λ answers are. by a not_items not_others not_contains not_any not_one not_not answers }
     where
-      by : (a : Applicator) → ((start : ℕ) (schema : Bor Value) → a ≡ code.NoAdditionalItems start schema → ⊥) → ((declared : Option (Bor Schemas)) (schema : Bor Value) → a ≡ code.NoAdditionalProperties declared schema → ⊥) → ((schemas : Bor (List Value)) → a ≡ code.AnyOf schemas → ⊥)
+      by : (a : Applicator) → ((start : ℕ) (schema : Bor Value) → a ≡ code.NoAdditionalItems start schema → ⊥) → ((declared : Option (Bor Schemas)) (schema : Bor Value) → a ≡ code.NoAdditionalProperties declared schema → ⊥) → ((schema : Bor Value) (least most : Option ℕ) → a ≡ code.Contains schema least most → ⊥) → ((schemas : Bor (List Value)) → a ≡ code.AnyOf schemas → ⊥)
           → ((schemas : Bor (List Value)) → a ≡ code.OneOf schemas → ⊥) → ((schema : Bor Value) → a ≡ code.Not schema → ⊥) → (answers : List Faults) → told.FalseSchema ≡ kind_by a d answers
-      by (code.Items start schema) not_items not_others not_any not_one not_not answers = refl
-      by (code.ItemList schemas) not_items not_others not_any not_one not_not answers = refl
-      by (code.PrefixItems schemas) not_items not_others not_any not_one not_not answers = refl
-      by (code.AdditionalItems start schema) not_items not_others not_any not_one not_not answers = refl
-      by (code.NoAdditionalItems start schema) not_items not_others not_any not_one not_not answers = absurd (not_items start schema refl)
-      by (code.Contains schema least most) not_items not_others not_any not_one not_not answers = refl
-      by (code.Properties schemas) not_items not_others not_any not_one not_not answers = refl
-      by (code.AdditionalProperties declared schema) not_items not_others not_any not_one not_not answers = refl
-      by (code.NoAdditionalProperties declared schema) not_items not_others not_any not_one not_not answers = absurd (not_others declared schema refl)
-      by (code.NoProperties schema) not_items not_others not_any not_one not_not answers = refl
-      by (code.PropertyNames schema) not_items not_others not_any not_one not_not answers = refl
-      by (code.NoPropertyNames schema) not_items not_others not_any not_one not_not answers = refl
-      by (code.DependentSchemas schemas) not_items not_others not_any not_one not_not answers = refl
-      by (code.AllOf schemas) not_items not_others not_any not_one not_not answers = refl
-      by (code.AnyOf schemas) not_items not_others not_any not_one not_not answers = absurd (not_any schemas refl)
-      by (code.OneOf schemas) not_items not_others not_any not_one not_not answers = absurd (not_one schemas refl)
-      by (code.Not schema) not_items not_others not_any not_one not_not answers = absurd (not_not schema refl)
-      by (code.If condition then_schema else_schema) not_items not_others not_any not_one not_not answers = refl
+      by (code.Items start schema) not_items not_others not_contains not_any not_one not_not answers = refl
+      by (code.ItemList schemas) not_items not_others not_contains not_any not_one not_not answers = refl
+      by (code.PrefixItems schemas) not_items not_others not_contains not_any not_one not_not answers = refl
+      by (code.AdditionalItems start schema) not_items not_others not_contains not_any not_one not_not answers = refl
+      by (code.NoAdditionalItems start schema) not_items not_others not_contains not_any not_one not_not answers = absurd (not_items start schema refl)
+      by (code.Contains schema least most) not_items not_others not_contains not_any not_one not_not answers = absurd (not_contains schema least most refl)
+      by (code.Properties schemas) not_items not_others not_contains not_any not_one not_not answers = refl
+      by (code.AdditionalProperties declared schema) not_items not_others not_contains not_any not_one not_not answers = refl
+      by (code.NoAdditionalProperties declared schema) not_items not_others not_contains not_any not_one not_not answers = absurd (not_others declared schema refl)
+      by (code.NoProperties schema) not_items not_others not_contains not_any not_one not_not answers = refl
+      by (code.PropertyNames schema) not_items not_others not_contains not_any not_one not_not answers = refl
+      by (code.NoPropertyNames schema) not_items not_others not_contains not_any not_one not_not answers = refl
+      by (code.DependentSchemas schemas) not_items not_others not_contains not_any not_one not_not answers = refl
+      by (code.Dependencies entries) not_items not_others not_contains not_any not_one not_not answers = refl
+      by (code.AllOf schemas) not_items not_others not_contains not_any not_one not_not answers = refl
+      by (code.AnyOf schemas) not_items not_others not_contains not_any not_one not_not answers = absurd (not_any schemas refl)
+      by (code.OneOf schemas) not_items not_others not_contains not_any not_one not_not answers = absurd (not_one schemas refl)
+      by (code.Not schema) not_items not_others not_contains not_any not_one not_not answers = absurd (not_not schema refl)
+      by (code.If condition then_schema else_schema) not_items not_others not_contains not_any not_one not_not answers = refl

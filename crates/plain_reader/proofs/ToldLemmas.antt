@@ -4,7 +4,7 @@ use Rattle.json_paths.specs.Parts.{Part}
 use Rattle.schema_meaning.specs.Places.{Spot, Key}
 use Rattle.schema_meaning.specs.Faults.{Fault, Faults, none, also, joined, join}
 use Rattle.schema_meaning.specs.Questions.{Question, at, asked_at, each_item, items_from, items_of, each_declared}
-use Rattle.schema_meaning.specs.Rules.{Rule, every, asks, faults, own_faults}
+use Rattle.schema_meaning.specs.Rules.{Rule, Note, every, asks, faults, own_faults}
 use Rattle.schema_meaning.specs.Keywords.{Shape, Assertion, asserts, never, items, properties, reference, Reference, reference_name, rule, named, wrong}
 use Rattle.schema_meaning.specs.Readings.{bags}
 use Rattle.schema_meaning.specs.Circular.{key_at}
@@ -53,11 +53,11 @@ pub told_by-properties : (x : Setting) (ps : List (List ℕ × Site)) → told_b
 unfolding told_by asked_by
 told_by-properties x ps = joined-none _
 
--- a keyword by whose value nothing is wrong, and all whose answers have to be yes
-pub told_by-every : (x : Setting) (shape : Shape Site) (p : List Part) → rule x.matches x.spot.value shape ≡ every p [] (asks (rule x.matches x.spot.value shape))
-    → told_by x (shape ∷ []) ≡ asked_by x (asks (rule x.matches x.spot.value shape))
+-- a keyword that notes something of the value, or nothing, and all whose answers have to be yes
+pub told_by-every : (x : Setting) (shape : Shape Site) (p : List Part) (notes : List Note) → rule x.matches x.spot.value shape ≡ every p notes (asks (rule x.matches x.spot.value shape))
+    → told_by x (shape ∷ []) ≡ joined (own_faults x.spot x.site.schema_path p notes) (asked_by x (asks (rule x.matches x.spot.value shape)))
 unfolding told_by asked_by
-told_by-every x shape p e = ap (λ r. join (cut_one bags x.spot x.site.schema_path (asked_in x) r ∷ [])) e ∙ joined-none _
+told_by-every x shape p notes e = ap (λ r. join (cut_one bags x.spot x.site.schema_path (asked_in x) r ∷ [])) e ∙ joined-none _
 
 -- a keyword, by the faults of its questions
 pub told_by-one : (x : Setting) (shape : Shape Site)

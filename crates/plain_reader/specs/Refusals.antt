@@ -6,7 +6,7 @@ use Rattle.serde_json.specs.Data.{Data}
 use Rattle.schema_meaning.specs.Members.{count_true}
 use Rattle.schema_meaning.specs.Faults.{Faults, none, also, joined, branches_of}
 use Rattle.schema_meaning.specs.Rules.{verdicts_of}
-use Rattle.applicators.specs.Combined.{name_of}
+use Rattle.applicators.specs.Combined.{refused_name}
 use Rattle.applicators.specs.declared.applicator.Applicator.{Applicator}
 use Rattle.applicators.specs.declared.applicator.Applicator.TheVariants as code
 use Rattle.applied_laws.specs.Notes.{kind_by, value_by}
@@ -35,6 +35,7 @@ carries_branches (code.NoProperties schema) = false
 carries_branches (code.PropertyNames schema) = false
 carries_branches (code.NoPropertyNames schema) = false
 carries_branches (code.DependentSchemas schemas) = false
+carries_branches (code.Dependencies entries) = false
 carries_branches (code.AllOf schemas) = false
 carries_branches (code.AnyOf schemas) = true
 carries_branches (code.OneOf schemas) = true
@@ -51,4 +52,4 @@ pub record IsRefusal (d : Data) (a : Applicator) (accepted : ℕ) (context : Lis
 
 pub record TellsRefusal (d : Data) (roads : Roads) (a : Applicator) (accepted : ℕ) (context : List (Vec ValidationError Global)) (old new : Observer) : Type 0 where
   pub tells : (answers : List Faults) → AreOf a accepted context answers → (kept : Observation) (fs : Faults) → Hears kept old fs
-      → Hears kept new (joined fs (also (fault_at (value_by a d) roads (name_of a) (kind_by a d answers)) none))
+      → Hears kept new (joined fs (also (fault_at (value_by a d) roads (refused_name a accepted) (kind_by a d answers)) none))

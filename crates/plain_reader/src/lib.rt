@@ -2,6 +2,7 @@
 #![tactic(auto)]
 
 mod heard;
+mod notes;
 mod progress;
 mod read;
 mod refusals;

@@ -20,6 +20,7 @@ ghost use Rattle.plain_reader.specs.Combined.{Counts, HasBranches};
 ghost use Rattle.plain_reader.specs.Targets.{reference_leads, reference_questions};
 
 use crate::heard::{all_heard, heard_none};
+use crate::notes::tell_notes;
 use crate::progress::{Progress, is_in_progress};
 use crate::refusals::{carries_branches, tell_refusal};
 use applicators::applicator::Applicator;
@@ -27,6 +28,7 @@ use applicators::question::{Asked, Question};
 use applicators::questions::questions;
 use applicators::subschema::Entry;
 use assertion_faults::tell_assertion;
+use member_walks::member_walk::MemberWalk;
 use schema_reports::{
     AllFaults, LazyLocation, Observer, Reference, Roads, ValidationError, ValidationErrorKind,
     Verdict,
@@ -242,21 +244,18 @@ fn read_properties<'r, 'i>(
     requires inside { depth (object (members_view schemas.now.entries)) < depth (view site.now.contents.now) }
     ensures { OnOk result (TellsQuestions site.now (view reading.now.whole.now) (view value.now) roads.entry (keys_in progress.now) (properties_leads (members_view schemas.now.entries)) (properties_questions (members_view schemas.now.entries) (view value.now)) observer.old observer.new) }
 {
+    let Value::Object(members) = value else {
+        return Ok(());
+    };
+    let mut walk = MemberWalk::new(members);
     for (name, schema) in schemas.iter() {
         if observer.is_settled() {
             return Ok(());
         }
-        if let Some(member) = value.get(name.as_str()) {
+        let name = name.as_str();
+        if let Some(member) = walk.seek(name) {
             read_property(
-                reading,
-                site,
-                name.as_str(),
-                schema,
-                value,
-                member,
-                roads,
-                progress,
-                observer,
+                reading, site, name, schema, value, member, roads, progress, observer,
             )?;
         }
     }
@@ -317,6 +316,7 @@ fn read_applicator<'r, 'i>(
     let asked = questions(reading.alloc, &applicator, value)?;
     let asked = asked.as_slice();
     if applicator.is_every() {
+        tell_notes(reading.alloc, &applicator, value, roads, observer)?;
         read_questions(
             reading, site, applicator, asked, value, roads, progress, observer,
         )
@@ -376,7 +376,7 @@ fn read_combined<'r, 'i>(
     ensures { OnOk result (TellsShapes site.now (view reading.now.whole.now) (view value.now) roads.entry (keys_in progress.now) (applied_leads applicator.entry) (applied_shapes applicator.entry) observer.old observer.new) }
 {
     let accepted = count_accepted(reading, site, applicator, asked, value, roads, progress)?;
-    if applicator.accepts(asked.len(), accepted) {
+    if applicator.accepts(value, asked.len(), accepted) {
         return Ok(());
     }
     if !observer.hear() {

@@ -36,6 +36,7 @@ fn refusal<'i>(
                 unexpected: undeclared_names(alloc, declared, value)?,
             }
         }
+        Applicator::Contains { .. } => ValidationErrorKind::Contains,
         Applicator::AnyOf(_) => ValidationErrorKind::AnyOf { context },
         Applicator::OneOf(_) => {
             if accepted > 0 {
@@ -86,7 +87,7 @@ pub(crate) fn tell_refusal<'i>(
 ) -> Result<(), AllocError>
     ensures { OnOk result (TellsRefusal (view value.now) roads.entry applicator.entry accepted context.entry.items observer.old observer.new) }
 {
-    let keyword = applicator.name();
+    let keyword = applicator.refused_name(accepted);
     let schema = roads.schema.push_name(keyword);
     let evaluation = roads.evaluation.push_name(keyword);
     let at = Roads {

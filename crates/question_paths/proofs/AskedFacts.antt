@@ -1,5 +1,5 @@
 -- The questions of applicators, one by one.
-use Rattle.std.proofs.Common.{◌≡◌, ◌∙◌, ◌+◌, ◌<◌, ℕ, zero, suc, List, [], ◌∷◌, Option, Some, None, length, Bool, true, false, cond, refl, sym, ap, arith, add-zero}
+use Rattle.std.proofs.Common.{◌≡◌, ◌∙◌, ◌+◌, ◌<◌, ℕ, zero, suc, List, [], ◌∷◌, Option, Some, None, length, Bool, true, false, cond, refl, sym, ap, arith, add-zero, codes}
 use Rattle.std.specs.List.{filter}
 use Rattle.serde_json.specs.Data.{Data, null, boolean, number, string, array, object, Items, no_items, item, Members, no_members, member}
 use Rattle.serde_json.specs.Find.{get, get_item, get_member}
@@ -15,8 +15,10 @@ use Rattle.schema_meaning.specs.Questions.{Question, question, at, at_name, at_i
 use Rattle.schema_reading.specs.Sites.{Site}
 use Rattle.place_laws.specs.Rising.{are_rising}
 use Rattle.walk_laws.proofs.Listed.{in_some, in_mapped}
-use Rattle.applicators.specs.Shapes.{sites_of_list, sites_of_map}
+use Rattle.applicators.specs.Shapes.{sites_of_list, sites_of_map, dependency_at, dependencies_in}
 use Rattle.question_paths.specs.Laws.{MembersRise}
+use Rattle.schema_meaning.specs.Keywords.{Dependency, needs, applies, applied}
+use Rattle.applicators.specs.Questions.{each_dependency}
 
 -- ---- lists of schemas
 
@@ -68,6 +70,27 @@ module _ {S : Type 0} (k : List ℕ) (d : Data) where
   pub triggered_question : (ps : List (List ℕ × S)) (q : Question S) → In q (each_triggered k d ps) → (p : List ℕ × S) × In p ps × (q ≡ question p.1 stay (at_name k p.0))
   triggered_question ps q i = let w = in_some asks_there ps i in (w.0, w.1, one_there w.0 (get w.0.0 d) q w.2)
 
+module _ (d : Data) where
+  abbrev asks_entry : List ℕ × Dependency Site → List (Question Site)
+  asks_entry p = if_member (get p.0 d) (λ e. applied p.0 p.1)
+
+  one_applied : (k : List ℕ) (x : Dependency Site) (q : Question Site) → In q (applied k x) → (s : Site) × (x ≡ applies s) × (q ≡ question s stay (at_name (codes "dependencies") k))
+  one_applied k (needs names) q i = elim i [ ]
+  one_applied k (applies s) q first = (s, refl, refl)
+  one_applied k (applies s) q (later i) = elim i [ ]
+
+  one_entry : (k : List ℕ) (x : Dependency Site) (o : Option Data) (q : Question Site) → In q (if_member o (λ e. applied k x))
+      → (s : Site) × (x ≡ applies s) × (q ≡ question s stay (at_name (codes "dependencies") k))
+  one_entry k x None q i = elim i [ ]
+  one_entry k x (Some e) q i = one_applied k x q i
+
+  pub dependency_question : (ps : List (List ℕ × Dependency Site)) (q : Question Site) → In q (each_dependency d ps)
+      → (p : List ℕ × Dependency Site) × (s : Site) × In p ps × (p.1 ≡ applies s) × (q ≡ question s stay (at_name (codes "dependencies") p.0))
+  dependency_question ps q i =
+      let w = in_some asks_entry ps i in
+      let v = one_entry w.0.0 w.0.1 (get w.0.0 d) q w.2 in
+      (w.0, v.0, w.1, v.1, v.2)
+
 rising_rest : (k : List ℕ) (ms : Members) → rises_from k ms ≡ true → are_rising ms ≡ true
 rising_rest k no_members h = refl
 rising_rest k (member l e ms) h = (first_rise k l e ms h).1
@@ -114,3 +137,11 @@ among_kept test (y ∷ ys) x h = kept_or (test y) y (filter test ys) ys x h (amo
 pub member_question : {S : Type 0} (k : List ℕ) (s : S) (ms : List (List ℕ × Data)) (q : Question S) → In q (each_member k s ms)
     → (m : List ℕ × Data) × In m ms × (q ≡ question s (to_member m.0 m.1) (at k))
 member_question k s ms q i = let w = in_mapped (λ m. question s (to_member m.0 m.1) (at k)) ms i in (w.0, w.1, sym w.2)
+
+-- an entry of `dependencies` is that which its name finds
+pub entry_found : (site : List Part → Data → Site) (ms : Members) (p : List ℕ × Dependency Site) → are_rising ms ≡ true → In p (dependencies_in site ms)
+    → (c : Data) × (get_member p.0 ms ≡ Some c) × (p ≡ (p.0, dependency_at site p.0 c))
+entry_found site no_members p r i = elim i [ ]
+entry_found site (member n c ms) p r first = (c, get_same n n c ms refl, refl)
+entry_found site (member n c ms) p r (later i) =
+    let w = entry_found site ms p (rising_rest n ms r) i in (w.0, get_other p.0 n c ms (apart p.0 n ms w.0 r w.1) ∙ w.1, w.2)

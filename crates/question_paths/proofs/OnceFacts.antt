@@ -1,6 +1,6 @@
 -- Of the questions of an applicator, texts lead to one at most.
 use Rattle.std.proofs.Common.{◌≡◌, ◌∙◌, ◌+◌, ◌<◌, ◌^◌, ◌∷◌, ℕ, List, [], Some, Option, Bor, length, Bool, true, false, not, codes, refl, sym, ap, subst, arith}
-use Rattle.serde_json.specs.Data.{Data, Members}
+use Rattle.serde_json.specs.Data.{Data, Members, null, boolean, number, string, array, object, no_items, item}
 use Rattle.serde_json.specs.Find.{get, get_item, get_member}
 use Rattle.serde_json.specs.Find as finding
 use Rattle.serde_json.specs.View.{view, items_view, members_view}
@@ -9,18 +9,19 @@ use Rattle.schema_meaning.specs.Members.{In, first, later}
 use Rattle.schema_meaning.specs.Places.{stay, to_item, to_member}
 use Rattle.schema_meaning.specs.Questions.{Question, question, at, at_name, at_index, items_of, items_from, each_branch, each_item, item_by_item, each_declared, is_declared, members_of, each_member, each_triggered}
 use Rattle.schema_meaning.specs.Rules.{asks}
-use Rattle.schema_meaning.specs.Keywords.{rule}
+use Rattle.schema_meaning.specs.Keywords.{counting, rule, Dependency, applies}
 use Rattle.schema_reading.specs.Sites.{Site}
 use Rattle.place_laws.specs.Rising.{are_rising}
 use Rattle.walk_laws.proofs.Listed.{item_question, item_further, declared_question}
 use Rattle.path_parts.specs.Found.{IsIndexed}
 use Rattle.path_parts.proofs.ItemFacts.{at_items, some_one}
-use Rattle.applicators.specs.Shapes.{shape_of, site_of, sites_of_list, sites_of_map, Schemas, declared_by, undeclared}
+use Rattle.applicators.specs.Shapes.{shape_of, site_of, sites_of_list, sites_of_map, Schemas, declared_by, undeclared, dependency_at, dependencies_in}
 use Rattle.applicators.specs.Combined.{asks_values}
 use Rattle.applicators.specs.declared.applicator.Applicator.{Applicator}
 use Rattle.applicators.specs.declared.applicator.Applicator.TheVariants as code
 use Rattle.question_paths.specs.Laws.{NamesRise, BranchesFit, MembersRise, OneAhead}
-use Rattle.question_paths.proofs.AskedFacts.{nth, nth_short, sites_counted, branch_question, listed_question, triggered_question, site_found, found_member, among_kept, member_question}
+use Rattle.question_paths.proofs.AskedFacts.{nth, nth_short, sites_counted, branch_question, listed_question, triggered_question, site_found, found_member, among_kept, member_question, dependency_question, entry_found}
+use Rattle.applicators.specs.Questions.{each_dependency}
 use Rattle.question_paths.proofs.AlikeFacts.{AreAlike, same_items, same_members, same_indexes, same_names}
 
 module _ {S : Type 0} (k : List ℕ) (d : Data) (indexed : IsIndexed d) (q p : Question S) (h : AreAlike q p) where
@@ -52,6 +53,17 @@ module _ {S : Type 0} (k : List ℕ) (d : Data) (indexed : IsIndexed d) (q p : Q
       let alike : w.2 ≡ v.2 = some_one (get_item v.0 (items_of d)) w.2 v.2 (subst (λ (n : ℕ). get_item n (items_of d) ≡ Some w.2) same w.4) v.4 in
       w.5 ∙ ap (λ (n : ℕ). question w.1 (to_item (0 + n) w.2) (at_index k (0 + n))) same ∙ ap (λ (s : S). question s (to_item (0 + v.0) w.2) (at_index k (0 + v.0))) schemas
       ∙ ap (λ (e : Data). question v.1 (to_item (0 + v.0) e) (at_index k (0 + v.0))) alike ∙ sym v.5
+
+-- `contains` asks items alone
+counted_asked : {S : Type 0} (s : S) (least most : Option ℕ) (d : Data) (q : Question S) → In q (asks (counting d least most (each_item (codes "contains") s 0 (items_of d))))
+    → In q (each_item (codes "contains") s 0 (items_from 0 (items_of d)))
+counted_asked s least most null q i = elim i [ ]
+counted_asked s least most (boolean b) q i = elim i [ ]
+counted_asked s least most (number n) q i = elim i [ ]
+counted_asked s least most (string t) q i = elim i [ ]
+counted_asked s least most (array no_items) q i = i
+counted_asked s least most (array (item e ds)) q i = i
+counted_asked s least most (object ms) q i = elim i [ ]
 
 module _ {S : Type 0} (k : List ℕ) (q p : Question S) (h : AreAlike q p) where
   -- ---- the value by each schema of a list
@@ -115,6 +127,28 @@ module _ {S : Type 0} (k : List ℕ) (s : S) (d : Data) (rising : MembersRise d)
   undeclared_once declared i j =
       members_once (undeclared declared d) (λ m h. among_kept (λ n. not (is_declared (λ p k. false) (declared_by declared) n.0)) (members_of d) m h) i j
 
+module _ (site : List Part → Data → Site) (d : Data) (ms : Members) (rising : are_rising ms ≡ true) (q p : Question Site) (h : AreAlike q p) where
+  -- ---- the value by each entry of `dependencies`
+
+  same_entry : (x y : List ℕ × Dependency Site) → In x (dependencies_in site ms) → In y (dependencies_in site ms) → x.0 ≡ y.0 → x ≡ y
+  same_entry x y i j same =
+      let w = entry_found site ms x rising i in
+      let v = entry_found site ms y rising j in
+      let alike : w.0 ≡ v.0 = some_one (get_member y.0 ms) w.0 v.0 (subst (λ (n : List ℕ). get_member n ms ≡ Some w.0) same w.1) v.1 in
+      w.2 ∙ ap (λ (n : List ℕ). (n, dependency_at site n w.0)) same ∙ ap (λ (c : Data). (y.0, dependency_at site y.0 c)) alike ∙ sym v.2
+
+  applied_one : (s t : Site) → applies s ≡ applies t → s ≡ t
+  applied_one s t e = cc
+
+  pub dependency_once : In q (each_dependency d (dependencies_in site ms)) → In p (each_dependency d (dependencies_in site ms)) → q ≡ p
+  dependency_once i j =
+      let w = dependency_question d (dependencies_in site ms) q i in
+      let v = dependency_question d (dependencies_in site ms) p j in
+      let named : w.0.0 ≡ v.0.0 = same_names q p h (codes "dependencies") w.0.0 v.0.0 (ap (λ (x : Question Site). x.added) w.4) (ap (λ (x : Question Site). x.added) v.4) in
+      let same : w.0 ≡ v.0 = same_entry w.0 v.0 w.2 v.2 named in
+      let alike : w.1 ≡ v.1 = applied_one w.1 v.1 (sym w.3 ∙ ap (λ (x : List ℕ × Dependency Site). x.1) same ∙ v.3) in
+      w.4 ∙ ap (λ (s : Site). question s stay (at_name (codes "dependencies") w.0.0)) alike ∙ ap (λ (n : List ℕ). question v.1 stay (at_name (codes "dependencies") n)) named ∙ sym v.4
+
 -- ---- the only one
 
 only_one : {S : Type 0} (q p x : Question S) → In q (x ∷ []) → In p (x ∷ []) → q ≡ p
@@ -136,7 +170,9 @@ module _ (site : List Part → Data → Site) (matches : List ℕ → List ℕ �
       items_once (codes "additionalItems") d indexed q p h (site_of site (codes "additionalItems") (view schema.now)) start i j
   asked_once (code.NoAdditionalItems start schema) r f e i j =
       items_once (codes "additionalItems") d indexed q p h (site_of site (codes "additionalItems") (view schema.now)) start i j
-  asked_once (code.Contains schema least most) r f e i j = cc
+  asked_once (code.Contains schema least most) r f e i j =
+      let s = site_of site (codes "contains") (view schema.now) in
+      items_once (codes "contains") d indexed q p h s 0 (counted_asked s least most d q i) (counted_asked s least most d p j)
   asked_once (code.Properties schemas) r f e i j = declared_once site (codes "properties") d (members_view schemas.now.entries) r q p h i j
   asked_once (code.AdditionalProperties declared schema) r f e i j =
       undeclared_once (codes "additionalProperties") (site_of site (codes "additionalProperties") (view schema.now)) d rising q p h declared i j
@@ -147,6 +183,7 @@ module _ (site : List Part → Data → Site) (matches : List ℕ → List ℕ �
   asked_once (code.PropertyNames schema) r f e i j = cc
   asked_once (code.NoPropertyNames schema) r f e i j = cc
   asked_once (code.DependentSchemas schemas) r f e i j = triggered_once site (codes "dependentSchemas") d (members_view schemas.now.entries) r q p h i j
+  asked_once (code.Dependencies entries) r f e i j = dependency_once site d (members_view entries.now.entries) r q p h i j
   asked_once (code.AllOf schemas) r f e i j =
       let count = sites_counted site (codes "allOf") 0 schemas.now in
       branches_once (codes "allOf") q p h (sites_of_list site (codes "allOf") 0 (items_view schemas.now)) (omega (arith, count, f)) i j

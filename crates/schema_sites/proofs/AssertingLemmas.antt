@@ -1,6 +1,7 @@
 -- Keywords that only assert, where their names count.
 use Rattle.std.proofs.Common.{◌≡◌, ◌∙◌, refl, sym, ap, subst, ℕ, List, [], ◌∷◌, ◌++◌, Bool, true, false, true≢false, not, ◌&&◌, ◌||◌, bytes_eq, codes, is_some, Option, Some, None, IfSome}
 use Rattle.std.proofs.lemmas.Slice.Eq.{bytes_eq-Decides}
+use Rattle.std.specs.List.{AllByRecursion}
 use Rattle.serde_json.specs.Data.{Data, Members}
 use Rattle.serde_json.specs.Find.{as_array}
 use Rattle.schema_documents.specs.Places.{Dialect}
@@ -77,6 +78,21 @@ unlisted-both k (n ∷ ns) ys e f = by (bytes_eq k n) e (λ g. unlisted-both k n
     by true e rest = absurd (true≢false e)
     by false e rest = rest e
 
+pub unnamed : (k n : List ℕ) → (k ≡ n → ⊥) → bytes_eq k n ≡ false
+unnamed k n apart = by (bytes_eq k n) refl
+  where
+    by : (b : Bool) → bytes_eq k n ≡ b → b ≡ false
+    by true is = absurd (apart ((bytes_eq-Decides k n).0 is))
+    by false is = refl
+
+pub none-listed : (k : List ℕ) (names : List (List ℕ)) → AllByRecursion (λ (n : List ℕ). k ≡ n → ⊥) names → is_listed k names ≡ false
+none-listed k [] apart = refl
+none-listed k (n ∷ names) apart = by (bytes_eq k n) refl (none-listed k names apart.1)
+  where
+    by : (b : Bool) → bytes_eq k n ≡ b → is_listed k names ≡ false → (b || is_listed k names) ≡ false
+    by true is rest = absurd (apart.0 ((bytes_eq-Decides k n).0 is))
+    by false is rest = rest
+
 no-reference : (k : List ℕ) → named k ≡ None → is_listed k (codes "$ref" ∷ codes "$dynamicRef" ∷ codes "$recursiveRef" ∷ []) ≡ false
 no-reference k e =
     let n = named-none k e in
@@ -87,7 +103,7 @@ no-reference k e =
 abbrev pub applied_names : List (List ℕ)
 applied_names =
     codes "items" ∷ codes "properties" ∷ codes "unevaluatedItems" ∷ codes "unevaluatedProperties" ∷ codes "prefixItems" ∷ codes "dependentSchemas" ∷ codes "allOf" ∷ codes "additionalItems"
-    ∷ codes "anyOf" ∷ codes "oneOf" ∷ codes "not" ∷ []
+    ∷ codes "anyOf" ∷ codes "oneOf" ∷ codes "not" ∷ codes "contains" ∷ codes "minContains" ∷ codes "maxContains" ∷ codes "dependencies" ∷ []
 
 pub none-read : (k : List ℕ) → named k ≡ None → is_listed k assertion_names ≡ false → is_listed k applied_names ≡ false → is_listed k read_now ≡ false
 none-read k reference assertion other =

@@ -24,6 +24,7 @@ use crate::neighbours::{has_reference, prefix_length, strict_limit};
 use crate::reference_keyword::ReferenceKeyword;
 use crate::referred::{led_to, look_up};
 use crate::site::Site;
+use applicator_reading::dependencies::dependencies as read_dependencies;
 use applicator_reading::neighbours::Neighbours;
 use applicator_reading::reading::read as read_applicator;
 use assertions::reading::read as read_assertion;
@@ -52,6 +53,15 @@ fn applying_values<'r>(
         Some(reading) => applying(reading),
         None => Err(Refusal::NotYet),
     }
+}
+
+fn dependencies<'r>(alloc: Global, value: &'r Value) -> Result<Keyword<'r>, Refusal<'r>>
+    ensures read { IfOk result (λ k. (x : rows.Context) → rows.read_among rows.readers x (codes "dependencies") (view value.now) ≡ row_of x.documents x.site k) }
+    ensures found { IfOk result (λ k. (c : code.Site) → Finds c (view value.now) k) }
+    ensures refused { IfErr result (λ e. (x : rows.Context) → Refuses x (codes "dependencies") (view value.now) (rows.read_among rows.readers x (codes "dependencies") (view value.now)) e) }
+{
+    let reading = read_dependencies(alloc, value)?;
+    applying(reading)
 }
 
 fn items<'r>(
@@ -147,6 +157,7 @@ fn reference<'r>(
 
 // What a member is whose name counts and is no reference's, nor that of a keyword that only asserts.
 fn applied<'r>(
+    alloc: Global,
     site: &Site<'r>,
     members: &'r Map<String, Value>,
     name: &str,
@@ -172,6 +183,10 @@ fn applied<'r>(
         "anyOf" => applying_values(site, members, name, value),
         "oneOf" => applying_values(site, members, name, value),
         "not" => applying_values(site, members, name, value),
+        "contains" => applying_values(site, members, name, value),
+        "minContains" => applying_values(site, members, name, value),
+        "maxContains" => applying_values(site, members, name, value),
+        "dependencies" => dependencies(alloc, value),
         _ => Err(Refusal::NotYet),
     }
 }
@@ -193,7 +208,7 @@ fn counted<'r>(
     let strict = strict_limit(site, members, name);
     match read_assertion(alloc, site.dialect.draft, name, value, strict)? {
         Some(reading) => asserting(reading),
-        None => applied(site, members, name, value),
+        None => applied(alloc, site, members, name, value),
     }
 }
 

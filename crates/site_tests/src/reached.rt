@@ -73,8 +73,8 @@ fn causes(rt: HostRuntime) -> Result<(), Fail> {
         ),
         ("{\"$ref\":\"#/x\"}", "Pointer '/x' does not exist"),
         (
-            "{\"items\":{\"contains\":{}}}",
-            "Keyword at 'http://a.test/r#/items/contains' is not there yet",
+            "{\"items\":{\"pattern\":\"a\"}}",
+            "Keyword at 'http://a.test/r#/items/pattern' is not there yet",
         ),
         (
             "{\"additionalProperties\":false,\"patternProperties\":{}}",
@@ -89,8 +89,8 @@ fn causes(rt: HostRuntime) -> Result<(), Fail> {
             "accepted",
         ),
         (
-            "{\"$schema\":\"http://json-schema.org/draft-07/schema#\",\"items\":[true,{\"anyOf\":[{\"contains\":{}}]}]}",
-            "Keyword at 'http://a.test/r#/items/1/anyOf/0/contains' is not there yet",
+            "{\"$schema\":\"http://json-schema.org/draft-07/schema#\",\"items\":[true,{\"anyOf\":[{\"pattern\":\"a\"}]}]}",
+            "Keyword at 'http://a.test/r#/items/1/anyOf/0/pattern' is not there yet",
         ),
         (
             "{\"$schema\":\"http://json-schema.org/draft-07/schema#\",\"$ref\":\"#/x\",\"type\":5,\"x\":true}",

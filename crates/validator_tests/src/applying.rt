@@ -77,6 +77,28 @@ fn leads_by_each_subschema(rt: HostRuntime) -> Result<(), Fail> {
 }
 
 #[test]
+fn leads_by_each_entry(rt: HostRuntime) -> Result<(), Fail> {
+    let alloc = rt.alloc();
+    let root = "{\"dependencies\":{\"a\":[\"b\"],\"c\":{\"required\":[\"d\"]},\"e\":false}}";
+    let registry = registry(alloc, root)?;
+    for (instance, evaluation, want) in [
+        ("", "/dependencies", "accepted"),
+        ("", "/dependencies/c/required", "accepted"),
+        ("", "/dependencies/c", "refused"),
+        ("", "/dependencies/a", "refused"),
+        ("", "/dependencies/e", "refused"),
+        ("/c", "/dependencies/c/required", "refused"),
+    ] {
+        assert_eq!(rt;
+            said(alloc, &registry, "{\"a\":1,\"c\":1}", instance, evaluation)?,
+            want,
+            "{instance} {evaluation}"
+        );
+    }
+    Ok(())
+}
+
+#[test]
 fn refuses_values(rt: HostRuntime) -> Result<(), Fail> {
     let alloc = rt.alloc();
     for (root, want) in [

@@ -197,9 +197,9 @@ fn paths_beside_the_verdict(rt: HostRuntime) -> Result<(), Fail> {
 fn into_branches(rt: HostRuntime) -> Result<(), Fail> {
     let alloc = rt.alloc();
     let root =
-        "{\"properties\":{\"a\":{\"anyOf\":[{\"minimum\":2}]},\"b\":{\"anyOf\":[false,{\"minimum\":2}]},\"c\":{\"oneOf\":[{\"minimum\":2}]},\"d\":{\"oneOf\":[{\"minimum\":2},{\"maximum\":0}]},\"e\":{\"not\":{\"minimum\":1}},\"f\":{\"allOf\":[true,{\"minimum\":2}]}}}";
+        "{\"properties\":{\"a\":{\"anyOf\":[{\"minimum\":2}]},\"b\":{\"anyOf\":[false,{\"minimum\":2}]},\"c\":{\"oneOf\":[{\"minimum\":2}]},\"d\":{\"oneOf\":[{\"minimum\":2},{\"maximum\":0}]},\"e\":{\"not\":{\"minimum\":1}},\"f\":{\"allOf\":[true,{\"minimum\":2}]},\"g\":{\"contains\":{\"type\":\"integer\"},\"maxContains\":1}}}";
     let registry = registry(alloc, root)?;
-    let value = "{\"a\":1,\"b\":1,\"c\":1,\"d\":1,\"e\":1,\"f\":1}";
+    let value = "{\"a\":1,\"b\":1,\"c\":1,\"d\":1,\"e\":1,\"f\":1,\"g\":[\"a\"]}";
     for (instance, evaluation, want) in [
         ("/a", "/properties/a/anyOf", "accepted"),
         ("/a", "/properties/a/anyOf/0/minimum", "accepted"),
@@ -213,6 +213,10 @@ fn into_branches(rt: HostRuntime) -> Result<(), Fail> {
         ("/e", "/properties/e/not/minimum", "refused"),
         ("/f", "/properties/f/allOf/1/minimum", "accepted"),
         ("/f", "/properties/f/allOf", "accepted"),
+        ("/g", "/properties/g/maxContains", "accepted"),
+        ("/g", "/properties/g/minContains", "refused"),
+        ("/g", "/properties/g/contains", "refused"),
+        ("/g/0", "/properties/g/contains/type", "refused"),
     ] {
         assert_eq!(rt; said(alloc, &registry, value, instance, evaluation)?, want);
     }

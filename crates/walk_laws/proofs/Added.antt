@@ -1,6 +1,6 @@
 -- What questions add to the road begins by their keyword.
-use Rattle.std.proofs.Common.{◌≡◌, ◌++◌, ℕ, suc, List, [], ◌∷◌, Option, None, Some, refl, sym, ap}
-use Rattle.std.specs.List.{AllByRecursion}
+use Rattle.std.proofs.Common.{◌≡◌, ◌++◌, ℕ, suc, List, [], ◌∷◌, Option, None, Some, refl, sym, ap, codes}
+use Rattle.std.specs.List.{AllByRecursion, flat_map}
 use Rattle.serde_json.specs.Data.{Data, Items, no_items, item}
 use Rattle.serde_json.specs.Find.{get}
 use Rattle.json_paths.specs.Parts.{Part, name, index}
@@ -8,6 +8,7 @@ use Rattle.schema_meaning.specs.Members.{In, first, later}
 use Rattle.schema_meaning.specs.Places.{stay, to_member}
 use Rattle.schema_meaning.specs.Questions.{Question, question, at, at_name, each_branch, item_by_item, if_member, each_member, each_triggered}
 use Rattle.walk_laws.proofs.Listed.{in_some, in_mapped}
+use Rattle.schema_meaning.specs.Keywords.{Dependency, needs, applies, applied}
 
 abbrev pub AddsTo : {S : Type 0} → List ℕ → Question S → Type 0
 AddsTo k q = (ps : List Part) × (q.added ≡ ps ++ at k)
@@ -37,3 +38,18 @@ module _ {S : Type 0} (k : List ℕ) where
 
   pub member_added : (s : S) (ms : List (List ℕ × Data)) (q : Question S) → In q (each_member k s ms) → q.added ≡ at k
   member_added s ms q i = let w = in_mapped (λ m. question s (to_member m.0 m.1) (at k)) ms i in ap (λ (p : Question S). p.added) (sym w.2)
+
+entry_added : {S : Type 0} (n : List ℕ) (x : Dependency S) (q : Question S) → In q (applied n x) → AddsTo (codes "dependencies") q
+entry_added n (needs names) q h = elim h [ ]
+entry_added n (applies s) q first = (name n ∷ [], refl)
+entry_added n (applies s) q (later h) = elim h [ ]
+
+entry_there : {S : Type 0} (n : List ℕ) (x : Dependency S) (o : Option Data) (q : Question S) → In q (if_member o (λ e. applied n x)) → AddsTo (codes "dependencies") q
+entry_there n x None q h = elim h [ ]
+entry_there n x (Some e) q h = entry_added n x q h
+
+abbrev of_entry : {S : Type 0} → Data → List ℕ × Dependency S → List (Question S)
+of_entry d p = if_member (get p.0 d) (λ e. applied p.0 p.1)
+
+pub dependency_added : {S : Type 0} (d : Data) (ps : List (List ℕ × Dependency S)) (q : Question S) → In q (flat_map (of_entry d) ps) → AddsTo (codes "dependencies") q
+dependency_added d ps q h = let w = in_some (of_entry d) ps h in entry_there w.0.0 w.0.1 (get w.0.0 d) q w.2

@@ -1,14 +1,15 @@
 -- By which member of a schema a certificate begins.
-use Rattle.std.proofs.Common.{◌≡◌, ◌∙◌, ◌++◌, ℕ, List, [], ◌∷◌, Bool, true, false, codes, refl, sym, ap, subst, map, append_assoc, append-nil}
-use Rattle.std.specs.List.{AllByRecursion, flat_map}
-use Rattle.serde_json.specs.Data.{Data, boolean, object, Members, no_members, member}
+use Rattle.std.specs.Prelude.{if◌then◌else◌}
+use Rattle.std.proofs.Common.{◌≡◌, ◌∙◌, ◌++◌, ℕ, nat_lt, List, [], ◌∷◌, Bool, true, false, Option, None, Some, codes, refl, sym, ap, subst, map, append_assoc, append-nil}
+use Rattle.std.specs.List.{flat_map}
+use Rattle.serde_json.specs.Data.{Data, null, boolean, number, string, array, object, Members, no_members, member}
 use Rattle.json_paths.specs.Parts.{Part, name}
 use Rattle.json_paths.specs.Pointers.{escape}
-use Rattle.schema_meaning.specs.Members.{In, first, later}
-use Rattle.schema_meaning.specs.Places.{stay}
-use Rattle.schema_meaning.specs.Questions.{Question, at, listed_members, members_of, other_members, items_from, items_of, each_branch}
-use Rattle.schema_meaning.specs.Rules.{Rule, refuses_at, obliged, lone}
-use Rattle.schema_meaning.specs.Keywords.{Shape, never, asserts, items, item_list, prefix_items, additional_items, no_additional_items, contains, properties, pattern_properties, additional_properties, no_additional_properties, no_properties, property_names, no_property_names, dependent_schemas, dependencies, all_of, any_of, one_of, negation, condition, reference, reference_name, rule}
+use Rattle.schema_meaning.specs.Members.{In, first, later, count_true}
+use Rattle.schema_meaning.specs.Places.{stay, whole}
+use Rattle.schema_meaning.specs.Questions.{Question, at, listed_members, members_of, other_members, items_from, items_of, each_branch, each_item}
+use Rattle.schema_meaning.specs.Rules.{Rule, refuses_at, obliged, lone, every, accepts, count_refused_at, chosen_name, chosen_steps}
+use Rattle.schema_meaning.specs.Keywords.{Shape, never, asserts, items, item_list, prefix_items, additional_items, no_additional_items, contains, properties, pattern_properties, additional_properties, no_additional_properties, no_properties, property_names, no_property_names, dependent_schemas, dependencies, all_of, any_of, one_of, negation, condition, reference, reference_name, rule, counting, consequent}
 use Rattle.schema_meaning.specs.Readings.{Reading, rules}
 use Rattle.schema_documents.specs.Bearers.{Documents}
 use Rattle.schema_reading.specs.Sites.{Site}
@@ -17,11 +18,13 @@ use Rattle.schema_reading.specs.Rows.{Row, Context, row_at, rows_of, rows_in, ro
 use Rattle.meaning_laws.proofs.Obliged.{in_map}
 use Rattle.schema_reading.specs.PathTexts.{path_text}
 use Rattle.check_laws.specs.Spelled.{AreSpelled, AreSpelledBy, refuses, goes}
+use Rattle.schema_meaning.specs.Certificates.{AreAnswers}
+use Rattle.check_laws.proofs.Answers.{obliged_refuses}
 use Rattle.check_laws.proofs.Parts.{path_text-append}
 use Rattle.check_laws.proofs.Steps.{first_step, from_step}
-use Rattle.walk_laws.specs.Words.{IsRest, nothing, IsOf}
+use Rattle.walk_laws.specs.Words.{IsRest, nothing, IsOf, Bears, count_names, choice_names}
 use Rattle.walk_laws.proofs.Cuts.{rest_of, rest_append}
-use Rattle.walk_laws.proofs.Added.{branch_added, by_item_added, member_added, triggered_added}
+use Rattle.walk_laws.proofs.Added.{branch_added, by_item_added, member_added, triggered_added, dependency_added}
 use Rattle.walk_laws.proofs.Listed.{each_in, in_some, in_all, in_mapped, item_question, declared_question}
 
 -- ---- the rule of a keyword that is read
@@ -94,7 +97,10 @@ module _ {S : Type 0} (matches : List ℕ → List ℕ → Bool) (d : Data) (k :
     own = λ bs. ap at h;
     on = λ bs q i. let w = triggered_added (codes "dependentSchemas") d ps q i in (w.0, w.1 ∙ ap (λ n. w.0 ++ at n) h);
   }
-  shape_begins (dependencies ps) h = absurd h
+  shape_begins (dependencies ps) h = record {
+    own = λ bs. ap at h;
+    on = λ bs q i. let w = dependency_added d ps q i in (w.0, w.1 ∙ ap (λ n. w.0 ++ at n) h);
+  }
   shape_begins (all_of ss) h = record {
     own = λ bs. ap at h;
     on = λ bs q i. let w = branch_added (codes "allOf") 0 ss q i in (w.0, w.1 ∙ ap (λ n. w.0 ++ at n) h);
@@ -111,25 +117,144 @@ module _ {S : Type 0} (matches : List ℕ → List ℕ → Bool) (d : Data) (k :
   shape_begins (condition s t e) h = absurd h
   shape_begins (reference r s) h = record { own = λ bs. ap at h; on = λ bs q i. ([], one_added (reference_name r) s h q i) }
 
--- ---- the text of the evaluation path begins by the keyword's name
+-- ---- the rule of a keyword that may refuse under several names
 
-module _ {S : Type 0} (r : Reading S) (d : Data) (k : List ℕ) where
-  rule_of : (shapes : List (Shape S)) → AllByRecursion (IsOf k) shapes → (x : Rule S) → In x (map (rule r.matches d) shapes) → Begins k x
-  rule_of shapes h x i =
-      let w = in_mapped (rule r.matches d) shapes i in
-      subst (Begins k) w.2 (shape_begins r.matches d k w.0 (each_in (IsOf k) shapes h w.0 w.1))
+pub record BeginsAs {S : Type 0} (P : List ℕ → Type 0) (r : Rule S) : Type 0 where
+  pub name : List Bool → List ℕ
+  pub borne : (bs : List Bool) → P (name bs)
+  pub own : (bs : List Bool) → refuses_at r bs ≡ at (name bs)
+  pub on : (bs : List Bool) (q : Question S) → In q (obliged r bs) → (ps : List Part) × (q.added ≡ ps ++ at (name bs))
 
-  pub begun : (shapes : List (Shape S)) (i e : List ℕ) → AllByRecursion (IsOf k) shapes → AreSpelledBy r d (map (rule r.matches d) shapes) i e
-      → (rest : List ℕ) × (e ≡ 47 ∷ (escape k ++ rest)) × IsRest rest
-  begun shapes i e h (refuses x bs j a wrong at_i on_e) =
-      ([], on_e ∙ ap path_text ((rule_of shapes h x j).own bs), nothing)
-  begun shapes i e h (goes x bs q i' e' j a o under at_i on_e) =
-      let w = (rule_of shapes h x j).on bs q o in
-      let text : e ≡ (path_text (at k) ++ path_text w.0) ++ e' = on_e ∙ ap (λ t. t ++ e') (ap path_text w.1 ∙ path_text-append w.0 (at k)) in (
-        path_text w.0 ++ e',
-        text ∙ ap (λ t. (t ++ path_text w.0) ++ e') (ap (λ t. 47 ∷ t) (append-nil (escape k))) ∙ append_assoc (47 ∷ escape k) (path_text w.0) e',
-        rest_append (path_text w.0) e' (rest_of _) (subst IsRest (sym under.evaluation_text) (rest_of _)),
-      )
+one_begins : {S : Type 0} (P : List ℕ → Type 0) (k : List ℕ) (r : Rule S) → P k → Begins k r → BeginsAs P r
+one_begins P k r h b = record { name = λ bs. k; borne = λ bs. h; own = λ bs. b.own bs; on = λ bs q i. b.on bs q i }
+
+counted_name : (least most : Option ℕ) (n : ℕ) → In (count_refused_at least most n) count_names
+counted_name None None n = first
+counted_name (Some least) None n = later first
+counted_name None (Some most) n = later (later first)
+counted_name (Some least) (Some most) n = by (nat_lt most n)
+  where
+    by : (b : Bool) → In (if b then codes "maxContains" else codes "minContains") count_names
+    by true = later (later first)
+    by false = later first
+
+abbrev Counts : List ℕ → Type 0
+Counts n = In n count_names
+
+uncounted : {S : Type 0} → BeginsAs {S = S} Counts (every (at (codes "contains")) [] [])
+uncounted = record { name = λ bs. codes "contains"; borne = λ bs. first; own = λ bs. refl; on = λ bs q i. elim i [ ] }
+
+count_begins : {S : Type 0} (d : Data) (least most : Option ℕ) (qs : List (Question S)) → BeginsAs Counts (counting d least most qs)
+count_begins null least most qs = uncounted
+count_begins (boolean b) least most qs = uncounted
+count_begins (number n) least most qs = uncounted
+count_begins (string t) least most qs = uncounted
+count_begins (array ds) least most qs = record {
+  name = λ bs. count_refused_at least most (count_true bs);
+  borne = λ bs. counted_name least most (count_true bs);
+  own = λ bs. refl;
+  on = λ bs q i. elim i [ ];
+}
+count_begins (object ms) least most qs = uncounted
+
+choice_own : (bs : List Bool) → In (chosen_name bs) choice_names
+choice_own [] = first
+choice_own (true ∷ bs) = later first
+choice_own (false ∷ bs) = later (later first)
+
+abbrev choices : {S : Type 0} → Option S → Option S → List (Bool × Question S)
+choices t e = consequent true (codes "then") t ++ consequent false (codes "else") e
+
+choice_on : {S : Type 0} (t e : Option S) (bs : List Bool) (q : Question S) → In q (chosen_steps (choices t e) bs) → (ps : List Part) × (q.added ≡ ps ++ at (chosen_name bs))
+choice_on t e [] q i = elim i [ ]
+choice_on None None (b ∷ bs) q i = elim i [ ]
+choice_on (Some s) None (true ∷ bs) _ first = ([], refl)
+choice_on (Some s) None (true ∷ bs) q (later i) = elim i [ ]
+choice_on (Some s) None (false ∷ bs) q i = elim i [ ]
+choice_on None (Some s) (true ∷ bs) q i = elim i [ ]
+choice_on None (Some s) (false ∷ bs) _ first = ([], refl)
+choice_on None (Some s) (false ∷ bs) q (later i) = elim i [ ]
+choice_on (Some s) (Some u) (true ∷ bs) _ first = ([], refl)
+choice_on (Some s) (Some u) (true ∷ bs) q (later i) = elim i [ ]
+choice_on (Some s) (Some u) (false ∷ bs) _ first = ([], refl)
+choice_on (Some s) (Some u) (false ∷ bs) q (later i) = elim i [ ]
+
+module _ {S : Type 0} (matches : List ℕ → List ℕ → Bool) (d : Data) (k : List ℕ) where
+  by_one : (x : Shape S) → IsOf k x → Bears k x → BeginsAs (λ n. Bears n x) (rule matches d x)
+  by_one x h g = one_begins (λ n. Bears n x) k (rule matches d x) g (shape_begins matches d k x h)
+
+  pub shape_bears : (x : Shape S) → Bears k x → BeginsAs (λ n. Bears n x) (rule matches d x)
+  shape_bears never h = absurd h
+  shape_bears (asserts a) h = by_one (asserts a) h h
+  shape_bears (items start s) h = by_one (items start s) h h
+  shape_bears (item_list ss) h = by_one (item_list ss) h h
+  shape_bears (prefix_items ss) h = by_one (prefix_items ss) h h
+  shape_bears (additional_items start s) h = by_one (additional_items start s) h h
+  shape_bears (no_additional_items start s) h = by_one (no_additional_items start s) h h
+  shape_bears (contains s least most) h = count_begins d least most (each_item (codes "contains") s 0 (items_of d))
+  shape_bears (properties ps) h = by_one (properties ps) h h
+  shape_bears (pattern_properties ps) h = by_one (pattern_properties ps) h h
+  shape_bears (additional_properties declared s) h = by_one (additional_properties declared s) h h
+  shape_bears (no_additional_properties declared s) h = by_one (no_additional_properties declared s) h h
+  shape_bears (no_properties s) h = by_one (no_properties s) h h
+  shape_bears (property_names s) h = by_one (property_names s) h h
+  shape_bears (no_property_names s) h = by_one (no_property_names s) h h
+  shape_bears (dependent_schemas ps) h = by_one (dependent_schemas ps) h h
+  shape_bears (dependencies ps) h = by_one (dependencies ps) h h
+  shape_bears (all_of ss) h = by_one (all_of ss) h h
+  shape_bears (any_of ss) h = by_one (any_of ss) h h
+  shape_bears (one_of ss) h = by_one (one_of ss) h h
+  shape_bears (negation schema s) h = by_one (negation schema s) h h
+  shape_bears (condition s t e) h = record { name = λ bs. chosen_name bs; borne = λ bs. choice_own bs; own = λ bs. refl; on = λ bs q i. choice_on t e bs q i }
+  shape_bears (reference r s) h = by_one (reference r s) h h
+
+-- ---- the text of the evaluation path begins by a name under which the keyword may refuse
+
+-- its answers, the name under which it refuses by them, and what is left behind that name
+pub record Begun {S : Type 0} (r : Reading S) (d : Data) (shape : Shape S) (e : List ℕ) : Type 0 where
+  pub answers : List Bool
+  pub are : AreAnswers r (whole d) (rule r.matches d shape) answers
+  pub wrong : accepts (rule r.matches d shape) answers ≡ false
+  pub name : List ℕ
+  pub named : Bears name shape
+  pub under : refuses_at (rule r.matches d shape) answers ≡ at name
+  pub rest : List ℕ
+  pub text : e ≡ 47 ∷ (escape name ++ rest)
+  pub is_rest : IsRest rest
+
+module _ {S : Type 0} (r : Reading S) (d : Data) (k : List ℕ) (shape : Shape S) (named : Bears k shape) where
+  abbrev begins : BeginsAs (λ n. Bears n shape) (rule r.matches d shape)
+  begins = shape_bears r.matches d k shape named
+
+  pub begun : (i e : List ℕ) → AreSpelledBy r d (rule r.matches d shape ∷ []) i e → Begun r d shape e
+  begun i e (refuses _ bs first a wrong at_i on_e) = record {
+    answers = bs;
+    are = a;
+    wrong = wrong;
+    name = begins.name bs;
+    named = begins.borne bs;
+    under = begins.own bs;
+    rest = [];
+    text = on_e ∙ ap path_text (begins.own bs);
+    is_rest = nothing;
+  }
+  begun i e (refuses x bs (later j) a wrong at_i on_e) = elim j [ ]
+  begun i e (goes _ bs q i' e' first a o under at_i on_e) =
+      let w = begins.on bs q o in
+      let n = begins.name bs in
+      let text : e ≡ (path_text (at n) ++ path_text w.0) ++ e' = on_e ∙ ap (λ t. t ++ e') (ap path_text w.1 ∙ path_text-append w.0 (at n)) in
+      record {
+        answers = bs;
+        are = a;
+        wrong = obliged_refuses r d (rule r.matches d shape) bs q i' e' a o under;
+        name = n;
+        named = begins.borne bs;
+        under = begins.own bs;
+        rest = path_text w.0 ++ e';
+        text = text ∙ ap (λ t. (t ++ path_text w.0) ++ e') (ap (λ t. 47 ∷ t) (append-nil (escape n))) ∙ append_assoc (47 ∷ escape n) (path_text w.0) e';
+        is_rest = rest_append (path_text w.0) e' (rest_of _) (subst IsRest (sym under.evaluation_text) (rest_of _));
+      }
+  begun i e (goes x bs q i' e' (later j) a o under at_i on_e) = elim j [ ]
 
 -- by one of these rules, whichever others there are
 pub one_rule : {S : Type 0} (r : Reading S) (d : Data) (ks : List (Rule S)) (i e : List ℕ) → AreSpelledBy r d ks i e

@@ -1,5 +1,5 @@
 -- The shapes of the keywords that are read, by the names under which they refuse.
-use Rattle.std.proofs.Common.{◌≡◌, ◌++◌, ℕ, ℤ, List, [], ◌∷◌, Bool, true, false, not, ◌&&◌, ◌||◌, bytes_eq, codes, is_some, Option, Some, None, Result, Ok, Err, refl, sym, subst, true≢false}
+use Rattle.std.proofs.Common.{◌≡◌, ◌++◌, ℕ, ℤ, List, [], ◌∷◌, Bool, true, false, not, ◌&&◌, ◌||◌, bytes_eq, codes, is_some, Option, Some, None, Result, Ok, Err, refl, sym, ◌∙◌, subst, true≢false}
 use Rattle.std.specs.List.{AllByRecursion}
 use Rattle.std.specs.Prelude.{if◌then◌else◌, option_and_then}
 use Rattle.std.proofs.lemmas.Slice.Eq.{bytes_eq-Decides}
@@ -11,12 +11,12 @@ use Rattle.schema_values.specs.Texts.{count_items}
 use Rattle.schema_documents.specs.Lookup.{Target, LookupCause, lookup}
 use Rattle.schema_documents.specs.Scopes.{dynamic_lookup, recursive_lookup}
 use Rattle.schema_meaning.specs.Members.{In, first, later, is_listed}
-use Rattle.schema_meaning.specs.Keywords.{Assertion, named, types, constant, enumeration, multiple_of, maximum, exclusive_maximum, minimum, exclusive_minimum, maximum_of_draft_4, minimum_of_draft_4, max_length, min_length, max_items, min_items, max_properties, min_properties, dependent_required, Shape, asserts, items, item_list, prefix_items, properties, dependent_schemas, all_of, any_of, one_of, negation, additional_items, no_additional_items, additional_properties, no_additional_properties, no_properties, Reference, static, dynamic, recursive, reference_name, reference}
+use Rattle.schema_meaning.specs.Keywords.{Assertion, named, types, constant, enumeration, multiple_of, maximum, exclusive_maximum, minimum, exclusive_minimum, maximum_of_draft_4, minimum_of_draft_4, max_length, min_length, max_items, min_items, max_properties, min_properties, dependent_required, Shape, asserts, items, item_list, prefix_items, properties, dependent_schemas, all_of, any_of, one_of, negation, additional_items, no_additional_items, additional_properties, no_additional_properties, no_properties, Reference, static, dynamic, recursive, reference_name, reference, never, contains, pattern_properties, property_names, no_property_names, dependencies, condition}
 use Rattle.unread_keywords.specs.NotYet.{is_unread, is_read_beside, has_patterns, read_now}
 use Rattle.schema_reading.specs.Sites.{Site, target_site}
 use Rattle.schema_reading.specs.Values.{type_names, count_of, positive_of, whole_number, unique_names}
-use Rattle.schema_reading.specs.Rows.{BuildCause, behind_items, additional_items_row, is_false, declared_beside, is_alone, refuses_others, additional_properties_row, Row, nothing_read, reads, Context, counts_here, at, bad_value, subschema, each_subschema, each_named, row_of, one_schema, schema_list, sites_named, schema_map, asserted, assertion, length_of_list, beside, takes_list, items_row, with_causes, target_causes, no_schema_there, led_to, ref_row, dynamic_row, is_hash, recursive_row, is_draft_4, is_true, unique_row, unless_empty, required_entries, dependent_required_row, readers, read_among, row_at}
-use Rattle.walk_laws.specs.Words.{IsOf, IsUnder, member_of}
+use Rattle.schema_reading.specs.Rows.{BuildCause, behind_items, additional_items_row, is_false, declared_beside, is_alone, refuses_others, additional_properties_row, Row, nothing_read, reads, Context, counts_here, at, bad_value, subschema, each_subschema, each_named, row_of, one_schema, schema_list, sites_named, schema_map, asserted, assertion, length_of_list, beside, takes_list, items_row, with_causes, target_causes, no_schema_there, led_to, ref_row, dynamic_row, is_hash, recursive_row, is_draft_4, is_true, unique_row, unless_empty, required_entries, dependent_required_row, readers, read_among, row_at, contains_row, bound_row, sites_applied, dependency_entries, dependencies_row}
+use Rattle.walk_laws.specs.Words.{IsOf, IsUnder, member_of, Bears, count_names, LeadsBack}
 
 abbrev AreOf : List ℕ → Row → Type 0
 AreOf k row = AllByRecursion (IsOf k) row.shapes
@@ -104,7 +104,7 @@ of_map x k shape h (object ms) = of_row k sites_named (λ ps. shape ps ∷ []) (
 
 -- ---- of a name that is read
 
-listed_in : (k : List ℕ) (names : List (List ℕ)) → is_listed k names ≡ true → In k names
+pub listed_in : (k : List ℕ) (names : List (List ℕ)) → is_listed k names ≡ true → In k names
 listed_in k [] e = absurd (true≢false (sym e))
 listed_in k (n ∷ names) e = by (bytes_eq k n) refl e (listed_in k names)
   where
@@ -131,22 +131,87 @@ of_dependent x (array ds) = tt
 of_dependent x (object ms) =
     of_row (codes "dependentRequired") (λ ps. []) (λ ps. assertion (dependent_required ps)) (λ ps. (refl, tt)) (required_entries x (codes "dependentRequired") ms)
 
+of_dependencies : (x : Context) (d : Data) → AreOf (codes "dependencies") (dependencies_row x (codes "dependencies") d)
+of_dependencies x null = tt
+of_dependencies x (boolean b) = tt
+of_dependencies x (number n) = tt
+of_dependencies x (string s) = tt
+of_dependencies x (array ds) = tt
+of_dependencies x (object ms) =
+    of_row (codes "dependencies") sites_applied (λ ps. dependencies ps ∷ []) (λ ps. (refl, tt)) (dependency_entries x (codes "dependencies") ms)
+
 -- ---- the limits of Draft 4 refuse under the name of the boolean that makes them strict
 
 abbrev pub AreUnder : Context → List ℕ → Row → Type 0
 AreUnder x k row = AllByRecursion (IsUnder (is_draft_4 x.site.dialect.draft) k) row.shapes
 
+-- a shape that refuses under one name
+one_name : {S : Type 0} (shape : Shape S) (k n : List ℕ) → IsOf k shape → Bears n shape → k ≡ n
+one_name never k n h g = absurd h
+one_name (asserts a) k n h g = sym h ∙ g
+one_name (items start s) k n h g = sym h ∙ g
+one_name (item_list ss) k n h g = sym h ∙ g
+one_name (prefix_items ss) k n h g = sym h ∙ g
+one_name (additional_items start s) k n h g = sym h ∙ g
+one_name (no_additional_items start s) k n h g = sym h ∙ g
+one_name (contains s least most) k n h g = absurd h
+one_name (properties ps) k n h g = sym h ∙ g
+one_name (pattern_properties ps) k n h g = absurd h
+one_name (additional_properties declared s) k n h g = sym h ∙ g
+one_name (no_additional_properties declared s) k n h g = sym h ∙ g
+one_name (no_properties s) k n h g = sym h ∙ g
+one_name (property_names s) k n h g = absurd h
+one_name (no_property_names s) k n h g = absurd h
+one_name (dependent_schemas ps) k n h g = sym h ∙ g
+one_name (dependencies ps) k n h g = sym h ∙ g
+one_name (all_of ss) k n h g = sym h ∙ g
+one_name (any_of ss) k n h g = sym h ∙ g
+one_name (one_of ss) k n h g = sym h ∙ g
+one_name (negation schema s) k n h g = sym h ∙ g
+one_name (condition s t e) k n h g = absurd h
+one_name (reference r s) k n h g = sym h ∙ g
+
+its_name : {S : Type 0} (shape : Shape S) (k : List ℕ) → IsOf k shape → Bears k shape
+its_name never k h = h
+its_name (asserts a) k h = h
+its_name (items start s) k h = h
+its_name (item_list ss) k h = h
+its_name (prefix_items ss) k h = h
+its_name (additional_items start s) k h = h
+its_name (no_additional_items start s) k h = h
+its_name (contains s least most) k h = absurd h
+its_name (properties ps) k h = h
+its_name (pattern_properties ps) k h = h
+its_name (additional_properties declared s) k h = h
+its_name (no_additional_properties declared s) k h = h
+its_name (no_properties s) k h = h
+its_name (property_names s) k h = h
+its_name (no_property_names s) k h = h
+its_name (dependent_schemas ps) k h = h
+its_name (dependencies ps) k h = h
+its_name (all_of ss) k h = h
+its_name (any_of ss) k h = h
+its_name (one_of ss) k h = h
+its_name (negation schema s) k h = h
+its_name (condition s t e) k h = absurd h
+its_name (reference r s) k h = h
+
+under_one : {S : Type 0} (b : Bool) (member k : List ℕ) (shape : Shape S) → IsOf k shape → member_of b k ≡ member → escape k ≡ k → IsUnder b member shape
+under_one b member k shape h of_member plain =
+    let back : LeadsBack b member k = record { of_member = of_member; plain = plain } in
+    record { name = k; named = its_name shape k h; back = λ n g. subst (LeadsBack b member) (one_name shape k n h g) back }
+
 under_maximum : (b strict : Bool) (z : ℤ) → IsUnder {S = Site} b (codes "maximum") (asserts (if b then maximum_of_draft_4 z strict else maximum z))
 unfolding escape
-under_maximum true true z = record { name = codes "exclusiveMaximum"; named = refl; of_member = refl; plain = refl }
-under_maximum true false z = record { name = codes "maximum"; named = refl; of_member = refl; plain = refl }
-under_maximum false strict z = record { name = codes "maximum"; named = refl; of_member = refl; plain = refl }
+under_maximum true true z = under_one true (codes "maximum") (codes "exclusiveMaximum") (asserts (maximum_of_draft_4 z true)) refl refl refl
+under_maximum true false z = under_one true (codes "maximum") (codes "maximum") (asserts (maximum_of_draft_4 z false)) refl refl refl
+under_maximum false strict z = under_one false (codes "maximum") (codes "maximum") (asserts (maximum z)) refl refl refl
 
 under_minimum : (b strict : Bool) (z : ℤ) → IsUnder {S = Site} b (codes "minimum") (asserts (if b then minimum_of_draft_4 z strict else minimum z))
 unfolding escape
-under_minimum true true z = record { name = codes "exclusiveMinimum"; named = refl; of_member = refl; plain = refl }
-under_minimum true false z = record { name = codes "minimum"; named = refl; of_member = refl; plain = refl }
-under_minimum false strict z = record { name = codes "minimum"; named = refl; of_member = refl; plain = refl }
+under_minimum true true z = under_one true (codes "minimum") (codes "exclusiveMinimum") (asserts (minimum_of_draft_4 z true)) refl refl refl
+under_minimum true false z = under_one true (codes "minimum") (codes "minimum") (asserts (minimum_of_draft_4 z false)) refl refl refl
+under_minimum false strict z = under_one false (codes "minimum") (codes "minimum") (asserts (minimum z)) refl refl refl
 
 of_maximum : (x : Context) (o : Option ℤ) → AreUnder x (codes "maximum")
     (asserted x (codes "maximum") (codes "number") (λ z. assertion (if is_draft_4 x.site.dialect.draft then maximum_of_draft_4 z (is_true (beside x (codes "exclusiveMaximum"))) else maximum z)) o)
@@ -167,16 +232,43 @@ of_strict x k a h (Some z) false = (h z, tt)
 
 under_strict_maximum : (z : ℤ) → IsUnder {S = Site} false (codes "exclusiveMaximum") (asserts (exclusive_maximum z))
 unfolding escape
-under_strict_maximum z = record { name = codes "exclusiveMaximum"; named = refl; of_member = refl; plain = refl }
+under_strict_maximum z = under_one false (codes "exclusiveMaximum") (codes "exclusiveMaximum") (asserts (exclusive_maximum z)) refl refl refl
 
 under_strict_minimum : (z : ℤ) → IsUnder {S = Site} false (codes "exclusiveMinimum") (asserts (exclusive_minimum z))
 unfolding escape
-under_strict_minimum z = record { name = codes "exclusiveMinimum"; named = refl; of_member = refl; plain = refl }
+under_strict_minimum z = under_one false (codes "exclusiveMinimum") (codes "exclusiveMinimum") (asserts (exclusive_minimum z)) refl refl refl
 
 -- the other keywords refuse under their own name
 own : (b : Bool) (k : List ℕ) → member_of b k ≡ k → escape k ≡ k → (shapes : List (Shape Site)) → AllByRecursion (IsOf k) shapes → AllByRecursion (IsUnder b k) shapes
 own b k same plain [] h = tt
-own b k same plain (s ∷ shapes) h = (record { name = k; named = h.0; of_member = same; plain = plain }, own b k same plain shapes h.1)
+own b k same plain (s ∷ shapes) h = (under_one b k k s h.0 same plain, own b k same plain shapes h.1)
+
+-- `contains` refuses under its own name or that of a bound
+count_back : (b : Bool) (n : List ℕ) → In n count_names → LeadsBack b (codes "contains") n
+unfolding escape
+count_back b _ first = record { of_member = refl; plain = refl }
+count_back b _ (later first) = record { of_member = refl; plain = refl }
+count_back b _ (later (later first)) = record { of_member = refl; plain = refl }
+count_back b n (later (later (later i))) = elim i [ ]
+
+under_count : (b : Bool) (s : Site) (least most : Option ℕ) → IsUnder b (codes "contains") (contains s least most)
+under_count b s least most = record { name = codes "contains"; named = first; back = count_back b }
+
+of_contains : (x : Context) (d : Data) → AreUnder x (codes "contains") (contains_row x (codes "contains") d)
+of_contains x d = by (option_and_then count_of (beside x (codes "minContains"))) (option_and_then count_of (beside x (codes "maxContains"))) (subschema x (at (codes "contains")) d)
+  where
+    by : (least most : Option ℕ) (r : Result Site (List BuildCause)) → AreUnder x (codes "contains") (row_of (λ s. s ∷ []) (λ s. contains s least most ∷ []) r)
+    by least most (Ok s) = (under_count (is_draft_4 x.site.dialect.draft) s least most, tt)
+    by least most (Err causes) = tt
+
+-- the bounds have no shapes of their own
+of_bound : (x : Context) (k : List ℕ) (d : Data) → AreUnder x k (bound_row x k d)
+of_bound x k d = by (is_some (beside x (codes "contains"))) (count_of d)
+  where
+    by : (b : Bool) (o : Option ℕ) → AreUnder x k (if b then asserted x k (codes "count") (λ n. []) o else nothing_read)
+    by true None = tt
+    by true (Some n) = tt
+    by false o = tt
 
 -- a row for each name that is read
 of_read : (x : Context) (k : List ℕ) (d : Data) → In k read_now → AreUnder x k (read_among readers x k d)
@@ -212,7 +304,11 @@ of_read x _ d (later (later (later (later (later (later (later (later (later (la
 of_read x _ d (later (later (later (later (later (later (later (later (later (later (later (later (later (later (later (later (later (later (later (later (later (later (later (later (later (later (later (later first)))))))))))))))))))))))))))) = own (is_draft_4 x.site.dialect.draft) (codes "anyOf") refl refl _ (of_list x (codes "anyOf") (codes "list") any_of (λ ss. refl) d)
 of_read x _ d (later (later (later (later (later (later (later (later (later (later (later (later (later (later (later (later (later (later (later (later (later (later (later (later (later (later (later (later (later first))))))))))))))))))))))))))))) = own (is_draft_4 x.site.dialect.draft) (codes "oneOf") refl refl _ (of_list x (codes "oneOf") (codes "list") one_of (λ ss. refl) d)
 of_read x _ d (later (later (later (later (later (later (later (later (later (later (later (later (later (later (later (later (later (later (later (later (later (later (later (later (later (later (later (later (later (later first)))))))))))))))))))))))))))))) = own (is_draft_4 x.site.dialect.draft) (codes "not") refl refl _ (of_row (codes "not") (λ s. s ∷ []) (λ s. negation d s ∷ []) (λ s. (refl, tt)) (subschema x (at (codes "not")) d))
-of_read x k d (later (later (later (later (later (later (later (later (later (later (later (later (later (later (later (later (later (later (later (later (later (later (later (later (later (later (later (later (later (later (later i))))))))))))))))))))))))))))))) = elim i [ ]
+of_read x _ d (later (later (later (later (later (later (later (later (later (later (later (later (later (later (later (later (later (later (later (later (later (later (later (later (later (later (later (later (later (later (later first))))))))))))))))))))))))))))))) = of_contains x d
+of_read x _ d (later (later (later (later (later (later (later (later (later (later (later (later (later (later (later (later (later (later (later (later (later (later (later (later (later (later (later (later (later (later (later (later first)))))))))))))))))))))))))))))))) = of_bound x (codes "minContains") d
+of_read x _ d (later (later (later (later (later (later (later (later (later (later (later (later (later (later (later (later (later (later (later (later (later (later (later (later (later (later (later (later (later (later (later (later (later first))))))))))))))))))))))))))))))))) = of_bound x (codes "maxContains") d
+of_read x _ d (later (later (later (later (later (later (later (later (later (later (later (later (later (later (later (later (later (later (later (later (later (later (later (later (later (later (later (later (later (later (later (later (later (later first)))))))))))))))))))))))))))))))))) = own (is_draft_4 x.site.dialect.draft) (codes "dependencies") refl refl _ (of_dependencies x d)
+of_read x k d (later (later (later (later (later (later (later (later (later (later (later (later (later (later (later (later (later (later (later (later (later (later (later (later (later (later (later (later (later (later (later (later (later (later (later i))))))))))))))))))))))))))))))))))) = elim i [ ]
 
 -- `additionalProperties` is read by what stands beside
 of_others : (x : Context) (d : Data) → AreOf (codes "additionalProperties") (additional_properties_row x (codes "additionalProperties") d)

@@ -8,8 +8,8 @@ use Rattle.applicator_reading.specs.Reads.{site_in}
 use Rattle.applicator_reading.proofs.RowLemmas.{neighbour}
 use Rattle.applicator_reading.proofs.reading.contains.Goals as goal
 
-pub returns : goal.returns
-returns c = λ x s.
+pub returns-clause-read : goal.returns-clause-read
+returns-clause-read c = λ x s.
     let t = site_in x (at (codes "contains")) (view c.args.value.now) in
     c.if_schema.ensures.read x (codes "contains") (λ s. contains s (option_and_then count_of (beside x (codes "minContains"))) (option_and_then count_of (beside x (codes "maxContains"))) ∷ [])
     (ap₂ (λ least most. reads (t ∷ []) (contains t least most ∷ []))

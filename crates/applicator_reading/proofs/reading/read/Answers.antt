@@ -22,19 +22,19 @@ pub returns-in-additionalItems-clause-named : goal.returns-in-additionalItems-cl
 returns-in-additionalItems-clause-named c = λ x s. named-at c.args.name.now (codes "additionalItems") x (view c.args.value.now) c.in-additionalItems.is refl
 
 pub returns-in-contains-clause-read : goal.returns-in-contains-clause-read
-returns-in-contains-clause-read c = read-at c.args.name.now (codes "contains") c.args.neighbours (view c.args.value.now) c.contains.result c.in-contains.is (λ x s. c.contains.ensures x s)
+returns-in-contains-clause-read c = read-at c.args.name.now (codes "contains") c.args.neighbours (view c.args.value.now) c.contains.result c.in-contains.is (λ x s. c.contains.ensures.read x s)
 
 pub returns-in-contains-clause-named : goal.returns-in-contains-clause-named
 returns-in-contains-clause-named c = λ x s. named-at c.args.name.now (codes "contains") x (view c.args.value.now) c.in-contains.is refl
 
 pub returns-in-minContains-clause-read : goal.returns-in-minContains-clause-read
-returns-in-minContains-clause-read c = read-at c.args.name.now (codes "minContains") c.args.neighbours (view c.args.value.now) c.bound.result c.in-minContains.is (λ x s. c.bound.ensures x (codes "minContains") s)
+returns-in-minContains-clause-read c = read-at c.args.name.now (codes "minContains") c.args.neighbours (view c.args.value.now) c.bound.result c.in-minContains.is (λ x s. c.bound.ensures.read x (codes "minContains") s)
 
 pub returns-in-minContains-clause-named : goal.returns-in-minContains-clause-named
 returns-in-minContains-clause-named c = λ x s. named-at c.args.name.now (codes "minContains") x (view c.args.value.now) c.in-minContains.is refl
 
 pub returns-in-maxContains-clause-read : goal.returns-in-maxContains-clause-read
-returns-in-maxContains-clause-read c = read-at c.args.name.now (codes "maxContains") c.args.neighbours (view c.args.value.now) c.bound-in-maxContains.result c.in-maxContains.is (λ x s. c.bound-in-maxContains.ensures x (codes "maxContains") s)
+returns-in-maxContains-clause-read c = read-at c.args.name.now (codes "maxContains") c.args.neighbours (view c.args.value.now) c.bound-in-maxContains.result c.in-maxContains.is (λ x s. c.bound-in-maxContains.ensures.read x (codes "maxContains") s)
 
 pub returns-in-maxContains-clause-named : goal.returns-in-maxContains-clause-named
 returns-in-maxContains-clause-named c = λ x s. named-at c.args.name.now (codes "maxContains") x (view c.args.value.now) c.in-maxContains.is refl
@@ -121,13 +121,13 @@ pub returns-in-additionalItems-clause-values : goal.returns-in-additionalItems-c
 returns-in-additionalItems-clause-values c = λ l. c.additional_items.ensures.values
 
 pub returns-in-contains-clause-values : goal.returns-in-contains-clause-values
-returns-in-contains-clause-values c = λ l. absurd (not-valued c.args.name.now (codes "contains") c.in-contains.is refl l)
+returns-in-contains-clause-values c = λ l. c.contains.ensures.values
 
 pub returns-in-minContains-clause-values : goal.returns-in-minContains-clause-values
-returns-in-minContains-clause-values c = λ l. absurd (not-valued c.args.name.now (codes "minContains") c.in-minContains.is refl l)
+returns-in-minContains-clause-values c = λ l. c.bound.ensures.values
 
 pub returns-in-maxContains-clause-values : goal.returns-in-maxContains-clause-values
-returns-in-maxContains-clause-values c = λ l. absurd (not-valued c.args.name.now (codes "maxContains") c.in-maxContains.is refl l)
+returns-in-maxContains-clause-values c = λ l. c.bound-in-maxContains.ensures.values
 
 pub returns-in-properties-clause-values : goal.returns-in-properties-clause-values
 returns-in-properties-clause-values c = λ l. c.map.ensures.values

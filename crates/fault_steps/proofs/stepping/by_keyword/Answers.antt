@@ -4,7 +4,7 @@ use Rattle.json_paths.specs.Parts.{Part}
 use Rattle.schema_reading.specs.Sites.{path_of_reference}
 use Rattle.schema_reports.specs.References.{text_of}
 use Rattle.keyword_refusals.specs.Scenes.{behind}
-use Rattle.keyword_refusals.specs.Verdicts.{IsRefusal}
+use Rattle.keyword_refusals.specs.Verdicts.{IsRefusalAt}
 use Rattle.fault_steps.proofs.Going.{more_by, done_by}
 use Rattle.fault_steps.proofs.WalkSteps.{last_passes}
 use Rattle.fault_steps.proofs.stepping.by_keyword.Goals as goal
@@ -19,5 +19,5 @@ pub returns-clause-passes : goal.returns-clause-passes
 returns-clause-passes c =
     let left = done_by c.args.walk.instance c.args.after c.is_more.result c.is_more.ensures c.if-is_more.false in
     let path = ap₂ (λ ps (l : List Part). behind ps l ++ path_of_reference (text_of c.args.walk.reference)) c.deref.ensures.value c.new-start.ensures in
-    last_passes c.args.walk c.args.keyword c.args.after c.in_ok-refused.refused left.no_instance left.no_after
-    (subst (λ p. IsRefusal c.args.walk.site p (view c.args.walk.value.now) c.args.keyword c.in_ok-refused.refused) path c.in_ok-refused.ensures)
+    last_passes c.args.walk c.args.keyword c.args.name.now c.args.after c.in_ok-refused.refused left.no_instance left.no_after
+    (subst (λ p. IsRefusalAt c.args.walk.site p (view c.args.walk.value.now) c.args.keyword c.args.name.now c.in_ok-refused.refused) path c.in_ok-refused.ensures)

@@ -6,7 +6,8 @@ use Rattle.serde_json.specs.declared.value.Value.{the_lemmas}
 use Rattle.keyword_refusals.proofs.Passed.{member_inside, asks_inside}
 use Rattle.keyword_refusals.proofs.Names.{found_listed}
 use Rattle.fault_steps.proofs.Going.{shorter_by, lies_in}
-use Rattle.fault_steps.proofs.WalkSteps.{no_members, no_such_member, by_member, refused_member}
+use Rattle.fault_steps.proofs.WalkSteps.{no_members, no_such_member, refused_member}
+use Rattle.fault_steps.proofs.WalkSteps as walking
 use Rattle.fault_steps.proofs.stepping.by_name.Goals as goal
 
 pub returns-in_default-clause-passes : goal.returns-in_default-clause-passes
@@ -18,8 +19,8 @@ returns-in_default-member_named-clause-passes c =
     no_such_member c.args.walk c.args.text.now c.requires.text (members_view c.in-Object.members.entries) c.first_part.result.0.now c.member_of-member.result.now c.first_part.result.1 contents c.names_rise.ensures c.member_of-member.ensures c.first_part.ensures
     (sym c.in_default-member_named.ensures)
 
-pub by_own_name-requires : goal.by_own_name-requires
-by_own_name-requires c =
+pub by_member-requires : goal.by_member-requires
+by_member-requires c =
     let contents = ap view c.in-Object.is ∙ view-Object c.in-Object.members in
     let ms = members_view c.in-Object.members.entries in
     let listed = found_listed c.member_of-member.result.now (view c.in-Some.part.now) ms (sym c.in-Some.ensures) in
@@ -31,14 +32,14 @@ by_own_name-requires c =
 pub returns-in-Ok-clause-passes : goal.returns-in-Ok-clause-passes
 returns-in-Ok-clause-passes c =
     let contents = ap view c.in-Object.is ∙ view-Object c.in-Object.members in
-    IfOk-weaker c.by_own_name.result _ _
-    (λ st h. by_member c.args.walk c.args.text.now c.requires.text (members_view c.in-Object.members.entries) c.first_part.result.0.now c.member_of-member.result.now c.first_part.result.1 contents c.names_rise.ensures c.member_of-member.ensures c.first_part.ensures
+    IfOk-weaker c.by_member.result _ _
+    (λ st h. walking.by_member c.args.walk c.args.text.now c.requires.text (members_view c.in-Object.members.entries) c.first_part.result.0.now c.member_of-member.result.now c.first_part.result.1 contents c.names_rise.ensures c.member_of-member.ensures c.first_part.ensures
     (view c.in-Some.part.now) c.in-Ok.keyword (sym c.in-Some.ensures) c.in-Ok.ensures.read st h)
-    c.by_own_name.ensures.passes
+    c.by_member.ensures.passes
 
 pub returns-in-Ok-clause-shorter : goal.returns-in-Ok-clause-shorter
 returns-in-Ok-clause-shorter c =
-    IfOk-weaker c.by_own_name.result _ _ (λ st h. shorter_by st c.args.text.now c.first_part.result.0.now c.first_part.result.1 c.first_part.ensures h) c.by_own_name.ensures.shorter
+    IfOk-weaker c.by_member.result _ _ (λ st h. shorter_by st c.args.text.now c.first_part.result.0.now c.first_part.result.1 c.first_part.ensures h) c.by_member.ensures.shorter
 
 pub returns-clause-passes : goal.returns-clause-passes
 returns-clause-passes c =

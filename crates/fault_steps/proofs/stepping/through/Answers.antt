@@ -23,30 +23,30 @@ through_reference-requires c = record { found = subst (LiesIn c.args.walk.site) 
 pub returns-in-Items-clause-passes : goal.returns-in-Items-clause-passes
 returns-in-Items-clause-passes c =
     IfOk-weaker c.through_items.result _ _
-    (λ st h. by_row c.args.walk c.args.keyword (items_row c.in-Items.start (view c.in-Items.schema.now)) c.args.after st (λ x s. ap (λ k. row_of x.documents s k) c.in-Items.is) h)
+    (λ st h n. by_row c.args.walk c.args.keyword (items_row c.in-Items.start (view c.in-Items.schema.now)) n c.args.after st (λ x s. ap (λ k. row_of x.documents s k) c.in-Items.is) h)
     c.through_items.ensures.passes
 
 pub returns-in-Properties-clause-passes : goal.returns-in-Properties-clause-passes
 returns-in-Properties-clause-passes c =
     IfOk-weaker c.through_properties.result _ _
-    (λ st h. by_row c.args.walk c.args.keyword (properties_row (members_view c.in-Properties.schemas.now.entries)) c.args.after st (λ x s. ap (λ k. row_of x.documents s k) c.in-Properties.is) h)
+    (λ st h n. by_row c.args.walk c.args.keyword (properties_row (members_view c.in-Properties.schemas.now.entries)) n c.args.after st (λ x s. ap (λ k. row_of x.documents s k) c.in-Properties.is) h)
     c.through_properties.ensures.passes
 
 pub returns-in-Applicator-clause-passes : goal.returns-in-Applicator-clause-passes
 returns-in-Applicator-clause-passes c =
     IfOk-weaker c.through_applicator.result _ _
-    (λ st h. by_row c.args.walk c.args.keyword (applied_row c.in-Applicator.applicator) c.args.after st (λ x s. ap (λ k. row_of x.documents s k) c.in-Applicator.is) h)
+    (λ st h n. by_row c.args.walk c.args.keyword (applied_row c.in-Applicator.applicator) n c.args.after st (λ x s. ap (λ k. row_of x.documents s k) c.in-Applicator.is) h)
     c.through_applicator.ensures.passes
 
 pub returns-in-Reference-clause-passes : goal.returns-in-Reference-clause-passes
 returns-in-Reference-clause-passes c =
     IfOk-weaker c.through_reference.result _ _
-    (λ st h. by_row c.args.walk c.args.keyword (reference_row c.in-Reference.by c.in-Reference.text.now (target_in c.in-Reference.target)) c.args.after st (λ x s. ap (λ k. row_of x.documents s k) c.in-Reference.is) h)
+    (λ st h n. by_row c.args.walk c.args.keyword (reference_row c.in-Reference.by c.in-Reference.text.now (target_in c.in-Reference.target)) n c.args.after st (λ x s. ap (λ k. row_of x.documents s k) c.in-Reference.is) h)
     c.through_reference.ensures.passes
 
 pub returns-in-Nothing-clause-passes : goal.returns-in-Nothing-clause-passes
-returns-in-Nothing-clause-passes c = nothing_passes c.args.walk c.args.keyword c.args.after (λ x s. ap (λ k. (row_of x.documents s k).shapes) c.in-Nothing.is)
+returns-in-Nothing-clause-passes c = λ n. nothing_passes c.args.walk c.args.keyword n c.args.after (λ x s. ap (λ k. (row_of x.documents s k).shapes) c.in-Nothing.is)
 
 pub returns-clause-passes : goal.returns-clause-passes
 returns-clause-passes c =
-    asserted_passes c.args.walk c.args.keyword (assertion_of c.in-Assertion._assertion) c.args.after c.requires.more (λ x s. ap (λ k. (row_of x.documents s k).shapes) c.in-Assertion.is)
+    λ n. asserted_passes c.args.walk c.args.keyword (assertion_of c.in-Assertion._assertion) n c.args.after c.requires.more (λ x s. ap (λ k. (row_of x.documents s k).shapes) c.in-Assertion.is)

@@ -1,4 +1,4 @@
-use Rattle.std.proofs.Common.{◌++◌, ap, refl, sym, subst, codes}
+use Rattle.std.proofs.Common.{◌++◌, not, false, ap, refl, sym, subst, codes}
 use Rattle.std.proofs.lemmas.Result.{IfOk-weaker}
 use Rattle.serde_json.specs.View.{view, members_view}
 use Rattle.schema_meaning.specs.Questions as asking
@@ -9,21 +9,25 @@ use Rattle.plain_reader.specs.Passed.{name_of}
 use Rattle.schema_reports.specs.Locations.{location_of}
 use Rattle.schema_reports.specs.References.{text_of}
 use Rattle.keyword_refusals.specs.Rows.{items_row, items_questions, properties_row, properties_questions, reference_row, reference_questions}
-use Rattle.keyword_refusals.specs.Verdicts.{rules_by, IsRefusal, LiesIn}
+use Rattle.keyword_refusals.specs.Verdicts.{rules_by, IsRefusalAt, LiesIn}
 use Rattle.keyword_refusals.proofs.Gathered.{by_questions, by_assertion, by_nothing}
+use Rattle.keyword_refusals.proofs.NamedRefusals.{HasOneName, under_name}
 use Rattle.keyword_refusals.proofs.refusing.keyword_refuses.Goals as goal
 
 pub returns-in-Nothing : goal.returns-in-Nothing
 returns-in-Nothing c =
-    by_nothing c.args.site.now (location_of c.args.schema.now ++ path_of_reference (text_of c.args.reference)) (view c.args.value.now) c.args.keyword
-    (λ x s. ap (λ k. rules_by x s (view c.args.value.now) k) c.in-Nothing.is)
+    let d = view c.args.value.now in
+    let path = location_of c.args.schema.now ++ path_of_reference (text_of c.args.reference) in
+    under_name c.args.site.now path d c.args.keyword c.args.name.now false (subst HasOneName (sym c.in-Nothing.is) tt)
+    (by_nothing c.args.site.now path d c.args.keyword (λ x s. ap (λ k. rules_by x s d k) c.in-Nothing.is))
 
 pub returns-in_ok-accept-in-Assertion : goal.returns-in_ok-accept-in-Assertion
 returns-in_ok-accept-in-Assertion c =
     let a = assertion_of c.in-Assertion.assertion in
     let d = view c.args.value.now in
-    by_assertion c.args.site.now (location_of c.args.schema.now ++ path_of_reference (text_of c.args.reference)) d c.args.keyword a c.in_ok-accept-in-Assertion.field-0 c.in_ok-accept-in-Assertion.ensures
-    (λ x s. ap (λ k. rules_by x s d k) c.in-Assertion.is)
+    let path = location_of c.args.schema.now ++ path_of_reference (text_of c.args.reference) in
+    under_name c.args.site.now path d c.args.keyword c.args.name.now (not c.in_ok-accept-in-Assertion.field-0) (subst HasOneName (sym c.in-Assertion.is) tt)
+    (by_assertion c.args.site.now path d c.args.keyword a c.in_ok-accept-in-Assertion.field-0 c.in_ok-accept-in-Assertion.ensures (λ x s. ap (λ k. rules_by x s d k) c.in-Assertion.is))
 
 pub some_item_refused-requires : goal.some_item_refused-requires
 some_item_refused-requires c = record { shallow = c.requires.shallow; inside = subst (LiesIn c.args.site.now) c.in-Items.is c.requires.lies }
@@ -37,7 +41,7 @@ applicator_refuses-requires c = record { shallow = c.requires.shallow; applies =
 pub returns-in-Applicator : goal.returns-in-Applicator
 returns-in-Applicator c =
     let path = location_of c.args.schema.now ++ path_of_reference (text_of c.args.reference) in
-    IfOk-weaker c.applicator_refuses.result _ _ (λ b h. subst (λ k. IsRefusal c.args.site.now path (view c.args.value.now) k b) (sym c.in-Applicator.is) h) c.applicator_refuses.ensures
+    IfOk-weaker c.applicator_refuses.result _ _ (λ b h. subst (λ k. IsRefusalAt c.args.site.now path (view c.args.value.now) k c.args.name.now b) (sym c.in-Applicator.is) h) c.applicator_refuses.ensures
 
 pub is_target_refused-requires : goal.is_target_refused-requires
 is_target_refused-requires c = record { shallow = c.requires.shallow; found = subst (LiesIn c.args.site.now) c.in-Reference.is c.requires.lies }
@@ -49,8 +53,9 @@ returns-in-Items c =
     let start = c.in-Items.start in
     let part = view c.in-Items.part.now in
     IfOk-weaker c.some_item_refused.result _ _
-    (λ b h. by_questions c.args.site.now path d c.args.keyword (items_row start part) (asking.at (codes "items")) (items_questions start part d) b c.requires.shallow
-    (λ x s. ap (λ k. row_of x.documents s k) c.in-Items.is) (λ x s. refl) h)
+    (λ b h. under_name c.args.site.now path d c.args.keyword c.args.name.now b (subst HasOneName (sym c.in-Items.is) tt)
+    (by_questions c.args.site.now path d c.args.keyword (items_row start part) (asking.at (codes "items")) (items_questions start part d) b c.requires.shallow
+    (λ x s. ap (λ k. row_of x.documents s k) c.in-Items.is) (λ x s. refl) h))
     c.some_item_refused.ensures
 
 pub returns-in-Properties : goal.returns-in-Properties
@@ -59,8 +64,9 @@ returns-in-Properties c =
     let path = location_of c.args.schema.now ++ path_of_reference (text_of c.args.reference) in
     let ms = members_view c.in-Properties.schemas.now.entries in
     IfOk-weaker c.some_member_refused.result _ _
-    (λ b h. by_questions c.args.site.now path d c.args.keyword (properties_row ms) (asking.at (codes "properties")) (properties_questions ms d) b c.requires.shallow
-    (λ x s. ap (λ k. row_of x.documents s k) c.in-Properties.is) (λ x s. refl) h)
+    (λ b h. under_name c.args.site.now path d c.args.keyword c.args.name.now b (subst HasOneName (sym c.in-Properties.is) tt)
+    (by_questions c.args.site.now path d c.args.keyword (properties_row ms) (asking.at (codes "properties")) (properties_questions ms d) b c.requires.shallow
+    (λ x s. ap (λ k. row_of x.documents s k) c.in-Properties.is) (λ x s. refl) h))
     c.some_member_refused.ensures
 
 pub returns-in-Reference : goal.returns-in-Reference
@@ -71,6 +77,7 @@ returns-in-Reference c =
     let text = c.in-Reference.text.now in
     let t = target_in c.in-Reference.target in
     IfOk-weaker c.is_target_refused.result _ _
-    (λ b h. by_questions c.args.site.now path d c.args.keyword (reference_row w text t) (asking.at (name_of w)) (reference_questions w text t) b c.requires.shallow
-    (λ x s. ap (λ k. row_of x.documents s k) c.in-Reference.is) (λ x s. refl) h)
+    (λ b h. under_name c.args.site.now path d c.args.keyword c.args.name.now b (subst HasOneName (sym c.in-Reference.is) tt)
+    (by_questions c.args.site.now path d c.args.keyword (reference_row w text t) (asking.at (name_of w)) (reference_questions w text t) b c.requires.shallow
+    (λ x s. ap (λ k. row_of x.documents s k) c.in-Reference.is) (λ x s. refl) h))
     c.is_target_refused.ensures

@@ -1,4 +1,4 @@
-use Rattle.std.proofs.Common.{rules, arith, ◌≡◌, ◌<◌, ℕ, List, [], ◌∷◌, ◌++◌, true, false, refl, sym, ap, ap₂, ◌∙◌, subst, ◌+◌, length, Bor, drop, add-one, codes}
+use Rattle.std.proofs.Common.{rules, arith, None, ◌≡◌, ◌<◌, ℕ, List, [], ◌∷◌, ◌++◌, true, false, refl, sym, ap, ap₂, ◌∙◌, subst, ◌+◌, length, Bor, drop, add-one, codes}
 use Rattle.serde_json.specs.Data.{member, object, array, no_items, boolean}
 use Rattle.serde_json.specs.View.{view, members_view, items_view}
 use Rattle.json_paths.specs.Parts.{Part, name}
@@ -19,13 +19,19 @@ use Rattle.applicators.specs.declared.question.Question.{Question}
 use Rattle.applicators.specs.declared.subschema.Entry.TheVariants as entry
 use Rattle.schema_reports.specs.References.{text_of}
 use Rattle.schema_meaning.specs.Questions.{each_item, items_from, items_of}
-use Rattle.plain_reader.specs.Tellings.{TellsQuestions}
-use Rattle.plain_reader.specs.Shapes.{keyword_leads, keyword_shapes, property_leads, property_questions, items_site}
+use Rattle.plain_reader.specs.Shapes.{keyword_leads, keyword_shapes, items_site}
 use Rattle.std.proofs.lemmas.List.{drop_more, drop_all}
 use Rattle.serde_json.proofs.Views.{view-Array, view-Object}
 use Rattle.serde_json.specs.declared.value.Value.{Value, the_lemmas}
 use Rattle.schema_reading.specs.AllKeys.{spots_of_items}
-use Rattle.plain_reader.proofs.ItemTelling.{Child, Where, child_falls, child_shallow, item_within, member_within, drop-items, no_items_told, items_init, items_settled, items_step, items_done, item_asked, member_asked, property_told, declared_init, declared_settled, declared_absent, declared_step, declared_done}
+use Rattle.plain_reader.proofs.ItemTelling.{Child, Where, child_falls, child_shallow, item_within, member_within, drop-items, no_items_told, items_init, items_settled, items_step, items_done, item_asked, member_asked, property_told, declared_init, declared_settled, declared_absent, none_declared, declared_step, declared_done}
+use Rattle.place_laws.specs.Rising.{are_rising}
+use Rattle.schema_values.specs.Equality.{rises_from}
+use Rattle.serde_json.specs.Find.{get, get_member}
+use Rattle.place_laws.proofs.Walked.{entries_rise}
+use Rattle.member_walks.specs.Left.{left_in}
+use Rattle.member_walks.specs.Found.{AreFound}
+use Rattle.member_walks.proofs.Found.{all_found, still_found, rest_rises}
 use Rattle.std.proofs.lemmas.Result.{on_ok_weaker}
 use Rattle.schema_sites.specs.Passed.{assertion_of}
 use Rattle.plain_reader.proofs.AppliedTelling.{asks_inside, question_inside, question_part, told_of_value, told_of_item, told_of_member, behind_entry, question_told, questions_init, questions_settled, questions_step, questions_done}
@@ -195,6 +201,12 @@ read_members-returns t c =
     members_last c.args.site.now (view c.args.reading.now.whole.now) (view c.args.value.now) c.args.roads (keys_in c.args.progress.now) all c.args.observer.now l.observer
     (subst (λ es. MembersLeft c.args.site.now (view c.args.reading.now.whole.now) (view c.args.value.now) c.args.roads (keys_in c.args.progress.now) all (members_view es) c.args.observer.now l.observer) c.in-None.ensures.steps.0 l.invariant.left)
 
+pub read_properties-returns-in_default : goal.read_properties-returns-in_default
+read_properties-returns-in_default t c =
+    let value = view c.args.value.now in
+    let none : (k : List ℕ) → get k value ≡ None = λ k. search (rules, the_lemmas) in
+    none_declared c.args.site.now _ value c.args.roads _ _ _ _ _ none (declared_init c.args.site.now _ value c.args.roads _ _ _)
+
 pub read_properties-loop-name-init : goal.read_properties-loop-name-init
 read_properties-loop-name-init t c =
     let whole = view c.args.reading.now.whole.now in
@@ -204,6 +216,9 @@ read_properties-loop-name-init t c =
     let same : members_view c.into_iter-name-iterator.result ≡ all = ap members_view (c.into_iter-name-iterator.ensures.into_iter_gives ∙ c.iter-name-items.ensures.rest) in
     record {
       whole = same;
+      rising = ap are_rising same ∙ entries_rise c.args.schemas.now.entries c.iter-name-items.ensures.ordered;
+      walked = c.new-walk.ensures.rises;
+      found = all_found _ _ _ value c.new-walk.ensures.left (ap view c.in-Object.is ∙ view-Object c.in-Object.members);
       left = subst (λ ms. DeclaredLeft c.args.site.now whole value c.args.roads keys all ms c.args.observer.now c.args.observer.now) (sym same) (declared_init c.args.site.now whole value c.args.roads keys all c.args.observer.now);
     }
 
@@ -221,15 +236,20 @@ read_properties-loop-name-preserved-in-Continue-1 t c =
     let all = members_view c.args.schemas.now.entries in
     let rest = members_view c.next.new.self in
     let d = view c.in-Some.schema.now in
-    let k = c.as_str.result.now in
+    let k = c.as_str-name.result.now in
+    let e = view c.in-Some-seek.member.now in
+    let rises_one = subst (λ es. are_rising (members_view es) ≡ true) c.in-Some.ensures.steps l.invariant.rising in
+    let rises = subst (λ n. rises_from n rest ≡ true) (sym c.as_str-name.ensures.value) rises_one in
+    let found_one = subst (λ es. AreFound (members_view es) (left_in l.walk) value) c.in-Some.ensures.steps l.invariant.found in
+    let found = subst (λ n. get_member n (left_in l.walk) ≡ get n value) (sym c.as_str-name.ensures.value) found_one.0 in
     let left_one = subst (λ es. DeclaredLeft c.args.site.now whole value c.args.roads keys all (members_view es) c.args.observer.now l.observer) c.in-Some.ensures.steps l.invariant.left in
-    let left = subst (λ n. DeclaredLeft c.args.site.now whole value c.args.roads keys all (member n d rest) c.args.observer.now l.observer) (sym c.as_str.ensures.value) left_one in
-    let e = view c.in-Some-get.member.now in
-    let same : c.as_str-in-Some-get.result.now ≡ k = c.as_str-in-Some-get.ensures.value ∙ sym c.as_str.ensures.value in
-    let told = subst (λ n. TellsQuestions c.args.site.now whole value c.args.roads keys (property_leads n d) (property_questions n d e) l.observer c.read_property.new.observer) same c.in_ok-read_property.ensures in
+    let left = subst (λ n. DeclaredLeft c.args.site.now whole value c.args.roads keys all (member n d rest) c.args.observer.now l.observer) (sym c.as_str-name.ensures.value) left_one in
     record {
       whole = l.invariant.whole;
-      left = declared_step c.args.site.now whole value c.args.roads keys k d e all rest _ _ _ (sym c.in-Some-get.ensures) told left;
+      rising = rest_rises k rest rises;
+      walked = c.seek.ensures.rises;
+      found = still_found k rest (left_in l.walk) (left_in c.seek.new.self) value rises c.seek.ensures.later found_one.1;
+      left = declared_step c.args.site.now whole value c.args.roads keys k d e all rest _ _ _ (sym (c.in-Some-seek.ensures.found ∙ found)) c.in_ok-read_property.ensures left;
     }
 
 pub read_properties-loop-name-preserved : goal.read_properties-loop-name-preserved
@@ -241,12 +261,19 @@ read_properties-loop-name-preserved t c =
     let all = members_view c.args.schemas.now.entries in
     let rest = members_view c.next.new.self in
     let d = view c.in-Some.schema.now in
-    let k = c.as_str.result.now in
+    let k = c.as_str-name.result.now in
+    let rises_one = subst (λ es. are_rising (members_view es) ≡ true) c.in-Some.ensures.steps l.invariant.rising in
+    let rises = subst (λ n. rises_from n rest ≡ true) (sym c.as_str-name.ensures.value) rises_one in
+    let found_one = subst (λ es. AreFound (members_view es) (left_in l.walk) value) c.in-Some.ensures.steps l.invariant.found in
+    let found = subst (λ n. get_member n (left_in l.walk) ≡ get n value) (sym c.as_str-name.ensures.value) found_one.0 in
     let left_one = subst (λ es. DeclaredLeft c.args.site.now whole value c.args.roads keys all (members_view es) c.args.observer.now l.observer) c.in-Some.ensures.steps l.invariant.left in
-    let left = subst (λ n. DeclaredLeft c.args.site.now whole value c.args.roads keys all (member n d rest) c.args.observer.now l.observer) (sym c.as_str.ensures.value) left_one in
+    let left = subst (λ n. DeclaredLeft c.args.site.now whole value c.args.roads keys all (member n d rest) c.args.observer.now l.observer) (sym c.as_str-name.ensures.value) left_one in
     record {
       whole = l.invariant.whole;
-      left = declared_absent c.args.site.now whole value c.args.roads keys k d all rest _ _ (sym c.in_default.ensures) left;
+      rising = rest_rises k rest rises;
+      walked = c.seek.ensures.rises;
+      found = still_found k rest (left_in l.walk) (left_in c.seek.new.self) value rises c.seek.ensures.later found_one.1;
+      left = declared_absent c.args.site.now whole value c.args.roads keys k d all rest _ _ (sym (c.in_default-seek.ensures.found ∙ found)) left;
     }
 
 pub read_properties-returns : goal.read_properties-returns
@@ -483,7 +510,7 @@ read_applicator-returns-then-is_every t c =
     let keys = keys_in c.args.progress.now in
     let a = c.args.applicator in
     on_ok_weaker c.read_questions.result
-    (tells_every c.args.site.now whole d c.args.roads keys a c.args.observer.now c.read_questions.new.observer (sym c.is_every.ensures.every ∙ c.if-is_every.true))
+    (tells_every c.args.site.now whole d c.args.roads keys a c.args.observer.now c.tell_notes.new.observer c.read_questions.new.observer (sym c.is_every.ensures.every ∙ c.if-is_every.true) c.in_ok-tell_notes.ensures)
     c.read_questions.ensures
 
 pub count_accepted-read_question-requires : goal.count_accepted-read_question-requires

@@ -1,9 +1,12 @@
-use Rattle.std.proofs.Common.{◌≡◌, ◌≤◌, ◌+◌, ◌*◌, drop}
+use Rattle.std.proofs.Common.{◌≡◌, true, ◌≤◌, ◌+◌, ◌*◌, drop}
 use Rattle.serde_json.specs.View.{view, items_view, members_view}
 use Rattle.schema_sites.specs.Seen.{documents_at}
 use Rattle.plain_reader.specs.Keys.{keys_in}
 use Rattle.plain_reader.specs.Tellings.{room}
 use Rattle.plain_reader.proofs.Left.{MembersLeft, ItemsLeft, QuestionsLeft, DeclaredLeft, CountLeft, BranchesLeft}
+use Rattle.place_laws.specs.Rising.{are_rising}
+use Rattle.member_walks.specs.Left.{left_in}
+use Rattle.member_walks.specs.Found.{AreFound}
 use Rattle.plain_reader.proofs.read.+read.Given as goal
 
 abbrev pub decreases-read_site : goal.decreases-read_site
@@ -73,6 +76,9 @@ invariant-read_properties-loop-name l =
     let rest = members_view l.name-iterator in
     record {
       whole : members_view l.initial.name-iterator ≡ all;
+      rising : are_rising rest ≡ true;
+      walked : are_rising (left_in l.walk) ≡ true;
+      found : AreFound rest (left_in l.walk) (view l.value);
       left : DeclaredLeft l.site (view l.reading.whole.now) (view l.value) l.roads (keys_in l.progress) all rest l.fn.observer l.observer;
     }
 

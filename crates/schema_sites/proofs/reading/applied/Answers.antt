@@ -1,11 +1,15 @@
-use Rattle.std.proofs.Common.{refl, codes}
+use Rattle.std.proofs.Common.{◌≡◌, ◌∙◌, ℕ, List, refl, sym, subst, codes}
 use Rattle.serde_json.specs.View.{view, members_view}
 use Rattle.schema_meaning.specs.Members.{first}
 use Rattle.schema_sites.specs.Arms.{one_items_row, properties_row}
 use Rattle.schema_sites.specs.declared.keyword.Refusal.TheVariants.{LeftOut}
-use Rattle.schema_sites.proofs.ArmLemmas.{items-row, properties-row, left_row, left-items-row, left-properties-row, refused-here}
-use Rattle.schema_sites.proofs.ApplyingLemmas.{refused-counted}
-use Rattle.schema_sites.proofs.ResultLemmas.{if-err}
+use Rattle.schema_sites.proofs.ArmLemmas.{items-row, properties-row, left_row, left-items-row, left-properties-row, refused-here, not-yet}
+use Rattle.schema_sites.proofs.AssertingLemmas.{applied_names, none-listed, none-read, unnamed}
+use Rattle.schema_sites.proofs.ApplyingLemmas.{refused-counted, row-counted}
+use Rattle.schema_sites.proofs.ResultLemmas.{if-err, if-ok}
+use Rattle.schema_reading.specs.Rows.{readers, read_among}
+use Rattle.schema_sites.specs.Read.{row_of}
+use Rattle.schema_sites.specs.Refused.{Refuses}
 use Rattle.schema_sites.proofs.reading.applied.Goals as goal
 
 pub returns-in-items-clause-refused : goal.returns-in-items-clause-refused
@@ -57,3 +61,38 @@ returns-in-oneOf-clause-refused c =
 pub returns-in-not-clause-refused : goal.returns-in-not-clause-refused
 returns-in-not-clause-refused c =
     if-err _ _ c.applying_values-in-not.result (λ e h x s counted. refused-counted x c.args.name.now (view c.args.value.now) counted e (h x s counted)) c.applying_values-in-not.ensures.refused
+
+pub returns-in-contains-clause-refused : goal.returns-in-contains-clause-refused
+returns-in-contains-clause-refused c =
+    if-err _ _ c.applying_values-in-contains.result (λ e h x s counted. refused-counted x c.args.name.now (view c.args.value.now) counted e (h x s counted)) c.applying_values-in-contains.ensures.refused
+
+pub returns-in-minContains-clause-refused : goal.returns-in-minContains-clause-refused
+returns-in-minContains-clause-refused c =
+    if-err _ _ c.applying_values-in-minContains.result (λ e h x s counted. refused-counted x c.args.name.now (view c.args.value.now) counted e (h x s counted)) c.applying_values-in-minContains.ensures.refused
+
+pub returns-in-maxContains-clause-refused : goal.returns-in-maxContains-clause-refused
+returns-in-maxContains-clause-refused c =
+    if-err _ _ c.applying_values-in-maxContains.result (λ e h x s counted. refused-counted x c.args.name.now (view c.args.value.now) counted e (h x s counted)) c.applying_values-in-maxContains.ensures.refused
+
+pub returns-in-dependencies-clause-read : goal.returns-in-dependencies-clause-read
+returns-in-dependencies-clause-read c =
+    let d = view c.args.value.now in
+    if-ok _ _ c.dependencies.result
+    (λ k h x s counted.
+    row-counted x c.args.name.now d counted ∙ subst (λ (n : List ℕ). read_among readers x n d ≡ row_of x.documents x.site k) (sym c.in-dependencies.is) (h x))
+    c.dependencies.ensures.read
+
+pub returns-in-dependencies-clause-refused : goal.returns-in-dependencies-clause-refused
+returns-in-dependencies-clause-refused c =
+    let d = view c.args.value.now in
+    if-err _ _ c.dependencies.result
+    (λ e h x s counted. refused-counted x c.args.name.now d counted e (subst (λ (n : List ℕ). Refuses x n d (read_among readers x n d) e) (sym c.in-dependencies.is) (h x)))
+    c.dependencies.ensures.refused
+
+pub returns-in_default-clause-refused : goal.returns-in_default-clause-refused
+returns-in_default-clause-refused c = λ x s counted.
+    let k = c.args.name.now in
+    let n = c.in_default in
+    not-yet x k (view c.args.value.now) counted
+    (none-read k c.requires.reference c.requires.assertion (none-listed k applied_names (n.not-items, (n.not-properties, (n.not-unevaluatedItems, (n.not-unevaluatedProperties, (n.not-prefixItems, (n.not-dependentSchemas, (n.not-allOf, (n.not-additionalItems, (n.not-anyOf, (n.not-oneOf, (n.not-not, (n.not-contains, (n.not-minContains, (n.not-maxContains, (n.not-dependencies, tt)))))))))))))))))
+    (unnamed k (codes "additionalProperties") n.not-additionalProperties)

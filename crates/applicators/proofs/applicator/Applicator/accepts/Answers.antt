@@ -1,5 +1,6 @@
+use Rattle.serde_json.specs.View.{view}
 use Rattle.applicators.proofs.CombinedLemmas.{decides}
 use Rattle.applicators.proofs.applicator.Applicator.accepts.Goals as goal
 
 pub returns : goal.returns
-returns c = decides c.args.self.now c.args.asked c.args.accepted c.decided.result c.decided.ensures
+returns c = decides c.args.self.now (view c.args.value.now) c.args.asked c.args.accepted c.decided.result c.decided.ensures

@@ -1,0 +1,2 @@
+mod Passed
+pub mod Found

@@ -1,0 +1,29 @@
+//! What a keyword that applies subschemas notes of the value itself.
+ghost use Rattle.std.specs.Prelude.{OnOk};
+ghost use Rattle.serde_json.specs.View.{view};
+ghost use Rattle.applicators.specs.Combined.{name_of, notes_by};
+ghost use Rattle.assertion_faults.specs.Tellings.{TellsNotes};
+
+use applicators::applicator::Applicator;
+use assertion_faults::tell_missing_beside;
+use schema_reports::{Observer, Roads};
+use serde_json::Value;
+use std::alloc::{AllocError, Global};
+
+// Tells an observer of it.
+pub(crate) fn tell_notes<'i>(
+    alloc: Global,
+    applicator: &Applicator<'_>,
+    value: &'i Value,
+    roads: Roads<'_>,
+    observer: &mut Observer<'i>,
+) -> Result<(), AllocError>
+    ensures { OnOk result (TellsNotes (view value.now) roads.entry (name_of applicator.now) (notes_by applicator.now (view value.now)) observer.old observer.new) }
+{
+    match *applicator {
+        Applicator::Dependencies(entries) => {
+            tell_missing_beside(alloc, "dependencies", entries, value, roads, observer)
+        }
+        _ => Ok(()),
+    }
+}
