@@ -5,3 +5,4 @@ pub mod Arms
 pub mod Names
 pub mod Reads
 pub mod Dependencies
+pub mod Conditions

@@ -1,6 +1,8 @@
 //! Keywords that apply subschemas, read from the members of a schema.
 ghost use Rattle.std.specs.Prelude.{◌≡◌, ℕ, List, [], ◌∷◌, IfSome, IfNone, codes, false, true, Some};
+ghost use Rattle.std.specs.Borrow.{Bor};
 ghost use Rattle.serde_json.specs.View.{view};
+ghost use Rattle.serde_json.specs.declared.value.Value as json;
 ghost use Rattle.schema_meaning.specs.Keywords.{Shape};
 ghost use Rattle.schema_meaning.specs.Members.{is_listed};
 ghost use Rattle.schema_reading.specs.Sites.{Site};
@@ -11,6 +13,7 @@ ghost use Rattle.applicator_reading.specs.Beside.{Surrounds};
 ghost use Rattle.applicator_reading.specs.Names.{is_read, has_no_patterns, valued_names};
 ghost use Rattle.applicator_reading.specs.Arms.{list_name, list_row, map_name, map_row};
 ghost use Rattle.applicator_reading.specs.Reads.{ReadsAs, AsksValues, site_in};
+ghost use Rattle.applicator_reading.specs.Conditions.{IsCondition, IsConsequent};
 
 use crate::entries::{other_item, other_member};
 use crate::keyword::{ListKeyword, MapKeyword};
@@ -72,6 +75,8 @@ fn if_schema<'r>(schema: &Value, reading: Reading<'r>) -> Reading<'r>
         → ReadsAs x k (rows.reads (site_in x (rows.at k) (view schema.now) ∷ []) (shapes (site_in x (rows.at k) (view schema.now)))) reading.entry
         → ReadsAs x k (rows.one_schema x k shapes (view schema.now)) result }
     ensures values { AsksValues reading.entry → AsksValues result }
+    ensures condition { (v : Bor json.Value) → IsCondition v reading.entry → IsCondition v result }
+    ensures consequent { (v : Bor json.Value) → IsConsequent v reading.entry → IsConsequent v result }
 {
     if is_schema(schema) {
         reading
@@ -254,8 +259,12 @@ fn negation<'r>(value: &'r Value) -> Reading<'r>
     if_schema(value, Reading::Applied(Applicator::Not(value)))
 }
 
-fn condition<'r>(neighbours: Neighbours<'r>, value: &'r Value) -> Reading<'r>
-    ensures { (x : rows.Context) → Surrounds neighbours.entry x → ReadsAs x (codes "if") (rows.if_row x (codes "if") (view value.now)) result }
+/// What `if` is: nothing without `then` or `else` beside.
+///
+/// It reads these two, where they count.
+pub fn condition<'r>(neighbours: Neighbours<'r>, value: &'r Value) -> Reading<'r>
+    ensures read { (x : rows.Context) → Surrounds neighbours.entry x → ReadsAs x (codes "if") (rows.if_row x (codes "if") (view value.now)) result }
+    ensures condition { IsCondition value.entry result }
 {
     if has_consequent(neighbours) {
         let then_schema = schema_beside(neighbours, "then");
@@ -271,9 +280,10 @@ fn condition<'r>(neighbours: Neighbours<'r>, value: &'r Value) -> Reading<'r>
     }
 }
 
-// `then` and `else`.
-fn consequent<'r>(neighbours: Neighbours<'r>, value: &'r Value) -> Reading<'r>
-    ensures { (x : rows.Context) (k : List ℕ) → Surrounds neighbours.entry x → ReadsAs x k (rows.consequent_row x k (view value.now)) result }
+/// What `then` or `else` is: nothing without `if` beside, which counts.
+pub fn consequent<'r>(neighbours: Neighbours<'r>, value: &'r Value) -> Reading<'r>
+    ensures read { (x : rows.Context) (k : List ℕ) → Surrounds neighbours.entry x → ReadsAs x k (rows.consequent_row x k (view value.now)) result }
+    ensures consequent { IsConsequent value.entry result }
 {
     if is_beside(neighbours, "if") {
         if_schema(value, Reading::Consequent(value))

@@ -1,12 +1,16 @@
 -- What a walk from a root says of two paths.
-use Rattle.std.proofs.Common.{◌≡◌, ◌∙◌, ℕ, List, [], ◌∷◌, Bool, true, false, Err, is_ok, true≢false, sym, ap, subst, reverse}
+use Rattle.std.specs.Borrow.{Bor}
+use Rattle.std.proofs.Common.{◌≡◌, ◌∙◌, ℕ, List, [], ◌∷◌, Bool, true, false, Err, is_ok, true≢false, refl, sym, ap, subst, reverse}
 use Rattle.serde_json.specs.Data.{Data}
 use Rattle.serde_json.specs.View.{view}
 use Rattle.json_paths.specs.Parts.{Part}
 use Rattle.json_paths.specs.Pointers.{pointer_text}
 use Rattle.schema_documents.specs.Bearers.{Documents}
 use Rattle.schema_documents.specs.Lookup.{Target, LookupCause, lookup}
-use Rattle.schema_reading.specs.Sites.{root_site}
+use Rattle.schema_meaning.specs.Members.{In, first}
+use Rattle.schema_meaning.specs.Places.{whole}
+use Rattle.unread_keywords.specs.NotYet.{unread, not_yet, is_not_yet}
+use Rattle.schema_reading.specs.Sites.{Site, root_site}
 use Rattle.schema_reading.specs.PathTexts.{AreCertificate}
 use Rattle.schema_reading.specs.Plain.{plain}
 use Rattle.fault_steps.specs.Passed.{scope_of}
@@ -17,16 +21,34 @@ use Rattle.fault_steps.specs.declared.walk.Step.TheVariants.{Answered}
 use Rattle.fault_checks.specs.declared.checking.CheckAnswer.TheVariants as answer
 use Rattle.path_parts.specs.Texts.{text_left, IsNoPath}
 use Rattle.schema_roots.specs.Roots.{Root, Finds, IsSound}
+use Rattle.schema_matches.specs.Read.{reads}
+use Rattle.schema_matches.specs.declared.matches.Matches.{Matches}
+use Rattle.match_laws.specs.Laws.{SameOnTheWay}
+use Rattle.match_laws.proofs.Others.{circular_by_other_matches, certified_by_other_matches}
+use Rattle.unread_matches.proofs.Unpatterned.{unread_ask_none}
+use Rattle.schema_roots.specs.Answers.{ComesBack}
 use Rattle.schema_roots.proofs.Found.{finds_one}
 use Rattle.fault_checks.specs.Checked.{IsChecked, DecidesRoot}
 use Rattle.fault_steps.specs.Steps.{path_at, Passes}
 
-pub decided_at : (w : Walk) (t : Target) (docs : Documents) (b : Bool) → documents_at w.site ≡ docs → Stands w.site (root_site t) → scope_of w.site.resolver ≡ t.base ∷ [] → path_at w ≡ []
-    → Passes w (Answered b) → DecidesRoot t docs (view w.value.now) (text_left w.instance) (text_left w.evaluation) b
-decided_at w t docs b same stands scope path p = record {
-  decides = λ makes matches right straight.
-      p.outcome (record { documents = docs; makes = makes; matches = matches }) (root_site t)
-      (record { documents = sym same; stands = stands; scope = sym scope; schema_path = sym path; right = right }) straight;
+-- a list without elements
+none_in : {A : Type 0} (xs : List A) → ((x : A) → In x xs → ⊥) → xs ≡ []
+none_in [] h = refl
+none_in (x ∷ xs) h = elim (h x first) [ ]
+
+pub decided_at : (w : Walk) (t : Target) (docs : Documents) (m : Bor Matches) (b : Bool) → documents_at w.site ≡ docs → w.site.matches ≡ m → Stands w.site (root_site t) → scope_of w.site.resolver ≡ t.base ∷ [] → path_at w ≡ []
+    → Passes w (Answered b) → DecidesRoot t docs m.now (view w.value.now) (text_left w.instance) (text_left w.evaluation) b
+decided_at w t docs m b same matched stands scope path p = record {
+  decides = λ makes right straight.
+      p.outcome (record { documents = docs; makes = makes; matches = reads m.now }) (root_site t)
+      (record {
+        documents = sym same;
+        stands = stands;
+        scope = sym scope;
+        schema_path = sym path;
+        matches = ap (λ (m : Bor Matches). reads m.now) (sym matched);
+        right = right;
+      }) straight;
 }
 
 module _ (r : Root) (d : Data) (instance evaluation : List ℕ) where
@@ -51,23 +73,48 @@ module _ (r : Root) (d : Data) (instance evaluation : List ℕ) where
     evaluation_text = c.evaluation_text;
   }
 
-  pub accepted_by : (t : Target) → Finds r t → DecidesRoot t r.documents d instance evaluation true → IsSound r → IsChecked r d instance evaluation answer.Accepted
-  accepted_by t found h sound = record {
+  -- nothing is unread from a sound root on, so no match is asked for
+  same_matches : (sound : IsSound r) (t : Target) → Finds r t → (makes : List ℕ → Bool) (m matches : List ℕ → List ℕ → Bool)
+      → SameOnTheWay (plain r.documents makes m) matches (root_site t) (whole d)
+  same_matches sound t found makes m matches =
+      unread_ask_none r.documents makes m matches (root_site t) d
+      (λ u reached. none_in (unread u) (λ p i. sound.right t found makes (not_yet p) (is_not_yet (record { site = u; reached = reached; stands = i }))))
+
+  spelled_by : (makes : List ℕ → Bool) (m matches : List ℕ → List ℕ → Bool) (t : Target) → SameOnTheWay (plain r.documents makes m) matches (root_site t) (whole d)
+      → AreSpelled (plain r.documents makes m) (root_site t) d instance evaluation → AreSpelled (plain r.documents makes matches) (root_site t) d instance evaluation
+  spelled_by makes m matches t same c = record {
+    instance_path = c.instance_path;
+    evaluation_path = c.evaluation_path;
+    chain = (certified_by_other_matches Site (plain r.documents makes m) matches (root_site t) (whole d) same c.instance_path c.evaluation_path).0 c.chain;
+    instance_text = c.instance_text;
+    evaluation_text = c.evaluation_text;
+  }
+
+  straight_by : (makes : List ℕ → Bool) (m matches : List ℕ → List ℕ → Bool) (t : Target) → SameOnTheWay (plain r.documents makes m) matches (root_site t) (whole d)
+      → (ComesBack r makes matches t d → ⊥) → ComesBack r makes m t d → ⊥
+  straight_by makes m matches t same straight back = straight ((circular_by_other_matches Site (plain r.documents makes m) matches (root_site t) (whole d) same).0 back)
+
+  pub accepted_by : (t : Target) (m : Matches) → Finds r t → DecidesRoot t r.documents m d instance evaluation true → IsSound r → IsChecked r d instance evaluation answer.Accepted
+  accepted_by t m found h sound = record {
     accepted = λ e makes matches target there straight.
         let same : t ≡ target = finds_one r t target found there in
-        certified makes matches target
-        ((subst (λ u. DecidesRoot u r.documents d instance evaluation true) same h).decides makes matches (record { none = λ cause w. sound.right target there makes cause w }) straight);
+        let on = same_matches sound target there makes (reads m) matches in
+        certified makes matches target (spelled_by makes (reads m) matches target on
+        ((subst (λ u. DecidesRoot u r.documents m d instance evaluation true) same h).decides makes (record { none = λ cause w. sound.right target there makes cause w })
+        (straight_by makes (reads m) matches target on straight)));
     refused = λ e. cc;
     circular = λ e. cc;
   }
 
-  pub refused_by : (t : Target) → Finds r t → DecidesRoot t r.documents d instance evaluation false → IsSound r → IsChecked r d instance evaluation answer.Refused
-  refused_by t found h sound = record {
+  pub refused_by : (t : Target) (m : Matches) → Finds r t → DecidesRoot t r.documents m d instance evaluation false → IsSound r → IsChecked r d instance evaluation answer.Refused
+  refused_by t m found h sound = record {
     accepted = λ e. cc;
     refused = λ e makes matches target there straight c.
         let same : t ≡ target = finds_one r t target found there in
-        (subst (λ u. DecidesRoot u r.documents d instance evaluation false) same h).decides makes matches (record { none = λ cause w. sound.right target there makes cause w }) straight
-        (spelled makes matches target c);
+        let on = same_matches sound target there makes (reads m) matches in
+        let back = same_matches sound target there makes matches (reads m) in
+        (subst (λ u. DecidesRoot u r.documents m d instance evaluation false) same h).decides makes (record { none = λ cause w. sound.right target there makes cause w })
+        (straight_by makes (reads m) matches target on straight) (spelled_by makes matches (reads m) target back (spelled makes matches target c));
     circular = λ e. cc;
   }
 

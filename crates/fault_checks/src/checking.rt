@@ -13,6 +13,7 @@ use fault_steps::stepping::step;
 use fault_steps::walk::{Step, Walk};
 use fault_steps::{Error, Resolved, at_root};
 use path_parts::parts::opened;
+use schema_matches::matches::Matches;
 use schema_reports::Reference;
 use schema_roots::SchemaRegistry;
 use serde_json::Value;
@@ -53,14 +54,15 @@ fn walked<'r, 'i, 'p>(alloc: Global, walk: Walk<'r, 'i, 'p>) -> Result<bool, All
 fn is_spelled(
     alloc: Global,
     root: &Resolved<'_>,
+    matches: &Matches,
     value: &Value,
     instance: Option<&str>,
     evaluation: Option<&str>,
 ) -> Result<bool, AllocError>
     requires shallow { depth (target_in root.now).contents ≤ deepest (documents_in root.now.resolver ∷ []) }
-    ensures { IfOk result (DecidesRoot (target_in root.now) (documents_in root.now.resolver ∷ []) (view value.now) (text_left instance.entry) (text_left evaluation.entry)) }
+    ensures { IfOk result (DecidesRoot (target_in root.now) (documents_in root.now.resolver ∷ []) matches.now (view value.now) (text_left instance.entry) (text_left evaluation.entry)) }
 {
-    let site = at_root(root)?;
+    let site = at_root(root, matches)?;
     let walk = Walk {
         site,
         parts: Vec::new(alloc),
@@ -99,7 +101,8 @@ pub fn check_fault(
     let resolver = registry.registry().resolver(registry.base().clone()?)?;
     match resolver.lookup(root) {
         Ok(found) => {
-            let accepted = is_spelled(alloc, &found, value, instance, evaluation)?;
+            let matches = Matches::none(alloc);
+            let accepted = is_spelled(alloc, &found, &matches, value, instance, evaluation)?;
             if accepted {
                 Ok(CheckAnswer::Accepted)
             } else {

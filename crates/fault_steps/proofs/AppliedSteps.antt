@@ -215,7 +215,7 @@ applied_on w v a after qs b are applies more obliging once ahead into = record {
       let sound = questions_are_sound site x.matches d a applies.values asks_it asked in
       let decided = told_there x s d (meets_shallow w.site (path_at w) x s stage.meets w.shallow) stage.straight in
       let bs = answers_there (reading_of x) s d _ decided the (rules_stand x.documents x.makes x.matches s row d stage.stands the first) in
-      let child : Child w.site v.site schema = record { contents = into.contents; documents = into.documents; scope = into.scope; stands = λ t added. into.stands t added } in
+      let child : Child w.site v.site schema = record { contents = into.contents; documents = into.documents; scope = into.scope; stands = λ t added. into.stands t added; matches = into.matches } in
       let meets = child_meets w.site v.site schema (added_at q.subschema.keyword.now q.subschema.entry) (path_at w) x s child stage.meets (right_on x s row inner stage.meets.right stage.stands sound.led) in
       let spelled_at = λ (f : Data) (t u : Option (Bor (List ℕ))). AreSpelled (reading_of x) inner f (text_left t) (text_left u) in
       let shift = λ (h : AreSpelled (reading_of x) inner (value_after d (step_of q.asked)) (text_left b.instance) (text_left b.evaluation)).

@@ -134,6 +134,8 @@ lies_in c d code.Nothing f h i = tt
 lies_in c d (code.Assertion a) f h i = tt
 lies_in c d (code.Items start schema) f h i = subst (λ e. depth e < depth (view c.contents.now)) f h
 lies_in c d (code.Properties map) f h i = subst (λ e. depth e < depth (view c.contents.now)) f h
+lies_in c d (code.If schema then_schema else_schema) f h i = record { inside = subst (λ e. depth e < depth (view c.contents.now)) f h; beside = i }
+lies_in c d (code.Consequent k schema) f h i = tt
 lies_in c d (code.Applicator a) f h i = record { values = f; inside = i }
 lies_in c d (code.Reference by text target) f h i = f
 

@@ -70,6 +70,7 @@ pub record GoesInto (w : Walk) (a : Ahead) (v : Walk) : Type 0 where
   pub documents : documents_at v.site ≡ documents_at w.site
   pub scope : scope_of v.site.resolver ≡ entered_scope (base_of v.site.resolver) (base_of w.site.resolver) (scope_of w.site.resolver)
   pub stands : (s : Site) (added : List Part) → Stands w.site s → Stands v.site (below (documents_at w.site) s added (view a.question.subschema.schema.now))
+  pub matches : v.site.matches ≡ w.site.matches
   pub path : path_at v ≡ added_at a.question.subschema.keyword.now a.question.subschema.entry ++ path_at w
   pub value : view v.value.now ≡ value_after (view w.value.now) (step_of a.question.asked)
   pub instance : v.instance ≡ a.instance

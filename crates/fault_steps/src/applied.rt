@@ -73,8 +73,8 @@ const fn obliges(applicator: &Applicator<'_>, asked: usize) -> bool
     }
 }
 
-// The step to what a question asks of.
-fn to_question<'r, 'i, 'p>(
+/// The step to what a question asks of.
+pub(crate) fn to_question<'r, 'i, 'p>(
     alloc: Global,
     walk: Walk<'r, 'i, 'p>,
     ahead: Ahead<'r, 'i, 'p>,

@@ -2,6 +2,7 @@
 #![tactic(auto)]
 
 mod applied;
+mod choosing;
 mod items;
 mod members;
 mod names;

@@ -39,6 +39,7 @@ pub(crate) fn bears(keyword: &Keyword<'_>, member: &str, name: &str) -> bool
 {
     match keyword {
         Keyword::Assertion(assertion) => assertion.name() == name,
+        Keyword::If { .. } => matches!(name, "if" | "then" | "else"),
         Keyword::Applicator(applicator) => applicator_bears(applicator, member, name),
         _ => member == name,
     }

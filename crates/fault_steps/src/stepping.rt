@@ -1,5 +1,5 @@
 //! One step of a walk.
-ghost use Rattle.std.specs.Prelude.{◌≡◌, ◌<◌, ◌∷◌, ◌||◌, List, ℕ, IfOk, is_some};
+ghost use Rattle.std.specs.Prelude.{◌≡◌, ◌<◌, ◌∷◌, ◌||◌, IfOk, is_some};
 ghost use Rattle.serde_json.specs.Data.{depth};
 ghost use Rattle.serde_json.specs.View.{view};
 ghost use Rattle.keyword_refusals.specs.Passed.{target_in};
@@ -10,6 +10,7 @@ ghost use Rattle.keyword_refusals.specs.Verdicts.{LiesIn};
 ghost use Rattle.fault_steps.specs.Steps.{Passes, PassesAs, PassesBy, PassesThrough, IsMore, Ends, IsNotLonger, IsShorter};
 
 use crate::applied::through_applicator;
+use crate::choosing::through_condition;
 use crate::items::through_items;
 use crate::members::through_properties;
 use crate::names::{bears, member_of};
@@ -39,7 +40,7 @@ fn through_reference<'r, 'i, 'p>(
     ensures passes { IfOk result (PassesThrough walk.entry (reference_row keyword text.now (target_in target.entry)) after.entry) }
     ensures shorter { IfOk result (IsNotLonger after.entry) }
 {
-    let site = at_target(&target)?;
+    let site = at_target(&target, walk.site.matches)?;
     Ok(Step::On(Walk {
         site,
         parts: Vec::new(alloc),
@@ -55,16 +56,32 @@ fn through<'r, 'i, 'p>(
     alloc: Global,
     walk: Walk<'r, 'i, 'p>,
     keyword: Keyword<'r>,
+    name: &str,
     after: Option<&'p str>,
 ) -> Result<Step<'r, 'i, 'p>, AllocError>
     requires lies { LiesIn walk.site keyword }
     requires more { IsMore walk.instance after }
-    ensures passes { IfOk result (λ step. (name : List ℕ) → PassesBy walk.entry keyword.entry name after.entry step) }
+    ensures passes { IfOk result (PassesBy walk.entry keyword.entry name.now after.entry) }
     ensures shorter { IfOk result (IsNotLonger after.entry) }
 {
     match keyword {
         Keyword::Items { start, schema } => through_items(alloc, walk, start, schema, after),
         Keyword::Properties(schemas) => through_properties(alloc, walk, schemas, after),
+        Keyword::If {
+            condition,
+            then_schema,
+            else_schema,
+        } => {
+            through_condition(
+                alloc,
+                walk,
+                condition,
+                then_schema,
+                else_schema,
+                name,
+                after,
+            )
+        }
         Keyword::Applicator(applicator) => through_applicator(alloc, walk, applicator, after),
         Keyword::Reference {
             keyword: by,
@@ -72,6 +89,7 @@ fn through<'r, 'i, 'p>(
             target,
         } => { through_reference(alloc, walk, by, text, target, after) }
         Keyword::Nothing => Ok(Step::Answered(false)),
+        Keyword::Consequent { .. } => Ok(Step::Answered(false)),
         Keyword::Assertion(_assertion) => Ok(Step::Answered(false)),
     }
 }
@@ -96,7 +114,7 @@ fn by_keyword<'r, 'i, 'p>(
     ensures shorter { IfOk result (IsNotLonger after.entry) }
 {
     if is_more(walk.instance, after) {
-        return through(alloc, walk, keyword, after);
+        return through(alloc, walk, keyword, name, after);
     }
     let start = LazyLocation::new();
     let refused = refuses(

@@ -26,6 +26,10 @@ use Rattle.schema_reports.specs.declared.observer.Observer.TheVariants as observ
 use Rattle.schema_reports.specs.declared.verdict.Verdict.{Verdict}
 use Rattle.schema_reports.specs.declared.first_fault.FirstFault.{FirstFault}
 use Rattle.schema_reports.specs.declared.all_faults.AllFaults.{AllFaults}
+use Rattle.schema_matches.specs.Read.{reads}
+use Rattle.schema_matches.specs.declared.matches.Matches.{Matches}
+use Rattle.match_laws.proofs.Others.{cut_by_other_matches}
+use Rattle.unread_matches.proofs.Unpatterned.{unread_ask_none}
 use Rattle.schema_roots.specs.Roots.{Root, Finds, IsSound}
 use Rattle.schema_roots.proofs.Found.{target_of, finds_one}
 use Rattle.schema_roots.specs.Answers.{cut_at, IsCut, IsAnswer, IsFault}
@@ -45,14 +49,17 @@ are_read r sound target found makes = record {
 
 -- ---- what is heard
 
-pub heard : (r : Root) → IsSound r → (d : Data) (old new : Observer) (t : Target) (documents : Documents) → documents ≡ r.documents → Finds r t
-    → TellsRoot t documents d old new → HearsCut r d old new
-heard r sound d old new t documents same found told =
-    let tells : TellsRoot t r.documents d old new = subst (λ docs. TellsRoot t docs d old new) same told in
+pub heard : (r : Root) → IsSound r → (d : Data) (old new : Observer) (t : Target) (m : Matches) (documents : Documents) → documents ≡ r.documents → Finds r t
+    → TellsRoot t documents m d old new → HearsCut r d old new
+heard r sound d old new t m documents same found told =
+    let tells : TellsRoot t r.documents m d old new = subst (λ docs. TellsRoot t docs m d old new) same told in
     record {
       hears = λ makes matches target there kept fs before.
+          let read = are_read r sound t found makes in
+          let asked = unread_ask_none r.documents makes (reads m) matches (root_site t) d read.each in
           subst (λ u. Hears kept new (joined fs (cut_at bags r makes matches u d))) (finds_one r t target found there)
-          (tells.tells makes matches (are_read r sound t found makes) kept fs before);
+          (subst (λ gs. Hears kept new (joined fs gs)) (cut_by_other_matches Site Faults bags (plain r.documents makes (reads m)) matches (root_site t) (whole d) asked (keys_of r.documents d) [])
+          (tells.tells makes read kept fs before));
     }
 
 -- one that keeps this hears of something, from a sound root on

@@ -3,4 +3,5 @@ mod Certifying
 mod Asking
 mod BuiltLemmas
 pub mod Preparing
+pub mod Placing
 pub mod Joining

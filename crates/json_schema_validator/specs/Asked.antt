@@ -11,6 +11,7 @@ use Rattle.schema_meaning.specs.Readings.{verdicts}
 use Rattle.schema_roots.specs.Passed.{SharedRegistry, documents_shared, retrieved_shared}
 use Rattle.schema_roots.specs.Roots.{Root, Finds, IsSound}
 use Rattle.schema_roots.specs.Answers.{IsAnswer}
+use Rattle.json_schema_validator.specs.Counted.{IsWithin}
 use Rattle.json_schema_validator.specs.Seen.{root_of}
 
 -- the URI of a draft's own meta-schema
@@ -43,11 +44,11 @@ pub record IsAsked (p : SharedRegistry) (t : Target) (uri : List ℕ) : Type 0 w
   pub named : meta_schema_of t ≡ Some uri
   pub handed_in : IsHandedIn p uri
 
--- the meta-schema of a root, where it is asked, may be read and accepts the root's value
-abbrev pub IsMetIn : SharedRegistry → Target → Type 0
-IsMetIn p t = (uri : List ℕ) → IsAsked p t uri → IsSound (meta_root p uri) × IsAnswer verdicts (meta_root p uri) t.contents true
+-- the meta-schema of a root, where it is asked, may be read, reaches no more compile keys than the limit, and accepts the root's value
+abbrev pub IsMetIn : ℕ → SharedRegistry → Target → Type 0
+IsMetIn limit p t = (uri : List ℕ) → IsAsked p t uri → IsSound (meta_root p uri) × IsWithin limit (meta_root p uri) × IsAnswer verdicts (meta_root p uri) t.contents true
 
 -- the same where meta-schemas were handed in
-abbrev pub IsMet : Option SharedRegistry → Target → Type 0
-IsMet None t = Unit {0}
-IsMet (Some p) t = IsMetIn p t
+abbrev pub IsMet : ℕ → Option SharedRegistry → Target → Type 0
+IsMet limit None t = Unit {0}
+IsMet limit (Some p) t = IsMetIn limit p t

@@ -1,5 +1,6 @@
 pub mod Seen
 pub mod Heard
+pub mod Counted
 pub mod Asked
 pub mod Prepared
 pub mod Refused

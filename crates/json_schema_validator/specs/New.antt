@@ -13,11 +13,12 @@ use Rattle.json_schema_validator.specs.declared.error.BuildError.TheVariants as 
 use Rattle.json_schema_validator.specs.declared.options.ValidationOptions.{ValidationOptions}
 use Rattle.json_schema_validator.specs.declared.validator.Validator.{Validator}
 
--- the newest draft, the base of schemas that have none, at most 256 documents retrieved, and no meta-schemas
+-- the newest draft, the base of schemas that have none, at most 256 documents retrieved, at most 65,536 compile keys, and no meta-schemas
 pub record AreDefault {R : Type 0} (o : ValidationOptions R) : Type 0 where
   pub draft : o.draft ≡ newest
   pub base : o.base ≡ codes "json-schema:///"
   pub limit : o.limit ≡ 256
+  pub node_limit : o.node_limit ≡ 65536
   pub meta_schemas : o.meta_schemas ≡ None
 
 -- the schema as the only document, under the empty reference

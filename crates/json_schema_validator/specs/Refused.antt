@@ -11,7 +11,7 @@ use Rattle.unread_keywords.specs.NotYet.{Cause, IsBuildCause}
 use Rattle.given_documents.specs.Given.{Given, documents_by}
 use Rattle.referencing_errors.specs.Causes.{IsMemory, NamesLookup}
 use Rattle.referencing_errors.specs.declared.error.Error as reference
-use Rattle.reached_sites.specs.Causes.{NamesCause}
+use Rattle.reached_sites.specs.Causes.{NamesCause, IsExceeded}
 use Rattle.schema_roots.specs.Passed.{Asking, IsGathered, Stops, HasCause, SharedRegistry, SchemaRegistry, beside}
 use Rattle.schema_roots.specs.Roots.{Root, Finds, IsSound}
 use Rattle.schema_roots.specs.Answers.{IsFault}
@@ -52,15 +52,16 @@ IsOfRegistry e b = (IsMemory e × (b ≡ error.Memory)) ⊎ ((IsMemory e → ⊥
 
 -- ---- roots
 
--- a root is refused because its reference leads nowhere, or for a cause at what is reached from it
-abbrev pub RefusesBuild : Root → BuildError → Type 0
-RefusesBuild r (error.Document e) = ⊥
-RefusesBuild r (error.Registry e) = ⊥
-RefusesBuild r (error.Root e) = (cause : LookupCause) × (lookup r.documents r.base r.reference ≡ Err cause) × NamesLookup cause e
-RefusesBuild r (error.Schema e) =
-    (target : Target) × Finds r target × (cause : Cause) × NamesCause cause e × ((makes : List ℕ → Bool) → IsBuildCause r.documents makes (root_site target) cause)
-RefusesBuild r (error.MetaSchema i e) = ⊥
-RefusesBuild r error.Memory = Unit {0}
+-- a root is refused because its reference leads nowhere, for a cause at what is reached from it, or because that is too much
+abbrev pub RefusesBuild : ℕ → Root → BuildError → Type 0
+RefusesBuild limit r (error.Document e) = ⊥
+RefusesBuild limit r (error.Registry e) = ⊥
+RefusesBuild limit r (error.Root e) = (cause : LookupCause) × (lookup r.documents r.base r.reference ≡ Err cause) × NamesLookup cause e
+RefusesBuild limit r (error.Schema e) =
+    (target : Target) × Finds r target
+    × (IsExceeded r.documents (root_site target) limit e ⊎ ((cause : Cause) × NamesCause cause e × ((makes : List ℕ → Bool) → IsBuildCause r.documents makes (root_site target) cause)))
+RefusesBuild limit r (error.MetaSchema i e) = ⊥
+RefusesBuild limit r error.Memory = Unit {0}
 
 -- ---- meta-schemas
 
@@ -85,21 +86,21 @@ pub record RefusesValue (r : Root) (d : Data) (e : BuildError) : Type 0 where
   pub told : TellsFault fault e
 
 -- one that is asked may not be read, or refuses the value
-pub record RefusesAsked (p : SharedRegistry) (t : Target) (e : BuildError) : Type 0 where
+pub record RefusesAsked (limit : ℕ) (p : SharedRegistry) (t : Target) (e : BuildError) : Type 0 where
   pub uri : List ℕ
   pub asked : IsAsked p t uri
-  pub why : RefusesBuild (meta_root p uri) e ⊎ RefusesValue (meta_root p uri) t.contents e
+  pub why : RefusesBuild limit (meta_root p uri) e ⊎ RefusesValue (meta_root p uri) t.contents e
 
-abbrev pub RefusesByMeta : SharedRegistry → Target → BuildError → Type 0
-RefusesByMeta p t e = (e ≡ error.Memory) ⊎ RefusesAsked p t e
+abbrev pub RefusesByMeta : ℕ → SharedRegistry → Target → BuildError → Type 0
+RefusesByMeta limit p t e = (e ≡ error.Memory) ⊎ RefusesAsked limit p t e
 
-pub record RefusesMeta (r : SchemaRegistry) (root : Root) (e : BuildError) : Type 0 where
+pub record RefusesMeta (limit : ℕ) (r : SchemaRegistry) (root : Root) (e : BuildError) : Type 0 where
   pub parent : SharedRegistry
   pub is_parent : r.parent ≡ Some parent
   pub target : Target
   pub found : Finds root target
-  pub refused : RefusesByMeta parent target e
+  pub refused : RefusesByMeta limit parent target e
 
 -- a root is refused for its own sake, or by its meta-schema
-abbrev pub RefusesRoot : SchemaRegistry → Root → BuildError → Type 0
-RefusesRoot r root e = RefusesBuild root e ⊎ RefusesMeta r root e
+abbrev pub RefusesRoot : ℕ → SchemaRegistry → Root → BuildError → Type 0
+RefusesRoot limit r root e = RefusesBuild limit root e ⊎ RefusesMeta limit r root e

@@ -1,6 +1,6 @@
 //! Why there is no validator.
 
-ghost use Rattle.std.specs.Prelude.{◌≡◌, IfOk};
+ghost use Rattle.std.specs.Prelude.{◌≡◌, ℕ, IfOk};
 ghost use Rattle.schema_documents.specs.Lookup.{Target, lookup};
 ghost use Rattle.schema_reading.specs.Sites.{root_site};
 ghost use Rattle.schema_reports.specs.Told.{fault_of};
@@ -29,7 +29,7 @@ pub enum BuildError {
     /// The reference to the root leads nowhere.
     #[error(transparent)]
     Root(ReferenceError),
-    /// Something is wrong, or not there yet, at a schema that the root leads to.
+    /// Something is wrong, or not there yet, at a schema that the root leads to, or it leads to more schemas than are allowed.
     #[error(transparent)]
     Schema(BuildCause),
     /// The meta-schema of the root, which was handed in, refuses the root's value: the paths of one of its faults, as JSON Pointers.
@@ -76,7 +76,7 @@ impl BuildError {
 
     /// The error of a root that is not found.
     pub(crate) fn of_root(error: ReferenceError) -> BuildError
-        ensures { (root : Root) → RefusesLookup (lookup root.documents root.base root.reference) error → RefusesBuild root result }
+        ensures { (limit : ℕ) (root : Root) → RefusesLookup (lookup root.documents root.base root.reference) error → RefusesBuild limit root result }
     {
         match error {
             ReferenceError::Memory => BuildError::Memory,
@@ -84,9 +84,9 @@ impl BuildError {
         }
     }
 
-    /// The error of a root that leads to a cause.
+    /// The error of a root that leads to a cause, or to too much.
     pub(crate) fn of_schema(cause: BuildCause) -> BuildError
-        ensures { (root : Root) (target : Target) → Finds root target → reached.RefusesRoot root.documents (root_site target) cause → RefusesBuild root result }
+        ensures { (limit : ℕ) (root : Root) (target : Target) → Finds root target → reached.RefusesWithin root.documents (root_site target) limit cause → RefusesBuild limit root result }
     {
         match cause {
             BuildCause::Memory => BuildError::Memory,

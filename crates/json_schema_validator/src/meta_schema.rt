@@ -94,7 +94,8 @@ fn is_handed_in(parent: &SharedRegistry, base: &Uri, uri: &str) -> Result<bool, 
 }
 
 /// Asks the meta-schema of a root whether it accepts the root's value: the one that its `$schema` names, or without one that of its
-/// draft, where it was handed in. It is read as a root of the meta-schemas alone, and is not asked about in turn.
+/// draft, where it was handed in. It is read as a root of the meta-schemas alone, under the limit on compile keys, and is not asked about
+/// in turn.
 ///
 /// # Errors
 ///
@@ -103,9 +104,10 @@ pub(crate) fn ask_meta_schema(
     alloc: Global,
     parent: &SharedRegistry,
     root: &Resolved<'_>,
+    node_limit: usize,
 ) -> Result<(), BuildError>
-    ensures accepted { OnOk result (IsMetIn parent.now (target_in root.now)) }
-    ensures refused { IfErr result (RefusesByMeta parent.now (target_in root.now)) }
+    ensures accepted { OnOk result (IsMetIn node_limit parent.now (target_in root.now)) }
+    ensures refused { IfErr result (RefusesByMeta node_limit parent.now (target_in root.now)) }
 {
     let base = base(alloc)?;
     let Some(uri) = uri_of(alloc, &base, root)? else {
@@ -114,7 +116,7 @@ pub(crate) fn ask_meta_schema(
     if !is_handed_in(parent, &base, uri.as_str())? {
         return Ok(());
     }
-    let meta_schema = Validator::at(alloc, parent, &base, uri.as_str())?;
+    let meta_schema = Validator::at(alloc, parent, &base, uri.as_str(), node_limit)?;
     match meta_schema.validate(root.contents())? {
         Ok(()) => Ok(()),
         Err(error) => Err(BuildError::of_fault(alloc, &error)?),

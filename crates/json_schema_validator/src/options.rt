@@ -6,6 +6,7 @@ ghost use Rattle.schema_documents.specs.Lookup.{Target};
 ghost use Rattle.referencing_errors.specs.Causes.{IsMemory};
 ghost use Rattle.schema_roots.specs.Passed.{documents_given};
 ghost use Rattle.schema_roots.specs.Roots.{IsSound, Finds, root_on};
+ghost use Rattle.json_schema_validator.specs.Counted.{IsWithin};
 ghost use Rattle.json_schema_validator.specs.Asked.{IsMet};
 ghost use Rattle.json_schema_validator.specs.Prepared.{asking_by, meta_schemas_given, AreDocuments, IsRegistry};
 ghost use Rattle.json_schema_validator.specs.Refused.{RefusesGiven, RefusesPreparing, RefusesRoot};
@@ -29,6 +30,9 @@ const DEFAULT_BASE: &str = "json-schema:///";
 /// How many documents are retrieved at most until another limit is set.
 const DEFAULT_LIMIT: u64 = 256;
 
+/// How many compile keys are reached at most until another limit is set.
+const DEFAULT_NODE_LIMIT: usize = 65_536;
+
 /// How validators are built.
 #[derive(Drop)]
 pub struct ValidationOptions<R = DefaultRetriever> {
@@ -37,11 +41,13 @@ pub struct ValidationOptions<R = DefaultRetriever> {
     base: Uri,
     retriever: WholeNumbers<R>,
     limit: u64,
+    node_limit: usize,
     meta_schemas: Option<Documents>,
 }
 
 impl ValidationOptions {
-    /// The newest draft, the base URI `json-schema:///`, nobody who is asked, at most 256 documents retrieved, and no meta-schemas.
+    /// The newest draft, the base URI `json-schema:///`, nobody who is asked, at most 256 documents retrieved, at most 65,536
+    /// compile keys, and no meta-schemas.
     ///
     /// # Errors
     ///
@@ -50,6 +56,7 @@ impl ValidationOptions {
         ensures draft { IfOk result (λ o. o.draft ≡ drafts.newest) }
         ensures base { IfOk result (λ o. o.base ≡ codes "json-schema:///") }
         ensures limit { IfOk result (λ o. o.limit ≡ 256) }
+        ensures node_limit { IfOk result (λ o. o.node_limit ≡ 65536) }
         ensures meta_schemas { IfOk result (λ o. o.meta_schemas ≡ None) }
     {
         match Uri::parse(alloc, DEFAULT_BASE) {
@@ -59,6 +66,7 @@ impl ValidationOptions {
                 base,
                 retriever: WholeNumbers::new(DefaultRetriever),
                 limit: DEFAULT_LIMIT,
+                node_limit: DEFAULT_NODE_LIMIT,
                 meta_schemas: None,
             }),
             Err(_) => Err(AllocError),
@@ -67,16 +75,21 @@ impl ValidationOptions {
 }
 
 // Asks the meta-schema of the root that a reference leads to, where meta-schemas were handed in.
-fn meet(alloc: Global, registry: &SchemaRegistry, root: &str) -> Result<(), BuildError>
-    ensures met { OnOk result ((target : Target) → Finds (root_on registry.now root.now) target → IsMet registry.now.parent target) }
-    ensures refused { IfErr result (RefusesRoot registry.now (root_on registry.now root.now)) }
+fn meet(
+    alloc: Global,
+    registry: &SchemaRegistry,
+    root: &str,
+    node_limit: usize,
+) -> Result<(), BuildError>
+    ensures met { OnOk result ((target : Target) → Finds (root_on registry.now root.now) target → IsMet node_limit registry.now.parent target) }
+    ensures refused { IfErr result (RefusesRoot node_limit registry.now (root_on registry.now root.now)) }
 {
     let Some(parent) = registry.parent() else {
         return Ok(());
     };
     let resolver = registry.registry().resolver(registry.base().clone()?)?;
     match resolver.lookup(root) {
-        Ok(found) => ask_meta_schema(alloc, parent, &found),
+        Ok(found) => ask_meta_schema(alloc, parent, &found, node_limit),
         Err(error) => Err(BuildError::of_root(error)),
     }
 }
@@ -114,12 +127,21 @@ impl<R: Drop> ValidationOptions<R> {
         ValidationOptions { limit, ..self }
     }
 
+    /// Sets how many compile keys are reached at most from a root, and from its meta-schema where that is asked: a schema counts once for
+    /// each base, dialect, scope key and schema path with which it is reached.
+    pub fn with_node_limit(self, node_limit: usize) -> ValidationOptions<R>
+        ensures { result ≡ record self { node_limit = node_limit } }
+    {
+        ValidationOptions { node_limit, ..self }
+    }
+
     /// Sets whom the documents that are wanted are asked of. An answer with a number that is no whole number of 64 bits counts as refused.
     pub fn with_retriever<T: Retrieve>(self, retriever: T) -> ValidationOptions<T>
         ensures draft { result.draft ≡ self.draft }
         ensures base { result.base ≡ self.base }
         ensures retriever { result.retriever.retriever ≡ retriever }
         ensures limit { result.limit ≡ self.limit }
+        ensures node_limit { result.node_limit ≡ self.node_limit }
         ensures meta_schemas { result.meta_schemas ≡ self.meta_schemas }
     {
         ValidationOptions {
@@ -128,6 +150,7 @@ impl<R: Drop> ValidationOptions<R> {
             base: self.base,
             retriever: WholeNumbers::new(retriever),
             limit: self.limit,
+            node_limit: self.node_limit,
             meta_schemas: self.meta_schemas,
         }
     }
@@ -139,17 +162,19 @@ impl<R: Drop> ValidationOptions<R> {
     ///
     /// # Errors
     ///
-    /// Where the reference leads nowhere, where something is wrong at a schema reached from there or is not read yet, where the root's
-    /// meta-schema refuses its value or is not read for such a reason, or want of memory.
+    /// Where the reference leads nowhere, where something is wrong at a schema reached from there or is not read yet, where more compile keys
+    /// are reached than the limit, where the root's meta-schema refuses its value or is not read for such a reason, or want of memory.
     pub fn build_on(&self, registry: &SchemaRegistry, root: &str) -> Result<Validator, BuildError>
         ensures root { IfOk result (λ v. root_in v ≡ root_on registry.now root.now) }
         ensures sound { IfOk result (λ v. IsSound (root_in v)) }
         ensures draft { IfOk result (λ v. (target : Target) → Finds (root_in v) target → v.draft ≡ target.dialect.draft) }
-        ensures met { IfOk result (λ v. (target : Target) → Finds (root_in v) target → IsMet registry.now.parent target) }
-        ensures refused { IfErr result (RefusesRoot registry.now (root_on registry.now root.now)) }
+        ensures within { IfOk result (λ v. IsWithin self.now.node_limit (root_in v)) }
+        ensures met { IfOk result (λ v. (target : Target) → Finds (root_in v) target → IsMet self.now.node_limit registry.now.parent target) }
+        ensures refused { IfErr result (RefusesRoot self.now.node_limit registry.now (root_on registry.now root.now)) }
     {
-        let validator = Validator::at(self.alloc, registry.own(), registry.base(), root)?;
-        meet(self.alloc, registry, root)?;
+        let (alloc, limit) = (self.alloc, self.node_limit);
+        let validator = Validator::at(alloc, registry.own(), registry.base(), root, limit)?;
+        meet(alloc, registry, root, limit)?;
         Ok(validator)
     }
 }

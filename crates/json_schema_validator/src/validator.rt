@@ -1,11 +1,14 @@
 //! Validators.
 
-ghost use Rattle.std.specs.Prelude.{◌≡◌, ◌∷◌, [], IfOk, IfErr, is_ok, codes, string_bytes, None};
+ghost use Rattle.std.specs.Prelude.{◌≡◌, ◌≤◌, OnOk, ◌∷◌, [], IfOk, IfErr, is_ok, codes, string_bytes, None};
+ghost use Rattle.serde_json.specs.Data.{depth};
 ghost use Rattle.serde_json.specs.View.{view};
+ghost use Rattle.schema_reading.specs.Plain.{deepest};
+ghost use Rattle.plain_reader.specs.Roots.{TellsRoot};
 ghost use Rattle.schema_drafts.specs.Drafts as drafts;
 ghost use Rattle.schema_meaning.specs.Faults.{Faults};
 ghost use Rattle.schema_meaning.specs.Readings.{verdicts, bags};
-ghost use Rattle.reached_sites.specs.Passed.{documents_of};
+ghost use Rattle.reached_sites.specs.Passed.{documents_in, documents_of, target_in};
 ghost use Rattle.schema_reports.specs.Left.{errors_left};
 ghost use Rattle.schema_reports.specs.Stands.{first_stands};
 ghost use Rattle.schema_reports.specs.Told.{fault_of, faults_of};
@@ -18,7 +21,9 @@ use crate::error::BuildError;
 use crate::options::ValidationOptions;
 use plain_reader::root::tell_root;
 use reached_sites::Registry;
+use referencing::Resolved;
 use schema_drafts::draft::Draft;
+use schema_matches::matches::Matches;
 use schema_reports::{AllFaults, ErrorIterator, FirstFault, Observer, ValidationError, Verdict};
 use schema_roots::{DefaultRetriever, Documents, Retrieve};
 use serde_json::Value;
@@ -45,7 +50,7 @@ impl Validator {
     ghost use Rattle.json_schema_validator.specs.New.{IsNew, Refuses};
 
     /// How validators are built: by the draft 2020-12 and the base URI `json-schema:///`, with nobody asked for documents, at most 256
-    /// of them, and no meta-schemas, until it is said otherwise.
+    /// of them, at most 65,536 compile keys, and no meta-schemas, until it is said otherwise.
     ///
     /// # Errors
     ///
@@ -54,6 +59,7 @@ impl Validator {
         ensures draft { IfOk result (λ o. o.draft ≡ drafts.newest) }
         ensures base { IfOk result (λ o. o.base ≡ codes "json-schema:///") }
         ensures limit { IfOk result (λ o. o.limit ≡ 256) }
+        ensures node_limit { IfOk result (λ o. o.node_limit ≡ 65536) }
         ensures meta_schemas { IfOk result (λ o. o.meta_schemas ≡ None) }
     {
         ValidationOptions::new(alloc)
@@ -168,12 +174,27 @@ impl Validator {
         let resolver = self.registry.resolver(self.base.clone()?)?;
         match resolver.lookup(self.root.as_str()) {
             Ok(root) => {
-                tell_root(self.alloc, &root, value, &mut observer)?;
+                let matches = Matches::none(self.alloc);
+                tell_at(self.alloc, &root, &matches, value, &mut observer)?;
                 Ok(observer)
             }
             Err(_) => Err(AllocError),
         }
     }
+}
+
+// What a root tells, by matches that live no longer than the call.
+fn tell_at<'i>(
+    alloc: Global,
+    root: &Resolved<'_>,
+    matches: &Matches,
+    value: &'i Value,
+    observer: &mut Observer<'i>,
+) -> Result<(), AllocError>
+    requires shallow { depth (target_in root.now).contents ≤ deepest (documents_in root.now.resolver ∷ []) }
+    ensures { OnOk result (TellsRoot (target_in root.now) (documents_in root.now.resolver ∷ []) matches.now (view value.now) observer.old observer.new) }
+{
+    tell_root(alloc, root, matches, value, observer)
 }
 
 // The error that was kept, if any was.

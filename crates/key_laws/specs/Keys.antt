@@ -5,11 +5,16 @@ use Rattle.schema_documents.specs.Bearers.{Documents}
 use Rattle.schema_reading.specs.BuildCauses.{Reached}
 use Rattle.schema_reading.specs.CompileKeys.{CompileKey, compile_key}
 use Rattle.schema_reading.specs.Sites.{Site}
+use Rattle.site_laws.specs.Spelled.{spelled}
 
 -- no element stands twice
 abbrev pub Distinct : {A : Type 0} → List A → Type 0
 Distinct [] = Unit {0}
 Distinct (x ∷ xs) = (In x xs → ⊥) × Distinct xs
+
+-- the key of a site: its schema path counts as its text does
+abbrev pub key_of_site : Documents → Site → CompileKey
+key_of_site docs s = compile_key docs (record s { schema_path = spelled s.schema_path })
 
 -- the key of a site that is reached from one of the roots
 pub record IsReached (docs : Documents) (makes : List ℕ → Bool) (roots : List Site) (key : CompileKey) : Type 0 where
@@ -17,7 +22,7 @@ pub record IsReached (docs : Documents) (makes : List ℕ → Bool) (roots : Lis
   pub listed : In root roots
   pub site : Site
   pub reached : Reached docs makes root site
-  pub named : compile_key docs site ≡ key
+  pub named : key_of_site docs site ≡ key
 
 -- distinct keys, each of them reached
 pub record AreKeys (docs : Documents) (makes : List ℕ → Bool) (roots : List Site) (keys : List CompileKey) : Type 0 where

@@ -1,5 +1,8 @@
 -- The sites of subschemas and of targets.
 use Rattle.std.proofs.Common.{◌≡◌, ◌∙◌, ◌++◌, ◌≤◌, ℕ, List, [], ◌∷◌, refl, sym, ap, ap₂, subst}
+use Rattle.std.specs.Borrow.{Bor}
+use Rattle.schema_matches.specs.Read.{reads}
+use Rattle.schema_matches.specs.declared.matches.Matches.{Matches}
 use Rattle.serde_json.specs.Data.{Data, depth}
 use Rattle.serde_json.specs.View.{view}
 use Rattle.json_paths.specs.Parts.{Part}
@@ -33,6 +36,7 @@ child_meets c b d added path x s child m right =
       stands = stands;
       scope = ap₂ (λ new present. entered_scope new present s.scope) stands.base m.stands.base ∙ ap (entered_scope (base_of b.resolver) (base_of c.resolver)) m.scope ∙ sym child.scope;
       schema_path = ap (λ p. added ++ p) m.schema_path;
+      matches = m.matches ∙ ap (λ (w : Bor Matches). reads w.now) (sym child.matches);
       right = right;
     }
 
@@ -44,6 +48,7 @@ pub record AtTarget (c inner : code.Site) (w : ReferenceKeyword) (text : List �
   pub scope : scope_of inner.resolver ≡ scope_of target.resolver
   pub documents : documents_at inner ≡ documents_in target.resolver ∷ []
   pub stands : (s : Site) (reference : List ℕ) → Stands inner (target_site s reference (target_in target))
+  pub matches : inner.matches ≡ c.matches
 
 pub target_meets : (c inner : code.Site) (w : ReferenceKeyword) (text : List ℕ) (target : Resolved) (path : List Part) (x : Scene) (s : Site) → AtTarget c inner w text target → Meets c path x s
     → IsRight x (target_site s text (target_in target)) → Meets inner (path_of_reference text) x (target_site s text (target_in target))
@@ -53,6 +58,7 @@ target_meets c inner w text target path x s at m right = record {
   scope =
       ap₂ (λ present outer. entered_scope (base_of target.resolver) present outer) m.stands.base m.scope ∙ sym at.found.scope ∙ sym at.scope;
   schema_path = refl;
+  matches = m.matches ∙ ap (λ (w : Bor Matches). reads w.now) (sym at.matches);
   right = right;
 }
 

@@ -10,3 +10,6 @@ pub mod NamedRefusals
 pub mod Counted
 pub mod Passed
 pub mod Noted
+pub mod Beside
+pub mod Choices
+pub mod Chosen

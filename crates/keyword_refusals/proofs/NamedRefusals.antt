@@ -57,6 +57,8 @@ HasOneName code.Nothing = Unit {0}
 HasOneName (code.Assertion a) = Unit {0}
 HasOneName (code.Items start schema) = Unit {0}
 HasOneName (code.Properties map) = Unit {0}
+HasOneName (code.If schema then_schema else_schema) = ⊥
+HasOneName (code.Consequent k schema) = Unit {0}
 HasOneName (code.Applicator a) = is_every a ≡ true
 HasOneName (code.Reference keyword text target) = Unit {0}
 
@@ -65,6 +67,8 @@ only_named code.Nothing n docs s one h = tt
 only_named (code.Assertion a) n docs s one h = h
 only_named (code.Items start schema) n docs s one h = h
 only_named (code.Properties map) n docs s one h = h
+only_named (code.If schema then_schema else_schema) n docs s one h = absurd one
+only_named (code.Consequent k schema) n docs s one h = tt
 only_named (code.Applicator a) n docs s one h = (one_name (below docs s) a n one h.0, tt)
 only_named (code.Reference keyword text target) n docs s one h = h
 

@@ -1,5 +1,5 @@
 -- Whether keywords refuse, by what is told of their questions.
-use Rattle.std.proofs.Common.{◌≡◌, ◌∙◌, ◌≤◌, List, [], ◌∷◌, Bool, true, false, not, ◌&&◌, map, Some, refl, sym, ap, subst}
+use Rattle.std.proofs.Common.{◌≡◌, ◌∙◌, ◌≤◌, ℕ, List, [], ◌∷◌, Bool, true, false, not, ◌&&◌, map, Some, refl, sym, ap, subst}
 use Rattle.serde_json.specs.Data.{Data, depth}
 use Rattle.serde_json.specs.View.{view}
 use Rattle.json_paths.specs.Parts.{Part}
@@ -26,6 +26,7 @@ use Rattle.schema_reports.specs.declared.all_faults.AllFaults.{AllFaults}
 use Rattle.schema_reports.specs.declared.observer.Observation.TheVariants as kept
 use Rattle.schema_reports.specs.declared.observer.Observer.TheVariants as observers
 use Rattle.plain_reader.specs.Tellings.{AreRead}
+use Rattle.schema_matches.specs.Read.{reads}
 use Rattle.plain_reader.specs.Sites.{TellsSite}
 use Rattle.check_laws.proofs.Answers.{answers_there, some_refused, refused_some, not_both}
 use Rattle.walk_laws.proofs.Begun.{rules_stand}
@@ -42,9 +43,10 @@ module _ (c : code.Site) (path : List Part) (d : Data) where
       → b ≡ cut verdicts (reading_of x) (keys_of x.documents d) [] s (whole d)
   verdict_heard old new b before says t x s m =
       let read : AreRead (documents_at c) x.makes s = subst (λ docs. AreRead docs x.makes s) m.documents (right_read x s m.right) in
-      let heard = says _ (t.tells x.makes x.matches s m.stands m.scope m.schema_path read kept.Verdict none before) in
-      subst (λ docs. b ≡ cut verdicts (plain docs x.makes x.matches) (keys_of docs d) [] s (whole d)) (sym m.documents)
-      (heard ∙ cut_agrees Site (plain (documents_at c) x.makes x.matches) (keys_of (documents_at c) d) [] s (whole d))
+      let heard = says _ (t.tells x.makes s m.stands m.scope m.schema_path read kept.Verdict none before) in
+      subst (λ (matches : List ℕ → List ℕ → Bool). b ≡ cut verdicts (plain x.documents x.makes matches) (keys_of x.documents d) [] s (whole d)) (sym m.matches)
+      (subst (λ docs. b ≡ cut verdicts (plain docs x.makes (reads c.matches.now)) (keys_of docs d) [] s (whole d)) (sym m.documents)
+      (heard ∙ cut_agrees Site (plain (documents_at c) x.makes (reads c.matches.now)) (keys_of (documents_at c) d) [] s (whole d)))
 
   twice : (b : Bool) → not (not b) ≡ b
   twice true = refl
@@ -62,13 +64,13 @@ module _ (c : code.Site) (path : List Part) (d : Data) where
   pub first_told : (old : Verdict) (new : FirstFault) (b : Bool) → verdict_stands old none → TellsSite c path d (observers.Verdict old) (observers.First new) → IsVerdict c path d b
   first_told old new b before t = record {
     told = λ x s m straight.
-        absurd (t.tells x.makes x.matches s m.stands m.scope m.schema_path (subst (λ docs. AreRead docs x.makes s) m.documents (right_read x s m.right)) kept.Verdict none before);
+        absurd (t.tells x.makes s m.stands m.scope m.schema_path (subst (λ docs. AreRead docs x.makes s) m.documents (right_read x s m.right)) kept.Verdict none before);
   }
 
   pub all_told : (old : Verdict) (new : AllFaults) (b : Bool) → verdict_stands old none → TellsSite c path d (observers.Verdict old) (observers.All new) → IsVerdict c path d b
   all_told old new b before t = record {
     told = λ x s m straight.
-        absurd (t.tells x.makes x.matches s m.stands m.scope m.schema_path (subst (λ docs. AreRead docs x.makes s) m.documents (right_read x s m.right)) kept.Verdict none before);
+        absurd (t.tells x.makes s m.stands m.scope m.schema_path (subst (λ docs. AreRead docs x.makes s) m.documents (right_read x s m.right)) kept.Verdict none before);
   }
 
 -- ---- by questions

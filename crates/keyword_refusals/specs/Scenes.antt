@@ -16,6 +16,7 @@ use Rattle.schema_reading.specs.Sites.{Site}
 use Rattle.schema_reading.specs.Plain.{plain}
 use Rattle.schema_reading.specs.Rows.{Row, rows_at}
 use Rattle.unread_keywords.specs.NotYet.{Cause, IsBuildCause}
+use Rattle.schema_matches.specs.Read.{reads}
 use Rattle.plain_reader.specs.Passed.{scope_of}
 use Rattle.plain_reader.specs.Passed.{documents_at, Stands}
 use Rattle.plain_reader.specs.Passed as code
@@ -34,12 +35,13 @@ reading_of x = plain x.documents x.makes x.matches
 pub record IsRight (x : Scene) (s : Site) : Type 0 where
   pub none : (cause : Cause) → IsBuildCause x.documents x.makes s cause → ⊥
 
--- a site of the plain reading that the code's stands for, under this schema path
+-- a site of the plain reading that the code's stands for, under this schema path, by the matches that were read
 pub record Meets (c : code.Site) (path : List Part) (x : Scene) (s : Site) : Type 0 where
   pub documents : x.documents ≡ documents_at c
   pub stands : Stands c s
   pub scope : s.scope ≡ scope_of c.resolver
   pub schema_path : s.schema_path ≡ path
+  pub matches : x.matches ≡ reads c.matches.now
   pub right : IsRight x s
 
 -- no references come back below it

@@ -1,8 +1,10 @@
 -- What is said of a schema, of a keyword and of questions, where no references come back.
-use Rattle.std.specs.Prelude.{◌≡◌, ◌<◌, ℕ, List, map, length, Bool, true, false, not, Some}
+use Rattle.std.specs.Prelude.{◌≡◌, ◌<◌, ℕ, List, map, length, Bool, true, false, not, Option, Some}
+use Rattle.std.specs.Borrow.{Bor}
 use Rattle.serde_json.specs.Data.{Data, object, depth, Members}
 use Rattle.serde_json.specs.Find.{get}
 use Rattle.serde_json.specs.View.{view, members_view}
+use Rattle.serde_json.specs.declared.value.Value.{Value}
 use Rattle.json_paths.specs.Parts.{Part}
 use Rattle.schema_meaning.specs.Members.{In, count_true}
 use Rattle.schema_meaning.specs.Places.{whole, value_after}
@@ -14,18 +16,19 @@ use Rattle.schema_meaning.specs.Certificates.{AreAnswers}
 use Rattle.schema_reading.specs.Sites.{Site, below}
 use Rattle.schema_reading.specs.Rows.{Row}
 use Rattle.place_laws.specs.Rising.{are_rising}
-use Rattle.plain_reader.specs.Passed.{shapes_of, row_of, FindsTarget}
+use Rattle.plain_reader.specs.Passed.{shapes_of, row_of, site_at, FindsTarget}
 use Rattle.plain_reader.specs.Passed as code
 use Rattle.plain_reader.specs.Passed.{Keyword}
-use Rattle.plain_reader.specs.Passed.{Nothing, Assertion, Items, Properties, Applicator, Reference}
+use Rattle.plain_reader.specs.Passed.{Nothing, Assertion, Items, Properties, If, Consequent, Applicator, Reference}
 use Rattle.plain_reader.specs.Applied.{EachInside}
+use Rattle.plain_reader.specs.Choices.{IsInside, AreInside}
 use Rattle.applicators.specs.Shapes.{shape_of, place_of}
 use Rattle.applicators.specs.Combined.{asks_values}
 use Rattle.applicators.specs.Questions.{step_of, question_of}
 use Rattle.applicators.specs.declared.applicator.Applicator as applied
 use Rattle.applicators.specs.declared.question.Question as asking
 use Rattle.keyword_refusals.specs.Rows.{property_site, properties_row, applied_row}
-use Rattle.keyword_refusals.specs.Scenes.{Scene, reading_of, Meets, IsStraight, Stage}
+use Rattle.keyword_refusals.specs.Scenes.{Scene, reading_of, IsRight, Meets, IsStraight, Stage}
 
 abbrev pub IsDecided : Bool → Type 0 → Type 0
 IsDecided true P = P
@@ -70,6 +73,21 @@ pub record IsRefusal (c : code.Site) (path : List Part) (d : Data) (k : Keyword)
 pub record IsRefusalAt (c : code.Site) (path : List Part) (d : Data) (k : Keyword) (name : List ℕ) (b : Bool) : Type 0 where
   pub decides : (x : Scene) (s : Site) → Stage c path d name (row_of x.documents s k) x s → IsDecided b (SomeRefusesAt name (reading_of x) d (rules_by x s d k))
 
+-- what the verdict of `if` chooses of two
+abbrev pub chosen_of : {A : Type 0} → Bool → A → A → A
+chosen_of true then_one else_one = then_one
+chosen_of false then_one else_one = else_one
+
+-- the verdict of a schema at a keyword of the one at a site
+pub record IsInnerVerdict (c : code.Site) (path : List Part) (d : Data) (k : List ℕ) (schema : Data) (b : Bool) : Type 0 where
+  pub told : (x : Scene) (s : Site) → Meets c path x s → IsRight x (site_at x.documents s k schema) → IsStraight x (site_at x.documents s k schema) d
+      → IsTold verdicts (reading_of x) (site_at x.documents s k schema) (whole d) b
+
+-- the schemas of `if`, and of `then` and `else` beside, lie in the schema
+pub record ChoosesIn (c : code.Site) (schema : Bor Value) (then_schema else_schema : Option (Bor Value)) : Type 0 where
+  pub inside : IsInside c schema
+  pub beside : AreInside c then_schema else_schema
+
 -- its verdict is by the number of answers that are yes, and the schemas that it asks lie in the schema
 pub record AppliesIn (c : code.Site) (a : applied.Applicator) : Type 0 where
   pub values : asks_values a ≡ true
@@ -81,6 +99,8 @@ LiesIn c Nothing = Unit {0}
 LiesIn c (Assertion a) = Unit {0}
 LiesIn c (Items start schema) = depth (view schema.now) < depth (view c.contents.now)
 LiesIn c (Properties map) = depth (object (members_view map.now.entries)) < depth (view c.contents.now)
+LiesIn c (If schema then_schema else_schema) = ChoosesIn c schema then_schema else_schema
+LiesIn c (Consequent k schema) = Unit {0}
 LiesIn c (Applicator a) = AppliesIn c a
 LiesIn c (Reference keyword text target) = FindsTarget c keyword text.now target
 

@@ -2,6 +2,7 @@
 #![tactic(auto)]
 
 mod applied;
+pub mod choosing;
 mod items;
 pub mod members;
 pub mod refusing;

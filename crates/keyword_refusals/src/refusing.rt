@@ -14,6 +14,7 @@ ghost use Rattle.keyword_refusals.specs.Rows.{reference_row, reference_questions
 ghost use Rattle.keyword_refusals.specs.Verdicts.{IsVerdict, IsRefusalAt, AreRefused, LiesIn};
 
 use crate::applied::applicator_refuses;
+use crate::choosing::condition_refuses;
 use crate::items::some_item_refused;
 use crate::members::some_member_refused;
 use crate::road::RoadPart;
@@ -58,7 +59,7 @@ fn is_target_refused<'r>(
     requires found { FindsTarget site.now keyword text.now target }
     ensures { IfOk result (AreRefused site.now (location_of path.now ++ path_of_reference (text_of last.entry)) (view value.now) (reference_row keyword text.now (target_in target.entry)) (reference_questions keyword text.now (target_in target.entry))) }
 {
-    let inner = at_target(&target)?;
+    let inner = at_target(&target, site.matches)?;
     let start = LazyLocation::new();
     is_refused(alloc, &inner, &start, Reference::followed(text), value)
 }
@@ -87,6 +88,24 @@ fn keyword_refuses<'a, 'r>(
         Keyword::Properties(schemas) => {
             some_member_refused(alloc, site, &*schema, reference, schemas, value)
         }
+        Keyword::If {
+            condition,
+            then_schema,
+            else_schema,
+        } => {
+            condition_refuses(
+                alloc,
+                site,
+                &*schema,
+                reference,
+                condition,
+                then_schema,
+                else_schema,
+                name,
+                value,
+            )
+        }
+        Keyword::Consequent { .. } => Ok(false),
         Keyword::Applicator(applicator) => {
             applicator_refuses(alloc, site, &*schema, reference, applicator, name, value)
         }

@@ -8,6 +8,8 @@ mod branching;
 #[cfg(test)]
 mod carrying;
 #[cfg(test)]
+mod choosing;
+#[cfg(test)]
 mod counting;
 #[cfg(test)]
 mod depending;

@@ -14,7 +14,7 @@ use Rattle.meaning_laws.proofs.Enough.{cut_all-same}
 use Rattle.meaning_laws.proofs.MatchLemmas.{rule_reads}
 use Rattle.match_laws.specs.Laws.{MatchAlike, CutByMatches}
 
-rules_read : {S : Type 0} (read other : List ℕ → List ℕ → Bool) (d : Data) (ks : List (Shape S)) → ((k : Shape S) → In k ks → ReadAlike read other (match_sites d k)) → map (rule read d) ks ≡ map (rule other d) ks
+pub rules_read : {S : Type 0} (read other : List ℕ → List ℕ → Bool) (d : Data) (ks : List (Shape S)) → ((k : Shape S) → In k ks → ReadAlike read other (match_sites d k)) → map (rule read d) ks ≡ map (rule other d) ks
 rules_read read other d [] h = refl
 rules_read read other d (k ∷ ks) h = ap₂ (λ x xs. x ∷ xs) (rule_reads read other d k (h k first)) (rules_read read other d ks (λ j i. h j (later i)))
 

@@ -48,6 +48,7 @@ use Rattle.plain_reader.specs.Settings.{Setting, asked_in, asked_by}
 use Rattle.plain_reader.specs.Tellings.{AreRead, Within, Tells, TellsQuestions}
 use Rattle.plain_reader.specs.Applied.{applied_leads, applied_questions, AreAsked, question_leads, one_question, EachInside, AsksInside, IsPart, entry_parts, TellsAsked}
 use Rattle.plain_reader.proofs.Reading.{row_here}
+use Rattle.plain_reader.proofs.ChoiceReading.{are_inside}
 use Rattle.plain_reader.proofs.ToldLemmas.{asked_by-more, asked_by-none}
 use Rattle.plain_reader.proofs.ItemTelling.{Child, Asked as AskedAt, asked_by-one, child_told}
 use Rattle.plain_reader.proofs.Left.{LeftOf, QuestionsLeft}
@@ -211,6 +212,8 @@ asks_inside c ms k e (keyword.Assertion a) is listed reads found = tt
 asks_inside c ms k e (keyword.Items start schema) is listed reads found = tt
 asks_inside c ms k e (keyword.Properties map) is listed reads found = tt
 asks_inside c ms k e (keyword.Reference by text target) is listed reads found = tt
+asks_inside c ms k e (keyword.If schema then_schema else_schema) is listed reads found = are_inside c ms k e schema then_schema else_schema is listed reads
+asks_inside c ms k e (keyword.Consequent n schema) is listed reads found = tt
 asks_inside c ms k e (keyword.Applicator a) is listed reads found = record {
   each = λ s stands scope matches d q i.
       let docs = documents_at c in

@@ -46,7 +46,7 @@ abbrev errors_told : List (Vec ValidationError Global) → List Faults
 errors_told context = map (λ es. faults_of es.items) context
 
 module _ (c : code.Site) (whole d : Data) (roads : Roads) (keys : List Key) (q : Question) where
-  answered : (k : Observation) (old new : Observer) → Hears k old none → TellsQuestions c whole d roads keys (question_leads q) (one_question q) old new
+  pub answered : (k : Observation) (old new : Observer) → Hears k old none → TellsQuestions c whole d roads keys (question_leads q) (one_question q) old new
       → (x : Setting) → Fits c d roads keys x → ((t : Site) → In t (question_leads q x) → AreRead x.documents x.makes t)
       → room (documents_at c) whole keys (view c.contents.now) ≤ x.depth → Hears k new (asked_in x (question_of (below x.documents x.site) q))
   answered k old new begun told x fits read enough = subst (Hears k new) (asked_by-one x (question_of (below x.documents x.site) q)) (told.tells x fits read enough k none begun)

@@ -1,5 +1,8 @@
 -- What the children of a site tell: by `items` and by `properties`.
 use Rattle.std.proofs.Common.{◌≡◌, ◌≤◌, ◌<◌, ◌+◌, ◌*◌, ◌++◌, ℕ, zero, suc, List, [], ◌∷◌, Option, Some, None, Ordering, Less, Equal, Greater, nat_cmp, is_eq, codes, drop, refl, sym, ap, ap₂, subst, ◌∙◌, arith}
+use Rattle.std.specs.Borrow.{Bor}
+use Rattle.schema_matches.specs.Read.{reads}
+use Rattle.schema_matches.specs.declared.matches.Matches.{Matches}
 use Rattle.std.specs.Ordering.{match_ordering}
 use Rattle.std.specs.Cmp.Lexicographic.{slice_cmp}
 use Rattle.std.proofs.lemmas.Slice.Eq.{bytes_eq-Decides}
@@ -47,6 +50,7 @@ pub record Child (c b : code.Site) (d : Data) : Type 0 where
   pub documents : documents_at b ≡ documents_at c
   pub scope : scope_of b.resolver ≡ entered_scope (base_of b.resolver) (base_of c.resolver) (scope_of c.resolver)
   pub stands : (s : Site) (added : List Part) → Stands c s → Stands b (below (documents_at c) s added d)
+  pub matches : b.matches ≡ c.matches
 
 pub child_shallow : (c b : code.Site) (d : Data) → Child c b d → depth d < depth (view c.contents.now) → depth (view c.contents.now) ≤ deepest (documents_at c)
     → depth (view b.contents.now) ≤ deepest (documents_at b)
@@ -111,6 +115,7 @@ module _ (c b : code.Site) (d whole value v : Data) (roads at_roads : Roads) (ke
         schema_path = ap (λ path. added ++ path) fits.schema_path ∙ sym asked.schema_path;
         spot = ap (λ (w : Spot). after w step added) fits.spot ∙ asked.spot;
         keys = fits.keys;
+        matches = fits.matches ∙ ap (λ (m : Bor Matches). reads m.now) (sym child.matches);
         read = read;
       }
 

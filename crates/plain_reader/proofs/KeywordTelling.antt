@@ -1,8 +1,9 @@
 -- What a member of a schema tells, by what its keyword does.
-use Rattle.std.proofs.Common.{◌≡◌, ◌<◌, ◌≤◌, ℕ, zero, suc, List, [], ◌∷◌, Bool, true, false, refl, sym, ap, ◌∙◌, arith, subst}
+use Rattle.std.proofs.Common.{◌≡◌, ◌<◌, ◌≤◌, ℕ, zero, suc, List, [], ◌∷◌, Bool, true, false, Bor, Option, refl, sym, ap, ◌∙◌, arith, subst}
 use Rattle.std.specs.List.{flat_map}
 use Rattle.serde_json.specs.Data.{Data, null, boolean, number, string, array, object, Members}
 use Rattle.serde_json.specs.View.{view}
+use Rattle.serde_json.specs.declared.value.Value.{Value}
 use Rattle.schema_meaning.specs.Members.{In}
 use Rattle.schema_meaning.specs.Places.{Key}
 use Rattle.schema_meaning.specs.Faults.{FalseSchema, fault, Faults, none, also, joined}
@@ -23,7 +24,7 @@ use Rattle.unread_keywords.specs.NotYet.{is_unread}
 use Rattle.schema_reading.specs.Plain.{keywords_at}
 use Rattle.schema_sites.specs.Passed.{scope_of}
 use Rattle.schema_sites.specs.Seen.{documents_at, Stands}
-use Rattle.schema_sites.specs.Read.{row_of, context_at}
+use Rattle.schema_sites.specs.Read.{leads_of, row_of, context_at}
 use Rattle.schema_sites.specs.Refused.{Refuses}
 use Rattle.schema_sites.specs.declared.site.Site as code
 use Rattle.schema_sites.specs.declared.keyword.Keyword.{Keyword}
@@ -39,9 +40,11 @@ use Rattle.assertion_faults.specs.Tellings.{TellsAssertion, TellsNotes, spot_at}
 use Rattle.plain_reader.specs.Settings.{Setting, reading_in, told_in, told_by, asked_by}
 use Rattle.plain_reader.specs.Tellings.{Fits, AreRead, Tells, TellsShapes, TellsQuestions, room}
 use Rattle.plain_reader.specs.Shapes.{no_leads, context_in, shapes_at, shapes_among, keyword_leads, keyword_shapes, items_site, items_leads, items_questions, declared_in, properties_leads, properties_questions}
+use Rattle.plain_reader.specs.Choices.{choice_leads, choice_shapes}
 use Rattle.plain_reader.specs.Targets.{reference_leads, reference_questions}
 use Rattle.schema_reports.proofs.FaultLemmas.{joined-none, joined-joined}
 use Rattle.plain_reader.proofs.ToldLemmas.{told_by-none, told_by-asserts, told_by-never, told_by-items, told_by-properties, told_by-every, told_by-reference, asked_by-none, asked_by-more, told_deeper}
+use Rattle.plain_reader.proofs.ChoiceReading.{choice_read}
 use Rattle.plain_reader.proofs.Reading.{read_here, read_on, read_each, row_here, keywords-of}
 
 -- ---- nothing more is told
@@ -117,7 +120,33 @@ module _ (c : code.Site) (whole d : Data) (roads : Roads) (progress : List Key) 
   tells_reference k kind text target old new led shaped told = tells_questions k (reference_leads text target) (reference_questions (reference_name kind) text target) old new led
       (λ x is. ap (told_by x) (shaped x) ∙ told_by-reference x kind (target_site x.site text target) ∙ sym (asked_by-more x _ [] ∙ ap (joined _) (asked_by-none x) ∙ joined-none _)) told
 
+  pub tells_choice : (k : Keyword) (schema : Bor Value) (then_schema else_schema : Option (Bor Value)) (old new : Observer) → k ≡ keyword.If schema then_schema else_schema
+      → TellsShapes c whole d roads progress (choice_leads schema then_schema else_schema) (choice_shapes schema then_schema else_schema) old new
+      → TellsShapes c whole d roads progress (keyword_leads k) (keyword_shapes k) old new
+  tells_choice k schema then_schema else_schema old new is told =
+      subst (λ (k : Keyword). TellsShapes c whole d roads progress (keyword_leads k) (keyword_shapes k) old new) (sym is) told
+
   -- ---- a member, by its keyword
+
+  -- the sites that it asks are read
+  asked_read : (ms : Members) (k : List ℕ) (e : Data) (word : Keyword) → view c.contents.now ≡ object ms → In (k, e) (listed_members ms) → (x : Setting) → Fits c d roads progress x
+      → row_at (context_in ms x) k e ≡ row_of x.documents x.site word → (t : Site) → In t (keyword_leads word x) → AreRead x.documents x.makes t
+  asked_read ms k e word is listed x fits row t i = by word row i
+    where
+      led : (w : Keyword) → row_at (context_in ms x) k e ≡ row_of x.documents x.site w → In t (leads_of x.documents x.site w) → AreRead x.documents x.makes t
+      led w row i =
+          let lies = row_here x.documents x.makes x.site ms k e (fits.stands.contents ∙ is) listed in
+          read_on x.documents x.makes x.site (row_at (context_in ms x) k e) t fits.read lies (subst (λ r. In t r.leads) (sym row) i)
+
+      by : (w : Keyword) → row_at (context_in ms x) k e ≡ row_of x.documents x.site w → In t (keyword_leads w x) → AreRead x.documents x.makes t
+      by keyword.Nothing row i = led keyword.Nothing row i
+      by (keyword.Assertion a) row i = led (keyword.Assertion a) row i
+      by (keyword.Items start schema) row i = led (keyword.Items start schema) row i
+      by (keyword.Properties map) row i = led (keyword.Properties map) row i
+      by (keyword.If schema then_schema else_schema) row i = choice_read x ms k e schema then_schema else_schema (fits.stands.contents ∙ is) listed fits.read row t i
+      by (keyword.Consequent n schema) row i = elim i [ ]
+      by (keyword.Applicator a) row i = led (keyword.Applicator a) row i
+      by (keyword.Reference r text target) row i = led (keyword.Reference r text target) row i
 
   pub tells_member : (ms : Members) (k : List ℕ) (e : Data) (word : Keyword) (old new : Observer) → view c.contents.now ≡ object ms → In (k, e) (listed_members ms)
       → ((makes : List ℕ → Bool) (s : Site) → Stands c s → s.scope ≡ scope_of c.resolver → row_at (context_at c ms makes s) k e ≡ row_of (documents_at c) s word)
@@ -127,9 +156,7 @@ module _ (c : code.Site) (whole d : Data) (roads : Roads) (progress : List Key) 
     tells = λ x fits none deep kept fs h.
         let row : row_at (context_in ms x) k e ≡ row_of x.documents x.site word =
         subst (λ docs. row_at (record { documents = docs; makes = x.makes; site = x.site; members = ms }) k e ≡ row_of docs x.site word) (sym fits.documents) (reads x.makes x.site fits.stands fits.scope) in
-        let lies = row_here x.documents x.makes x.site ms k e (fits.stands.contents ∙ is) listed in
-        let read : (t : Site) → In t (keyword_leads word x) → AreRead x.documents x.makes t =
-        λ t i. read_on x.documents x.makes x.site (row_at (context_in ms x) k e) t fits.read lies (subst (λ r. In t r.leads) (sym row) i) in
+        let read : (t : Site) → In t (keyword_leads word x) → AreRead x.documents x.makes t = λ t i. asked_read ms k e word is listed x fits row t i in
         subst (λ r. Hears kept new (joined fs (told_by x r.shapes))) (sym row) (told.tells x fits read deep kept fs h);
   }
 
@@ -182,7 +209,7 @@ module _ (c : code.Site) (whole d : Data) (roads : Roads) (progress : List Key) 
         let b = depth_below x.depth (room (documents_at c) whole progress (view c.contents.now)) deep in
         let y = down_to x b.before in
         let fits_too : Fits c d roads progress y =
-        record { documents = fits.documents; stands = fits.stands; scope = fits.scope; schema_path = fits.schema_path; spot = fits.spot; keys = fits.keys; read = fits.read } in
+        record { documents = fits.documents; stands = fits.stands; scope = fits.scope; schema_path = fits.schema_path; spot = fits.spot; keys = fits.keys; matches = fits.matches; read = fits.read } in
         let all : told_in x ≡ told_by y (shapes y) = told_down x b.before b.is ∙ ap (told_by y) (same y fits_too) in
         subst (λ gs. Hears kept new (joined fs gs)) (sym all) (told.tells y fits_too (λ t i. elim i [ ]) b.enough kept fs h);
   }

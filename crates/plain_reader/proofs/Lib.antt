@@ -12,3 +12,5 @@ pub mod RefusalLemmas
 pub mod CombinedTelling
 pub mod Reading
 pub mod KeywordTelling
+pub mod ChoiceReading
+pub mod ChoiceTelling

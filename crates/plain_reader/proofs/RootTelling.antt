@@ -1,5 +1,8 @@
 -- What a root tells.
-use Rattle.std.proofs.Common.{◌≡◌, ◌<◌, ◌≤◌, ◌+◌, ◌*◌, ℕ, suc, List, [], ◌∷◌, None, refl, sym, ap₂, ◌∙◌, subst, arith}
+use Rattle.std.proofs.Common.{◌≡◌, ◌<◌, ◌≤◌, ◌+◌, ◌*◌, ℕ, suc, List, [], ◌∷◌, None, refl, sym, ap, ap₂, ◌∙◌, subst, arith}
+use Rattle.std.specs.Borrow.{Bor}
+use Rattle.schema_matches.specs.Read.{reads}
+use Rattle.schema_matches.specs.declared.matches.Matches.{Matches}
 use Rattle.serde_json.specs.Data.{Data, depth}
 use Rattle.serde_json.specs.View.{view}
 use Rattle.json_paths.specs.Parts.{Part}
@@ -31,14 +34,14 @@ pub root_shallow : (docs other : Documents) (e f : Data) → other ≡ docs → 
 root_shallow docs other e f same contents h =
     subst (λ (ds : Documents). depth f ≤ deepest ds) (sym same) (subst (λ (x : Data). depth x ≤ deepest docs) (sym contents) h)
 
-pub root_told : (c : code.Site) (docs : Documents) (t : Target) (d : Data) (roads : Roads) (old new : Observer) → documents_at c ≡ docs → Stands c (root_site t)
+pub root_told : (c : code.Site) (docs : Documents) (t : Target) (m : Bor Matches) (d : Data) (roads : Roads) (old new : Observer) → documents_at c ≡ docs → c.matches ≡ m → Stands c (root_site t)
     → scope_of c.resolver ≡ t.base ∷ [] → view c.contents.now ≡ t.contents → instance_in roads ≡ [] → schema_in roads ≡ [] → evaluation_in roads ≡ []
-    → depth t.contents ≤ deepest docs → Tells c d d roads [] old new → TellsRoot t docs d old new
+    → depth t.contents ≤ deepest docs → Tells c d d roads [] old new → TellsRoot t docs m.now d old new
 unfolding cut
-root_told c docs t d roads old new same stands scope contents at_instance at_schema at_evaluation shallow told = record {
-  tells = λ makes matches read kept fs h.
+root_told c docs t m d roads old new same matched stands scope contents at_instance at_schema at_evaluation shallow told = record {
+  tells = λ makes read kept fs h.
       let n : ℕ = suc (left [] (keys_of docs d)) * suc (deepest docs) in
-      let x : Setting = record { documents = docs; makes = makes; matches = matches; depth = n; keys = []; site = root_site t; spot = whole d } in
+      let x : Setting = record { documents = docs; makes = makes; matches = reads m.now; depth = n; keys = []; site = root_site t; spot = whole d } in
       let fits : Fits c d roads [] x = record {
         documents = sym same;
         stands = stands;
@@ -46,6 +49,7 @@ root_told c docs t d roads old new same stands scope contents at_instance at_sch
         schema_path = sym at_schema;
         spot = ap₂ (λ (i e : List Part). record { value = d; path = i; called = None; road = e }) (sym at_instance) (sym at_evaluation);
         keys = refl;
+        matches = ap (λ (m : Bor Matches). reads m.now) (sym matched);
         read = read;
       } in
       let is : room (documents_at c) d [] (view c.contents.now) ≡ room docs d [] t.contents = ap₂ (λ (ds : Documents) (e : Data). room ds d [] e) same contents in
@@ -57,10 +61,10 @@ pub site_told : (c : code.Site) (d : Data) (roads : Roads) (above : List Part) (
     → depth (view c.contents.now) ≤ deepest (documents_at c) → Tells c d d roads [] old new → TellsSite c above d old new
 unfolding cut
 site_told c d roads above old new at_instance at_schema at_evaluation shallow told = record {
-  tells = λ makes matches s stands scope path read kept fs h.
+  tells = λ makes s stands scope path read kept fs h.
       let docs : Documents = documents_at c in
       let n : ℕ = suc (left [] (keys_of docs d)) * suc (deepest docs) in
-      let x : Setting = record { documents = docs; makes = makes; matches = matches; depth = n; keys = []; site = s; spot = whole d } in
+      let x : Setting = record { documents = docs; makes = makes; matches = reads c.matches.now; depth = n; keys = []; site = s; spot = whole d } in
       let fits : Fits c d roads [] x = record {
         documents = refl;
         stands = stands;
@@ -68,6 +72,7 @@ site_told c d roads above old new at_instance at_schema at_evaluation shallow to
         schema_path = path ∙ sym at_schema;
         spot = ap₂ (λ (i e : List Part). record { value = d; path = i; called = None; road = e }) (sym at_instance) (sym at_evaluation);
         keys = refl;
+        matches = refl;
         read = read;
       } in
       let less : room docs d [] (view c.contents.now) < n = first_fits (left [] (keys_of docs d)) (deepest docs) (depth (view c.contents.now)) shallow in

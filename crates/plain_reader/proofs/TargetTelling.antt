@@ -1,5 +1,8 @@
 -- What a reference tells: what its target does, unless it is in progress.
 use Rattle.std.proofs.Common.{◌≡◌, ◌<◌, ◌≤◌, ◌+◌, ◌*◌, ℕ, suc, List, [], ◌∷◌, Bool, true, false, None, refl, sym, ap, ap₂, ◌∙◌, subst, arith, map}
+use Rattle.std.specs.Borrow.{Bor}
+use Rattle.schema_matches.specs.Read.{reads}
+use Rattle.schema_matches.specs.declared.matches.Matches.{Matches}
 use Rattle.std.proofs.Math.Nat.{mul-le-mul_right}
 use Rattle.serde_json.specs.Data.{Data, null, boolean, number, string, array, object, depth}
 use Rattle.serde_json.specs.View.{view}
@@ -83,14 +86,14 @@ module _ (c : code.Site) (whole d : Data) (roads : Roads) (progress : List Key) 
   pub target_on : (b : Bool) (inner : code.Site) (on : Roads) (old new : Observer)
       → b ≡ is_in_progress (key t.document t.path (instance_in roads)) progress → b ≡ false
       → Lies (documents_at c) t → Within d (instance_in roads) whole
-      → documents_at inner ≡ documents_at c → t.contents ≡ view inner.contents.now
+      → documents_at inner ≡ documents_at c → inner.matches ≡ c.matches → t.contents ≡ view inner.contents.now
       → ((s : Site) → Stands inner (target_site s text t))
       → ((s : Site) → s.base ≡ base_of c.resolver → s.scope ≡ scope_of c.resolver → (target_site s text t).scope ≡ scope_of inner.resolver)
       → instance_in on ≡ instance_in roads → evaluation_in on ≡ name k ∷ evaluation_in roads → schema_in on ≡ path_of_reference text
       → Tells inner whole d on (key t.document t.path (instance_in roads) ∷ progress) old new
       → TellsQuestions c whole d roads progress (reference_leads text t) (reference_questions k text t) old new
   unfolding asks
-  target_on b inner on old new is go lies within same_documents contents stands scopes at_instance at_evaluation at_schema told = record {
+  target_on b inner on old new is go lies within same_documents same_matches contents stands scopes at_instance at_evaluation at_schema told = record {
     tells = λ x fits leads fit kept fs h.
         let new_key : is_in_progress (key t.document t.path (instance_in roads)) progress ≡ false = sym is ∙ go in
         let not_back : is_in_progress (key_of x (asks x)) x.keys ≡ false = ap₂ is_in_progress (same_key x fits) fits.keys ∙ new_key in
@@ -105,6 +108,7 @@ module _ (c : code.Site) (whole d : Data) (roads : Roads) (progress : List Key) 
           schema_path = sym at_schema;
           spot = child_spot;
           keys = ap₂ (λ (one : Key) (ks : List Key). one ∷ ks) (same_key x fits) fits.keys;
+          matches = fits.matches ∙ ap (λ (m : Bor Matches). reads m.now) (sym same_matches);
           read = leads (target_site x.site text t) first;
         } in
         let deeper = target_deeper (documents_at c) whole d (view c.contents.now) t (instance_in roads) progress lies within new_key in

@@ -27,6 +27,7 @@ use Rattle.schema_reports.specs.declared.roads.Roads.{Roads}
 use Rattle.schema_reports.specs.declared.observer.Observer.{Observer}
 use Rattle.plain_reader.specs.Settings.{Setting}
 use Rattle.plain_reader.specs.Tellings.{Tells}
+use Rattle.plain_reader.specs.Choices.{AreInside}
 
 abbrev pub applied_leads : Applicator → Setting → List Site
 applied_leads a x = leads_of (below x.documents x.site) a
@@ -58,6 +59,8 @@ AsksInside c keyword.Nothing = Unit {0}
 AsksInside c (keyword.Assertion a) = Unit {0}
 AsksInside c (keyword.Items start schema) = Unit {0}
 AsksInside c (keyword.Properties map) = Unit {0}
+AsksInside c (keyword.If schema then_schema else_schema) = AreInside c then_schema else_schema
+AsksInside c (keyword.Consequent k schema) = Unit {0}
 AsksInside c (keyword.Applicator a) = EachInside c a
 AsksInside c (keyword.Reference by text target) = Unit {0}
 

@@ -1,6 +1,7 @@
 pub mod Settings
 pub mod Keys
 pub mod Tellings
+pub mod Choices
 pub mod Shapes
 pub mod Applied
 pub mod Combined

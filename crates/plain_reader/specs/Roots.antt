@@ -10,12 +10,14 @@ use Rattle.schema_documents.specs.Lookup.{Target}
 use Rattle.schema_reading.specs.Sites.{root_site}
 use Rattle.schema_reading.specs.Plain.{plain}
 use Rattle.schema_reading.specs.AllKeys.{keys_of}
+use Rattle.schema_matches.specs.Read.{reads}
+use Rattle.schema_matches.specs.declared.matches.Matches.{Matches}
 use Rattle.schema_reports.specs.Observers.{Hears}
 use Rattle.schema_reports.specs.declared.observer.Observation.{Observation}
 use Rattle.schema_reports.specs.declared.observer.Observer.{Observer}
 use Rattle.plain_reader.specs.Tellings.{AreRead}
 
--- where every schema reached from the root is read, the observer is told what the cut reading tells
-pub record TellsRoot (root : Target) (docs : Documents) (d : Data) (old new : Observer) : Type 0 where
-  pub tells : (makes : List ℕ → Bool) (matches : List ℕ → List ℕ → Bool) → AreRead docs makes (root_site root) → (kept : Observation) (fs : Faults) → Hears kept old fs
-      → Hears kept new (joined fs (cut bags (plain docs makes matches) (keys_of docs d) [] (root_site root) (whole d)))
+-- where every schema reached from the root is read, the observer is told what the cut reading tells by the matches that were read
+pub record TellsRoot (root : Target) (docs : Documents) (m : Matches) (d : Data) (old new : Observer) : Type 0 where
+  pub tells : (makes : List ℕ → Bool) → AreRead docs makes (root_site root) → (kept : Observation) (fs : Faults) → Hears kept old fs
+      → Hears kept new (joined fs (cut bags (plain docs makes (reads m)) (keys_of docs d) [] (root_site root) (whole d)))

@@ -10,6 +10,8 @@ use Rattle.schema_reading.specs.Rows.{Context, row_at, rows_of, sites_named}
 use Rattle.schema_reading.specs.Sites.{Site, below}
 use Rattle.schema_sites.specs.Read.{each_below, leads_of, shapes_of}
 use Rattle.schema_sites.specs.declared.keyword.Keyword.{Keyword}
+use Rattle.schema_sites.specs.declared.keyword.Keyword.TheVariants as keyword
+use Rattle.plain_reader.specs.Choices.{choice_leads}
 use Rattle.plain_reader.specs.Settings.{Setting}
 
 abbrev pub no_leads : Setting → List Site
@@ -25,9 +27,17 @@ shapes_among all ms x = flat_map (λ r. r.shapes) (rows_of (context_in all x) ms
 abbrev pub shapes_at : Members → List ℕ → Data → Setting → List (Shape Site)
 shapes_at all k d x = (row_at (context_in all x) k d).shapes
 
--- of a keyword that the code has read
+-- of a keyword that the code has read: the sites that it asks, which are those that it leads to, and of `if` those of `then` and `else`
+-- beside
 abbrev pub keyword_leads : Keyword → Setting → List Site
-keyword_leads k x = leads_of x.documents x.site k
+keyword_leads keyword.Nothing x = []
+keyword_leads (keyword.Assertion a) x = []
+keyword_leads (keyword.Items start schema) x = leads_of x.documents x.site (keyword.Items start schema)
+keyword_leads (keyword.Properties map) x = leads_of x.documents x.site (keyword.Properties map)
+keyword_leads (keyword.If schema then_schema else_schema) x = choice_leads schema then_schema else_schema x
+keyword_leads (keyword.Consequent k schema) x = []
+keyword_leads (keyword.Applicator a) x = leads_of x.documents x.site (keyword.Applicator a)
+keyword_leads (keyword.Reference by text target) x = leads_of x.documents x.site (keyword.Reference by text target)
 
 abbrev pub keyword_shapes : Keyword → Setting → List (Shape Site)
 keyword_shapes k x = shapes_of x.documents x.site k

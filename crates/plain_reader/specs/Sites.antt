@@ -12,6 +12,7 @@ use Rattle.schema_reading.specs.AllKeys.{keys_of}
 use Rattle.schema_sites.specs.Passed.{scope_of}
 use Rattle.schema_sites.specs.Seen.{documents_at, Stands}
 use Rattle.schema_sites.specs.declared.site.Site as code
+use Rattle.schema_matches.specs.Read.{reads}
 use Rattle.schema_reports.specs.Observers.{Hears}
 use Rattle.schema_reports.specs.declared.observer.Observation.{Observation}
 use Rattle.schema_reports.specs.declared.observer.Observer.{Observer}
@@ -19,6 +20,6 @@ use Rattle.plain_reader.specs.Tellings.{AreRead}
 
 -- where every schema reached from the site is read, the observer is told what the cut reading tells from there on
 pub record TellsSite (c : code.Site) (schema_path : List Part) (d : Data) (old new : Observer) : Type 0 where
-  pub tells : (makes : List ℕ → Bool) (matches : List ℕ → List ℕ → Bool) (s : Site) → Stands c s → s.scope ≡ scope_of c.resolver → s.schema_path ≡ schema_path
+  pub tells : (makes : List ℕ → Bool) (s : Site) → Stands c s → s.scope ≡ scope_of c.resolver → s.schema_path ≡ schema_path
       → AreRead (documents_at c) makes s → (kept : Observation) (fs : Faults) → Hears kept old fs
-      → Hears kept new (joined fs (cut bags (plain (documents_at c) makes matches) (keys_of (documents_at c) d) [] s (whole d)))
+      → Hears kept new (joined fs (cut bags (plain (documents_at c) makes (reads c.matches.now)) (keys_of (documents_at c) d) [] s (whole d)))

@@ -15,6 +15,7 @@ use Rattle.schema_reading.specs.BuildCauses.{Reached}
 use Rattle.unread_keywords.specs.NotYet.{unread}
 use Rattle.schema_reading.specs.Plain.{deepest}
 use Rattle.schema_reading.specs.AllKeys.{keys_of, spots_in}
+use Rattle.schema_matches.specs.Read.{reads}
 use Rattle.schema_sites.specs.Passed.{scope_of}
 use Rattle.schema_sites.specs.Seen.{documents_at, Stands}
 use Rattle.schema_sites.specs.declared.site.Site as code
@@ -30,7 +31,7 @@ use Rattle.plain_reader.specs.Settings.{Setting, told_in, told_by, asked_by}
 pub record AreRead (docs : Documents) (makes : List ℕ → Bool) (s : Site) : Type 0 where
   pub each : (t : Site) → Reached docs makes s t → unread t ≡ []
 
--- a setting is that of the code's site, value and roads
+-- a setting is that of the code's site with the matches read of the instance, of its value and its roads
 pub record Fits (c : code.Site) (d : Data) (roads : Roads) (progress : List Key) (x : Setting) : Type 0 where
   pub documents : x.documents ≡ documents_at c
   pub stands : Stands c x.site
@@ -38,6 +39,7 @@ pub record Fits (c : code.Site) (d : Data) (roads : Roads) (progress : List Key)
   pub schema_path : x.site.schema_path ≡ schema_in roads
   pub spot : x.spot ≡ spot_at d roads
   pub keys : x.keys ≡ progress
+  pub matches : x.matches ≡ reads c.matches.now
   pub read : AreRead x.documents x.makes x.site
 
 -- how deep a reading of a schema may still go

@@ -1,6 +1,7 @@
 //! The plain reader: what a schema tells of a value, each reference looked up anew.
 #![tactic(auto)]
 
+mod asking;
 mod heard;
 mod notes;
 mod progress;

@@ -1,5 +1,5 @@
 //! The reading of a schema.
-ghost use Rattle.std.specs.Prelude.{◌≡◌, ◌≤◌, ◌<◌, [], OnOk, IfOk, Some, true, false};
+ghost use Rattle.std.specs.Prelude.{◌≡◌, ◌≤◌, ◌<◌, [], OnOk, IfOk, IfSome, Some, true, false};
 ghost use Rattle.serde_json.specs.Find.{get};
 ghost use Rattle.serde_json.specs.Data.{depth, object};
 ghost use Rattle.serde_json.specs.View.{view, members_view};
@@ -13,12 +13,14 @@ ghost use Rattle.schema_sites.specs.Seen.{documents_at};
 ghost use Rattle.schema_reports.specs.RoadPaths.{instance_in};
 ghost use Rattle.plain_reader.specs.Keys.{keys_in};
 ghost use Rattle.plain_reader.specs.Tellings.{Within, Tells, TellsShapes, TellsQuestions};
+ghost use Rattle.plain_reader.specs.Choices.{beside_leads, beside_questions, choice_leads, choice_shapes, AreInside, IsInside};
 ghost use Rattle.plain_reader.specs.Shapes.{no_leads, shapes_among, shapes_at, keyword_leads, keyword_shapes, items_leads, items_questions, properties_leads, properties_questions, property_leads, property_questions};
 ghost use Rattle.applicators.specs.Combined.{is_every, asks_values};
 ghost use Rattle.plain_reader.specs.Applied.{AsksInside, EachInside, AreAsked, IsPart, TellsAsked, entry_parts, applied_leads, applied_shapes, applied_questions, question_leads, one_question};
 ghost use Rattle.plain_reader.specs.Combined.{Counts, HasBranches};
 ghost use Rattle.plain_reader.specs.Targets.{reference_leads, reference_questions};
 
+use crate::asking::of_value;
 use crate::heard::{all_heard, heard_none};
 use crate::notes::tell_notes;
 use crate::progress::{Progress, is_in_progress};
@@ -174,6 +176,24 @@ fn read_keyword<'r, 'i>(
         Keyword::Properties(schemas) => {
             read_properties(reading, site, schemas, value, roads, progress, observer)
         }
+        Keyword::If {
+            condition,
+            then_schema,
+            else_schema,
+        } => {
+            read_condition(
+                reading,
+                site,
+                condition,
+                then_schema,
+                else_schema,
+                value,
+                roads,
+                progress,
+                observer,
+            )
+        }
+        Keyword::Consequent { .. } => Ok(()),
         Keyword::Applicator(applicator) => {
             read_applicator(reading, site, applicator, value, roads, progress, observer)
         }
@@ -294,6 +314,80 @@ fn read_property<'a, 'r, 'i>(
         evaluation: &evaluation,
     };
     read_site(reading, &inner, member, at, progress, observer)
+}
+
+// What `if` tells: what `then` does where its schema accepts, and what `else` does where it does not.
+#[cycle(read)]
+fn read_condition<'r, 'i>(
+    reading: &Reading<'i>,
+    site: &Site<'r>,
+    condition: &'r Value,
+    then_schema: Option<&'r Value>,
+    else_schema: Option<&'r Value>,
+    value: &'i Value,
+    roads: Roads<'_>,
+    progress: &Progress<'_>,
+    observer: &mut Observer<'i>,
+) -> Result<(), AllocError>
+    requires shallow { depth (view site.now.contents.now) ≤ deepest (documents_at site.now) }
+    requires within { Within (view value.now) (instance_in roads) (view reading.now.whole.now) }
+    requires inside { IsInside site.now condition }
+    requires beside { AreInside site.now then_schema else_schema }
+    ensures { OnOk result (TellsShapes site.now (view reading.now.whole.now) (view value.now) roads.entry (keys_in progress.now) (choice_leads condition.entry then_schema.entry else_schema.entry) (choice_shapes condition.entry then_schema.entry else_schema.entry) observer.old observer.new) }
+{
+    let mut answer = Observer::Verdict(Verdict::new());
+    let question = of_value("if", condition);
+    read_question(reading, site, question, value, roads, progress, &mut answer)?;
+    let accepts = heard_none(answer);
+    if accepts {
+        read_beside(
+            reading,
+            site,
+            "then",
+            then_schema,
+            value,
+            roads,
+            progress,
+            observer,
+        )
+    } else {
+        read_beside(
+            reading,
+            site,
+            "else",
+            else_schema,
+            value,
+            roads,
+            progress,
+            observer,
+        )
+    }
+}
+
+// What the schema at a keyword tells, if one stands there.
+#[cycle(read)]
+fn read_beside<'r, 'i>(
+    reading: &Reading<'i>,
+    site: &Site<'r>,
+    keyword: &'static str,
+    schema: Option<&'r Value>,
+    value: &'i Value,
+    roads: Roads<'_>,
+    progress: &Progress<'_>,
+    observer: &mut Observer<'i>,
+) -> Result<(), AllocError>
+    requires shallow { depth (view site.now.contents.now) ≤ deepest (documents_at site.now) }
+    requires within { Within (view value.now) (instance_in roads) (view reading.now.whole.now) }
+    requires inside { IfSome schema (IsInside site.now) }
+    ensures { OnOk result (TellsQuestions site.now (view reading.now.whole.now) (view value.now) roads.entry (keys_in progress.now) (beside_leads keyword.now schema.entry) (beside_questions keyword.now schema.entry) observer.old observer.new) }
+{
+    match schema {
+        Some(schema) => {
+            let question = of_value(keyword, schema);
+            read_question(reading, site, question, value, roads, progress, observer)
+        }
+        None => Ok(()),
+    }
 }
 
 // What an applicator tells.
@@ -631,7 +725,7 @@ fn read_target<'a, 'r, 'i>(
     if is_in_progress(progress, target.document(), target.path(), roads.instance) {
         return Ok(());
     }
-    let inner = at_target(&target)?;
+    let inner = at_target(&target, site.matches)?;
     let entered = Progress::Target {
         document: target.document(),
         path: target.path(),

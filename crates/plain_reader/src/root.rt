@@ -8,6 +8,7 @@ ghost use Rattle.plain_reader.specs.Roots.{TellsRoot};
 
 use crate::progress::Progress;
 use crate::read::{Reading, read_site};
+use schema_matches::matches::Matches;
 use schema_reports::{LazyLocation, Observer, Reference, Roads};
 use schema_sites::Resolved;
 use schema_sites::site::at_root;
@@ -15,7 +16,7 @@ use serde_json::Value;
 use std::alloc::{AllocError, Global};
 
 /// Tells an observer what a root tells of an instance, where every schema reached from the root is read; a reference that comes back to
-/// its target at one place of the instance is taken as accepting there.
+/// its target at one place of the instance is taken as accepting there. The matches of patterns are those that were read of the instance.
 ///
 /// Each keyword that asks walks the part of the instance that it applies to once, and each reference is looked up once for each value
 /// that it is asked of, and compared with those in progress. Nothing is copied before a fault is told.
@@ -26,13 +27,14 @@ use std::alloc::{AllocError, Global};
 pub fn tell_root<'r, 'i>(
     alloc: Global,
     root: &Resolved<'r>,
+    matches: &'r Matches,
     value: &'i Value,
     observer: &mut Observer<'i>,
 ) -> Result<(), AllocError>
     requires shallow { depth (target_in root.now).contents ≤ deepest (documents_in root.now.resolver ∷ []) }
-    ensures { OnOk result (TellsRoot (target_in root.now) (documents_in root.now.resolver ∷ []) (view value.now) observer.old observer.new) }
+    ensures { OnOk result (TellsRoot (target_in root.now) (documents_in root.now.resolver ∷ []) matches.now (view value.now) observer.old observer.new) }
 {
-    let site = at_root(root)?;
+    let site = at_root(root, matches)?;
     let instance = LazyLocation::new();
     let schema = LazyLocation::new();
     let evaluation = LazyLocation::new();

@@ -1,26 +1,19 @@
 -- Visits found by the texts of their places.
-use Rattle.std.proofs.Common.{◌≡◌, ◌⊎◌, ℕ, zero, suc, List, [], ◌∷◌, ◌++◌, Bool, true, false, Option, Some, None, is_some, refl, sym, ap, subst, ◌∙◌, length, inl, inr, bytes_eq, slice_get, option_map, Bor, cond, String, Global}
+use Rattle.std.proofs.Common.{◌≡◌, ◌⊎◌, ℕ, zero, suc, List, [], ◌∷◌, ◌++◌, Bool, true, false, Option, Some, None, refl, sym, ap, subst, ◌∙◌, length, inl, inr, bytes_eq, slice_get, option_map, Bor, cond, String, Global}
 use Rattle.std.specs.BTreeMap.{BTreeMap, get_by_text}
 use Rattle.std.specs.Bool.{Decides}
 use Rattle.std.specs.Option.{option_copied}
 use Rattle.std.specs.Prelude.{if◌then◌else◌}
 use Rattle.std.proofs.lemmas.Slice.Eq.{bytes_eq-Decides}
-use Rattle.referencing.specs.declared.scope_key.ScopeKey.{ScopeKey}
 use Rattle.schema_documents.specs.Words.{or}
 use Rattle.schema_meaning.specs.Members.{In, first, later}
 use Rattle.schema_reading.specs.Rows.{Place}
 use Rattle.reached_sites.specs.Filed.{place_text, positions_under, Filed, RepeatedAt, RepeatedAmong}
-use Rattle.reached_sites.specs.Growing.{Apart, one_more}
 use Rattle.reached_sites.specs.Places.{place_in}
-use Rattle.reached_sites.specs.Visits.{IsOneKey, Repeats, Known}
+use Rattle.reached_sites.specs.Visits.{Repeats, Known}
 use Rattle.reached_sites.proofs.Listing.{none-in}
-use Rattle.reached_sites.specs.declared.targets.Targets.{Targets}
+use Rattle.reached_sites.specs.declared.visited.Visited.{Visited}
 use Rattle.reached_sites.specs.declared.visit.Visit.{Visit}
-
-pub have-keys : (k l : Option ScopeKey) → IsOneKey k l → (is_some k ≡ true) × (is_some l ≡ true)
-have-keys None l h = absurd h
-have-keys (Some k) None h = absurd h
-have-keys (Some k) (Some l) h = (refl, refl)
 
 -- what a look-up lends
 pub lent : {X : Type 0} (o : Option (Bor X)) (p : Option X) → option_copied o ≡ p → option_map (λ b. b.now) o ≡ p
@@ -72,24 +65,23 @@ module _ {A : Type 0} where
 pub among-known : (vs : List Visit) (positions : List ℕ) (w : Visit) → RepeatedAmong vs positions w → Known vs w
 among-known vs positions w h = record { visit = h.2.0; listed = in-place vs h.0 h.2.0 h.2.1; same = h.2.2 }
 
-pub known-among : (targets : Targets) (vs : List Visit) (w : Visit) → Filed targets vs → Known vs w → RepeatedAmong vs (positions_under targets (place_text (place_in w.place))) w
-known-among targets vs w f k =
-    let at = place-of vs k.visit k.listed in
-    let keys = have-keys k.visit.key w.key k.same.key in (
+pub known-among : (visited : Visited) (vs : List Visit) (w : Visit) → Filed visited vs → Known vs w → RepeatedAmong vs (positions_under visited (place_text (place_in w.point.place))) w
+known-among visited vs w f k =
+    let at = place-of vs k.visit k.listed in (
       at.0,
-      subst (λ (p : Place). In at.0 (positions_under targets (place_text p))) k.same.place (f.each at.0 k.visit at.1 keys.0),
+      subst (λ (p : Place). In at.0 (positions_under visited (place_text p))) k.same.point.place (f.each at.0 k.visit at.1),
       (k.visit, at.1, k.same),
     )
 
 -- ---- one visit more
 
--- a target was put under its text, at the end
-pub record PutAs (old new : Targets) (text : List ℕ) (i : ℕ) : Type 0 where
+-- a visit was put under its text, at the end
+pub record PutAs (old new : Visited) (text : List ℕ) (i : ℕ) : Type 0 where
   pub each : (q : List ℕ) → positions_under new q ≡ (if bytes_eq text q then i ∷ positions_under old text else positions_under old q)
 
-module _ (old new : Targets) (vs : List Visit) (w : Visit) (put : PutAs old new (place_text (place_in w.place)) (length vs)) where
+module _ (old new : Visited) (vs : List Visit) (w : Visit) (put : PutAs old new (place_text (place_in w.point.place)) (length vs)) where
   abbrev text : List ℕ
-  text = place_text (place_in w.place)
+  text = place_text (place_in w.point.place)
 
   still : (b : Bool) (q : List ℕ) (i : ℕ) → bytes_eq text q ≡ b → In i (positions_under old q) → In i (if b then length vs ∷ positions_under old text else positions_under old q)
   still true q i e h = later (subst (λ t. In i (positions_under old t)) (sym ((bytes_eq-Decides text q).0 e)) h)
@@ -101,25 +93,14 @@ module _ (old new : Targets) (vs : List Visit) (w : Visit) (put : PutAs old new 
   put-here : In (length vs) (positions_under new text)
   put-here = subst (λ is. In (length vs) is) (sym (put.each text ∙ ap (λ b. if b then length vs ∷ positions_under old text else positions_under old text) ((bytes_eq-Decides text text).1 refl))) first
 
-  filed-by : Filed old vs → (i : ℕ) (v : Visit) → (slice_get vs i ≡ Some v) ⊎ ((i ≡ length vs) × (v ≡ w)) → is_some v.key ≡ true → In i (positions_under new (place_text (place_in v.place)))
-  filed-by f i v (inl e) k = kept (place_text (place_in v.place)) i (f.each i v e k)
-  filed-by f i v (inr h) k =
-      subst (λ j. In j (positions_under new (place_text (place_in v.place)))) (sym h.0)
-      (subst (λ (u : Visit). In (length vs) (positions_under new (place_text (place_in u.place)))) (sym h.1) put-here)
+  filed-by : Filed old vs → (i : ℕ) (v : Visit) → (slice_get vs i ≡ Some v) ⊎ ((i ≡ length vs) × (v ≡ w)) → In i (positions_under new (place_text (place_in v.point.place)))
+  filed-by f i v (inl e) = kept (place_text (place_in v.point.place)) i (f.each i v e)
+  filed-by f i v (inr h) =
+      subst (λ j. In j (positions_under new (place_text (place_in v.point.place)))) (sym h.0)
+      (subst (λ (u : Visit). In (length vs) (positions_under new (place_text (place_in u.point.place)))) (sym h.1) put-here)
 
   pub filed-put : Filed old vs → Filed new (vs ++ w ∷ [])
-  filed-put f = record { each = λ i v e k. filed-by f i v (placed-behind vs w i v e) k }
-
-module _ (targets : Targets) (vs : List Visit) (w : Visit) (plain : is_some w.key ≡ false) where
-  stays-by : Filed targets vs → (i : ℕ) (v : Visit) → (slice_get vs i ≡ Some v) ⊎ ((i ≡ length vs) × (v ≡ w)) → is_some v.key ≡ true → In i (positions_under targets (place_text (place_in v.place)))
-  stays-by f i v (inl e) k = f.each i v e k
-  stays-by f i v (inr h) k = (let none = ap (λ (u : Visit). is_some u.key) h.1 in absurd (cc (none, plain, k)))
-
-  pub filed-stays : Filed targets vs → Filed targets (vs ++ w ∷ [])
-  filed-stays f = record { each = λ i v e k. stays-by f i v (placed-behind vs w i v e) k }
-
-  pub apart-stays : Apart vs → Apart (vs ++ w ∷ [])
-  apart-stays a = one_more w a (λ k. (let keys = have-keys k.visit.key w.key k.same.key in absurd (cc (keys.1, plain))))
+  filed-put f = record { each = λ i v e. filed-by f i v (placed-behind vs w i v e) }
 
 -- ---- compared with those at some positions
 

@@ -4,8 +4,8 @@ use Rattle.schema_meaning.specs.Members.{In, first, later}
 use Rattle.reached_sites.specs.Growing.{AddsOne, Apart, Grows}
 use Rattle.reached_sites.specs.Filed.{Filed}
 use Rattle.reached_sites.specs.Visits.{Known}
-use Rattle.reached_sites.specs.declared.targets.Targets.{Targets}
 use Rattle.reached_sites.specs.declared.visit.Visit.{Visit}
+use Rattle.reached_sites.specs.declared.visited.Visited.{Visited}
 use Rattle.reached_sites.proofs.Listing.{in-before, in-behind, none-in}
 
 pub grows-none : (vs : List Visit) → Grows vs vs []
@@ -42,7 +42,7 @@ grows-known old fin lead rest k g = record {
 
 -- ---- a loop over the others
 
-pub record Adding (before after : Targets) (old now all rest : List Visit) : Type 0 where
+pub record Adding (before after : Visited) (old now all rest : List Visit) : Type 0 where
   pub grows : (fin : List Visit) → Grows now fin rest → Grows old fin all
   pub apart : Filed before old → Apart old → Filed after now × Apart now
 
@@ -50,12 +50,12 @@ one-more-grows : (old next fin : List Visit) (lead : Visit) (left : List Visit) 
 one-more-grows old next fin lead left (inl made) g = grows-pushed old next fin lead left made g
 one-more-grows old next fin lead left (inr known) g = grows-known old fin lead left known.1 (subst (λ vs. Grows vs fin left) known.0 g)
 
-pub adding-goes : (before after last : Targets) (old now next all rest left : List Visit) (lead : Visit) → Adding before after old now all rest → rest ≡ lead ∷ left
+pub adding-goes : (before after last : Visited) (old now next all rest left : List Visit) (lead : Visit) → Adding before after old now all rest → rest ≡ lead ∷ left
     → AddsOne now next lead → (Filed after now → Apart now → Filed last next × Apart next) → Adding before last old next all left
 adding-goes before after last old now next all rest left lead h e one apart = record {
   grows = λ fin g. h.grows fin (subst (λ ls. Grows now fin ls) (sym e) (one-more-grows now next fin lead left one g));
   apart = λ f a. (let both = h.apart f a in apart both.0 both.1);
 }
 
-pub adding-ends : (before after : Targets) (old now all rest : List Visit) → Adding before after old now all rest → rest ≡ [] → Grows old now all
+pub adding-ends : (before after : Visited) (old now all rest : List Visit) → Adding before after old now all rest → rest ≡ [] → Grows old now all
 adding-ends before after old now all rest h e = h.grows now (subst (λ ls. Grows now now ls) (sym e) (grows-none now))

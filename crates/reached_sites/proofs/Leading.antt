@@ -54,7 +54,7 @@ leads-boolean v makes s b leads m e n =
 
 -- ---- refused
 
-pub same-place : (v : Visit) (s : Site) → Met v s → place_of s [] ≡ place_in v.place
+pub same-place : (v : Visit) (s : Site) → Met v s → place_of s [] ≡ place_in v.point.place
 same-place v s m = rw (m.alike.document, m.alike.path) refl
 
 -- neither a boolean nor an object

@@ -7,5 +7,8 @@ pub mod Mirrored
 pub mod Walking
 pub mod Leading
 pub mod Naming
+pub mod Keying
+pub mod Spelling
+pub mod Reading
 pub mod Progressing
 pub mod Placing

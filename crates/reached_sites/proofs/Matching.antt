@@ -50,3 +50,6 @@ module _ (own : List Document) where
     grown = y.grown ∙ ap (λ l. l ++ y.added) x.grown ∙ append_assoc a x.added y.added;
     met = matched-append x.met y.met;
   }
+
+pub belongs-too : {own other : List Document} (v : Visit) → own ≡ other → Belongs own v → Belongs other v
+belongs-too v e b = record { documents = b.documents ∙ e }

@@ -1,5 +1,6 @@
 -- The sites that visits stand for.
 use Rattle.std.proofs.Common.{◌≡◌, ◌∙◌, ℕ, List, ◌++◌, Some, false, refl, sym, ap, ap₂, slice_get}
+use Rattle.std.proofs.lemmas.List.{map-append}
 use Rattle.serde_json.specs.View.{view}
 use Rattle.serde_json.specs.Data.{Data}
 use Rattle.json_paths.specs.Parts.{Part}
@@ -13,6 +14,7 @@ use Rattle.schema_sites.specs.Seen.{documents_at, Stands}
 use Rattle.scope_laws.specs.Laws.{IsPresent}
 use Rattle.site_laws.proofs.Alike.{joined}
 use Rattle.site_laws.specs.Laws.{AreAlike}
+use Rattle.site_laws.specs.Spelled.{by_name, spelled}
 use Rattle.reached_sites.specs.Visits.{site_of, Met}
 use Rattle.reached_sites.specs.declared.visit.Visit.{Visit}
 
@@ -28,15 +30,16 @@ pub record Settled (v : Visit) (s : Site) : Type 0 where
   pub scope : s.scope ≡ scope_of v.site.resolver
   pub dialect : s.dialect ≡ dialect_of v.site.dialect
 
-pub met-exactly : (v : Visit) (s : Site) → s.document ≡ v.place.document.value → s.path ≡ v.place.path → s.contents ≡ view v.site.contents.now
-    → Settled v s → Met v s
-met-exactly v s document path contents h = record {
+pub met-exactly : (v : Visit) (s : Site) → s.document ≡ v.point.place.document.value → s.path ≡ v.point.place.path → s.contents ≡ view v.site.contents.now
+    → spelled s.schema_path ≡ spelled v.point.schema_path.steps → Settled v s → Met v s
+met-exactly v s document path contents road h = record {
   alike = record {
     document = document;
     path = path;
     contents = contents;
     base = h.base;
     dialect = h.dialect;
+    road = road;
     scope = ap₂ (λ base scope. scope_key (documents_at v.site) base scope) h.base h.scope;
     here = ap (λ scope. slice_get scope 0) h.scope ∙ present-of v ∙ ap Some (sym h.base);
     there = present-of v;
@@ -57,3 +60,7 @@ named-below docs s d = by_schema (meta docs) s.dialect (schema_in_force false d)
 
 pub below-path : (docs : Documents) (s : Site) (added : List Part) (d : Data) → (below docs s added d).path ≡ added ++ s.path
 below-path docs s added d = placed-path s.base s.dialect (added ++ s.path) d (named-below docs s d)
+
+-- a path behind one that is spelled by names already
+pub spelled-behind : (added road whole : List Part) → spelled road ≡ road → spelled whole ≡ whole → spelled added ++ road ≡ whole → spelled (added ++ road) ≡ spelled whole
+spelled-behind added road whole h g e = map-append by_name added road ∙ ap (λ path. spelled added ++ path) h ∙ e ∙ sym g

@@ -13,7 +13,7 @@ use Rattle.unread_keywords.specs.NotYet.{Cause, wrong, IsBuildCause, is_wrong, i
 use Rattle.reached_sites.specs.Causes.{NamesCause, RefusesRoot, RefusesAt}
 use Rattle.reached_sites.specs.Places.{place_in}
 use Rattle.reached_sites.specs.declared.cause.BuildCause.{BuildCause}
-use Rattle.reached_sites.specs.declared.cause.BuildCause.TheVariants.{KeywordValue, Unevaluated, Reference, NotYet, Memory}
+use Rattle.reached_sites.specs.declared.cause.BuildCause.TheVariants.{KeywordValue, Unevaluated, Reference, NotYet, NodeLimit, Memory}
 
 one-lookup : (e : Error) (a b : LookupCause) → NamesLookup a e → NamesLookup b e → a ≡ b
 one-lookup (error.Unretrievable uri source) a b h g = h.1 ∙ sym g.1
@@ -35,6 +35,7 @@ one-cause (Unevaluated place) a b h g = h ∙ sym g
 one-cause (Reference place error) a b h g =
     h.2 ∙ ap (λ why. wrong (bad_reference (place_in place) why)) (one-lookup error h.0 g.0 h.1 g.1) ∙ sym g.2
 one-cause (NotYet place) a b h g = h ∙ sym g
+one-cause (NodeLimit limit) a b h g = absurd h
 one-cause Memory a b h g = absurd h
 
 -- ---- from a reached site to the root

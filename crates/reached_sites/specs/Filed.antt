@@ -1,5 +1,5 @@
 -- Visits found by the texts of their places.
-use Rattle.std.specs.Prelude.{◌≡◌, ℕ, List, [], ◌++◌, true, Some, is_some, reverse, slice_get}
+use Rattle.std.specs.Prelude.{◌≡◌, ℕ, List, [], ◌++◌, Some, reverse, slice_get}
 use Rattle.std.specs.BTreeMap.{get_by_text}
 use Rattle.json_paths.specs.Pointers.{pointer_text}
 use Rattle.schema_documents.specs.Words.{or}
@@ -7,21 +7,21 @@ use Rattle.schema_meaning.specs.Members.{In}
 use Rattle.schema_reading.specs.Rows.{Place}
 use Rattle.reached_sites.specs.Places.{place_in}
 use Rattle.reached_sites.specs.Visits.{Repeats}
-use Rattle.reached_sites.specs.declared.targets.Targets.{Targets}
 use Rattle.reached_sites.specs.declared.visit.Visit.{Visit}
+use Rattle.reached_sites.specs.declared.visited.Visited.{Visited}
 
 -- the text of a place: the document's URI and the path as a pointer, with nothing between
 abbrev pub place_text : Place → List ℕ
 place_text p = p.document ++ pointer_text (reverse p.path)
 
-abbrev pub positions_under : Targets → List ℕ → List ℕ
-positions_under targets text = or [] (get_by_text targets.positions text)
+abbrev pub positions_under : Visited → List ℕ → List ℕ
+positions_under visited text = or [] (get_by_text visited.positions text)
 
--- each visit to which a reference leads stands under the text of its place
-pub record Filed (targets : Targets) (vs : List Visit) : Type 0 where
-  pub each : (i : ℕ) (v : Visit) → slice_get vs i ≡ Some v → is_some v.key ≡ true → In i (positions_under targets (place_text (place_in v.place)))
+-- each visit stands under the text of its place
+pub record Filed (visited : Visited) (vs : List Visit) : Type 0 where
+  pub each : (i : ℕ) (v : Visit) → slice_get vs i ≡ Some v → In i (positions_under visited (place_text (place_in v.point.place)))
 
--- the visit at a position is to the same target
+-- the visit at a position is the same
 abbrev pub RepeatedAt : List Visit → ℕ → Visit → Type 0
 RepeatedAt vs i w = (v : Visit) × (slice_get vs i ≡ Some v) × Repeats v w
 

@@ -1,4 +1,4 @@
--- How a list of visits grows by others: those to which no reference led before are put behind.
+-- How a list of visits grows by others: those that are not among it yet are put behind.
 use Rattle.std.specs.Prelude.{◌≡◌, ◌⊎◌, List, [], ◌∷◌, ◌++◌}
 use Rattle.schema_meaning.specs.Members.{In}
 use Rattle.reached_sites.specs.Visits.{Known}
@@ -10,11 +10,11 @@ pub record Grows (old new leads : List Visit) : Type 0 where
   pub led_to : (v : Visit) → In v added → In v leads
   pub there : (v : Visit) → In v leads → In v new ⊎ Known new v
 
--- one visit is put behind others, or a reference led to the same before
+-- one visit is put behind others, or is among them
 abbrev pub AddsOne : List Visit → List Visit → Visit → Type 0
 AddsOne old new lead = (new ≡ old ++ lead ∷ []) ⊎ ((new ≡ old) × Known old lead)
 
--- no visit is to a place to which a reference led before
+-- no visit is among those before it
 pub data Apart : List Visit → Type 0 where
   none : Apart []
   one_more : {vs : List Visit} (v : Visit) → Apart vs → (Known vs v → ⊥) → Apart (vs ++ v ∷ [])

@@ -1,5 +1,6 @@
 pub mod Places
 pub mod Causes
+pub mod Roots
 pub mod Visits
 pub mod Led
 pub mod Filed

@@ -30,6 +30,11 @@ pub enum BuildCause {
     NotYet {
         place: SchemaPlace,
     },
+    /// More schemas are reached than are allowed, each counted once for each base, dialect, scope key and schema path.
+    #[error("More than {limit} schema nodes")]
+    NodeLimit {
+        limit: usize,
+    },
     /// Memory was refused.
     #[error("No memory")]
     Memory,

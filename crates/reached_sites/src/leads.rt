@@ -1,24 +1,24 @@
 //! Where the keywords of a schema lead.
 
-ghost use Rattle.std.specs.Prelude.{◌≡◌, ◌++◌, [], List, map, ℕ, Bool, IfOk, IfErr, OnOk};
-ghost use Rattle.std.specs.Borrow.{Bor};
+ghost use Rattle.std.specs.Prelude.{◌≡◌, ◌∷◌, ◌++◌, [], List, map, ℕ, Bool, IfOk, IfErr, OnOk};
 ghost use Rattle.serde_json.specs.Data.{Data, object};
 ghost use Rattle.serde_json.specs.View.{view, members_view};
-ghost use Rattle.referencing.specs.Resolved.{documents_in};
+ghost use Rattle.referencing.specs.Resolved.{documents_in, target_in};
 ghost use Rattle.schema_reading.specs.Sites as sites;
 ghost use Rattle.applicators.specs.Shapes as applied;
 ghost use Rattle.schema_sites.specs.Read as read;
 ghost use Rattle.schema_sites.specs.Seen.{documents_at};
 ghost use Rattle.schema_sites.specs.declared.reference_keyword.ReferenceKeyword.{ReferenceKeyword};
+ghost use Rattle.site_laws.specs.Spelled.{spelled};
 ghost use Rattle.reached_sites.specs.Causes.{RefusesAt};
 ghost use Rattle.reached_sites.specs.Led.{Leads};
 ghost use Rattle.reached_sites.specs.Members.{Rest};
 ghost use Rattle.reached_sites.specs.Visits.{site_of, Met, Adds};
 
 use crate::cause::BuildCause;
-use crate::place::SchemaPlace;
 use crate::refusing::refused;
 use crate::visit::Visit;
+use crate::waypoint::Waypoint;
 use applicators::applicator::Applicator;
 use applicators::subschema::{Entry, Subschema};
 use applicators::subschemas::subschemas;
@@ -28,16 +28,18 @@ use schema_sites::reading::keyword;
 use serde_json::{Map, Value};
 use std::alloc::{AllocError, Global};
 
-fn push_items<'r>(
+// The schema that stands at a keyword.
+fn push_at<'r>(
     alloc: Global,
     visit: &Visit<'r>,
+    keyword: &str,
     schema: &'r Value,
     leads: &mut Vec<Visit<'r>>,
 ) -> Result<(), AllocError>
-    ensures { OnOk result ((start : ℕ) → Adds (documents_in visit.now.site.resolver) leads.old.items leads.new.items (read.leads_of (documents_at visit.now.site) (site_of visit.now) (Keyword.Items start schema.entry))) }
+    ensures { OnOk result (Adds (documents_in visit.now.site.resolver) leads.old.items leads.new.items (read.site_at (documents_at visit.now.site) (site_of visit.now) keyword.now (view schema.now) ∷ [])) }
 {
-    let place = visit.place.member(alloc, "items")?;
-    leads.push(visit.below(alloc, place, schema)?)?;
+    let point = visit.point.member(alloc, keyword)?;
+    leads.push(visit.below(alloc, point, schema)?)?;
     Ok(())
 }
 
@@ -49,28 +51,29 @@ fn push_properties<'r>(
 ) -> Result<(), AllocError>
     ensures { OnOk result (Adds (documents_in visit.now.site.resolver) leads.old.items leads.new.items (read.leads_of (documents_at visit.now.site) (site_of visit.now) (Keyword.Properties map.entry))) }
 {
-    let place = visit.place.member(alloc, "properties")?;
+    let point = visit.point.member(alloc, "properties")?;
     for (name, schema) in map.iter() {
-        let inner = place.member(alloc, name.as_str())?;
+        let inner = point.member(alloc, name.as_str())?;
         leads.push(visit.below(alloc, inner, schema)?)?;
     }
     Ok(())
 }
 
-// The place of a subschema.
-fn place_of(
+// Where a subschema is.
+fn point_of(
     alloc: Global,
     visit: &Visit<'_>,
     subschema: &Subschema<'_>,
-) -> Result<SchemaPlace, AllocError>
-    ensures document { IfOk result (λ p. p.document.value ≡ visit.now.place.document.value) }
-    ensures path { IfOk result (λ p. p.path ≡ applied.added_at subschema.now.keyword.now subschema.now.entry ++ visit.now.place.path) }
+) -> Result<Waypoint, AllocError>
+    ensures document { IfOk result (λ p. p.place.document.value ≡ visit.now.point.place.document.value) }
+    ensures path { IfOk result (λ p. p.place.path ≡ applied.added_at subschema.now.keyword.now subschema.now.entry ++ visit.now.point.place.path) }
+    ensures road { IfOk result (λ p. p.schema_path.steps ≡ spelled (applied.added_at subschema.now.keyword.now subschema.now.entry) ++ visit.now.point.schema_path.steps) }
 {
-    let place = visit.place.member(alloc, subschema.keyword)?;
+    let point = visit.point.member(alloc, subschema.keyword)?;
     match subschema.entry {
-        Entry::Whole => Ok(place),
-        Entry::Name(name) => place.member(alloc, name),
-        Entry::Index(index) => place.item(alloc, index),
+        Entry::Whole => Ok(point),
+        Entry::Name(name) => point.member(alloc, name),
+        Entry::Index(index) => point.item(alloc, index),
     }
 }
 
@@ -83,8 +86,8 @@ fn push_subschemas<'r>(
     ensures { OnOk result (Adds (documents_in visit.now.site.resolver) leads.old.items leads.new.items (map (applied.place_of (sites.below (documents_at visit.now.site) (site_of visit.now))) found.now)) }
 {
     for subschema in found {
-        let place = place_of(alloc, visit, subschema)?;
-        leads.push(visit.below(alloc, place, subschema.schema)?)?;
+        let point = point_of(alloc, visit, subschema)?;
+        leads.push(visit.below(alloc, point, subschema.schema)?)?;
     }
     Ok(())
 }
@@ -104,12 +107,14 @@ fn push_applied<'r>(
 fn push_target<'r>(
     alloc: Global,
     visit: &Visit<'r>,
+    text: &str,
     target: Resolved<'r>,
     leads: &mut Vec<Visit<'r>>,
 ) -> Result<(), AllocError>
-    ensures { OnOk result ((d : Data) (keyword : ReferenceKeyword) (text : Bor (List ℕ)) → read.Finds visit.now.site d (Keyword.Reference keyword text target.entry) → Adds (documents_in visit.now.site.resolver) leads.old.items leads.new.items (read.leads_of (documents_at visit.now.site) (site_of visit.now) (Keyword.Reference keyword text target.entry))) }
+    requires { (keyword : ReferenceKeyword) × read.FindsTarget visit.now.site keyword text.now target }
+    ensures { OnOk result (Adds (documents_in visit.now.site.resolver) leads.old.items leads.new.items (sites.target_site (site_of visit.now) text.now (target_in target.entry) ∷ [])) }
 {
-    leads.push(Visit::of_target(alloc, target)?)?;
+    leads.push(Visit::of_target(alloc, text, target, visit.site.matches)?)?;
     Ok(())
 }
 
@@ -119,15 +124,18 @@ fn push_leads<'r>(
     keyword: Keyword<'r>,
     leads: &mut Vec<Visit<'r>>,
 ) -> Result<(), AllocError>
-    ensures { OnOk result ((d : Data) → read.Finds visit.now.site d keyword.entry → Adds (documents_in visit.now.site.resolver) leads.old.items leads.new.items (read.leads_of (documents_at visit.now.site) (site_of visit.now) keyword.entry)) }
+    requires { (d : Data) × read.Finds visit.now.site d keyword }
+    ensures { OnOk result (Adds (documents_in visit.now.site.resolver) leads.old.items leads.new.items (read.leads_of (documents_at visit.now.site) (site_of visit.now) keyword.entry)) }
 {
     match keyword {
         Keyword::Nothing => Ok(()),
         Keyword::Assertion(_) => Ok(()),
-        Keyword::Items { schema, .. } => push_items(alloc, visit, schema, leads),
+        Keyword::Items { schema, .. } => push_at(alloc, visit, "items", schema, leads),
         Keyword::Properties(map) => push_properties(alloc, visit, map, leads),
+        Keyword::If { condition, .. } => push_at(alloc, visit, "if", condition, leads),
+        Keyword::Consequent { name, schema } => push_at(alloc, visit, name, schema, leads),
         Keyword::Applicator(applicator) => push_applied(alloc, visit, applicator, leads),
-        Keyword::Reference { target, .. } => push_target(alloc, visit, target, leads),
+        Keyword::Reference { text, target, .. } => push_target(alloc, visit, text, target, leads),
     }
 }
 
@@ -144,7 +152,7 @@ fn leads_of_members<'r>(
         let name = name.as_str();
         match keyword(alloc, &visit.site, members, name, value) {
             Ok(keyword) => push_leads(alloc, visit, keyword, &mut leads)?,
-            Err(refusal) => return Err(refused(alloc, &visit.place, name, refusal)?),
+            Err(refusal) => return Err(refused(alloc, &visit.point.place, name, refusal)?),
         }
     }
     Ok(leads)
@@ -169,7 +177,7 @@ pub(crate) fn leads_of<'r>(alloc: Global, visit: &Visit<'r>) -> Result<Vec<Visit
         return Ok(Vec::new(alloc));
     }
     Err(BuildCause::KeywordValue {
-        place: visit.place.shared()?,
+        place: visit.point.place.shared()?,
         expected: "schema",
     })
 }

@@ -7,7 +7,9 @@ mod leads;
 pub mod place;
 mod reaching;
 mod refusing;
-mod targets;
+mod schema_path;
 mod visit;
+mod visited;
+mod waypoint;
 
 pub use referencing::{Draft, Error, Registry, uri};

@@ -5,8 +5,8 @@ ghost use Rattle.std.specs.Bool.{Decides};
 ghost use Rattle.reached_sites.specs.Filed.{positions_under, Filed, RepeatedAt, RepeatedAmong};
 ghost use Rattle.reached_sites.specs.Growing.{AddsOne, Apart, Grows};
 
-use crate::targets::Targets;
 use crate::visit::Visit;
+use crate::visited::Visited;
 use shared_lists::List;
 use std::alloc::{AllocError, Global};
 
@@ -38,54 +38,38 @@ fn is_among(
 
 fn is_under(
     visits: &[Visit<'_>],
-    targets: &Targets,
+    visited: &Visited,
     text: &str,
     visit: &Visit<'_>,
 ) -> Result<bool, AllocError>
-    ensures { IfOk result (λ b. Decides b (RepeatedAmong visits.now (positions_under targets.now text.now) visit.now)) }
+    ensures { IfOk result (λ b. Decides b (RepeatedAmong visits.now (positions_under visited.now text.now) visit.now)) }
 {
-    match targets.under(text) {
+    match visited.under(text) {
         Some(positions) => is_among(visits, positions, visit),
         None => Ok(false),
     }
 }
 
-// Puts a visit to which a reference leads behind others, unless one led to the same before.
-fn add_target<'r>(
-    alloc: Global,
-    visits: &mut Vec<Visit<'r>>,
-    targets: &mut Targets,
-    lead: Visit<'r>,
-) -> Result<(), AllocError>
-    ensures grows { OnOk result (AddsOne visits.old.items visits.new.items lead.entry) }
-    ensures apart { OnOk result (Filed targets.old visits.old.items → Apart visits.old.items → Filed targets.new visits.new.items × Apart visits.new.items) }
-{
-    let text = lead.place.text(alloc)?;
-    if is_under(visits, targets, text.as_str(), &lead)? {
-        return Ok(());
-    }
-    targets.put(alloc, text.as_str(), visits.len())?;
-    visits.push(lead)?;
-    Ok(())
-}
-
+// Puts a visit behind others, unless it is one of them.
 fn add_one<'r>(
     alloc: Global,
     visits: &mut Vec<Visit<'r>>,
-    targets: &mut Targets,
+    visited: &mut Visited,
     lead: Visit<'r>,
 ) -> Result<(), AllocError>
     ensures grows { OnOk result (AddsOne visits.old.items visits.new.items lead.entry) }
-    ensures apart { OnOk result (Filed targets.old visits.old.items → Apart visits.old.items → Filed targets.new visits.new.items × Apart visits.new.items) }
+    ensures apart { OnOk result (Filed visited.old visits.old.items → Apart visits.old.items → Filed visited.new visits.new.items × Apart visits.new.items) }
 {
-    if lead.key.is_some() {
-        return add_target(alloc, visits, targets, lead);
+    let text = lead.point.place.text(alloc)?;
+    if is_under(visits, visited, text.as_str(), &lead)? {
+        return Ok(());
     }
+    visited.put(alloc, text.as_str(), visits.len())?;
     visits.push(lead)?;
     Ok(())
 }
 
-/// Puts those of some visits behind others to which no reference led before. Each target is compared with those at its place.
+/// Puts those of some visits behind others that are not among them yet. Each is compared with those at its place.
 ///
 /// # Errors
 ///
@@ -93,14 +77,14 @@ fn add_one<'r>(
 pub(crate) fn add_new<'r>(
     alloc: Global,
     visits: &mut Vec<Visit<'r>>,
-    targets: &mut Targets,
+    visited: &mut Visited,
     leads: Vec<Visit<'r>>,
 ) -> Result<(), AllocError>
     ensures grows { OnOk result (Grows visits.old.items visits.new.items leads.entry.items) }
-    ensures apart { OnOk result (Filed targets.old visits.old.items → Apart visits.old.items → Filed targets.new visits.new.items × Apart visits.new.items) }
+    ensures apart { OnOk result (Filed visited.old visits.old.items → Apart visits.old.items → Filed visited.new visits.new.items × Apart visits.new.items) }
 {
     for lead in leads {
-        add_one(alloc, visits, targets, lead)?;
+        add_one(alloc, visits, visited, lead)?;
     }
     Ok(())
 }

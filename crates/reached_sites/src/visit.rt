@@ -1,45 +1,34 @@
 //! Visits.
 
-ghost use Rattle.std.specs.Prelude.{◌≡◌, ◌∷◌, ◌++◌, [], List, ℕ, IfOk};
+ghost use Rattle.std.specs.Prelude.{◌≡◌, ◌∷◌, ◌++◌, [], List, ℕ, true, IfOk};
 ghost use Rattle.std.specs.Bool.{Decides};
 ghost use Rattle.serde_json.specs.View.{view};
 ghost use Rattle.json_paths.specs.Parts.{Part};
 ghost use Rattle.schema_documents.specs.Scopes.{entered_scope};
 ghost use Rattle.referencing.specs.Resolved.{base_of, scope_of, documents_in, target_in};
 ghost use Rattle.schema_reading.specs.Sites as sites;
+ghost use Rattle.schema_reading.specs.CompileKeys.{scope_key};
+ghost use Rattle.schema_reports.specs.Readable.{reads_as_path};
 ghost use Rattle.schema_sites.specs.Seen.{documents_at};
-ghost use Rattle.target_laws.specs.Laws.{IsTarget};
-ghost use Rattle.reached_sites.specs.Visits.{site_of, Met, Belongs, Begins, IsOneKey, Repeats};
+ghost use Rattle.site_laws.specs.Spelled.{spelled};
+ghost use Rattle.referencing.specs.Keys.{key_of};
 
-use crate::place::SchemaPlace;
+use crate::waypoint::Waypoint;
 use referencing::{Resolved, ScopeKey};
+use schema_matches::matches::Matches;
 use schema_sites::site::{Site, at_root, at_target};
 use schema_vocabularies::{Dialect, KnownVocabularies};
 use serde_json::Value;
 use std::alloc::{AllocError, Global};
+use std::rc::Rc;
 
-/// A schema that is to be checked, and where it stands. Where a reference leads there, the key of its scope.
+/// A schema that is to be checked, where it stands, and the key of its scope.
 #[derive(Drop)]
 pub(crate) struct Visit<'r> {
-    pub(crate) place: SchemaPlace,
+    pub(crate) point: Waypoint,
     pub(crate) site: Site<'r>,
-    pub(crate) key: Option<ScopeKey>,
-}
-
-/// The one visit of a root.
-///
-/// # Errors
-///
-/// Where memory was refused or a count of owners is full.
-pub(crate) fn first_visits<'r>(
-    alloc: Global,
-    root: &Resolved<'r>,
-) -> Result<Vec<Visit<'r>>, AllocError>
-    ensures { IfOk result (λ v. Begins root.now v.items) }
-{
-    let mut visits = Vec::new(alloc);
-    visits.push(Visit::of_root(alloc, root)?)?;
-    Ok(visits)
+    pub(crate) key: Rc<ScopeKey>,
+    ghost keyed: { key_of key.value ≡ scope_key (documents_at site) (base_of site.resolver) (scope_of site.resolver) },
 }
 
 // Whether the same vocabularies are required.
@@ -71,76 +60,129 @@ fn is_one_base(one: &Site<'_>, other: &Site<'_>) -> Result<bool, AllocError>
     Ok(base.as_str() == other_base.as_str())
 }
 
-// Whether references lead to both, with one scope key.
-fn is_one_key(one: &Option<ScopeKey>, other: &Option<ScopeKey>) -> bool
-    ensures { Decides result (IsOneKey one.now other.now) }
+fn is_one_key(one: &ScopeKey, other: &ScopeKey) -> bool
+    ensures { Decides result (key_of one.now ≡ key_of other.now) }
 {
-    match one {
-        None => false,
-        Some(key) => match other {
-            None => false,
-            Some(other) => key == other,
-        },
-    }
+    one == other
+}
+
+// The key of a site's scope.
+fn key_of_scope(alloc: Global, site: &Site<'_>) -> Result<Rc<ScopeKey>, AllocError>
+    ensures { IfOk result (λ k. key_of k.value ≡ scope_key (documents_at site.now) (base_of site.now.resolver) (scope_of site.now.resolver)) }
+{
+    Ok(Rc::new(alloc, site.resolver.scope_key()?)?)
 }
 
 impl<'r> Visit<'r> {
+    ghost use Rattle.reached_sites.specs.Visits.{site_of, Met, Belongs, Begins, Repeats};
+
+    /// The one visit of a root.
+    ///
+    /// # Errors
+    ///
+    /// Where memory was refused or a count of owners is full.
+    pub(crate) fn first_visits(
+        alloc: Global,
+        root: &Resolved<'r>,
+        matches: &'r Matches,
+    ) -> Result<Vec<Visit<'r>>, AllocError>
+        ensures { IfOk result (λ v. Begins root.now v.items) }
+    {
+        let mut visits = Vec::new(alloc);
+        visits.push(Visit::of_root(alloc, root, matches)?)?;
+        Ok(visits)
+    }
+
     // The visit of a root.
-    fn of_root(alloc: Global, root: &Resolved<'r>) -> Result<Visit<'r>, AllocError>
+    fn of_root(
+        alloc: Global,
+        root: &Resolved<'r>,
+        matches: &'r Matches,
+    ) -> Result<Visit<'r>, AllocError>
         ensures met { IfOk result (λ v. Met v (sites.root_site (target_in root.now))) }
         ensures belongs { IfOk result (Belongs (documents_in root.now.resolver)) }
     {
+        let site = at_root(root, matches)?;
         Ok(Visit {
-            place: SchemaPlace::of_target(alloc, root)?,
-            site: at_root(root)?,
-            key: None,
-        })
-    }
-
-    /// The visit of what a reference leads to, with the key of its scope.
-    pub(crate) fn of_target(alloc: Global, target: Resolved<'r>) -> Result<Visit<'r>, AllocError>
-        ensures met { IfOk result (λ v. (s : sites.Site) (reference : List ℕ) → scope_of target.entry.resolver ≡ entered_scope (base_of target.entry.resolver) s.base s.scope → Met v (sites.target_site s reference (target_in target.entry))) }
-        ensures belongs { IfOk result (λ v. IsTarget (documents_in target.entry.resolver ∷ []) (target_in target.entry) → Belongs (documents_in target.entry.resolver) v) }
-    {
-        let site = at_target(&target)?;
-        let key = site.resolver.scope_key()?;
-        Ok(Visit {
-            place: SchemaPlace::of_target(alloc, &target)?,
+            point: Waypoint::of_root(alloc, root)?,
+            key: key_of_scope(alloc, &site)?,
             site,
-            key: Some(key),
         })
     }
 
-    /// The visit of a subschema at a place.
+    /// The visit of what a reference leads to.
+    ///
+    /// # Errors
+    ///
+    /// Where memory was refused or a count of owners is full.
+    pub(crate) fn of_target(
+        alloc: Global,
+        text: &str,
+        target: Resolved<'r>,
+        matches: &'r Matches,
+    ) -> Result<Visit<'r>, AllocError>
+        requires { reads_as_path text.now ≡ true }
+        ensures met { IfOk result (λ v. (s : sites.Site) → scope_of target.entry.resolver ≡ entered_scope (base_of target.entry.resolver) s.base s.scope → Met v (sites.target_site s text.now (target_in target.entry))) }
+        ensures belongs { IfOk result (Belongs (documents_in target.entry.resolver)) }
+    {
+        let site = at_target(&target, matches)?;
+        Ok(Visit {
+            point: Waypoint::of_target(alloc, text, &target)?,
+            key: key_of_scope(alloc, &site)?,
+            site,
+        })
+    }
+
+    // The key of a subschema's scope: one without a base of its own has that of the schema around it.
+    fn key_below(&self, alloc: Global, site: &Site<'_>) -> Result<Rc<ScopeKey>, AllocError>
+        ensures { IfOk result (λ k. documents_at site.now ≡ documents_at self.now.site → scope_of site.now.resolver ≡ entered_scope (base_of site.now.resolver) (base_of self.now.site.resolver) (scope_of self.now.site.resolver) → key_of k.value ≡ scope_key (documents_at site.now) (base_of site.now.resolver) (scope_of site.now.resolver)) }
+    {
+        if is_one_base(&self.site, site)? {
+            self.key.clone()
+        } else {
+            key_of_scope(alloc, site)
+        }
+    }
+
+    /// The visit of a subschema.
+    ///
+    /// # Errors
+    ///
+    /// Where memory was refused or a count of owners is full.
     pub(crate) fn below(
         &self,
         alloc: Global,
-        place: SchemaPlace,
+        point: Waypoint,
         contents: &'r Value,
     ) -> Result<Visit<'r>, AllocError>
-        ensures met { IfOk result (λ v. (added : List Part) → self.now.place.document.value ≡ place.document.value → added ++ self.now.place.path ≡ place.path → Met v (sites.below (documents_at self.now.site) (site_of self.now) added (view contents.now))) }
+        ensures met { IfOk result (λ v. (added : List Part) → self.now.point.place.document.value ≡ point.place.document.value → added ++ self.now.point.place.path ≡ point.place.path → spelled added ++ self.now.point.schema_path.steps ≡ point.schema_path.steps → Met v (sites.below (documents_at self.now.site) (site_of self.now) added (view contents.now))) }
         ensures belongs { IfOk result (Belongs (documents_in self.now.site.resolver)) }
     {
+        let site = self.site.below(alloc, contents)?;
         Ok(Visit {
-            place,
-            site: self.site.below(alloc, contents)?,
-            key: None,
+            point,
+            key: self.key_below(alloc, &site)?,
+            site,
         })
     }
 
-    /// Whether both are targets of references, at one place with one base, one dialect and one scope key.
+    /// Whether both have one compile key: one place, base, dialect, scope key and schema path.
+    ///
+    /// # Errors
+    ///
+    /// Where a count of owners is full.
     pub(crate) fn repeats(&self, other: &Visit<'_>) -> Result<bool, AllocError>
         ensures { IfOk result (λ b. Decides b (Repeats self.now other.now)) }
     {
+        if !is_one_key(&*self.key, &*other.key) {
+            return Ok(false);
+        }
+        if !self.point.is(&other.point) {
+            return Ok(false);
+        }
         if !is_one_dialect(&self.site, &other.site) {
             return Ok(false);
         }
-        if !self.place.is(&other.place) {
-            return Ok(false);
-        }
-        if !is_one_base(&self.site, &other.site)? {
-            return Ok(false);
-        }
-        Ok(is_one_key(&self.key, &other.key))
+        is_one_base(&self.site, &other.site)
     }
 }

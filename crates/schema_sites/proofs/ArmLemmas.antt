@@ -10,7 +10,7 @@ use Rattle.schema_meaning.specs.Keywords.{item_list}
 use Rattle.schema_meaning.specs.Members.{is_listed, first}
 use Rattle.referencing.specs.Resolved.{scope_of}
 use Rattle.unread_keywords.specs.NotYet.{is_unread, is_read_beside, has_patterns, read_now}
-use Rattle.schema_reading.specs.Rows.{Row, nothing_read, refused, keyword_value, left_out, place_at, at, bad_value, Context, counts_here, has_reference, beside, takes_list, in_list, schema_list, row_of as row_by, each_subschema, row_at}
+use Rattle.schema_reading.specs.Rows.{Row, nothing_read, refused, keyword_value, left_out, place_at, at, bad_value, Context, counts_here, has_reference, beside, takes_list, in_list, schema_list, row_of as row_by, each_subschema, if_row, consequent_row, row_at}
 use Rattle.schema_reading.specs.Sites.{Site}
 use Rattle.schema_sites.specs.Arms.{one_items_row, properties_row}
 use Rattle.schema_sites.specs.Read.{row_of, context_at, Surrounds}
@@ -49,6 +49,15 @@ items-row x d e = row-if (counts_here x (codes "items")) (one_items_row x d) not
 
 pub properties-row : (x : Context) (d : Data) → counts_here x (codes "properties") ≡ true → row_at x (codes "properties") d ≡ properties_row x d
 properties-row x d e = row-if (counts_here x (codes "properties")) (properties_row x d) nothing_read e
+
+pub if-row : (x : Context) (d : Data) → counts_here x (codes "if") ≡ true → row_at x (codes "if") d ≡ if_row x (codes "if") d
+if-row x d e = row-if (counts_here x (codes "if")) (if_row x (codes "if") d) nothing_read e
+
+pub then-row : (x : Context) (d : Data) → counts_here x (codes "then") ≡ true → row_at x (codes "then") d ≡ consequent_row x (codes "then") d
+then-row x d e = row-if (counts_here x (codes "then")) (consequent_row x (codes "then") d) nothing_read e
+
+pub else-row : (x : Context) (d : Data) → counts_here x (codes "else") ≡ true → row_at x (codes "else") d ≡ consequent_row x (codes "else") d
+else-row x d e = row-if (counts_here x (codes "else")) (consequent_row x (codes "else") d) nothing_read e
 
 abbrev pub left_row : List ℕ → Context → Data → Row
 left_row k x d = refused (left_out (place_at x (at k)) ∷ [])

@@ -103,7 +103,8 @@ no-reference k e =
 abbrev pub applied_names : List (List ℕ)
 applied_names =
     codes "items" ∷ codes "properties" ∷ codes "unevaluatedItems" ∷ codes "unevaluatedProperties" ∷ codes "prefixItems" ∷ codes "dependentSchemas" ∷ codes "allOf" ∷ codes "additionalItems"
-    ∷ codes "anyOf" ∷ codes "oneOf" ∷ codes "not" ∷ codes "contains" ∷ codes "minContains" ∷ codes "maxContains" ∷ codes "dependencies" ∷ []
+    ∷ codes "anyOf" ∷ codes "oneOf" ∷ codes "not" ∷ codes "contains" ∷ codes "minContains" ∷ codes "maxContains" ∷ codes "dependencies"
+    ∷ codes "if" ∷ codes "then" ∷ codes "else" ∷ []
 
 pub none-read : (k : List ℕ) → named k ≡ None → is_listed k assertion_names ≡ false → is_listed k applied_names ≡ false → is_listed k read_now ≡ false
 none-read k reference assertion other =

@@ -6,3 +6,4 @@ pub mod ApplyingLemmas
 pub mod MemberLemmas
 pub mod ReferredLemmas
 pub mod ResultLemmas
+pub mod ChoosingLemmas

@@ -1,10 +1,10 @@
 -- What the code's keywords stand for at a site.
-use Rattle.std.specs.Prelude.{◌≡◌, ℕ, List, [], ◌∷◌, Bool, true, codes, Ok}
+use Rattle.std.specs.Prelude.{◌≡◌, ℕ, List, [], ◌∷◌, Bool, true, codes, option_map, Ok}
 use Rattle.serde_json.specs.Data.{Data, object, Members, no_members, member}
 use Rattle.serde_json.specs.View.{view, members_view}
 use Rattle.json_paths.specs.Parts.{name}
 use Rattle.schema_documents.specs.Bearers.{Documents}
-use Rattle.schema_meaning.specs.Keywords.{Shape, items, properties, reference}
+use Rattle.schema_meaning.specs.Keywords.{Shape, items, properties, condition, reference}
 use Rattle.schema_documents.specs.Scopes.{entered_scope}
 use Rattle.referencing.specs.Resolved.{base_of, scope_of, documents_in, target_in}
 use Rattle.referencing.specs.declared.resolver.Resolved.{Resolved}
@@ -18,27 +18,37 @@ use Rattle.schema_sites.specs.References.{kind_of, looked_up, MayBe}
 use Rattle.schema_sites.specs.declared.reference_keyword.ReferenceKeyword.{ReferenceKeyword}
 use Rattle.schema_sites.specs.declared.site.Site as code
 use Rattle.schema_sites.specs.declared.keyword.Keyword.{Keyword}
-use Rattle.schema_sites.specs.declared.keyword.Keyword.TheVariants.{Nothing, Assertion, Items, Properties, Applicator, Reference}
+use Rattle.schema_sites.specs.declared.keyword.Keyword.TheVariants.{Nothing, Assertion, Items, Properties, If, Consequent, Applicator, Reference}
 
 -- the sites of the members of a keyword's value, with their names
 abbrev pub each_below : Documents → Site → List ℕ → Members → List (List ℕ × Site)
 each_below docs s k no_members = []
 each_below docs s k (member n d ms) = (n, below docs s (name n ∷ name k ∷ []) d) ∷ each_below docs s k ms
 
+-- the site of a schema at a keyword
+abbrev pub site_at : Documents → Site → List ℕ → Data → Site
+site_at docs s k d = below docs s (at k) d
+
 abbrev pub shapes_of : Documents → Site → Keyword → List (Shape Site)
 shapes_of docs s Nothing = []
 shapes_of docs s (Assertion a) = assertion (assertion_of a)
 shapes_of docs s (Items start schema) = items start (below docs s (at (codes "items")) (view schema.now)) ∷ []
 shapes_of docs s (Properties map) = properties (each_below docs s (codes "properties") (members_view map.now.entries)) ∷ []
+shapes_of docs s (If schema then_schema else_schema) =
+    condition (site_at docs s (codes "if") (view schema.now)) (option_map (λ v. site_at docs s (codes "then") (view v.now)) then_schema)
+    (option_map (λ v. site_at docs s (codes "else") (view v.now)) else_schema) ∷ []
+shapes_of docs s (Consequent k schema) = []
 shapes_of docs s (Applicator a) = applied.shape_of (below docs s) a ∷ []
 shapes_of docs s (Reference keyword text target) = reference (kind_of keyword) (target_site s text.now (target_in target)) ∷ []
 
--- the sites of these
+-- the sites of the schemas in the keyword's own value, or of its target: those of `then` and `else` are led to by these
 abbrev pub leads_of : Documents → Site → Keyword → List Site
 leads_of docs s Nothing = []
 leads_of docs s (Assertion a) = []
 leads_of docs s (Items start schema) = below docs s (at (codes "items")) (view schema.now) ∷ []
 leads_of docs s (Properties map) = sites_named (each_below docs s (codes "properties") (members_view map.now.entries))
+leads_of docs s (If schema then_schema else_schema) = site_at docs s (codes "if") (view schema.now) ∷ []
+leads_of docs s (Consequent k schema) = site_at docs s k.now (view schema.now) ∷ []
 leads_of docs s (Applicator a) = applied.leads_of (below docs s) a
 leads_of docs s (Reference keyword text target) = target_site s text.now (target_in target) ∷ []
 
@@ -73,5 +83,7 @@ Finds c d Nothing = Unit {0}
 Finds c d (Assertion a) = Unit {0}
 Finds c d (Items start schema) = d ≡ view schema.now
 Finds c d (Properties map) = d ≡ object (members_view map.now.entries)
+Finds c d (If schema then_schema else_schema) = d ≡ view schema.now
+Finds c d (Consequent k schema) = d ≡ view schema.now
 Finds c d (Applicator a) = asks_values a ≡ true
 Finds c d (Reference keyword text target) = FindsTarget c keyword text.now target

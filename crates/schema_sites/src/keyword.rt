@@ -19,6 +19,17 @@ pub enum Keyword<'r> {
         schema: &'r Value,
     },
     Properties(&'r Map<String, Value>),
+    /// `if`, with the schemas of `then` and `else` where they stand beside.
+    If {
+        condition: &'r Value,
+        then_schema: Option<&'r Value>,
+        else_schema: Option<&'r Value>,
+    },
+    /// `then` or `else`, whose schema the `if` beside applies.
+    Consequent {
+        name: &'static str,
+        schema: &'r Value,
+    },
     /// Another keyword that applies the schemas in its value, whose verdict is by how many of them accept.
     Applicator(Applicator<'r>),
     /// A reference with what it leads to, which for those by the dynamic scope depends on the site's.

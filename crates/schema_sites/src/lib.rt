@@ -3,6 +3,7 @@
 
 mod applying;
 mod asserting;
+mod choosing;
 pub mod keyword;
 mod neighbours;
 pub mod reading;

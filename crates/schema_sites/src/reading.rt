@@ -19,6 +19,7 @@ ghost use Rattle.schema_sites.specs.declared.site.Site as code;
 
 use crate::applying::applying;
 use crate::asserting::asserting;
+use crate::choosing::{condition, consequent};
 use crate::keyword::{Keyword, Refusal};
 use crate::neighbours::{has_reference, prefix_length, strict_limit};
 use crate::reference_keyword::ReferenceKeyword;
@@ -187,6 +188,9 @@ fn applied<'r>(
         "minContains" => applying_values(site, members, name, value),
         "maxContains" => applying_values(site, members, name, value),
         "dependencies" => dependencies(alloc, value),
+        "if" => condition(site, members, value),
+        "then" => consequent(site, members, "then", value),
+        "else" => consequent(site, members, "else", value),
         _ => Err(Refusal::NotYet),
     }
 }

@@ -11,16 +11,18 @@ ghost use Rattle.schema_sites.specs.Seen.{documents_at, Stands, counts_at, is_dr
 use referencing::{Resolved, Resolver};
 use schema_drafts::draft::Draft;
 use schema_identifiers::bases::settle;
+use schema_matches::matches::Matches;
 use schema_vocabularies::Dialect;
 use serde_json::Value;
 use std::alloc::{AllocError, Global};
 
-/// A schema met on the way from a root, with what the references in it depend on.
+/// A schema met on the way from a root, with what the references in it depend on, and the matches that were read of an instance.
 #[derive(Drop)]
 pub struct Site<'r> {
     pub contents: &'r Value,
     pub dialect: Dialect,
     pub resolver: Resolver<'r>,
+    pub matches: &'r Matches,
 }
 
 /// The site of what a reference leads to. It shares the base and the scope.
@@ -28,9 +30,10 @@ pub struct Site<'r> {
 /// # Errors
 ///
 /// Where a count of owners is full.
-pub fn at_target<'r>(resolved: &Resolved<'r>) -> Result<Site<'r>, AllocError>
+pub fn at_target<'r>(resolved: &Resolved<'r>, matches: &'r Matches) -> Result<Site<'r>, AllocError>
     ensures contents { IfOk result (λ c. view c.contents.now ≡ (target_in resolved.now).contents) }
     ensures base { IfOk result (λ c. base_of c.resolver ≡ base_of resolved.now.resolver) }
+    ensures matches { IfOk result (λ c. c.matches ≡ matches.entry) }
     ensures scope { IfOk result (λ c. scope_of c.resolver ≡ scope_of resolved.now.resolver) }
     ensures documents { IfOk result (λ c. documents_at c ≡ documents_in resolved.now.resolver ∷ []) }
     ensures stands { IfOk result (λ c. (s : sites.Site) (reference : List ℕ) → Stands c (sites.target_site s reference (target_in resolved.now))) }
@@ -39,6 +42,7 @@ pub fn at_target<'r>(resolved: &Resolved<'r>) -> Result<Site<'r>, AllocError>
         contents: resolved.contents(),
         dialect: resolved.dialect(),
         resolver: resolved.resolver().share()?,
+        matches,
     })
 }
 
@@ -47,9 +51,10 @@ pub fn at_target<'r>(resolved: &Resolved<'r>) -> Result<Site<'r>, AllocError>
 /// # Errors
 ///
 /// Where memory was refused or a count of owners is full.
-pub fn at_root<'r>(resolved: &Resolved<'r>) -> Result<Site<'r>, AllocError>
+pub fn at_root<'r>(resolved: &Resolved<'r>, matches: &'r Matches) -> Result<Site<'r>, AllocError>
     ensures contents { IfOk result (λ c. view c.contents.now ≡ (target_in resolved.now).contents) }
     ensures scope { IfOk result (λ c. scope_of c.resolver ≡ (target_in resolved.now).base ∷ []) }
+    ensures matches { IfOk result (λ c. c.matches ≡ matches.entry) }
     ensures documents { IfOk result (λ c. documents_at c ≡ documents_in resolved.now.resolver ∷ []) }
     ensures stands { IfOk result (λ c. Stands c (sites.root_site (target_in resolved.now))) }
 {
@@ -57,6 +62,7 @@ pub fn at_root<'r>(resolved: &Resolved<'r>) -> Result<Site<'r>, AllocError>
         contents: resolved.contents(),
         dialect: resolved.dialect(),
         resolver: resolved.resolver().alone()?,
+        matches,
     })
 }
 
@@ -70,6 +76,7 @@ impl<'r> Site<'r> {
     /// Where memory was refused or a count of owners is full.
     pub fn below(&self, alloc: Global, contents: &'r Value) -> Result<Site<'r>, AllocError>
         ensures contents { IfOk result (λ c. c.contents ≡ contents.entry) }
+        ensures matches { IfOk result (λ c. c.matches ≡ self.now.matches) }
         ensures documents { IfOk result (λ c. documents_at c ≡ documents_at self.now) }
         ensures scope { IfOk result (λ c. scope_of c.resolver ≡ entered_scope (base_of c.resolver) (base_of self.now.resolver) (scope_of self.now.resolver)) }
         ensures stands { IfOk result (λ c. (s : sites.Site) (added : List Part) → Stands self.now s → Stands c (sites.below (documents_at self.now) s added (view contents.now))) }
@@ -81,6 +88,7 @@ impl<'r> Site<'r> {
             contents,
             dialect: settled.dialect,
             resolver: self.resolver.at(settled.base)?,
+            matches: self.matches,
         })
     }
 

@@ -7,7 +7,7 @@ use Rattle.site_laws.specs.Laws.{AreAlike, AlikeIsEquivalence}
 
 module _ (docs : Documents) where
   pub itself : (s : Site) → IsPresent s.base s.scope → AreAlike docs s s
-  itself s here = record { document = refl; path = refl; contents = refl; base = refl; dialect = refl; scope = refl; here = here; there = here }
+  itself s here = record { document = refl; path = refl; contents = refl; base = refl; dialect = refl; road = refl; scope = refl; here = here; there = here }
 
   pub turned : (s t : Site) → AreAlike docs s t → AreAlike docs t s
   turned s t a = record {
@@ -16,6 +16,7 @@ module _ (docs : Documents) where
     contents = sym a.contents;
     base = sym a.base;
     dialect = sym a.dialect;
+    road = sym a.road;
     scope = sym a.scope;
     here = a.there;
     there = a.here;
@@ -28,6 +29,7 @@ module _ (docs : Documents) where
     contents = a.contents ∙ b.contents;
     base = a.base ∙ b.base;
     dialect = a.dialect ∙ b.dialect;
+    road = a.road ∙ b.road;
     scope = a.scope ∙ b.scope;
     here = a.here;
     there = b.there;

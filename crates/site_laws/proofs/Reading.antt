@@ -47,7 +47,7 @@ module _ (docs : Documents) (makes : List ℕ → Bool) (s t : Site) (a : AreAli
 
   rows : AllZip (RowsAgree docs) (rows_at docs makes s) (rows_at docs makes (moved s t.scope t.schema_path))
   unfolding rows_at
-  rows = rows_in_alike docs makes s t.scope t.schema_path a.here there (keys_decide docs s.base s.scope t.scope a.here there same_key) s.contents
+  rows = rows_in_alike docs makes s t.scope t.schema_path a.here there (keys_decide docs s.base s.scope t.scope a.here there same_key) a.road s.contents
 
   pub read_alike : ReadAlike docs makes s t
   read_alike = record {

@@ -1,5 +1,6 @@
--- What stands at two sites that differ in their scopes and schema paths alone, where the scopes answer alike.
-use Rattle.std.proofs.Common.{◌≡◌, ℕ, ℤ, suc, List, [], ◌∷◌, ◌++◌, Bool, true, false, ◌||◌, bytes_eq, codes, Option, Some, None, Result, Ok, Err, is_some, option_and_then, refl, ap, subst}
+-- What stands at two sites that differ in their scopes and the parts of their schema paths alone, where the scopes answer alike and the paths have one text.
+use Rattle.std.proofs.Common.{◌≡◌, ◌∙◌, ℕ, ℤ, suc, List, [], ◌∷◌, ◌++◌, Bool, true, false, ◌||◌, bytes_eq, codes, Option, Some, None, Result, Ok, Err, is_some, option_and_then, refl, sym, ap, subst}
+use Rattle.std.proofs.lemmas.List.{map-append}
 use Rattle.std.specs.List.{AllByRecursion, AllZip}
 use Rattle.std.specs.Prelude.{if◌then◌else◌, ⊤}
 use Rattle.serde_json.specs.Data.{Data, null, boolean, number, string, array, object, Items, no_items, item, Members, no_members, member}
@@ -17,6 +18,7 @@ use Rattle.schema_reading.specs.Rows.{BuildCause, Row, nothing_read, Context, co
 use Rattle.scope_laws.specs.Laws.{IsPresent, Alike}
 use Rattle.scope_laws.proofs.Keys.{entered_is_present}
 use Rattle.site_laws.specs.Laws.{AreAlike, RowsAgree}
+use Rattle.site_laws.specs.Spelled.{by_name, spelled}
 use Rattle.site_laws.proofs.Results.{Both, right, wrong, if_right, both_more, both_mapped, zip_mapped, zip_append}
 
 infixr 5 ◌&◌
@@ -29,7 +31,7 @@ abbrev Any : {A : Type 0} → A → A → Type 0
 Any x y = ⊤
 
 module _ (docs : Documents) (makes : List ℕ → Bool) (s : Site) (scope : List (List ℕ)) (road : List Part)
-    (present : IsPresent s.base s.scope) (present_too : IsPresent s.base scope) (scopes : Alike docs s.base s.scope scope) where
+    (present : IsPresent s.base s.scope) (present_too : IsPresent s.base scope) (scopes : Alike docs s.base s.scope scope) (roads : spelled s.schema_path ≡ spelled road) where
   -- the other site
   abbrev pub elsewhere : Site
   elsewhere = record { document = s.document; path = s.path; contents = s.contents; base = s.base; scope = scope; dialect = s.dialect; schema_path = road }
@@ -43,6 +45,7 @@ module _ (docs : Documents) (makes : List ℕ → Bool) (s : Site) (scope : List
     contents = refl;
     base = refl;
     dialect = refl;
+    road = map-append by_name added s.schema_path ∙ ap (λ path. spelled added ++ path) roads ∙ sym (map-append by_name added road);
     scope = scopes.entered p.base;
     here = entered_is_present p.base s.base s.scope present;
     there = entered_is_present p.base s.base scope present_too;
@@ -58,6 +61,7 @@ module _ (docs : Documents) (makes : List ℕ → Bool) (s : Site) (scope : List
     contents = refl;
     base = refl;
     dialect = refl;
+    road = refl;
     scope = scopes.entered t.base;
     here = entered_is_present t.base s.base s.scope present;
     there = entered_is_present t.base s.base scope present_too;

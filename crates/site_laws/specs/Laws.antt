@@ -8,14 +8,16 @@ use Rattle.schema_reading.specs.BuildCauses.{Reached}
 use Rattle.unread_keywords.specs.NotYet.{Cause, unread, IsBuildCause}
 use Rattle.schema_reading.specs.CompileKeys.{scope_key}
 use Rattle.scope_laws.specs.Laws.{IsPresent}
+use Rattle.site_laws.specs.Spelled.{spelled}
 
--- sites of one place with one base, one dialect and one scope key; their schema paths and the rest of their scopes may differ
+-- sites of one place with one base, one dialect, one scope key and schema paths of one text; the rest of their scopes may differ
 pub record AreAlike (docs : Documents) (s t : Site) : Type 0 where
   pub document : s.document ≡ t.document
   pub path : s.path ≡ t.path
   pub contents : s.contents ≡ t.contents
   pub base : s.base ≡ t.base
   pub dialect : s.dialect ≡ t.dialect
+  pub road : spelled s.schema_path ≡ spelled t.schema_path
   pub scope : scope_key docs s.base s.scope ≡ scope_key docs t.base t.scope
   pub here : IsPresent s.base s.scope
   pub there : IsPresent t.base t.scope

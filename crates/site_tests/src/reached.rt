@@ -21,7 +21,7 @@ fn checked(registry: &Registry<'_>) -> Result<String, Fail> {
     let alloc = registry.allocator();
     let resolver = registry.resolver(from_str(alloc, "http://a.test/r")?)?;
     let root = resolver.lookup("")?;
-    match check_reached(alloc, &root) {
+    match check_reached(alloc, &root, 65_536) {
         Ok(()) => Ok(String::from_str(alloc, "accepted")?),
         Err(cause) => Ok(format!(in alloc; "{cause}")?),
     }
@@ -96,6 +96,20 @@ fn causes(rt: HostRuntime) -> Result<(), Fail> {
             "{\"$schema\":\"http://json-schema.org/draft-07/schema#\",\"$ref\":\"#/x\",\"type\":5,\"x\":true}",
             "accepted",
         ),
+        (
+            "{\"if\":{\"items\":5},\"then\":true}",
+            "Keyword value at 'http://a.test/r#/if/items': expected schema",
+        ),
+        (
+            "{\"if\":true,\"then\":{\"unevaluatedItems\":true}}",
+            "Keyword at 'http://a.test/r#/then/unevaluatedItems' is left out",
+        ),
+        (
+            "{\"if\":true,\"else\":{\"$ref\":\"#/x\"}}",
+            "Pointer '/x' does not exist",
+        ),
+        ("{\"if\":{\"type\":5}}", "accepted"),
+        ("{\"then\":{\"type\":5},\"else\":6}", "accepted"),
         (
             "{\"$dynamicRef\":5}",
             "Keyword value at 'http://a.test/r#/$dynamicRef': expected text",

@@ -17,7 +17,8 @@ read_now =
     ∷ codes "exclusiveMaximum" ∷ codes "exclusiveMinimum" ∷ codes "maxLength" ∷ codes "minLength" ∷ codes "maxItems" ∷ codes "minItems" ∷ codes "maxProperties"
     ∷ codes "minProperties" ∷ codes "uniqueItems" ∷ codes "required" ∷ codes "dependentRequired" ∷ codes "items" ∷ codes "properties" ∷ codes "unevaluatedItems"
     ∷ codes "unevaluatedProperties" ∷ codes "prefixItems" ∷ codes "dependentSchemas" ∷ codes "allOf" ∷ codes "additionalItems" ∷ codes "anyOf"
-    ∷ codes "oneOf" ∷ codes "not" ∷ codes "contains" ∷ codes "minContains" ∷ codes "maxContains" ∷ codes "dependencies" ∷ []
+    ∷ codes "oneOf" ∷ codes "not" ∷ codes "contains" ∷ codes "minContains" ∷ codes "maxContains" ∷ codes "dependencies" ∷ codes "if" ∷ codes "then"
+    ∷ codes "else" ∷ []
 
 abbrev pub place_of : Site → List Part → Place
 place_of s added = record { document = s.document; path = added ++ s.path }

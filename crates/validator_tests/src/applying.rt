@@ -99,6 +99,60 @@ fn leads_by_each_entry(rt: HostRuntime) -> Result<(), Fail> {
 }
 
 #[test]
+fn leads_by_what_is_chosen(rt: HostRuntime) -> Result<(), Fail> {
+    let alloc = rt.alloc();
+    let root =
+        "{\"if\":{\"type\":\"integer\"},\"then\":{\"minimum\":3},\"else\":{\"minLength\":2}}";
+    let registry = registry(alloc, root)?;
+    for (value, evaluation, want) in [
+        ("2", "/then/minimum", "accepted"),
+        ("2", "/then", "accepted"),
+        ("2", "/if", "refused"),
+        ("2", "/else", "refused"),
+        ("2", "/else/minLength", "refused"),
+        ("\"a\"", "/else/minLength", "accepted"),
+        ("\"a\"", "/else", "accepted"),
+        ("\"a\"", "/if/type", "refused"),
+        ("\"a\"", "/then", "refused"),
+        ("5", "/then", "refused"),
+        ("5", "/then/minimum", "refused"),
+    ] {
+        assert_eq!(rt;
+            said(alloc, &registry, value, "", evaluation)?,
+            want,
+            "{value} {evaluation}"
+        );
+    }
+    Ok(())
+}
+
+#[test]
+fn leads_on_behind_what_is_chosen(rt: HostRuntime) -> Result<(), Fail> {
+    let alloc = rt.alloc();
+    let root =
+        "{\"items\":{\"if\":{\"type\":\"integer\"},\"then\":{\"$ref\":\"leaf.json\"},\"else\":{\"items\":{\"maximum\":1}}}}";
+    let registry = registry(alloc, root)?;
+    for (instance, evaluation, want) in [
+        ("/0", "/items/then/$ref/type", "accepted"),
+        ("/0", "/items/then/$ref", "accepted"),
+        ("/0", "/items/if/type", "refused"),
+        ("/0", "/items/else/items/maximum", "refused"),
+        ("/1/0", "/items/else/items/maximum", "accepted"),
+        ("/1", "/items/else/items", "accepted"),
+        ("/1", "/items/if/type", "refused"),
+        ("/1/0", "/items/then/items/maximum", "refused"),
+        ("/1/1", "/items/else/items/maximum", "refused"),
+    ] {
+        assert_eq!(rt;
+            said(alloc, &registry, "[5,[2,1]]", instance, evaluation)?,
+            want,
+            "{instance} {evaluation}"
+        );
+    }
+    Ok(())
+}
+
+#[test]
 fn refuses_values(rt: HostRuntime) -> Result<(), Fail> {
     let alloc = rt.alloc();
     for (root, want) in [

@@ -1,6 +1,6 @@
 -- What questions add to the road begins by their keyword.
 use Rattle.std.proofs.Common.{◌≡◌, ◌++◌, ℕ, suc, List, [], ◌∷◌, Option, None, Some, refl, sym, ap, codes}
-use Rattle.std.specs.List.{AllByRecursion, flat_map}
+use Rattle.std.specs.List.{flat_map}
 use Rattle.serde_json.specs.Data.{Data, Items, no_items, item}
 use Rattle.serde_json.specs.Find.{get}
 use Rattle.json_paths.specs.Parts.{Part, name, index}

@@ -25,7 +25,7 @@ use Rattle.check_laws.proofs.Steps.{first_step, from_step}
 use Rattle.walk_laws.specs.Words.{IsRest, nothing, IsOf, Bears, count_names, choice_names}
 use Rattle.walk_laws.proofs.Cuts.{rest_of, rest_append}
 use Rattle.walk_laws.proofs.Added.{branch_added, by_item_added, member_added, triggered_added, dependency_added}
-use Rattle.walk_laws.proofs.Listed.{each_in, in_some, in_all, in_mapped, item_question, declared_question}
+use Rattle.walk_laws.proofs.Listed.{in_some, in_all, in_mapped, item_question, declared_question}
 
 -- ---- the rule of a keyword that is read
 

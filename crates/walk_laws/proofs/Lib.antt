@@ -3,3 +3,4 @@ pub mod Named
 pub mod Listed
 pub mod Added
 pub mod Begun
+pub mod BesideLed

@@ -15,8 +15,8 @@ use Rattle.schema_meaning.specs.Keywords.{Assertion, named, types, constant, enu
 use Rattle.unread_keywords.specs.NotYet.{is_unread, is_read_beside, has_patterns, read_now}
 use Rattle.schema_reading.specs.Sites.{Site, target_site}
 use Rattle.schema_reading.specs.Values.{type_names, count_of, positive_of, whole_number, unique_names}
-use Rattle.schema_reading.specs.Rows.{BuildCause, behind_items, additional_items_row, is_false, declared_beside, is_alone, refuses_others, additional_properties_row, Row, nothing_read, reads, Context, counts_here, at, bad_value, subschema, each_subschema, each_named, row_of, one_schema, schema_list, sites_named, schema_map, asserted, assertion, length_of_list, beside, takes_list, items_row, with_causes, target_causes, no_schema_there, led_to, ref_row, dynamic_row, is_hash, recursive_row, is_draft_4, is_true, unique_row, unless_empty, required_entries, dependent_required_row, readers, read_among, row_at, contains_row, bound_row, sites_applied, dependency_entries, dependencies_row}
-use Rattle.walk_laws.specs.Words.{IsOf, IsUnder, member_of, Bears, count_names, LeadsBack}
+use Rattle.schema_reading.specs.Rows.{BuildCause, behind_items, additional_items_row, is_false, declared_beside, is_alone, refuses_others, additional_properties_row, Row, nothing_read, reads, Context, counts_here, at, bad_value, subschema, each_subschema, each_named, row_of, one_schema, schema_list, sites_named, schema_map, asserted, assertion, length_of_list, beside, takes_list, items_row, with_causes, target_causes, no_schema_there, led_to, ref_row, dynamic_row, is_hash, recursive_row, is_draft_4, is_true, unique_row, unless_empty, required_entries, dependent_required_row, readers, read_among, row_at, contains_row, bound_row, sites_applied, dependency_entries, dependencies_row, schema_beside, if_row, consequent_row}
+use Rattle.walk_laws.specs.Words.{IsOf, IsUnder, member_of, Bears, count_names, choice_names, LeadsBack}
 
 abbrev AreOf : List ℕ → Row → Type 0
 AreOf k row = AllByRecursion (IsOf k) row.shapes
@@ -270,6 +270,36 @@ of_bound x k d = by (is_some (beside x (codes "contains"))) (count_of d)
     by true (Some n) = tt
     by false o = tt
 
+-- `if` refuses under the name of what it chooses
+choice_back : (b : Bool) (n : List ℕ) → In n choice_names → LeadsBack b (codes "if") n
+unfolding escape
+choice_back b _ first = record { of_member = refl; plain = refl }
+choice_back b _ (later first) = record { of_member = refl; plain = refl }
+choice_back b _ (later (later first)) = record { of_member = refl; plain = refl }
+choice_back b n (later (later (later i))) = elim i [ ]
+
+under_choice : (b : Bool) (s : Site) (t e : Option Site) → IsUnder b (codes "if") (condition s t e)
+under_choice b s t e = record { name = codes "if"; named = first; back = choice_back b }
+
+of_if : (x : Context) (d : Data) → AreUnder x (codes "if") (if_row x (codes "if") d)
+of_if x d =
+    by (is_some (beside x (codes "then")) || is_some (beside x (codes "else"))) (schema_beside x (codes "then")) (schema_beside x (codes "else")) (subschema x (at (codes "if")) d)
+  where
+    by : (b : Bool) (t e : Option Site) (r : Result Site (List BuildCause))
+        → AreUnder x (codes "if") (if b then row_of (λ s. s ∷ []) (λ s. condition s t e ∷ []) r else nothing_read)
+    by true t e (Ok s) = (under_choice (is_draft_4 x.site.dialect.draft) s t e, tt)
+    by true t e (Err causes) = tt
+    by false t e r = tt
+
+-- `then` and `else` have no shapes of their own
+of_consequent : (x : Context) (k : List ℕ) (d : Data) → AreUnder x k (consequent_row x k d)
+of_consequent x k d = by (is_some (beside x (codes "if"))) (subschema x (at k) d)
+  where
+    by : (b : Bool) (r : Result Site (List BuildCause)) → AreUnder x k (if b then row_of (λ s. s ∷ []) (λ s. []) r else nothing_read)
+    by true (Ok s) = tt
+    by true (Err causes) = tt
+    by false r = tt
+
 -- a row for each name that is read
 of_read : (x : Context) (k : List ℕ) (d : Data) → In k read_now → AreUnder x k (read_among readers x k d)
 unfolding escape
@@ -308,7 +338,10 @@ of_read x _ d (later (later (later (later (later (later (later (later (later (la
 of_read x _ d (later (later (later (later (later (later (later (later (later (later (later (later (later (later (later (later (later (later (later (later (later (later (later (later (later (later (later (later (later (later (later (later first)))))))))))))))))))))))))))))))) = of_bound x (codes "minContains") d
 of_read x _ d (later (later (later (later (later (later (later (later (later (later (later (later (later (later (later (later (later (later (later (later (later (later (later (later (later (later (later (later (later (later (later (later (later first))))))))))))))))))))))))))))))))) = of_bound x (codes "maxContains") d
 of_read x _ d (later (later (later (later (later (later (later (later (later (later (later (later (later (later (later (later (later (later (later (later (later (later (later (later (later (later (later (later (later (later (later (later (later (later first)))))))))))))))))))))))))))))))))) = own (is_draft_4 x.site.dialect.draft) (codes "dependencies") refl refl _ (of_dependencies x d)
-of_read x k d (later (later (later (later (later (later (later (later (later (later (later (later (later (later (later (later (later (later (later (later (later (later (later (later (later (later (later (later (later (later (later (later (later (later (later i))))))))))))))))))))))))))))))))))) = elim i [ ]
+of_read x _ d (later (later (later (later (later (later (later (later (later (later (later (later (later (later (later (later (later (later (later (later (later (later (later (later (later (later (later (later (later (later (later (later (later (later (later first))))))))))))))))))))))))))))))))))) = of_if x d
+of_read x _ d (later (later (later (later (later (later (later (later (later (later (later (later (later (later (later (later (later (later (later (later (later (later (later (later (later (later (later (later (later (later (later (later (later (later (later (later first)))))))))))))))))))))))))))))))))))) = of_consequent x (codes "then") d
+of_read x _ d (later (later (later (later (later (later (later (later (later (later (later (later (later (later (later (later (later (later (later (later (later (later (later (later (later (later (later (later (later (later (later (later (later (later (later (later (later first))))))))))))))))))))))))))))))))))))) = of_consequent x (codes "else") d
+of_read x k d (later (later (later (later (later (later (later (later (later (later (later (later (later (later (later (later (later (later (later (later (later (later (later (later (later (later (later (later (later (later (later (later (later (later (later (later (later (later i)))))))))))))))))))))))))))))))))))))) = elim i [ ]
 
 -- `additionalProperties` is read by what stands beside
 of_others : (x : Context) (d : Data) → AreOf (codes "additionalProperties") (additional_properties_row x (codes "additionalProperties") d)

@@ -1,4 +1,4 @@
-use Rattle.std.proofs.Common.{◌≡◌, [], ◌∷◌, ◌∙◌, ◌||◌, codes, sym, ap, ap₂, subst}
+use Rattle.std.proofs.Common.{◌≡◌, [], ◌∷◌, ◌∙◌, ◌||◌, codes, refl, sym, ap, ap₂, subst}
 use Rattle.std.specs.Prelude.{is_some}
 use Rattle.serde_json.specs.View.{view}
 use Rattle.schema_meaning.specs.Keywords.{condition}
@@ -14,8 +14,8 @@ either-beside : (n : Neighbours) (x : Context) → Surrounds n x
     → (is_some (beside x (codes "then")) || is_some (beside x (codes "else"))) ≡ (is_some (beside_in n (codes "then")) || is_some (beside_in n (codes "else")))
 either-beside n x s = ap₂ (λ a b. is_some a || is_some b) (neighbour n x s (codes "then")) (neighbour n x s (codes "else"))
 
-pub returns-then-has_consequent : goal.returns-then-has_consequent
-returns-then-has_consequent c = λ x s.
+pub returns-then-has_consequent-clause-read : goal.returns-then-has_consequent-clause-read
+returns-then-has_consequent-clause-read c = λ x s.
     let n = c.args.neighbours in
     let d = view c.args.value.now in
     let t = site_in x (at (codes "if")) d in
@@ -25,5 +25,9 @@ returns-then-has_consequent c = λ x s.
     (schema-there x (codes "then") c.schema_beside-then_schema.result (c.schema_beside-then_schema.ensures ∙ sym (ap schema_in (neighbour n x s (codes "then")))))
     (schema-there x (codes "else") c.schema_beside-else_schema.result (c.schema_beside-else_schema.ensures ∙ sym (ap schema_in (neighbour n x s (codes "else")))))))
 
-pub returns-else-has_consequent : goal.returns-else-has_consequent
-returns-else-has_consequent c = λ x s. condition-alone x (codes "if") (view c.args.value.now) (either-beside c.args.neighbours x s ∙ sym c.has_consequent.ensures ∙ c.if-has_consequent.false)
+pub returns-else-has_consequent-clause-read : goal.returns-else-has_consequent-clause-read
+returns-else-has_consequent-clause-read c = λ x s. condition-alone x (codes "if") (view c.args.value.now) (either-beside c.args.neighbours x s ∙ sym c.has_consequent.ensures ∙ c.if-has_consequent.false)
+
+pub returns-then-has_consequent-clause-condition : goal.returns-then-has_consequent-clause-condition
+returns-then-has_consequent-clause-condition c =
+    c.if_schema.ensures.condition c.args.value (record { then_schema = c.schema_beside-then_schema.result; else_schema = c.schema_beside-else_schema.result; is = refl })

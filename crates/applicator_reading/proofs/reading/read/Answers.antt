@@ -82,19 +82,19 @@ pub returns-in-not-clause-named : goal.returns-in-not-clause-named
 returns-in-not-clause-named c = λ x s. named-at c.args.name.now (codes "not") x (view c.args.value.now) c.in-not.is refl
 
 pub returns-in-if-clause-read : goal.returns-in-if-clause-read
-returns-in-if-clause-read c = read-at c.args.name.now (codes "if") c.args.neighbours (view c.args.value.now) c.condition.result c.in-if.is (λ x s. c.condition.ensures x s)
+returns-in-if-clause-read c = read-at c.args.name.now (codes "if") c.args.neighbours (view c.args.value.now) c.condition.result c.in-if.is (λ x s. c.condition.ensures.read x s)
 
 pub returns-in-if-clause-named : goal.returns-in-if-clause-named
 returns-in-if-clause-named c = λ x s. named-at c.args.name.now (codes "if") x (view c.args.value.now) c.in-if.is refl
 
 pub returns-in-then-clause-read : goal.returns-in-then-clause-read
-returns-in-then-clause-read c = read-at c.args.name.now (codes "then") c.args.neighbours (view c.args.value.now) c.consequent.result c.in-then.is (λ x s. c.consequent.ensures x (codes "then") s)
+returns-in-then-clause-read c = read-at c.args.name.now (codes "then") c.args.neighbours (view c.args.value.now) c.consequent.result c.in-then.is (λ x s. c.consequent.ensures.read x (codes "then") s)
 
 pub returns-in-then-clause-named : goal.returns-in-then-clause-named
 returns-in-then-clause-named c = λ x s. named-at c.args.name.now (codes "then") x (view c.args.value.now) c.in-then.is refl
 
 pub returns-in-else-clause-read : goal.returns-in-else-clause-read
-returns-in-else-clause-read c = read-at c.args.name.now (codes "else") c.args.neighbours (view c.args.value.now) c.consequent-in-else.result c.in-else.is (λ x s. c.consequent-in-else.ensures x (codes "else") s)
+returns-in-else-clause-read c = read-at c.args.name.now (codes "else") c.args.neighbours (view c.args.value.now) c.consequent-in-else.result c.in-else.is (λ x s. c.consequent-in-else.ensures.read x (codes "else") s)
 
 pub returns-in-else-clause-named : goal.returns-in-else-clause-named
 returns-in-else-clause-named c = λ x s. named-at c.args.name.now (codes "else") x (view c.args.value.now) c.in-else.is refl

@@ -37,11 +37,11 @@ returns-then-accepted c =
     let base : base_of resolver ≡ r.base = cc (c.in_ok-resolver.ensures.base, c.in_ok-clone.ensures.cases, c.base.ensures) in
     let found : Finds r t = cc (documents, base, c.in-Ok.ensures.ok) in
     let there : documents_in c.in-Ok.found.resolver ≡ documents_in_registry c.args.registry.now = c.in-Ok.ensures.documents ∙ documents in
-    let told = subst (λ b. DecidesRoot t (documents_in c.in-Ok.found.resolver ∷ []) d (text_left c.in-Some.instance) (text_left c.in-Some-opened.evaluation) b) c.if-accepted.true c.in_ok-accepted-in-Ok.ensures in
-    accepted_by r d c.args.path.instance_path.now c.args.path.evaluation_path.now t found
-    (subst (λ own. DecidesRoot t (own ∷ []) d c.args.path.instance_path.now c.args.path.evaluation_path.now true) there
-    (subst (λ i. DecidesRoot t (documents_in c.in-Ok.found.resolver ∷ []) d i c.args.path.evaluation_path.now true) (sym c.in-Some.ensures)
-    (subst (λ e. DecidesRoot t (documents_in c.in-Ok.found.resolver ∷ []) d (text_left c.in-Some.instance) e true) (sym c.in-Some-opened.ensures) told)))
+    let told = subst (λ b. DecidesRoot t (documents_in c.in-Ok.found.resolver ∷ []) c.none-matches.result d (text_left c.in-Some.instance) (text_left c.in-Some-opened.evaluation) b) c.if-accepted.true c.in_ok-accepted-in-Ok.ensures in
+    accepted_by r d c.args.path.instance_path.now c.args.path.evaluation_path.now t c.none-matches.result found
+    (subst (λ own. DecidesRoot t (own ∷ []) c.none-matches.result d c.args.path.instance_path.now c.args.path.evaluation_path.now true) there
+    (subst (λ i. DecidesRoot t (documents_in c.in-Ok.found.resolver ∷ []) c.none-matches.result d i c.args.path.evaluation_path.now true) (sym c.in-Some.ensures)
+    (subst (λ e. DecidesRoot t (documents_in c.in-Ok.found.resolver ∷ []) c.none-matches.result d (text_left c.in-Some.instance) e true) (sym c.in-Some-opened.ensures) told)))
 
 pub returns-in-Ok : goal.returns-in-Ok
 returns-in-Ok c =
@@ -53,11 +53,11 @@ returns-in-Ok c =
     let base : base_of resolver ≡ r.base = cc (c.in_ok-resolver.ensures.base, c.in_ok-clone.ensures.cases, c.base.ensures) in
     let found : Finds r t = cc (documents, base, c.in-Ok.ensures.ok) in
     let there : documents_in c.in-Ok.found.resolver ≡ documents_in_registry c.args.registry.now = c.in-Ok.ensures.documents ∙ documents in
-    let told = subst (λ b. DecidesRoot t (documents_in c.in-Ok.found.resolver ∷ []) d (text_left c.in-Some.instance) (text_left c.in-Some-opened.evaluation) b) c.if-accepted.false c.in_ok-accepted-in-Ok.ensures in
-    refused_by r d c.args.path.instance_path.now c.args.path.evaluation_path.now t found
-    (subst (λ own. DecidesRoot t (own ∷ []) d c.args.path.instance_path.now c.args.path.evaluation_path.now false) there
-    (subst (λ i. DecidesRoot t (documents_in c.in-Ok.found.resolver ∷ []) d i c.args.path.evaluation_path.now false) (sym c.in-Some.ensures)
-    (subst (λ e. DecidesRoot t (documents_in c.in-Ok.found.resolver ∷ []) d (text_left c.in-Some.instance) e false) (sym c.in-Some-opened.ensures) told)))
+    let told = subst (λ b. DecidesRoot t (documents_in c.in-Ok.found.resolver ∷ []) c.none-matches.result d (text_left c.in-Some.instance) (text_left c.in-Some-opened.evaluation) b) c.if-accepted.false c.in_ok-accepted-in-Ok.ensures in
+    refused_by r d c.args.path.instance_path.now c.args.path.evaluation_path.now t c.none-matches.result found
+    (subst (λ own. DecidesRoot t (own ∷ []) c.none-matches.result d c.args.path.instance_path.now c.args.path.evaluation_path.now false) there
+    (subst (λ i. DecidesRoot t (documents_in c.in-Ok.found.resolver ∷ []) c.none-matches.result d i c.args.path.evaluation_path.now false) (sym c.in-Some.ensures)
+    (subst (λ e. DecidesRoot t (documents_in c.in-Ok.found.resolver ∷ []) c.none-matches.result d (text_left c.in-Some.instance) e false) (sym c.in-Some-opened.ensures) told)))
 
 pub returns : goal.returns
 returns c =

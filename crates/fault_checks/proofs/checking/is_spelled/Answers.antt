@@ -17,5 +17,5 @@ returns c =
     let t = target_in c.args.root.now in
     let path = ap₂ (λ ps (r : List ℕ). behind ps [] ++ path_of_reference r) c.new.ensures.items c.none.ensures in
     IfOk-weaker c.walked.result _ _
-    (λ b p. decided_at _ t (documents_in c.args.root.now.resolver ∷ []) b c.in_ok-site.ensures.documents c.in_ok-site.ensures.stands c.in_ok-site.ensures.scope path p)
+    (λ b p. decided_at _ t (documents_in c.args.root.now.resolver ∷ []) c.args.matches b c.in_ok-site.ensures.documents c.in_ok-site.ensures.matches c.in_ok-site.ensures.stands c.in_ok-site.ensures.scope path p)
     c.walked.ensures

@@ -16,6 +16,7 @@ invariant_of-result c =
       documents = c.in_ok-site.ensures.documents;
       scope = c.in_ok-site.ensures.scope;
       stands = λ s added. c.in_ok-site.ensures.stands s added;
+      matches = c.in_ok-site.ensures.matches;
     } in
     record { shallow = child_shallow c.args.walk.site c.in_ok-site.site _ child c.requires.inside c.args.walk.shallow }
 
@@ -28,6 +29,7 @@ returns c =
       documents = c.in_ok-site.ensures.documents;
       scope = c.in_ok-site.ensures.scope;
       stands = λ s added. c.in_ok-site.ensures.stands s added;
+      matches = c.in_ok-site.ensures.matches;
       path =
           ap (λ (p : List Part). p ++ rest) c.in_ok-push_road.ensures
           ∙ append_assoc (added_at q.subschema.keyword.now q.subschema.entry) (behind c.args.walk.parts.items []) rest;

@@ -21,6 +21,7 @@ invariant_of-result c =
       documents = c.in_ok-site-in-Some.ensures.documents;
       scope = c.in_ok-site-in-Some.ensures.scope;
       stands = λ s added. c.in_ok-site-in-Some.ensures.stands s added;
+      matches = c.in_ok-site-in-Some.ensures.matches;
     } in
     record { shallow = child_shallow c.args.walk.site c.in_ok-site-in-Some.site _ child c.requires.inside c.args.walk.shallow }
 
@@ -31,6 +32,7 @@ returns-clause-passes c =
       documents = c.in_ok-site-in-Some.ensures.documents;
       scope = c.in_ok-site-in-Some.ensures.scope;
       stands = λ s added. c.in_ok-site-in-Some.ensures.stands s added;
+      matches = c.in_ok-site-in-Some.ensures.matches;
     } in
     let path = ap (λ ps. behind ps [] ++ path_of_reference (text_of c.args.walk.reference)) c.in_ok-push-in-Some.ensures.items
     ∙ ap (λ (p : List Part). p ++ path_of_reference (text_of c.args.walk.reference)) (behind_more c.args.walk.parts.items _ []) in

@@ -34,6 +34,7 @@ invariant_of-result c =
       documents = c.in_ok-site-in-Some.ensures.documents;
       scope = c.in_ok-site-in-Some.ensures.scope;
       stands = λ s added. c.in_ok-site-in-Some.ensures.stands s added;
+      matches = c.in_ok-site-in-Some.ensures.matches;
     } in
     let ms = members_view c.args.schemas.now.entries in
     let inside = member_inside (object ms) ms _ (view c.in-Some.part.now) refl (found_listed _ _ ms (subst (FindsMember ms (view c.args.walk.value.now) c.first_part.result.0.now) c.in-Some.is c.in_ok-member_at.ensures).declared) in
@@ -46,6 +47,7 @@ returns-clause-passes c =
       documents = c.in_ok-site-in-Some.ensures.documents;
       scope = c.in_ok-site-in-Some.ensures.scope;
       stands = λ s added. c.in_ok-site-in-Some.ensures.stands s added;
+      matches = c.in_ok-site-in-Some.ensures.matches;
     } in
     let path = ap (λ (p : List Part). p ++ path_of_reference (text_of c.args.walk.reference)) (behind_twice c.args.walk.parts.items _ _ _ _ c.in_ok-push-in-Some.ensures.items c.in_ok-push-in-Some-2.ensures.items) in
     members_on c.args.walk _ (members_view c.args.schemas.now.entries) c.args.after c.args.there.now c.args.declared.now c.first_part.result.0.now c.first_part-2.result.0.now (cow_str_bytes c.in-Some.name) (view c.in-Some.part.now)

@@ -20,6 +20,7 @@ invariant_of-result c =
       scope = c.in_ok-site.ensures.scope;
       documents = c.in_ok-site.ensures.documents;
       stands = λ s r. c.in_ok-site.ensures.stands s r;
+      matches = c.in_ok-site.ensures.matches;
     } in
     record { shallow = target_shallow c.args.walk.site c.in_ok-site.site c.args.keyword c.args.text.now c.args.target at }
 
@@ -32,5 +33,6 @@ returns-clause-passes c =
       scope = c.in_ok-site.ensures.scope;
       documents = c.in_ok-site.ensures.documents;
       stands = λ s r. c.in_ok-site.ensures.stands s r;
+      matches = c.in_ok-site.ensures.matches;
     } in
     reference_on c.args.walk _ c.args.keyword c.args.text.now c.args.target c.args.after c.requires.more at (ap₂ (λ ps (r : List ℕ). behind ps [] ++ path_of_reference r) c.new.ensures.items c.followed.ensures) refl refl refl

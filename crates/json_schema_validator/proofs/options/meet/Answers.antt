@@ -17,7 +17,7 @@ returns-in-Ok-clause-met c =
     let base : base_of resolver ≡ r.base = cc (c.in_ok-resolver.ensures.base, c.in_ok-clone.ensures.cases, c.base.ensures) in
     let found : Finds r t = cc (documents, base, c.in-Ok.ensures.ok) in
     let is : registry.parent ≡ Some c.in-Some.parent.now = sym c.in-Some.ensures in
-    met_by registry r c.in-Some.parent.now is t found c.ask_meta_schema.result c.ask_meta_schema.ensures.accepted
+    met_by registry r c.in-Some.parent.now is t found c.args.node_limit c.ask_meta_schema.result c.ask_meta_schema.ensures.accepted
 
 pub returns-in-Ok-clause-refused : goal.returns-in-Ok-clause-refused
 returns-in-Ok-clause-refused c =
@@ -29,7 +29,7 @@ returns-in-Ok-clause-refused c =
     let base : base_of resolver ≡ r.base = cc (c.in_ok-resolver.ensures.base, c.in_ok-clone.ensures.cases, c.base.ensures) in
     let found : Finds r t = cc (documents, base, c.in-Ok.ensures.ok) in
     let is : registry.parent ≡ Some c.in-Some.parent.now = sym c.in-Some.ensures in
-    refused_by registry r c.in-Some.parent.now is t found c.ask_meta_schema.result c.ask_meta_schema.ensures.refused
+    refused_by registry r c.in-Some.parent.now is t found c.args.node_limit c.ask_meta_schema.result c.ask_meta_schema.ensures.refused
 
 pub returns-clause-refused : goal.returns-clause-refused
 returns-clause-refused c =
@@ -39,4 +39,4 @@ returns-clause-refused c =
     let documents : documents_in resolver ≡ documents_in_registry registry = c.in_ok-resolver.ensures.documents ∙ c.registry.ensures in
     let base : base_of resolver ≡ r.base = cc (c.in_ok-resolver.ensures.base, c.in_ok-clone.ensures.cases, c.base.ensures) in
     let same : lookup (documents_in resolver ∷ []) (base_of resolver) r.reference ≡ lookup r.documents r.base r.reference = cc (documents, base) in
-    inl (c.of_root.ensures r (subst (λ x. RefusesLookup x c.in-Err.error) same c.in-Err.ensures.refused))
+    inl (c.of_root.ensures c.args.node_limit r (subst (λ x. RefusesLookup x c.in-Err.error) same c.in-Err.ensures.refused))

@@ -19,6 +19,7 @@ is_asked_refused-requires c =
       documents = c.in_ok-inner.ensures.documents;
       scope = c.in_ok-inner.ensures.scope;
       stands = λ s added. c.in_ok-inner.ensures.stands s added;
+      matches = c.in_ok-inner.ensures.matches;
     } in
     record { shallow = child_shallow c.args.site.now _ _ child c.requires.inside c.requires.shallow; part = c.requires.part }
 
@@ -30,6 +31,7 @@ is_asked_refused-requires-in-Name c =
       documents = c.in_ok-inner.ensures.documents;
       scope = c.in_ok-inner.ensures.scope;
       stands = λ s added. c.in_ok-inner.ensures.stands s added;
+      matches = c.in_ok-inner.ensures.matches;
     } in
     record { shallow = child_shallow c.args.site.now _ _ child c.requires.inside c.requires.shallow; part = c.requires.part }
 
@@ -41,6 +43,7 @@ is_asked_refused-requires-in-Index c =
       documents = c.in_ok-inner.ensures.documents;
       scope = c.in_ok-inner.ensures.scope;
       stands = λ s added. c.in_ok-inner.ensures.stands s added;
+      matches = c.in_ok-inner.ensures.matches;
     } in
     record { shallow = child_shallow c.args.site.now _ _ child c.requires.inside c.requires.shallow; part = c.requires.part }
 
@@ -52,6 +55,7 @@ returns-in-Whole c =
       documents = c.in_ok-inner.ensures.documents;
       scope = c.in_ok-inner.ensures.scope;
       stands = λ s added. c.in_ok-inner.ensures.stands s added;
+      matches = c.in_ok-inner.ensures.matches;
     } in
     let rest = path_of_reference (text_of c.args.reference) in
     let path = location_of c.args.schema.now ++ rest in
@@ -66,6 +70,7 @@ returns-in-Name c =
       documents = c.in_ok-inner.ensures.documents;
       scope = c.in_ok-inner.ensures.scope;
       stands = λ s added. c.in_ok-inner.ensures.stands s added;
+      matches = c.in_ok-inner.ensures.matches;
     } in
     let rest = path_of_reference (text_of c.args.reference) in
     let path = location_of c.args.schema.now ++ rest in
@@ -80,6 +85,7 @@ returns c =
       documents = c.in_ok-inner.ensures.documents;
       scope = c.in_ok-inner.ensures.scope;
       stands = λ s added. c.in_ok-inner.ensures.stands s added;
+      matches = c.in_ok-inner.ensures.matches;
     } in
     let rest = path_of_reference (text_of c.args.reference) in
     let path = location_of c.args.schema.now ++ rest in

@@ -28,6 +28,7 @@ is_refused-requires c =
       documents = c.in_ok-inner.ensures.documents;
       scope = c.in_ok-inner.ensures.scope;
       stands = λ s added. c.in_ok-inner.ensures.stands s added;
+      matches = c.in_ok-inner.ensures.matches;
     } in
     record { shallow = child_shallow c.args.site.now _ _ child c.requires.inside c.requires.shallow }
 
@@ -43,6 +44,7 @@ returns-then-branch c =
       documents = c.in_ok-inner.ensures.documents;
       scope = c.in_ok-inner.ensures.scope;
       stands = λ s added. c.in_ok-inner.ensures.stands s added;
+      matches = c.in_ok-inner.ensures.matches;
     } in
     let d = view c.args.value.now in
     let i = c.loop-index.index in
@@ -64,6 +66,7 @@ loop-index-preserved c =
       documents = c.in_ok-inner.ensures.documents;
       scope = c.in_ok-inner.ensures.scope;
       stands = λ s added. c.in_ok-inner.ensures.stands s added;
+      matches = c.in_ok-inner.ensures.matches;
     } in
     let d = view c.args.value.now in
     let i = c.loop-index.index in

@@ -17,6 +17,7 @@ is_refused-requires c =
       documents = c.in_ok-inner.ensures.documents;
       scope = c.in_ok-inner.ensures.scope;
       stands = λ s added. c.in_ok-inner.ensures.stands s added;
+      matches = c.in_ok-inner.ensures.matches;
     } in
     record { shallow = child_shallow c.args.site.now _ _ child c.requires.inside c.requires.shallow }
 
@@ -27,6 +28,7 @@ returns c =
       documents = c.in_ok-inner.ensures.documents;
       scope = c.in_ok-inner.ensures.scope;
       stands = λ s added. c.in_ok-inner.ensures.stands s added;
+      matches = c.in_ok-inner.ensures.matches;
     } in
     let path = c.push_name-road.ensures ∙ ap (λ p. name c.args.name.now ∷ p) c.push_name-above.ensures in
     IfOk-weaker c.is_refused.result _ _

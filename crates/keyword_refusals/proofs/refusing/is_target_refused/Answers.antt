@@ -24,6 +24,7 @@ is_refused-requires c =
       scope = c.in_ok-inner.ensures.scope;
       documents = c.in_ok-inner.ensures.documents;
       stands = λ s r. c.in_ok-inner.ensures.stands s r;
+      matches = c.in_ok-inner.ensures.matches;
     } in
     record { shallow = target_shallow c.args.site.now c.in_ok-inner.inner c.args.keyword c.args.text.now c.args.target at }
 
@@ -36,6 +37,7 @@ returns c =
       scope = c.in_ok-inner.ensures.scope;
       documents = c.in_ok-inner.ensures.documents;
       stands = λ s r. c.in_ok-inner.ensures.stands s r;
+      matches = c.in_ok-inner.ensures.matches;
     } in
     let same = ap₂ (λ (p : List Part) (r : List ℕ). p ++ path_of_reference r) c.new-start.ensures c.followed.ensures in
     IfOk-weaker c.is_refused.result _ _

@@ -43,6 +43,21 @@ returns-in-Applicator c =
     let path = location_of c.args.schema.now ++ path_of_reference (text_of c.args.reference) in
     IfOk-weaker c.applicator_refuses.result _ _ (λ b h. subst (λ k. IsRefusalAt c.args.site.now path (view c.args.value.now) k c.args.name.now b) (sym c.in-Applicator.is) h) c.applicator_refuses.ensures
 
+pub condition_refuses-requires : goal.condition_refuses-requires
+condition_refuses-requires c = record { shallow = c.requires.shallow; lies = subst (LiesIn c.args.site.now) c.in-If.is c.requires.lies }
+
+pub returns-in-If : goal.returns-in-If
+returns-in-If c =
+    let path = location_of c.args.schema.now ++ path_of_reference (text_of c.args.reference) in
+    IfOk-weaker c.condition_refuses.result _ _ (λ b h. subst (λ k. IsRefusalAt c.args.site.now path (view c.args.value.now) k c.args.name.now b) (sym c.in-If.is) h) c.condition_refuses.ensures
+
+pub returns-in-Consequent : goal.returns-in-Consequent
+returns-in-Consequent c =
+    let d = view c.args.value.now in
+    let path = location_of c.args.schema.now ++ path_of_reference (text_of c.args.reference) in
+    under_name c.args.site.now path d c.args.keyword c.args.name.now false (subst HasOneName (sym c.in-Consequent.is) tt)
+    (by_nothing c.args.site.now path d c.args.keyword (λ x s. ap (λ k. rules_by x s d k) c.in-Consequent.is))
+
 pub is_target_refused-requires : goal.is_target_refused-requires
 is_target_refused-requires c = record { shallow = c.requires.shallow; found = subst (LiesIn c.args.site.now) c.in-Reference.is c.requires.lies }
 

@@ -40,7 +40,8 @@ use Rattle.plain_reader.specs.Combined.{HasBranches}
 use Rattle.plain_reader.specs.Refusals.{carries_branches}
 use Rattle.plain_reader.proofs.CombinedTelling.{count_yes, count_no, branches_step, branches_done, combined_accepted, combined_heard, combined_told}
 use Rattle.plain_reader.proofs.Reading.{member_inside}
-use Rattle.plain_reader.proofs.KeywordTelling.{tells_nothing, tells_assertion, tells_items, tells_properties, tells_every, tells_applicator, tells_reference, tells_member, tells_refused, tells_object, tells_false, tells_no_object}
+use Rattle.plain_reader.proofs.ChoiceTelling.{value_part, asked_inside_of, some_inside, then_told, else_told, beside_told, none_told}
+use Rattle.plain_reader.proofs.KeywordTelling.{tells_nothing, tells_assertion, tells_items, tells_properties, tells_every, tells_applicator, tells_choice, tells_reference, tells_member, tells_refused, tells_object, tells_false, tells_no_object}
 use Rattle.plain_reader.proofs.read.+read.Goals.{read_member-in-Memory, read_member-in_default, count_accepted-then-heard_none, count_accepted-else-heard_none, read_combined-then-carries_branches+in_ok-context, read_combined-else-carries_branches}
 use Rattle.plain_reader.proofs.read.+read.Goals as goal
 
@@ -72,6 +73,7 @@ read_items-read_site-requires t c =
       documents = c.in_ok-inner.ensures.documents;
       scope = c.in_ok-inner.ensures.scope;
       stands = λ s added. c.in_ok-inner.ensures.stands s added;
+      matches = c.in_ok-inner.ensures.matches;
     } in
     let among = subst (λ ys. (w : Where) → In w (spots_of_items (instance_in c.args.roads) l.index (items_view ys)) → In w (spots_of_items (instance_in c.args.roads) 0 (items_view xs))) here l.invariant.within in (
       omega (arith, child_falls c.args.site.now _ _ (view c.args.reading.now.whole.now) (keys_in c.args.progress.now) child c.requires.inside),
@@ -90,6 +92,7 @@ read_items-loop-index-preserved t c =
       documents = c.in_ok-inner.ensures.documents;
       scope = c.in_ok-inner.ensures.scope;
       stands = λ s added. c.in_ok-inner.ensures.stands s added;
+      matches = c.in_ok-inner.ensures.matches;
     } in
     let left = subst (λ ys. ItemsLeft c.args.site.now (view c.args.reading.now.whole.now) (view c.args.value.now) c.args.roads (keys_in c.args.progress.now) (view c.args.schema.now) c.args.start l.index (items_view xs) (items_view ys) c.args.observer.now l.observer) here l.invariant in
     let next = items_step c.args.site.now _ _ c.args.roads _ _ c.args.start _ _ l.index _ _ (view x) _ _ _ c.in_ok-read_site.ensures child (item_asked l.index _ (view x) c.args.roads _ c.push_index-instance.ensures c.push_name-schema_road.ensures refl c.push_name-evaluation.ensures) c.requires.inside left in
@@ -292,6 +295,7 @@ read_property-read_site-requires t c =
       documents = c.in_ok-inner.ensures.documents;
       scope = c.in_ok-inner.ensures.scope;
       stands = λ s added. c.in_ok-inner.ensures.stands s added;
+      matches = c.in_ok-inner.ensures.matches;
     } in
     let requires = c.requires.1.1 in
     let inside = requires.1.1.0 in (
@@ -306,6 +310,7 @@ read_property-returns t c =
       documents = c.in_ok-inner.ensures.documents;
       scope = c.in_ok-inner.ensures.scope;
       stands = λ s added. c.in_ok-inner.ensures.stands s added;
+      matches = c.in_ok-inner.ensures.matches;
     } in
     let path = c.push_name-schema_road.ensures ∙ ap (λ p. name c.args.name.now ∷ p) c.push_name-schema_above.ensures in
     let evaluation = c.push_name-evaluation.ensures ∙ ap (λ p. name c.args.name.now ∷ p) c.push_name-evaluation_above.ensures in
@@ -388,7 +393,7 @@ read_target-returns t c =
     let contents : t.contents ≡ view c.in_ok-inner.inner.contents.now = sym c.in_ok-inner.ensures.contents in
     let docs : documents_at c.in_ok-inner.inner ≡ documents_at c.args.site.now = c.in_ok-inner.ensures.documents ∙ ap (λ ds. ds ∷ []) c.requires.1.1.1.1.documents in
     on_ok_weaker c.read_site.result (λ told. target_on c.args.site.now (view c.args.reading.now.whole.now) (view c.args.value.now) c.args.roads progress (name_of c.args.keyword) c.args.text.now t c.is_in_progress.result c.in_ok-inner.inner _ c.args.observer.now c.read_site.new.observer
-    known c.if-is_in_progress.false lies c.requires.1.1.1.0 docs contents
+    known c.if-is_in_progress.false lies c.requires.1.1.1.0 docs c.in_ok-inner.ensures.matches contents
     (λ s. c.in_ok-inner.ensures.stands s c.args.text.now)
     (λ s b scope. ap₂ (λ (u : List ℕ) (us : List (List ℕ)). entered_scope t.base u us) b scope ∙ sym c.requires.1.1.1.1.scope ∙ sym c.in_ok-inner.ensures.scope)
     refl (c.push_name-evaluation.ensures ∙ ap (λ (k : List ℕ). name k ∷ evaluation_in c.args.roads) c.as_str.ensures) (ap₂ (λ (ps : List Part) (r : List ℕ). ps ++ path_of_reference r) c.new-start.ensures c.followed.ensures)
@@ -453,6 +458,7 @@ read_question-returns t c =
       documents = c.in_ok-inner.ensures.documents;
       scope = c.in_ok-inner.ensures.scope;
       stands = λ s added. c.in_ok-inner.ensures.stands s added;
+      matches = c.in_ok-inner.ensures.matches;
     } in
     let road = λ (p : List Part). p ++ path_of_reference (text_of c.args.roads.reference) in
     on_ok_weaker c.read_entry.result
@@ -624,3 +630,54 @@ read_combined-returns t c =
     (combined_told c.args.site.now whole d c.args.roads keys a c.args.asked.now c.requires.values c.requires.once c.requires.asked c.in_ok-accepted.accepted c.accepts.result c.args.observer.now
     c.hear.new.self c.tell_refusal.new.observer _ c.in_ok-accepted.ensures c.accepts.ensures c.if-accepts.false (λ k fs h. c.hear.ensures.unheard c.if-not-hear.false k fs h) branches)
     c.tell_refusal.ensures
+
+pub read_keyword-returns-in-Consequent : goal.read_keyword-returns-in-Consequent
+read_keyword-returns-in-Consequent t c =
+    let whole = view c.args.reading.now.whole.now in
+    let d = view c.args.value.now in
+    let keys = keys_in c.args.progress.now in
+    tells_nothing c.args.site.now whole d c.args.roads keys (keyword_leads c.args.keyword) (keyword_shapes c.args.keyword) c.args.observer.now λ x fits. ap (λ k. keyword_shapes k x) c.in-Consequent.is
+
+pub read_keyword-returns-in-If : goal.read_keyword-returns-in-If
+read_keyword-returns-in-If t c =
+    let whole = view c.args.reading.now.whole.now in
+    let d = view c.args.value.now in
+    let keys = keys_in c.args.progress.now in
+    on_ok_weaker c.read_condition.result
+    (tells_choice c.args.site.now whole d c.args.roads keys c.args.keyword c.in-If.condition c.in-If.then_schema c.in-If.else_schema c.args.observer.now c.read_condition.new.observer c.in-If.is)
+    c.read_condition.ensures
+
+pub read_condition-read_question-requires : goal.read_condition-read_question-requires
+read_condition-read_question-requires t c = (
+  omega arith,
+  (c.requires.shallow, (c.requires.within, (asked_inside_of c.args.site.now _ c.args.condition c.of_value-question.result c.of_value-question.ensures c.requires.inside, value_part (view c.args.value.now) _ c.args.condition c.of_value-question.result c.of_value-question.ensures))),
+)
+
+pub read_condition-returns-then-accepts : goal.read_condition-returns-then-accepts
+read_condition-returns-then-accepts t c =
+    on_ok_weaker c.read_beside.result
+    (then_told c.args.site.now _ _ c.args.roads _ _ c.args.condition c.args.then_schema c.args.else_schema c.of_value-question.result c.heard_none-accepts.result _ c.read_question.new.observer c.args.observer.now _ refl c.of_value-question.ensures c.new.ensures
+    c.in_ok-read_question.ensures c.heard_none-accepts.ensures c.if-accepts.true)
+    c.read_beside.ensures
+
+pub read_condition-returns-else-accepts : goal.read_condition-returns-else-accepts
+read_condition-returns-else-accepts t c =
+    on_ok_weaker c.read_beside-else-accepts.result
+    (else_told c.args.site.now _ _ c.args.roads _ _ c.args.condition c.args.then_schema c.args.else_schema c.of_value-question.result c.heard_none-accepts.result _ c.read_question.new.observer c.args.observer.now _ refl c.of_value-question.ensures c.new.ensures
+    c.in_ok-read_question.ensures c.heard_none-accepts.ensures c.if-accepts.false)
+    c.read_beside-else-accepts.ensures
+
+pub read_beside-read_question-requires : goal.read_beside-read_question-requires
+read_beside-read_question-requires t c = (
+  omega (arith, c.requires.1.0),
+  (c.requires.1.1.0, (c.requires.1.1.1.0, (asked_inside_of c.args.site.now _ c.in-Some.schema c.of_value-question.result c.of_value-question.ensures (some_inside c.args.site.now c.args.schema c.in-Some.schema c.in-Some.is c.requires.1.1.1.1), value_part (view c.args.value.now) _ c.in-Some.schema c.of_value-question.result c.of_value-question.ensures))),
+)
+
+pub read_beside-returns-in-Some : goal.read_beside-returns-in-Some
+read_beside-returns-in-Some t c =
+    on_ok_weaker c.read_question.result
+    (beside_told c.args.site.now _ _ c.args.roads _ c.args.keyword c.in-Some.schema c.args.schema c.of_value-question.result c.args.observer.now c.read_question.new.observer c.in-Some.is c.of_value-question.ensures)
+    c.read_question.ensures
+
+pub read_beside-returns-in-None : goal.read_beside-returns-in-None
+read_beside-returns-in-None t c = none_told c.args.site.now _ _ c.args.roads _ c.args.keyword.now c.args.schema c.args.observer.now c.in-None.is

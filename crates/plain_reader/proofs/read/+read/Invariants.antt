@@ -30,6 +30,12 @@ decreases-read_properties l = 12 * room (documents_at l.site.now) (view l.readin
 abbrev pub decreases-read_property : goal.decreases-read_property
 decreases-read_property l = 12 * room (documents_at l.site.now) (view l.reading.now.whole.now) (keys_in l.progress.now) (view l.site.now.contents.now) + 2
 
+abbrev pub decreases-read_condition : goal.decreases-read_condition
+decreases-read_condition l = 12 * room (documents_at l.site.now) (view l.reading.now.whole.now) (keys_in l.progress.now) (view l.site.now.contents.now) + 7
+
+abbrev pub decreases-read_beside : goal.decreases-read_beside
+decreases-read_beside l = 12 * room (documents_at l.site.now) (view l.reading.now.whole.now) (keys_in l.progress.now) (view l.site.now.contents.now) + 6
+
 abbrev pub decreases-read_applicator : goal.decreases-read_applicator
 decreases-read_applicator l = 12 * room (documents_at l.site.now) (view l.reading.now.whole.now) (keys_in l.progress.now) (view l.site.now.contents.now) + 7
 

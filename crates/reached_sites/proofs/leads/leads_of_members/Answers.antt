@@ -23,7 +23,7 @@ loop-name-preserved c =
       keyword = c.in-Ok.keyword;
       reads = λ makes. subst (λ (n : List ℕ). row_here v makes all n d ≡ row_of (documents_at v.site) s c.in-Ok.keyword) same (c.in-Ok.ensures.read makes s (stands-itself v) refl);
       counted = subst (λ (n : List ℕ). is_unread s all n d ≡ false) same (c.in-Ok.ensures.counted s (stands-itself v));
-      leads = c.in_ok-push_leads-in-Ok.ensures d c.in-Ok.ensures.found;
+      leads = c.in_ok-push_leads-in-Ok.ensures;
     })
     (subst (λ es. Walk v all (members_view es) c.loop-name.leads.items) c.in-Some.ensures.steps c.loop-name.invariant)
 

@@ -1,7 +1,7 @@
 use Rattle.std.proofs.Common.{◌≡◌, sym, subst, List}
 use Rattle.std.proofs.lemmas.Result.{on_ok_weaker}
 use Rattle.referencing.specs.Resolved.{documents_in}
-use Rattle.schema_sites.specs.Read.{leads_of, Finds}
+use Rattle.schema_sites.specs.Read.{leads_of}
 use Rattle.schema_sites.specs.Seen.{documents_at}
 use Rattle.schema_sites.specs.declared.keyword.Keyword.{Keyword}
 use Rattle.reached_sites.specs.Visits.{site_of, Adds}
@@ -16,20 +16,22 @@ as_keyword : (v : Visit) (old new : List Visit) (k l : Keyword) → k ≡ l → 
 as_keyword v old new k l e h = subst (λ (m : Keyword). AddsFor v old new m) (sym e) h
 
 pub returns-in-Nothing : goal.returns-in-Nothing
-returns-in-Nothing c = λ d f. as_keyword c.args.visit.now _ _ _ _ c.in-Nothing.is (adds-none _ c.args.leads.now.items)
+returns-in-Nothing c = as_keyword c.args.visit.now _ _ _ _ c.in-Nothing.is (adds-none _ c.args.leads.now.items)
 
 pub returns-in-Assertion : goal.returns-in-Assertion
-returns-in-Assertion c = λ d f. as_keyword c.args.visit.now _ _ _ _ c.in-Assertion.is (adds-none _ c.args.leads.now.items)
+returns-in-Assertion c = as_keyword c.args.visit.now _ _ _ _ c.in-Assertion.is (adds-none _ c.args.leads.now.items)
 
 pub returns-in-Items : goal.returns-in-Items
-returns-in-Items c = on_ok_weaker c.push_items.result (λ h d f. as_keyword c.args.visit.now _ _ _ _ c.in-Items.is (h c.in-Items.start)) c.push_items.ensures
+returns-in-Items c = on_ok_weaker c.push_at.result (λ h. as_keyword c.args.visit.now _ _ _ _ c.in-Items.is h) c.push_at.ensures
+
+pub returns-in-If : goal.returns-in-If
+returns-in-If c = on_ok_weaker c.push_at-in-If.result (λ h. as_keyword c.args.visit.now _ _ _ _ c.in-If.is h) c.push_at-in-If.ensures
+
+pub returns-in-Consequent : goal.returns-in-Consequent
+returns-in-Consequent c = on_ok_weaker c.push_at-in-Consequent.result (λ h. as_keyword c.args.visit.now _ _ _ _ c.in-Consequent.is h) c.push_at-in-Consequent.ensures
 
 pub returns-in-Applicator : goal.returns-in-Applicator
-returns-in-Applicator c = on_ok_weaker c.push_applied.result (λ h d f. as_keyword c.args.visit.now _ _ _ _ c.in-Applicator.is h) c.push_applied.ensures
+returns-in-Applicator c = on_ok_weaker c.push_applied.result (λ h. as_keyword c.args.visit.now _ _ _ _ c.in-Applicator.is h) c.push_applied.ensures
 
 pub returns : goal.returns
-returns c =
-    let site = c.args.visit.now.site in
-    on_ok_weaker c.push_target.result
-    (λ h d f. as_keyword c.args.visit.now _ _ _ _ c.in-Reference.is
-    (h d c.in-Reference.keyword c.in-Reference.text (subst (λ (k : Keyword). Finds site d k) c.in-Reference.is f))) c.push_target.ensures
+returns c = on_ok_weaker c.push_target.result (λ h. as_keyword c.args.visit.now _ _ _ _ c.in-Reference.is h) c.push_target.ensures

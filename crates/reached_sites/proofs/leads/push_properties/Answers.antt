@@ -18,11 +18,13 @@ loop-name-preserved c = λ fin rest.
     let s = site_of outer in
     let k = string_bytes c.in-Some.name.now in
     let put = name k ∷ name (codes "properties") ∷ [] in
-    let document : outer.place.document.value ≡ c.in_ok-inner.inner.document.value = sym c.in_ok-place.ensures.document ∙ sym c.in_ok-inner.ensures.document in
-    let path : name k ∷ name (codes "properties") ∷ outer.place.path ≡ c.in_ok-inner.inner.path =
-    ap (λ p. name k ∷ p) (sym c.in_ok-place.ensures.path) ∙ ap (λ n. name n ∷ c.in_ok-place.place.path) (sym c.as_str.ensures.value) ∙ sym c.in_ok-inner.ensures.path in
+    let document : outer.point.place.document.value ≡ c.in_ok-inner.inner.place.document.value = sym c.in_ok-point.ensures.document ∙ sym c.in_ok-inner.ensures.document in
+    let path : name k ∷ name (codes "properties") ∷ outer.point.place.path ≡ c.in_ok-inner.inner.place.path =
+    ap (λ p. name k ∷ p) (sym c.in_ok-point.ensures.path) ∙ ap (λ n. name n ∷ c.in_ok-point.point.place.path) (sym c.as_str.ensures.value) ∙ sym c.in_ok-inner.ensures.path in
+    let road : name k ∷ name (codes "properties") ∷ outer.point.schema_path.steps ≡ c.in_ok-inner.inner.schema_path.steps =
+    ap (λ p. name k ∷ p) (sym c.in_ok-point.ensures.road) ∙ ap (λ n. name n ∷ c.in_ok-point.point.schema_path.steps) (sym c.as_str.ensures.value) ∙ sym c.in_ok-inner.ensures.road in
     let one = adds-one own c.loop-name.leads.items c.push.new.self.items c.in_ok-below.field-0 (below docs s put (view c.in-Some.schema.now))
-    c.in_ok-push.ensures.items c.in_ok-below.ensures.belongs (c.in_ok-below.ensures.met put document path) in
+    c.in_ok-push.ensures.items c.in_ok-below.ensures.belongs (c.in_ok-below.ensures.met put document path road) in
     c.loop-name.invariant fin
     (subst (λ es. Adds own c.loop-name.leads.items fin (sites_named (each_below docs s (codes "properties") (members_view es)))) (sym c.in-Some.ensures.steps) (adds-both own one rest))
 

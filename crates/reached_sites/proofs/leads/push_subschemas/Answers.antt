@@ -1,4 +1,4 @@
-use Rattle.std.proofs.Common.{◌≡◌, ◌∙◌, ◌+◌, ◌++◌, [], ◌∷◌, List, map, drop, ap, sym, subst, arith}
+use Rattle.std.proofs.Common.{◌≡◌, ◌∙◌, ◌+◌, [], ◌∷◌, List, map, drop, ap, sym, subst, arith}
 use Rattle.std.proofs.lemmas.List.{drop_more, drop_all}
 use Rattle.serde_json.specs.View.{view}
 use Rattle.referencing.specs.Resolved.{documents_in}
@@ -22,7 +22,7 @@ loop-subschema-preserved c = λ fin rest.
     let next : drop i found ≡ b ∷ drop (i + 1) found = drop_more found i b c.loop-subschema-test.true ∙ ap (λ x. x ∷ drop (i + 1) found) (sym c.subschema-item.is) in
     let put = added_at b.keyword.now b.entry in
     let one = adds-one own c.loop-subschema.leads.items c.push.new.self.items c.in_ok-below.field-0 (below docs s put (view b.schema.now)) c.in_ok-push.ensures.items c.in_ok-below.ensures.belongs
-    (c.in_ok-below.ensures.met put (sym c.in_ok-place.ensures.document) (sym c.in_ok-place.ensures.path)) in
+    (c.in_ok-below.ensures.met put (sym c.in_ok-point.ensures.document) (sym c.in_ok-point.ensures.path) (sym c.in_ok-point.ensures.road)) in
     c.loop-subschema.invariant fin
     (subst (λ (xs : List Subschema). Adds own c.loop-subschema.leads.items fin (map (place_of (below docs s)) xs)) (sym next) (adds-both own one rest))
 

@@ -10,7 +10,7 @@ loop-lead-init c = record { grows = λ fin g. g; apart = λ f a. (f, a) }
 
 pub loop-lead-preserved : goal.loop-lead-preserved
 loop-lead-preserved c =
-    adding-goes c.args.targets.now c.loop-lead.targets c.add_one.new.targets c.args.visits.now.items c.loop-lead.visits.items c.add_one.new.visits.items
+    adding-goes c.args.visited.now c.loop-lead.visited c.add_one.new.visited c.args.visits.now.items c.loop-lead.visits.items c.add_one.new.visits.items
     (into_iter_items c.into_iter-lead-iterator.result) (into_iter_items c.loop-lead.lead-iterator) (into_iter_items c.next.new.self) c.in-Some.lead
     c.loop-lead.invariant c.in-Some.ensures.steps.0 c.in_ok-add_one.ensures.grows c.in_ok-add_one.ensures.apart
 
@@ -20,7 +20,7 @@ returns-clause-grows c =
     let now = c.loop-lead.visits.items in
     let empty = no_items it.rest.items (sym it.rest.ok.0 ∙ c.in-None.ensures.steps.0) in
     subst (λ ls. Grows c.args.visits.now.items now ls) c.into_iter-lead-iterator.ensures.into_iter_gives.0
-    (adding-ends c.args.targets.now c.loop-lead.targets c.args.visits.now.items now (into_iter_items c.into_iter-lead-iterator.result) (into_iter_items it) c.loop-lead.invariant empty)
+    (adding-ends c.args.visited.now c.loop-lead.visited c.args.visits.now.items now (into_iter_items c.into_iter-lead-iterator.result) (into_iter_items it) c.loop-lead.invariant empty)
 
 pub returns-clause-apart : goal.returns-clause-apart
 returns-clause-apart c = c.loop-lead.invariant.apart

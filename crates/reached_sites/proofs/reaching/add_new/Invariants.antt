@@ -4,4 +4,4 @@ use Rattle.reached_sites.proofs.reaching.add_new.Given as goal
 
 abbrev pub invariant-loop-lead : goal.invariant-loop-lead
 invariant-loop-lead l =
-    Adding l.initial.targets l.targets l.initial.visits.items l.visits.items (into_iter_items l.initial.lead-iterator) (into_iter_items l.lead-iterator)
+    Adding l.initial.visited l.visited l.initial.visits.items l.visits.items (into_iter_items l.initial.lead-iterator) (into_iter_items l.lead-iterator)

@@ -3,11 +3,11 @@ use Rattle.serde_json.specs.View.{view, members_view}
 use Rattle.schema_meaning.specs.Members.{first}
 use Rattle.schema_sites.specs.Arms.{one_items_row, properties_row}
 use Rattle.schema_sites.specs.declared.keyword.Refusal.TheVariants.{LeftOut}
-use Rattle.schema_sites.proofs.ArmLemmas.{items-row, properties-row, left_row, left-items-row, left-properties-row, refused-here, not-yet}
+use Rattle.schema_sites.proofs.ArmLemmas.{items-row, properties-row, if-row, then-row, else-row, left_row, left-items-row, left-properties-row, read-here, refused-here, not-yet}
 use Rattle.schema_sites.proofs.AssertingLemmas.{applied_names, none-listed, none-read, unnamed}
 use Rattle.schema_sites.proofs.ApplyingLemmas.{refused-counted, row-counted}
 use Rattle.schema_sites.proofs.ResultLemmas.{if-err, if-ok}
-use Rattle.schema_reading.specs.Rows.{readers, read_among}
+use Rattle.schema_reading.specs.Rows.{readers, read_among, if_row, consequent_row}
 use Rattle.schema_sites.specs.Read.{row_of}
 use Rattle.schema_sites.specs.Refused.{Refuses}
 use Rattle.schema_sites.proofs.reading.applied.Goals as goal
@@ -89,10 +89,46 @@ returns-in-dependencies-clause-refused c =
     (λ e h x s counted. refused-counted x c.args.name.now d counted e (subst (λ (n : List ℕ). Refuses x n d (read_among readers x n d) e) (sym c.in-dependencies.is) (h x)))
     c.dependencies.ensures.refused
 
+pub returns-in-if-clause-read : goal.returns-in-if-clause-read
+returns-in-if-clause-read c =
+    if-ok _ _ c.condition.result
+    (λ k h x s counted. read-here c.args.site.now (members_view c.args.members.now.entries) c.args.name.now (codes "if") (view c.args.value.now) (λ x d. if_row x (codes "if") d) c.in-if.is if-row k h x s counted)
+    c.condition.ensures.read
+
+pub returns-in-if-clause-refused : goal.returns-in-if-clause-refused
+returns-in-if-clause-refused c =
+    if-err _ _ c.condition.result
+    (λ e h x s counted. refused-here c.args.site.now (members_view c.args.members.now.entries) c.args.name.now (codes "if") (view c.args.value.now) (λ x d. if_row x (codes "if") d) c.in-if.is if-row e h x s counted)
+    c.condition.ensures.refused
+
+pub returns-in-then-clause-read : goal.returns-in-then-clause-read
+returns-in-then-clause-read c =
+    if-ok _ _ c.consequent.result
+    (λ k h x s counted. read-here c.args.site.now (members_view c.args.members.now.entries) c.args.name.now (codes "then") (view c.args.value.now) (λ x d. consequent_row x (codes "then") d) c.in-then.is then-row k h x s counted)
+    c.consequent.ensures.read
+
+pub returns-in-then-clause-refused : goal.returns-in-then-clause-refused
+returns-in-then-clause-refused c =
+    if-err _ _ c.consequent.result
+    (λ e h x s counted. refused-here c.args.site.now (members_view c.args.members.now.entries) c.args.name.now (codes "then") (view c.args.value.now) (λ x d. consequent_row x (codes "then") d) c.in-then.is then-row e h x s counted)
+    c.consequent.ensures.refused
+
+pub returns-in-else-clause-read : goal.returns-in-else-clause-read
+returns-in-else-clause-read c =
+    if-ok _ _ c.consequent-in-else.result
+    (λ k h x s counted. read-here c.args.site.now (members_view c.args.members.now.entries) c.args.name.now (codes "else") (view c.args.value.now) (λ x d. consequent_row x (codes "else") d) c.in-else.is else-row k h x s counted)
+    c.consequent-in-else.ensures.read
+
+pub returns-in-else-clause-refused : goal.returns-in-else-clause-refused
+returns-in-else-clause-refused c =
+    if-err _ _ c.consequent-in-else.result
+    (λ e h x s counted. refused-here c.args.site.now (members_view c.args.members.now.entries) c.args.name.now (codes "else") (view c.args.value.now) (λ x d. consequent_row x (codes "else") d) c.in-else.is else-row e h x s counted)
+    c.consequent-in-else.ensures.refused
+
 pub returns-in_default-clause-refused : goal.returns-in_default-clause-refused
 returns-in_default-clause-refused c = λ x s counted.
     let k = c.args.name.now in
     let n = c.in_default in
     not-yet x k (view c.args.value.now) counted
-    (none-read k c.requires.reference c.requires.assertion (none-listed k applied_names (n.not-items, (n.not-properties, (n.not-unevaluatedItems, (n.not-unevaluatedProperties, (n.not-prefixItems, (n.not-dependentSchemas, (n.not-allOf, (n.not-additionalItems, (n.not-anyOf, (n.not-oneOf, (n.not-not, (n.not-contains, (n.not-minContains, (n.not-maxContains, (n.not-dependencies, tt)))))))))))))))))
+    (none-read k c.requires.reference c.requires.assertion (none-listed k applied_names (n.not-items, (n.not-properties, (n.not-unevaluatedItems, (n.not-unevaluatedProperties, (n.not-prefixItems, (n.not-dependentSchemas, (n.not-allOf, (n.not-additionalItems, (n.not-anyOf, (n.not-oneOf, (n.not-not, (n.not-contains, (n.not-minContains, (n.not-maxContains, (n.not-dependencies, (n.not-if, (n.not-then, (n.not-else, tt))))))))))))))))))))
     (unnamed k (codes "additionalProperties") n.not-additionalProperties)

@@ -10,8 +10,8 @@ use Rattle.json_schema_validator.specs.Seen.{root_in}
 use Rattle.json_schema_validator.proofs.Hearing.{heard}
 use Rattle.json_schema_validator.proofs.validator.Validator.told.Goals as goal
 
-pub tell_root-requires : goal.tell_root-requires
-tell_root-requires c =
+pub tell_at-requires : goal.tell_at-requires
+tell_at-requires c =
     let resolver = c.in_ok-resolver.resolver in
     let target = target_in c.in-Ok.root in
     let shallow : depth target.contents ≤ deepest (documents_in resolver ∷ []) =
@@ -28,5 +28,5 @@ returns-in-Ok c =
     let base : base_of resolver ≡ r.base = cc (c.in_ok-resolver.ensures.base, c.in_ok-clone.ensures.cases) in
     let there : documents_in root.resolver ≡ documents_of v.registry.value = c.in-Ok.ensures.documents ∙ documents in
     let found : Finds r (target_in root) = cc (documents, base, c.as_str.ensures.value, c.in-Ok.ensures.ok) in
-    heard r v.sound (view c.args.value.now) c.args.observer _ (target_in root) (documents_in root.resolver ∷ []) (ap (λ own. own ∷ []) there) found
-    c.in_ok-tell_root-in-Ok.ensures
+    heard r v.sound (view c.args.value.now) c.args.observer _ (target_in root) c.none-matches.result (documents_in root.resolver ∷ []) (ap (λ own. own ∷ []) there) found
+    c.in_ok-tell_at-in-Ok.ensures

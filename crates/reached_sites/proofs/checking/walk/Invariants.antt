@@ -1,0 +1,10 @@
+use Rattle.std.proofs.Common.{◌-◌}
+use Rattle.referencing.specs.Resolved.{documents_in, target_in}
+use Rattle.reached_sites.proofs.Progressing.{Counting}
+use Rattle.reached_sites.proofs.checking.walk.Given as goal
+
+abbrev pub decreases-loop-next : goal.decreases-loop-next
+decreases-loop-next l = l.limit - l.next
+
+abbrev pub invariant-loop-next : goal.invariant-loop-next
+invariant-loop-next l = Counting (documents_in l.root.resolver) (target_in l.root) l.limit l.visited l.visits.items l.next

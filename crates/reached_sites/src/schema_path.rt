@@ -1,0 +1,78 @@
+//! Schema paths.
+
+ghost use Rattle.std.specs.Prelude.{◌≡◌, ◌∷◌, ◌++◌, [], true, string_bytes, IfOk};
+ghost use Rattle.std.specs.Bool.{Decides};
+ghost use Rattle.json_paths.specs.Parts.{name as name_part, index as index_part};
+ghost use Rattle.schema_reading.specs.Sites.{path_of_reference};
+ghost use Rattle.schema_reports.specs.Readable.{reads_as_path};
+ghost use Rattle.site_laws.specs.Spelled.{by_name, spelled};
+
+use schema_reports::Reference;
+use schema_steps::{Path, Step};
+use std::alloc::{AllocError, Global};
+
+/// The path to a schema from the root, or from the reference that was followed last. Its steps are names alone, as those of a pointer
+/// are: an item's index is the name of its digits.
+#[derive(Drop)]
+pub(crate) struct SchemaPath {
+    pub(crate) steps: Path,
+    ghost named: { spelled steps ≡ steps },
+}
+
+impl SchemaPath {
+    /// The path of a root.
+    pub(crate) const fn root() -> SchemaPath
+        ensures { result.steps ≡ [] }
+    {
+        SchemaPath {
+            steps: Path::root(),
+        }
+    }
+
+    /// The path that begins with a reference.
+    ///
+    /// # Errors
+    ///
+    /// Where memory was refused or a count of owners is full.
+    pub(crate) fn of_reference(alloc: Global, text: &str) -> Result<SchemaPath, AllocError>
+        requires { reads_as_path text.now ≡ true }
+        ensures { IfOk result (λ p. p.steps ≡ path_of_reference text.now) }
+    {
+        Ok(SchemaPath {
+            steps: Reference::followed(text).path(alloc)?,
+        })
+    }
+
+    /// The path of a member.
+    ///
+    /// # Errors
+    ///
+    /// Where memory was refused or a count of owners is full.
+    pub(crate) fn member(&self, alloc: Global, name: &str) -> Result<SchemaPath, AllocError>
+        ensures { IfOk result (λ p. p.steps ≡ name_part name.now ∷ self.now.steps) }
+    {
+        Ok(SchemaPath {
+            steps: self.steps.push_name(alloc, name)?,
+        })
+    }
+
+    /// The path of an item.
+    ///
+    /// # Errors
+    ///
+    /// Where memory was refused or a count of owners is full.
+    pub(crate) fn item(&self, alloc: Global, index: usize) -> Result<SchemaPath, AllocError>
+        ensures { IfOk result (λ p. p.steps ≡ by_name (index_part index) ∷ self.now.steps) }
+    {
+        let mut digits = String::new(alloc);
+        Step::Item(index).write_to(&mut digits)?;
+        self.member(alloc, digits.as_str())
+    }
+
+    /// Whether both are the same path.
+    pub(crate) fn is(&self, other: &SchemaPath) -> bool
+        ensures { Decides result (self.now.steps ≡ other.now.steps) }
+    {
+        self.steps == other.steps
+    }
+}

@@ -1,0 +1,100 @@
+//! Where a walk over schemas comes by.
+
+ghost use Rattle.std.specs.Prelude.{◌≡◌, ◌∷◌, [], true, IfOk};
+ghost use Rattle.std.specs.Bool.{Decides};
+ghost use Rattle.json_paths.specs.Parts.{name as name_part, index as index_part};
+ghost use Rattle.referencing.specs.Resolved.{target_in};
+ghost use Rattle.schema_reading.specs.Sites.{path_of_reference};
+ghost use Rattle.schema_reports.specs.Readable.{reads_as_path};
+ghost use Rattle.site_laws.specs.Spelled.{by_name};
+ghost use Rattle.reached_sites.specs.Visits.{AreOnePoint};
+
+use crate::place::SchemaPlace;
+use crate::schema_path::SchemaPath;
+use referencing::Resolved;
+use std::alloc::{AllocError, Global};
+
+/// A place of a document with the schema path by which a walk comes there.
+#[derive(Drop)]
+pub(crate) struct Waypoint {
+    pub(crate) place: SchemaPlace,
+    pub(crate) schema_path: SchemaPath,
+}
+
+impl Waypoint {
+    /// Where a walk begins.
+    ///
+    /// # Errors
+    ///
+    /// Where memory was refused or a count of owners is full.
+    pub(crate) fn of_root(alloc: Global, root: &Resolved<'_>) -> Result<Waypoint, AllocError>
+        ensures document { IfOk result (λ p. p.place.document.value ≡ (target_in root.now).document) }
+        ensures path { IfOk result (λ p. p.place.path ≡ (target_in root.now).path) }
+        ensures road { IfOk result (λ p. p.schema_path.steps ≡ []) }
+    {
+        Ok(Waypoint {
+            place: SchemaPlace::of_target(alloc, root)?,
+            schema_path: SchemaPath::root(),
+        })
+    }
+
+    /// Where a reference leads.
+    ///
+    /// # Errors
+    ///
+    /// Where memory was refused or a count of owners is full.
+    pub(crate) fn of_target(
+        alloc: Global,
+        text: &str,
+        target: &Resolved<'_>,
+    ) -> Result<Waypoint, AllocError>
+        requires { reads_as_path text.now ≡ true }
+        ensures document { IfOk result (λ p. p.place.document.value ≡ (target_in target.now).document) }
+        ensures path { IfOk result (λ p. p.place.path ≡ (target_in target.now).path) }
+        ensures road { IfOk result (λ p. p.schema_path.steps ≡ path_of_reference text.now) }
+    {
+        Ok(Waypoint {
+            place: SchemaPlace::of_target(alloc, target)?,
+            schema_path: SchemaPath::of_reference(alloc, text)?,
+        })
+    }
+
+    /// That of a member.
+    ///
+    /// # Errors
+    ///
+    /// Where memory was refused or a count of owners is full.
+    pub(crate) fn member(&self, alloc: Global, name: &str) -> Result<Waypoint, AllocError>
+        ensures document { IfOk result (λ p. p.place.document.value ≡ self.now.place.document.value) }
+        ensures path { IfOk result (λ p. p.place.path ≡ name_part name.now ∷ self.now.place.path) }
+        ensures road { IfOk result (λ p. p.schema_path.steps ≡ name_part name.now ∷ self.now.schema_path.steps) }
+    {
+        Ok(Waypoint {
+            place: self.place.member(alloc, name)?,
+            schema_path: self.schema_path.member(alloc, name)?,
+        })
+    }
+
+    /// That of an item.
+    ///
+    /// # Errors
+    ///
+    /// Where memory was refused or a count of owners is full.
+    pub(crate) fn item(&self, alloc: Global, index: usize) -> Result<Waypoint, AllocError>
+        ensures document { IfOk result (λ p. p.place.document.value ≡ self.now.place.document.value) }
+        ensures path { IfOk result (λ p. p.place.path ≡ index_part index ∷ self.now.place.path) }
+        ensures road { IfOk result (λ p. p.schema_path.steps ≡ by_name (index_part index) ∷ self.now.schema_path.steps) }
+    {
+        Ok(Waypoint {
+            place: self.place.item(alloc, index)?,
+            schema_path: self.schema_path.item(alloc, index)?,
+        })
+    }
+
+    /// Whether both are the same place by the same schema path.
+    pub(crate) fn is(&self, other: &Waypoint) -> bool
+        ensures { Decides result (AreOnePoint self.now other.now) }
+    {
+        self.schema_path.is(&other.schema_path) && self.place.is(&other.place)
+    }
+}

@@ -1,0 +1,77 @@
+-- What `if`, `then` and `else` are, by what is read of them.
+use Rattle.std.proofs.Common.{◌≡◌, ◌∙◌, refl, sym, ap, subst, ℕ, List, [], Bor, Option}
+use Rattle.serde_json.specs.Data.{Data}
+use Rattle.serde_json.specs.View.{view}
+use Rattle.serde_json.specs.declared.value.Value.{Value}
+use Rattle.schema_reading.specs.Rows.{Row, Context}
+use Rattle.applicators.specs.declared.applicator.Applicator.{Applicator}
+use Rattle.applicators.specs.declared.applicator.Applicator.TheVariants as applied
+use Rattle.applicator_reading.specs.Conditions.{IsIf, IsCondition, IsConsequent}
+use Rattle.applicator_reading.specs.Reads.{ReadsAs}
+use Rattle.applicator_reading.specs.declared.reading.Reading.{Reading}
+use Rattle.applicator_reading.specs.declared.reading.Reading.TheVariants as reading
+use Rattle.schema_sites.specs.Read.{row_of, Finds}
+use Rattle.schema_sites.specs.Refused.{Refuses}
+use Rattle.schema_sites.specs.declared.keyword.Keyword.{Keyword}
+use Rattle.schema_sites.specs.declared.site.Site as code
+use Rattle.schema_sites.specs.declared.keyword.Keyword.TheVariants.{Nothing, If, Consequent}
+use Rattle.schema_sites.specs.declared.keyword.Refusal.TheVariants as refusal
+use Rattle.schema_sites.proofs.ApplyingLemmas.{same-cause}
+
+module _ (r : Reading) where
+  -- ---- as it is read
+
+  pub consequent-read : (x : Context) (k : Bor (List ℕ)) (row : Row) (schema : Bor Value) → r ≡ reading.Consequent schema → ReadsAs x k.now row r
+      → row ≡ row_of x.documents x.site (Consequent k schema)
+  consequent-read x k row schema is h = subst (ReadsAs x k.now row) is h
+
+  pub nothing-read : (x : Context) (k : List ℕ) (row : Row) → r ≡ reading.Nothing → ReadsAs x k row r → row ≡ row_of x.documents x.site Nothing
+  nothing-read x k row is h = subst (ReadsAs x k row) is h
+
+  pub value-read : (x : Context) (k : List ℕ) (d : Data) (row : Row) (expected : Bor (List ℕ)) → r ≡ reading.Value expected → ReadsAs x k row r → Refuses x k d row (refusal.Value expected)
+  value-read x k d row expected is h = same-cause _ row (subst (ReadsAs x k row) is h)
+
+  -- ---- the value is the schema
+
+  pub consequent-schema : (value schema : Bor Value) → r ≡ reading.Consequent schema → IsConsequent value r → view value.now ≡ view schema.now
+  consequent-schema value schema is h =
+      let same : schema ≡ value = subst (IsConsequent value) is h in
+      ap (λ (v : Bor Value). view v.now) (sym same)
+
+-- an `if`
+module _ (r : Reading) (value : Bor Value) (a : Applicator) (k : Keyword) (is : r ≡ reading.Applied a) (h : IsCondition value r)
+    (found : (condition : Bor Value) (t e : Option (Bor Value)) → a ≡ applied.If condition t e → k ≡ If condition t e) where
+  its : IsIf value a
+  its = subst (IsCondition value) is h
+
+  same : k ≡ If value its.then_schema its.else_schema
+  same = found value its.then_schema its.else_schema its.is
+
+  pub if-read : (x : Context) (n : List ℕ) (row : Row) → ReadsAs x n row r → row ≡ row_of x.documents x.site k
+  if-read x n row read =
+      let as_if : ReadsAs x n row (reading.Applied (applied.If value its.then_schema its.else_schema)) =
+      subst (λ (b : Applicator). ReadsAs x n row (reading.Applied b)) its.is (subst (ReadsAs x n row) is read) in
+      subst (λ (w : Keyword). row ≡ row_of x.documents x.site w) (sym same) as_if
+
+  pub if-found : (c : code.Site) → Finds c (view value.now) k
+  if-found c = subst (λ (w : Keyword). Finds c (view value.now) w) (sym same) refl
+
+-- ---- nothing else is read
+
+pub no-condition : (value : Bor Value) (r : Reading) → IsCondition value r → ((a : Applicator) → r ≡ reading.Applied a → ⊥)
+    → ((expected : Bor (List ℕ)) → r ≡ reading.Value expected → ⊥) → r ≡ reading.Nothing
+no-condition value (reading.Applied a) h no_if right = absurd (no_if a refl)
+no-condition value reading.Nothing h no_if right = refl
+no-condition value (reading.Consequent schema) h no_if right = absurd h
+no-condition value (reading.Value expected) h no_if right = absurd (right expected refl)
+no-condition value (reading.Entry n expected) h no_if right = absurd h
+no-condition value (reading.Element i expected) h no_if right = absurd h
+
+pub no-consequent : (value : Bor Value) (r : Reading) → IsConsequent value r → ((schema : Bor Value) → r ≡ reading.Consequent schema → ⊥)
+    → ((expected : Bor (List ℕ)) → r ≡ reading.Value expected → ⊥) → r ≡ reading.Nothing
+no-consequent value (reading.Applied a) h other right = absurd h
+no-consequent value reading.Nothing h other right = refl
+no-consequent value (reading.Consequent schema) h other right = absurd (other schema refl)
+no-consequent value (reading.Value expected) h other right = absurd (right expected refl)
+no-consequent value (reading.Entry n expected) h other right = absurd h
+no-consequent value (reading.Element i expected) h other right = absurd h
