@@ -1,2 +1,3 @@
 pub mod Laws
 pub mod Needed
+pub mod Passed

@@ -1,5 +1,5 @@
 -- The rows of keywords that apply one schema, by what stands beside.
-use Rattle.std.proofs.Common.{◌≡◌, ℕ, List, [], ◌∷◌, Bool, true, false, not, ◌&&◌, ◌||◌, codes, Option, Some, None, option_map, Bor, refl, sym, ap, ◌∙◌}
+use Rattle.std.proofs.Common.{◌≡◌, ℕ, List, [], ◌∷◌, Bool, true, false, not, ◌&&◌, ◌||◌, codes, Option, Some, None, option_map, Bor, refl, sym, ap, ap₂, ◌∙◌}
 use Rattle.std.specs.Prelude.{if◌then◌else◌, is_some, option_and_then, Ok, Err}
 use Rattle.serde_json.specs.Data.{Data, null, boolean, number, string, array, object, Items}
 use Rattle.serde_json.specs.Find.{as_bool}
@@ -12,12 +12,13 @@ use Rattle.schema_meaning.specs.Keywords.{Shape, items, item_list, additional_it
 use Rattle.schema_reading.specs.Sites.{Site}
 use Rattle.schema_reading.specs.Values.{count_of}
 use Rattle.schema_reading.specs.Rows.{Row, nothing_read, reads, bad_value, keyword_value, place_at, at, Context, beside, subschema, one_schema, schema_list, length_of_list, takes_list, items_row, is_false, behind_items, asserted, bound_row, names_of_object, declared_beside, is_alone, refuses_others, additional_properties_row, schema_beside, if_row, consequent_row}
-use Rattle.applicators.specs.Shapes.{site_of, shape_of, leads_of, Schemas, names_declared, declared_by}
+use Rattle.applicators.specs.Shapes.{site_of, shape_of, leads_of, declared_by}
 use Rattle.applicators.specs.declared.applicator.Applicator.{Applicator}
-use Rattle.applicator_reading.specs.Beside.{schema_in}
-use Rattle.applicator_reading.specs.Names.{has_no_patterns}
+use Rattle.applicators.specs.declared.declared.Declared as beside_all
+use Rattle.applicator_reading.specs.Beside.{schema_in, beside_in, declared_in, Surrounds}
 use Rattle.applicator_reading.specs.Reads.{site_in, IsCause}
-use Rattle.applicator_reading.proofs.RowLemmas.{if-true, if-false, one-read, value-cause}
+use Rattle.applicator_reading.specs.declared.neighbours.Neighbours.{Neighbours}
+use Rattle.applicator_reading.proofs.RowLemmas.{if-true, if-false, one-read, value-cause, neighbour}
 
 module _ (x : Context) (k : List ℕ) (d : Data) where
   -- ---- `items`
@@ -128,25 +129,15 @@ others-refused x k (string s) a e shape leads = cc
 others-refused x k (array ds) a e shape leads = cc
 others-refused x k (object ms) a e shape leads = cc
 
-no-names : (o : Option Data) → not (is_some o) ≡ true → names_of_object o ≡ []
-no-names None e = refl
-no-names (Some d) e = cc
+pub declared-there : (n : Neighbours) (x : Context) → Surrounds n x → declared_beside x ≡ declared_in n
+declared-there n x s =
+    ap₂ (λ (names patterns : List (List ℕ)). let w : Declared = record { names = names; patterns = patterns } in w)
+    (ap names_of_object (neighbour n x s (codes "properties"))) (ap names_of_object (neighbour n x s (codes "patternProperties")))
 
--- what stands beside declares by the names of `properties` alone
-pub declared-there : (x : Context) (declared : Option (Bor Schemas)) → has_no_patterns x ≡ true → names_declared declared ≡ names_of_object (beside x (codes "properties"))
-    → declared_by declared ≡ declared_beside x
-declared-there x declared none named =
-    let here : declared_by declared ≡ record { names = names_of_object (beside x (codes "properties")); patterns = [] } = ap (λ (ns : List (List ℕ)). record { names = ns; patterns = [] }) named in
-    here ∙ ap (λ (ps : List (List ℕ)). record { names = names_of_object (beside x (codes "properties")); patterns = ps }) (sym (no-names (beside x (codes "patternProperties")) none))
+pub alone-there : (n : Neighbours) (x : Context) → Surrounds n x → is_alone x ≡ (not (is_some (beside_in n (codes "properties"))) && not (is_some (beside_in n (codes "patternProperties"))))
+alone-there n x s = ap₂ (λ (p q : Option Data). not (is_some p) && not (is_some q)) (neighbour n x s (codes "properties")) (neighbour n x s (codes "patternProperties"))
 
-alone-by : (p q : Bool) → not q ≡ true → (not p && not q) ≡ not p
-alone-by true q e = refl
-alone-by false q e = e
-
-pub alone-there : (x : Context) → has_no_patterns x ≡ true → is_alone x ≡ not (is_some (beside x (codes "properties")))
-alone-there x none = alone-by (is_some (beside x (codes "properties"))) (is_some (beside x (codes "patternProperties"))) none
-
-pub others-named : (x : Context) (s : Site) (declared : Option (Bor Schemas)) → is_alone x ≡ false → declared_by declared ≡ declared_beside x
+pub others-named : (x : Context) (s : Site) (declared : beside_all.Declared) → is_alone x ≡ false → declared_by declared ≡ declared_beside x
     → no_additional_properties (declared_by declared) s ≡ refuses_others x s
 others-named x s declared some is =
     ap (λ (w : Declared). no_additional_properties w s) is ∙ sym (if-false (is_alone x) (no_properties s) (no_additional_properties (declared_beside x) s) some)

@@ -17,7 +17,7 @@ use Rattle.assertions.specs.Reads.{IsNameList}
 use Rattle.assertions.specs.declared.names.NameList.TheVariants as list
 use Rattle.applicators.specs.Shapes.{dependency_at, dependencies_in}
 use Rattle.applicator_reading.specs.Dependencies.{IsWrong}
-use Rattle.applicator_reading.specs.Reads.{site_in, IsCause, IsRefusedFor, ReadsAs, AsksValues}
+use Rattle.applicator_reading.specs.Reads.{site_in, IsCause, IsRefusedFor, ReadsAs, IsByAnswers}
 use Rattle.applicator_reading.specs.declared.reading.Reading.{Reading}
 use Rattle.applicator_reading.specs.declared.reading.Reading.TheVariants as reading
 use Rattle.applicator_reading.proofs.ListLemmas.{list-there, no-list, object-there, no-object, refused_first, refused_more, row_refused}
@@ -176,7 +176,7 @@ module _ (x : Context) (d : Data) where
   entries_other e =
       value-cause x (codes "dependencies") (codes "object") (dependencies_row x (codes "dependencies") d) (no-object by_entries (bad_value x (codes "dependencies") (codes "object")) d e)
 
-pub wrong_asks : (w : Reading) (x : Context) (r : Entries) → IsWrong x w r → AsksValues w
+pub wrong_asks : (w : Reading) (x : Context) (r : Entries) → IsWrong x w r → IsByAnswers w
 wrong_asks (reading.Applied a) x r h = absurd h
 wrong_asks reading.Nothing x r h = absurd h
 wrong_asks (reading.Consequent schema) x r h = absurd h

@@ -1,4 +1,4 @@
--- Rows of keywords whose values are lists and objects of schemas.
+-- Rows of keywords whose values are lists of schemas, and the members of objects of schemas.
 use Rattle.std.proofs.Common.{◌≡◌, ℕ, suc, List, [], ◌∷◌, ◌++◌, Bool, true, false, codes, Some, None, refl, sym, ap, ap₂, ◌∙◌, subst}
 use Rattle.std.specs.Prelude.{if◌then◌else◌, Result, Ok, Err}
 use Rattle.serde_json.specs.Data.{Data, null, boolean, number, string, array, object, Items, no_items, item, Members, no_members, member}
@@ -8,15 +8,14 @@ use Rattle.schema_documents.specs.Places.{is_schema}
 use Rattle.schema_meaning.specs.Keywords.{Shape}
 use Rattle.schema_meaning.specs.Members.{In, first, later}
 use Rattle.schema_reading.specs.Sites.{Site}
-use Rattle.schema_reading.specs.Rows.{Row, BuildCause, row_of, reads, bad_value, keyword_value, place_at, at, Context, and_more, each_subschema, each_named, in_list, in_object, sites_named}
+use Rattle.schema_reading.specs.Rows.{Row, BuildCause, row_of, reads, bad_value, keyword_value, place_at, at, Context, and_more, each_subschema, each_named, in_list, in_object}
 use Rattle.applicators.specs.Shapes.{sites_of_list, sites_of_map, shape_of, leads_of}
 use Rattle.applicator_reading.proofs.RowLemmas.{value-cause}
-use Rattle.applicator_reading.specs.Arms.{list_name, list_word, list_shape, list_row, map_name, map_shape, map_row}
+use Rattle.applicator_reading.specs.Arms.{list_name, list_word, list_shape, list_row}
 use Rattle.applicator_reading.specs.Others.{first_other_item, first_other_member}
 use Rattle.applicators.specs.declared.applicator.Applicator.{Applicator}
 use Rattle.applicator_reading.specs.Reads.{site_in, IsCause, IsRefusedFor}
 use Rattle.applicator_reading.specs.declared.keyword.ListKeyword.{ListKeyword}
-use Rattle.applicator_reading.specs.declared.keyword.MapKeyword.{MapKeyword}
 
 pub list-there : {A : Type 0} (f : Items → A) (other : A) (d : Data) (ds : Items) → Some ds ≡ as_array d → in_list f other d ≡ f ds
 list-there f other null ds e = cc
@@ -50,7 +49,7 @@ no-object f other (string s) e = refl
 no-object f other (array es) e = refl
 no-object f other (object ms) e = cc
 
-in_front : {A : Type 0} (x : A) (xs ys : List A) → In x xs → In x (xs ++ ys)
+pub in_front : {A : Type 0} (x : A) (xs ys : List A) → In x xs → In x (xs ++ ys)
 in_front x [] ys h = elim h [ ]
 in_front x (y ∷ xs) ys first = first
 in_front x (y ∷ xs) ys (later h) = later (in_front x xs ys h)
@@ -100,7 +99,7 @@ module _ (x : Context) (k : List ℕ) where
   right_member n d ms true e h rest = rw (e, rest h) refl
   right_member n d ms false e h rest = cc
 
-  members_right : (ms : Members) → first_other_member ms ≡ None → each_named x k ms ≡ Ok (sites_of_map (site_in x) k ms)
+  pub members_right : (ms : Members) → first_other_member ms ≡ None → each_named x k ms ≡ Ok (sites_of_map (site_in x) k ms)
   members_right no_members h = refl
   members_right (member n d ms) h = right_member n d ms (is_schema d) refl h (members_right ms)
 
@@ -114,7 +113,7 @@ module _ (x : Context) (k : List ℕ) where
       rw (e, sym same)
       (refused_first {A = List ℕ × Site} (keyword_value (place_at x (name n ∷ name k ∷ [])) (codes "schema")) (Err (keyword_value (place_at x (name n ∷ name k ∷ [])) (codes "schema") ∷ [])) (each_named x k ms) first)
 
-  members_wrong : (m : List ℕ) (ms : Members) → first_other_member ms ≡ Some m → IsRefusedFor (keyword_value (place_at x (name m ∷ name k ∷ [])) (codes "schema")) (each_named x k ms)
+  pub members_wrong : (m : List ℕ) (ms : Members) → first_other_member ms ≡ Some m → IsRefusedFor (keyword_value (place_at x (name m ∷ name k ∷ [])) (codes "schema")) (each_named x k ms)
   members_wrong m no_members h = cc
   members_wrong m (member n d ms) h = wrong_member n m d ms (is_schema d) refl h (members_wrong m ms)
 
@@ -139,22 +138,3 @@ module _ (w : ListKeyword) (x : Context) (d : Data) where
   pub list-other : (word : List ℕ) → None ≡ as_array d → word ≡ list_word w → IsCause (keyword_value (place_at x (at (list_name w))) word) (list_row w x d)
   list-other word e is =
       value-cause x (list_name w) word (list_row w x d) (no-list by_items (bad_value x (list_name w) (list_word w)) d e ∙ ap (bad_value x (list_name w)) (sym is))
-
-module _ (w : MapKeyword) (x : Context) (d : Data) where
-  abbrev by_members : Members → Row
-  by_members ms = row_of sites_named (λ ps. map_shape w ps ∷ []) (each_named x (map_name w) ms)
-
-  pub map-right : (ms : Members) (a : Applicator) → Some ms ≡ as_object d → None ≡ first_other_member ms → shape_of (site_in x) a ≡ map_shape w (sites_of_map (site_in x) (map_name w) ms)
-      → leads_of (site_in x) a ≡ sites_named (sites_of_map (site_in x) (map_name w) ms) → map_row w x d ≡ reads (leads_of (site_in x) a) (shape_of (site_in x) a ∷ [])
-  map-right ms a e none shape leads =
-      object-there by_members (bad_value x (map_name w) (codes "object")) d ms e ∙ ap (row_of sites_named (λ ps. map_shape w ps ∷ [])) (members_right x (map_name w) ms (sym none))
-      ∙ ap₂ reads (sym leads) (ap (λ s. s ∷ []) (sym shape))
-
-  pub map-wrong : (ms : Members) (n : List ℕ) → Some ms ≡ as_object d → Some n ≡ first_other_member ms
-      → IsCause (keyword_value (place_at x (name n ∷ name (map_name w) ∷ [])) (codes "schema")) (map_row w x d)
-  map-wrong ms n e other =
-      subst (λ (row : Row). IsCause (keyword_value (place_at x (name n ∷ name (map_name w) ∷ [])) (codes "schema")) row) (sym (object-there by_members (bad_value x (map_name w) (codes "object")) d ms e))
-      (row_refused sites_named (λ ps. map_shape w ps ∷ []) _ (each_named x (map_name w) ms) (members_wrong x (map_name w) n ms (sym other)))
-
-  pub map-other : None ≡ as_object d → IsCause (keyword_value (place_at x (at (map_name w))) (codes "object")) (map_row w x d)
-  map-other e = value-cause x (map_name w) (codes "object") (map_row w x d) (no-object by_members (bad_value x (map_name w) (codes "object")) d e)

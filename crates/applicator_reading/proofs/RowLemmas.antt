@@ -7,11 +7,14 @@ use Rattle.serde_json.specs.View.{members_view}
 use Rattle.schema_drafts.specs.Counts.{counts}
 use Rattle.schema_documents.specs.Places.{Dialect, is_schema}
 use Rattle.schema_meaning.specs.Keywords.{Shape}
-use Rattle.schema_meaning.specs.Members.{first}
+use Rattle.schema_meaning.specs.Members.{In, first}
 use Rattle.schema_reading.specs.Sites.{Site}
 use Rattle.schema_reading.specs.Rows.{Row, row_of, reads, expected, bad_value, keyword_value, place_at, at, Context, has_reference, beside, one_schema}
+use Rattle.applicators.specs.Shapes.{shape_of, leads_of}
+use Rattle.applicators.specs.Made.{patterns_in}
+use Rattle.applicators.specs.declared.applicator.Applicator.{Applicator}
 use Rattle.applicator_reading.specs.Beside.{beside_in, Surrounds}
-use Rattle.applicator_reading.specs.Reads.{site_in, IsCause}
+use Rattle.applicator_reading.specs.Reads.{site_in, IsCause, AppliesAs}
 use Rattle.applicator_reading.specs.declared.neighbours.Neighbours.{Neighbours}
 
 pub if-true : {A : Type 0} (b : Bool) (x y : A) → b ≡ true → (if b then x else y) ≡ x
@@ -27,6 +30,16 @@ neighbour n x s k =
     let ms = members_view n.members.now.entries in
     ap (λ (m : Members). if counts x.site.dialect.draft x.site.dialect.vocabularies (has_reference m) k then get_member k m else None) s.members
     ∙ ap (λ (y : Dialect). if counts y.draft y.vocabularies (has_reference ms) k then get_member k ms else None) s.dialect
+
+none-in : {A : Type 0} (p : A) (ps : List A) → ps ≡ [] → In p ps → ⊥
+none-in p ps none i =
+    let there : In p [] = subst (λ (qs : List _). In p qs) none i in
+    elim there [ ]
+
+-- what a keyword without patterns applies
+pub plainly : (x : Context) (k : List ℕ) (row : Row) (a : Applicator) → patterns_in a ≡ [] → row ≡ reads (leads_of (site_in x) a) (shape_of (site_in x) a ∷ []) → AppliesAs x k row a
+plainly x k row a none is =
+    record { made = λ m. is; right = λ h. record { each = λ p i. absurd (none-in p (patterns_in a) none i) }; bad = λ p i h. absurd (none-in p (patterns_in a) none i) }
 
 pub value-cause : (x : Context) (k word : List ℕ) (row : Row) → row ≡ bad_value x k word → IsCause (keyword_value (place_at x (at k)) word) row
 value-cause x k word row e = subst (λ (r : Row). IsCause (keyword_value (place_at x (at k)) word) r) (sym e) (record { stands = first; alone = refl })

@@ -7,7 +7,7 @@ ghost use Rattle.schema_reading.specs.Values.{names_in};
 ghost use Rattle.assertions.specs.Texts.{texts_of};
 ghost use Rattle.applicators.specs.Shapes.{dependency_at, dependencies_in};
 ghost use Rattle.applicator_reading.specs.Dependencies.{IsWrong};
-ghost use Rattle.applicator_reading.specs.Reads.{ReadsAs, AsksValues, site_in};
+ghost use Rattle.applicator_reading.specs.Reads.{ReadsAs, IsByAnswers, site_in};
 
 use crate::reading::Reading;
 use applicators::applicator::Applicator;
@@ -24,7 +24,7 @@ fn refused_names<'s>(
 ) -> Result<Option<Reading<'s>>, AllocError>
     ensures right { IfOk result (λ o. IfNone o ((x : rows.Context) → rows.entry_names x (codes "dependencies") name.now (names_in (items_view names.now)) ≡ Ok (texts_of (items_view names.now)))) }
     ensures wrong { IfOk result (λ o. IfSome o (λ r. (x : rows.Context) → IsWrong x r (rows.entry_names x (codes "dependencies") name.now (names_in (items_view names.now))))) }
-    ensures values { IfOk result (λ o. IfSome o (λ r. AsksValues r)) }
+    ensures answers { IfOk result (λ o. IfSome o (λ r. IsByAnswers r)) }
 {
     let expected = "unique names";
     match name_list(alloc, names)? {
@@ -38,7 +38,7 @@ fn refused_names<'s>(
 fn refused_schema<'s>(name: &'s str, entry: &Value) -> Option<Reading<'s>>
     ensures right { IfNone result ((x : rows.Context) → rows.subschema x (named name.now ∷ named (codes "dependencies") ∷ []) (view entry.now) ≡ Ok (site_in x (named name.now ∷ named (codes "dependencies") ∷ []) (view entry.now))) }
     ensures wrong { IfSome result (λ r. (x : rows.Context) → IsWrong x r (rows.subschema x (named name.now ∷ named (codes "dependencies") ∷ []) (view entry.now))) }
-    ensures values { IfSome result (λ r. AsksValues r) }
+    ensures answers { IfSome result (λ r. IsByAnswers r) }
 {
     if is_schema(entry) {
         None
@@ -58,7 +58,7 @@ fn refused_entry<'s>(
 ) -> Result<Option<Reading<'s>>, AllocError>
     ensures right { IfOk result (λ o. IfNone o ((x : rows.Context) → rows.dependency_entry x (codes "dependencies") name.now (view entry.now) ≡ Ok (name.now, dependency_at (site_in x) name.now (view entry.now)))) }
     ensures wrong { IfOk result (λ o. IfSome o (λ r. (x : rows.Context) → IsWrong x r (rows.dependency_entry x (codes "dependencies") name.now (view entry.now)))) }
-    ensures values { IfOk result (λ o. IfSome o (λ r. AsksValues r)) }
+    ensures answers { IfOk result (λ o. IfSome o (λ r. IsByAnswers r)) }
 {
     match entry.as_array() {
         Some(names) => refused_names(alloc, name, names.as_slice()),
@@ -73,7 +73,7 @@ fn first_refused<'s>(
 ) -> Result<Option<Reading<'s>>, AllocError>
     ensures right { IfOk result (λ o. IfNone o ((x : rows.Context) → rows.dependency_entries x (codes "dependencies") (members_view entries.now.entries) ≡ Ok (dependencies_in (site_in x) (members_view entries.now.entries)))) }
     ensures wrong { IfOk result (λ o. IfSome o (λ r. (x : rows.Context) → IsWrong x r (rows.dependency_entries x (codes "dependencies") (members_view entries.now.entries)))) }
-    ensures values { IfOk result (λ o. IfSome o (λ r. AsksValues r)) }
+    ensures answers { IfOk result (λ o. IfSome o (λ r. IsByAnswers r)) }
 {
     for (name, entry) in entries.iter() {
         if let Some(refused) = refused_entry(alloc, name.as_str(), entry)? {
@@ -92,7 +92,7 @@ fn first_refused<'s>(
 /// Where memory is refused, which it takes while it looks for names that are there twice.
 pub fn dependencies<'r>(alloc: Global, value: &'r Value) -> Result<Reading<'r>, AllocError>
     ensures read { IfOk result (λ r. (x : rows.Context) → ReadsAs x (codes "dependencies") (rows.read_among rows.readers x (codes "dependencies") (view value.now)) r) }
-    ensures values { IfOk result (λ r. AsksValues r) }
+    ensures answers { IfOk result (λ r. IsByAnswers r) }
 {
     let Some(entries) = value.as_object() else {
         return Ok(Reading::Value { expected: "object" });

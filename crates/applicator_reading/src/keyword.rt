@@ -1,13 +1,14 @@
 //! Keywords whose values are lists or objects of schemas.
-ghost use Rattle.std.specs.Prelude.{◌≡◌, List, true};
+ghost use Rattle.std.specs.Prelude.{◌≡◌, List, [], true};
 ghost use Rattle.serde_json.specs.Data.{Data};
 ghost use Rattle.serde_json.specs.View.{items_view, members_view};
 ghost use Rattle.json_paths.specs.Parts.{Part};
 ghost use Rattle.schema_reading.specs.Sites.{Site};
 ghost use Rattle.schema_reading.specs.Rows.{sites_named};
 ghost use Rattle.applicators.specs.Shapes.{shape_of, leads_of, sites_of_list, sites_of_map};
-ghost use Rattle.applicators.specs.Combined.{asks_values};
-ghost use Rattle.applicator_reading.specs.Arms.{list_name, list_word, list_shape, map_name, map_shape};
+ghost use Rattle.applicators.specs.Combined.{is_by_answers};
+ghost use Rattle.applicators.specs.Made.{patterns_in};
+ghost use Rattle.applicator_reading.specs.Arms.{list_name, list_word, list_shape, map_name, map_shape, map_patterns};
 
 use applicators::applicator::Applicator;
 use serde_json::{Map, Value};
@@ -27,6 +28,7 @@ pub(crate) enum ListKeyword {
 #[derive(Clone, Copy)]
 pub(crate) enum MapKeyword {
     Properties,
+    PatternProperties,
     DependentSchemas,
 }
 
@@ -44,7 +46,8 @@ impl ListKeyword {
     pub(crate) const fn applied(self, schemas: &[Value]) -> Applicator<'_>
         ensures shape { (site : List Part → Data → Site) → shape_of site result ≡ list_shape self (sites_of_list site (list_name self) 0 (items_view schemas.now)) }
         ensures leads { (site : List Part → Data → Site) → leads_of site result ≡ sites_of_list site (list_name self) 0 (items_view schemas.now) }
-        ensures values { asks_values result ≡ true }
+        ensures patterns { patterns_in result ≡ [] }
+        ensures answers { is_by_answers result ≡ true }
     {
         match self {
             ListKeyword::ItemList => Applicator::ItemList(schemas),
@@ -60,10 +63,12 @@ impl MapKeyword {
     pub(crate) const fn applied(self, schemas: &Map<String, Value>) -> Applicator<'_>
         ensures shape { (site : List Part → Data → Site) → shape_of site result ≡ map_shape self (sites_of_map site (map_name self) (members_view schemas.now.entries)) }
         ensures leads { (site : List Part → Data → Site) → leads_of site result ≡ sites_named (sites_of_map site (map_name self) (members_view schemas.now.entries)) }
-        ensures values { asks_values result ≡ true }
+        ensures patterns { patterns_in result ≡ map_patterns self (members_view schemas.now.entries) }
+        ensures answers { is_by_answers result ≡ true }
     {
         match self {
             MapKeyword::Properties => Applicator::Properties(schemas),
+            MapKeyword::PatternProperties => Applicator::PatternProperties(schemas),
             MapKeyword::DependentSchemas => Applicator::DependentSchemas(schemas),
         }
     }

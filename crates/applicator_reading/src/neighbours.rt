@@ -1,13 +1,14 @@
 //! The neighbours of a member of a schema.
-ghost use Rattle.std.specs.Prelude.{◌≡◌, ◌||◌, codes, Some, is_some, option_map, option_and_then};
+ghost use Rattle.std.specs.Prelude.{◌≡◌, ◌&&◌, ◌||◌, not, codes, Some, is_some, option_map, option_and_then};
 ghost use Rattle.serde_json.specs.Find.{get_member, as_array};
 ghost use Rattle.serde_json.specs.View.{view, members_view};
 ghost use Rattle.schema_values.specs.Texts.{count_items};
 ghost use Rattle.schema_reading.specs.Values.{count_of};
 ghost use Rattle.schema_reading.specs.Rows as rows;
-ghost use Rattle.applicators.specs.Shapes.{names_declared};
-ghost use Rattle.applicator_reading.specs.Beside.{beside_in, schema_in, list_in};
+ghost use Rattle.applicators.specs.Shapes.{names_declared, declared_by};
+ghost use Rattle.applicator_reading.specs.Beside.{beside_in, declared_in, schema_in, list_in};
 
+use applicators::declared::Declared;
 use schema_places::place::is_schema;
 use schema_vocabularies::Dialect;
 use serde_json::{Map, Value};
@@ -122,12 +123,29 @@ pub(crate) fn has_consequent(neighbours: Neighbours<'_>) -> bool
     is_beside(neighbours, "then") || is_beside(neighbours, "else")
 }
 
-// The members of `properties`, where it counts and is an object.
-pub(crate) fn properties_beside<'r>(neighbours: Neighbours<'r>) -> Option<&'r Map<String, Value>>
-    ensures { names_declared result ≡ rows.names_of_object (beside_in neighbours.entry (codes "properties")) }
+// The members of a name, where it counts and is an object.
+fn object_beside<'r>(neighbours: Neighbours<'r>, name: &str) -> Option<&'r Map<String, Value>>
+    ensures { names_declared result ≡ rows.names_of_object (beside_in neighbours.entry name.now) }
 {
-    match beside(neighbours, "properties") {
+    match beside(neighbours, name) {
         Some(value) => value.as_object(),
         None => None,
     }
+}
+
+// What `properties` and `patternProperties` declare, where they count and are objects.
+pub(crate) fn declared_beside<'r>(neighbours: Neighbours<'r>) -> Declared<'r>
+    ensures { declared_by result ≡ declared_in neighbours.entry }
+{
+    Declared {
+        names: object_beside(neighbours, "properties"),
+        patterns: object_beside(neighbours, "patternProperties"),
+    }
+}
+
+// Whether neither of them stands there.
+pub(crate) fn is_alone(neighbours: Neighbours<'_>) -> bool
+    ensures { result ≡ (not (is_some (beside_in neighbours.entry (codes "properties"))) && not (is_some (beside_in neighbours.entry (codes "patternProperties")))) }
+{
+    !is_beside(neighbours, "properties") && !is_beside(neighbours, "patternProperties")
 }

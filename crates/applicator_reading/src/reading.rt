@@ -8,18 +8,19 @@ ghost use Rattle.schema_meaning.specs.Members.{is_listed};
 ghost use Rattle.schema_reading.specs.Sites.{Site};
 ghost use Rattle.schema_reading.specs.Rows as rows;
 ghost use Rattle.applicators.specs.Shapes.{shape_of, leads_of};
-ghost use Rattle.applicators.specs.Combined.{asks_values};
+ghost use Rattle.applicators.specs.Combined.{is_by_answers};
+ghost use Rattle.applicators.specs.Made.{patterns_in};
 ghost use Rattle.applicator_reading.specs.Beside.{Surrounds};
-ghost use Rattle.applicator_reading.specs.Names.{is_read, has_no_patterns, valued_names};
+ghost use Rattle.applicator_reading.specs.Names.{applicator_names, valued_names};
 ghost use Rattle.applicator_reading.specs.Arms.{list_name, list_row, map_name, map_row};
-ghost use Rattle.applicator_reading.specs.Reads.{ReadsAs, AsksValues, site_in};
+ghost use Rattle.applicator_reading.specs.Reads.{ReadsAs, IsByAnswers, site_in};
 ghost use Rattle.applicator_reading.specs.Conditions.{IsCondition, IsConsequent};
 
 use crate::entries::{other_item, other_member};
 use crate::keyword::{ListKeyword, MapKeyword};
 use crate::neighbours::{
-    Neighbours, count_beside, has_consequent, is_beside, items_length, prefix_length,
-    properties_beside, schema_beside,
+    Neighbours, count_beside, declared_beside, has_consequent, is_alone, is_beside, items_length,
+    prefix_length, schema_beside,
 };
 use applicators::applicator::Applicator;
 use schema_drafts::draft::Draft;
@@ -74,7 +75,7 @@ fn if_schema<'r>(schema: &Value, reading: Reading<'r>) -> Reading<'r>
     ensures read { (x : rows.Context) (k : List ℕ) (shapes : Site → List (Shape Site))
         → ReadsAs x k (rows.reads (site_in x (rows.at k) (view schema.now) ∷ []) (shapes (site_in x (rows.at k) (view schema.now)))) reading.entry
         → ReadsAs x k (rows.one_schema x k shapes (view schema.now)) result }
-    ensures values { AsksValues reading.entry → AsksValues result }
+    ensures answers { IsByAnswers reading.entry → IsByAnswers result }
     ensures condition { (v : Bor json.Value) → IsCondition v reading.entry → IsCondition v result }
     ensures consequent { (v : Bor json.Value) → IsConsequent v reading.entry → IsConsequent v result }
 {
@@ -87,7 +88,7 @@ fn if_schema<'r>(schema: &Value, reading: Reading<'r>) -> Reading<'r>
 
 fn list<'r>(keyword: ListKeyword, value: &'r Value) -> Reading<'r>
     ensures read { (x : rows.Context) → ReadsAs x (list_name keyword) (list_row keyword x (view value.now)) result }
-    ensures values { AsksValues result }
+    ensures answers { IsByAnswers result }
 {
     let Some(items) = value.as_array() else {
         return Reading::Value {
@@ -106,7 +107,7 @@ fn list<'r>(keyword: ListKeyword, value: &'r Value) -> Reading<'r>
 
 fn map<'r>(keyword: MapKeyword, value: &'r Value) -> Reading<'r>
     ensures read { (x : rows.Context) → ReadsAs x (map_name keyword) (map_row keyword x (view value.now)) result }
-    ensures values { AsksValues result }
+    ensures answers { IsByAnswers result }
 {
     let Some(schemas) = value.as_object() else {
         return Reading::Value { expected: "object" };
@@ -122,7 +123,7 @@ fn map<'r>(keyword: MapKeyword, value: &'r Value) -> Reading<'r>
 
 fn items<'r>(neighbours: Neighbours<'r>, value: &'r Value) -> Reading<'r>
     ensures read { (x : rows.Context) → Surrounds neighbours.entry x → ReadsAs x (codes "items") (rows.items_row x (codes "items") (view value.now)) result }
-    ensures values { AsksValues result }
+    ensures answers { IsByAnswers result }
 {
     if is_schema(value) {
         return Reading::Applied(Applicator::Items {
@@ -139,7 +140,7 @@ fn items<'r>(neighbours: Neighbours<'r>, value: &'r Value) -> Reading<'r>
 
 fn additional_items<'r>(neighbours: Neighbours<'r>, value: &'r Value) -> Reading<'r>
     ensures read { (x : rows.Context) → Surrounds neighbours.entry x → ReadsAs x (codes "additionalItems") (rows.additional_items_row x (codes "additionalItems") (view value.now)) result }
-    ensures values { AsksValues result }
+    ensures answers { IsByAnswers result }
 {
     let Some(start) = items_length(neighbours) else {
         return Reading::Nothing;
@@ -160,7 +161,7 @@ fn additional_items<'r>(neighbours: Neighbours<'r>, value: &'r Value) -> Reading
 
 fn contains<'r>(neighbours: Neighbours<'r>, value: &'r Value) -> Reading<'r>
     ensures read { (x : rows.Context) → Surrounds neighbours.entry x → ReadsAs x (codes "contains") (rows.contains_row x (codes "contains") (view value.now)) result }
-    ensures values { AsksValues result }
+    ensures answers { IsByAnswers result }
 {
     let least = count_beside(neighbours, "minContains");
     let most = count_beside(neighbours, "maxContains");
@@ -175,7 +176,7 @@ fn contains<'r>(neighbours: Neighbours<'r>, value: &'r Value) -> Reading<'r>
 // `minContains` and `maxContains`, which the `contains` beside reads.
 fn bound<'r>(neighbours: Neighbours<'r>, value: &Value) -> Reading<'r>
     ensures read { (x : rows.Context) (k : List ℕ) → Surrounds neighbours.entry x → ReadsAs x k (rows.bound_row x k (view value.now)) result }
-    ensures values { AsksValues result }
+    ensures answers { IsByAnswers result }
 {
     if is_beside(neighbours, "contains") {
         match value.as_u64() {
@@ -187,34 +188,34 @@ fn bound<'r>(neighbours: Neighbours<'r>, value: &Value) -> Reading<'r>
     }
 }
 
-// `additionalProperties` as `false`, where no patterns stand beside.
+// `additionalProperties` as `false`.
 fn refusing_others<'r>(neighbours: Neighbours<'r>, schema: &'r Value) -> Applicator<'r>
-    ensures shape { (x : rows.Context) → Surrounds neighbours.entry x → has_no_patterns x ≡ true
+    ensures shape { (x : rows.Context) → Surrounds neighbours.entry x
         → shape_of (site_in x) result ≡ rows.refuses_others x (site_in x (rows.at (codes "additionalProperties")) (view schema.now)) }
     ensures leads { (x : rows.Context) → leads_of (site_in x) result ≡ site_in x (rows.at (codes "additionalProperties")) (view schema.now) ∷ [] }
-    ensures values { asks_values result ≡ true }
+    ensures patterns { patterns_in result ≡ [] }
+    ensures answers { is_by_answers result ≡ true }
 {
-    if is_beside(neighbours, "properties") {
+    if is_alone(neighbours) {
+        Applicator::NoProperties(schema)
+    } else {
         Applicator::NoAdditionalProperties {
-            declared: properties_beside(neighbours),
+            declared: declared_beside(neighbours),
             schema,
         }
-    } else {
-        Applicator::NoProperties(schema)
     }
 }
 
-// `additionalProperties`, where no patterns stand beside.
-fn other_properties<'r>(neighbours: Neighbours<'r>, value: &'r Value) -> Reading<'r>
-    ensures read { (x : rows.Context) → Surrounds neighbours.entry x → has_no_patterns x ≡ true → ReadsAs x (codes "additionalProperties") (rows.additional_properties_row x (codes "additionalProperties") (view value.now)) result }
-    ensures values { AsksValues result }
+fn additional_properties<'r>(neighbours: Neighbours<'r>, value: &'r Value) -> Reading<'r>
+    ensures read { (x : rows.Context) → Surrounds neighbours.entry x → ReadsAs x (codes "additionalProperties") (rows.additional_properties_row x (codes "additionalProperties") (view value.now)) result }
+    ensures answers { IsByAnswers result }
 {
     match value.as_bool() {
         Some(true) => Reading::Nothing,
         Some(false) => Reading::Applied(refusing_others(neighbours, value)),
         None => {
             let applicator = Applicator::AdditionalProperties {
-                declared: properties_beside(neighbours),
+                declared: declared_beside(neighbours),
                 schema: value,
             };
             if_schema(value, Reading::Applied(applicator))
@@ -222,22 +223,9 @@ fn other_properties<'r>(neighbours: Neighbours<'r>, value: &'r Value) -> Reading
     }
 }
 
-// `additionalProperties`, which is left aside where patterns stand beside.
-fn additional_properties<'r>(neighbours: Neighbours<'r>, value: &'r Value) -> Option<Reading<'r>>
-    ensures read { IfSome result (λ r. (x : rows.Context) → Surrounds neighbours.entry x → ReadsAs x (codes "additionalProperties") (rows.additional_properties_row x (codes "additionalProperties") (view value.now)) r) }
-    ensures named { IfSome result (λ r. (x : rows.Context) → Surrounds neighbours.entry x → has_no_patterns x ≡ true) }
-    ensures other { IfNone result ((x : rows.Context) → Surrounds neighbours.entry x → has_no_patterns x ≡ false) }
-    ensures values { IfSome result (λ r. AsksValues r) }
-{
-    if is_beside(neighbours, "patternProperties") {
-        None
-    } else {
-        Some(other_properties(neighbours, value))
-    }
-}
-
 fn property_names<'r>(value: &'r Value) -> Reading<'r>
-    ensures { (x : rows.Context) → ReadsAs x (codes "propertyNames") (rows.property_names_row x (codes "propertyNames") (view value.now)) result }
+    ensures read { (x : rows.Context) → ReadsAs x (codes "propertyNames") (rows.property_names_row x (codes "propertyNames") (view value.now)) result }
+    ensures answers { IsByAnswers result }
 {
     match value.as_bool() {
         Some(true) => Reading::Nothing,
@@ -254,7 +242,7 @@ fn property_names<'r>(value: &'r Value) -> Reading<'r>
 
 fn negation<'r>(value: &'r Value) -> Reading<'r>
     ensures read { (x : rows.Context) → ReadsAs x (codes "not") (rows.read_among rows.readers x (codes "not") (view value.now)) result }
-    ensures values { AsksValues result }
+    ensures answers { IsByAnswers result }
 {
     if_schema(value, Reading::Applied(Applicator::Not(value)))
 }
@@ -293,15 +281,15 @@ pub fn consequent<'r>(neighbours: Neighbours<'r>, value: &'r Value) -> Reading<'
 }
 
 /// What a member of a schema is that counts, where its name is that of a keyword that applies subschemas; for any other name there is
-/// none, and so for `patternProperties`, for `additionalProperties` beside one that counts, and for `dependencies`.
+/// none, and so for `dependencies`.
 ///
-/// It reads the neighbours that count, and of an entry that is no schema it names the first. What is read lends the schema; it takes
-/// no memory.
+/// It reads the neighbours that count, and of an entry that is no schema it names the first. The patterns of `patternProperties` are
+/// not made. What is read lends the schema; it takes no memory.
 pub fn read<'r>(neighbours: Neighbours<'r>, name: &str, value: &'r Value) -> Option<Reading<'r>>
     ensures read { IfSome result (λ r. (x : rows.Context) → Surrounds neighbours.entry x → ReadsAs x name.now (rows.read_among rows.readers x name.now (view value.now)) r) }
-    ensures named { IfSome result (λ r. (x : rows.Context) → Surrounds neighbours.entry x → is_read x name.now (view value.now) ≡ true) }
-    ensures other { IfNone result ((x : rows.Context) → Surrounds neighbours.entry x → is_read x name.now (view value.now) ≡ false) }
-    ensures values { IfSome result (λ r. is_listed name.now valued_names ≡ true → AsksValues r) }
+    ensures named { IfSome result (λ r. is_listed name.now applicator_names ≡ true) }
+    ensures other { IfNone result (is_listed name.now applicator_names ≡ false) }
+    ensures answers { IfSome result (λ r. is_listed name.now valued_names ≡ true → IsByAnswers r) }
 {
     match name {
         "items" => Some(items(neighbours, value)),
@@ -311,7 +299,8 @@ pub fn read<'r>(neighbours: Neighbours<'r>, name: &str, value: &'r Value) -> Opt
         "minContains" => Some(bound(neighbours, value)),
         "maxContains" => Some(bound(neighbours, value)),
         "properties" => Some(map(MapKeyword::Properties, value)),
-        "additionalProperties" => additional_properties(neighbours, value),
+        "patternProperties" => Some(map(MapKeyword::PatternProperties, value)),
+        "additionalProperties" => Some(additional_properties(neighbours, value)),
         "propertyNames" => Some(property_names(value)),
         "dependentSchemas" => Some(map(MapKeyword::DependentSchemas, value)),
         "allOf" => Some(list(ListKeyword::AllOf, value)),

@@ -1,14 +1,14 @@
 -- How the answers to an applicator's questions are combined.
 use Rattle.std.proofs.lemmas.Bool.Decides.{nat_tests}
-use Rattle.std.proofs.Common.{◌≡◌, ◌==◌, ◌≤◌, ◌∙◌, ◌&&◌, ℕ, nat_lt, List, [], ◌∷◌, Bool, true, false, not, length, Option, Bor, refl, sym, ap, arith, ◌<◌, ◌||◌, ◌++◌, codes, ap₂}
+use Rattle.std.proofs.Common.{◌≡◌, ◌==◌, ◌≤◌, ◌∙◌, ◌&&◌, ℕ, nat_lt, List, [], ◌∷◌, Bool, true, false, not, length, Option, Bor, refl, sym, ap, arith, ◌++◌, codes, ap₂}
 use Rattle.serde_json.specs.Data.{Data, null, boolean, number, string, array, object, Members, no_members, member}
 use Rattle.serde_json.specs.declared.value.Value.{Value}
 use Rattle.json_paths.specs.Parts.{Part}
-use Rattle.schema_meaning.specs.Members.{all_true, some_true, count_true, one_if}
+use Rattle.schema_meaning.specs.Members.{all_true, some_true, count_true}
 use Rattle.schema_meaning.specs.Rules.{accepts, is_enough, is_few, Note, every}
 use Rattle.schema_meaning.specs.Keywords.{rule, missing, missing_beside, needed}
 use Rattle.schema_reading.specs.Sites.{Site}
-use Rattle.applicators.specs.Combined.{is_every, IsEvery, decided, Decides, asks_values}
+use Rattle.applicators.specs.Combined.{is_every, IsEvery, decided, Decides}
 use Rattle.applicators.specs.Shapes.{shape_of, dependency_at, dependencies_in}
 use Rattle.std.specs.List.{flat_map}
 use Rattle.serde_json.specs.Find.{get}
@@ -49,6 +49,7 @@ every_rule (code.AdditionalItems start schema) h = λ site matches d. refl
 every_rule (code.NoAdditionalItems start schema) h = cc
 every_rule (code.Contains schema least most) h = cc
 every_rule (code.Properties schemas) h = λ site matches d. refl
+every_rule (code.PatternProperties schemas) h = λ site matches d. refl
 every_rule (code.AdditionalProperties declared schema) h = λ site matches d. refl
 every_rule (code.NoAdditionalProperties declared schema) h = cc
 every_rule (code.NoProperties schema) h = cc
@@ -114,11 +115,12 @@ decides (code.AdditionalItems start schema) d n m b is = record { is = λ h plai
 decides (code.NoAdditionalItems start schema) d n m b is = record { is = λ h plain site matches bs is_n is_m. by_all n m bs is_n is_m ∙ sym is }
 decides (code.Contains schema least most) d n m b is = record { is = λ h plain site matches bs is_n is_m. by_items schema least most site matches d n m bs is_n is_m ∙ sym is }
 decides (code.Properties schemas) d n m b is = record { is = λ h plain site matches bs is_n is_m. by_all n m bs is_n is_m ∙ sym is }
+decides (code.PatternProperties schemas) d n m b is = record { is = λ h plain site matches bs is_n is_m. by_all n m bs is_n is_m ∙ sym is }
 decides (code.AdditionalProperties declared schema) d n m b is = record { is = λ h plain site matches bs is_n is_m. by_all n m bs is_n is_m ∙ sym is }
 decides (code.NoAdditionalProperties declared schema) d n m b is = record { is = λ h plain site matches bs is_n is_m. by_all n m bs is_n is_m ∙ sym is }
 decides (code.NoProperties schema) d n m b is = record { is = λ h plain site matches bs is_n is_m. by_all n m bs is_n is_m ∙ sym is }
-decides (code.PropertyNames schema) d n m b is = record { is = λ h plain. absurd (cc) }
-decides (code.NoPropertyNames schema) d n m b is = record { is = λ h plain. absurd (cc) }
+decides (code.PropertyNames schema) d n m b is = record { is = λ h plain site matches bs is_n is_m. by_all n m bs is_n is_m ∙ sym is }
+decides (code.NoPropertyNames schema) d n m b is = record { is = λ h plain site matches bs is_n is_m. by_all n m bs is_n is_m ∙ sym is }
 decides (code.DependentSchemas schemas) d n m b is = record { is = λ h plain site matches bs is_n is_m. by_all n m bs is_n is_m ∙ sym is }
 decides (code.Dependencies entries) d n m b is = record { is = λ h plain. absurd (cc) }
 decides (code.AllOf schemas) d n m b is = record { is = λ h plain site matches bs is_n is_m. by_all n m bs is_n is_m ∙ sym is }

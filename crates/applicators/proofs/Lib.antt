@@ -3,3 +3,5 @@ pub mod ContainsLemmas
 pub mod ConsequentLemmas
 pub mod CombinedLemmas
 pub mod DeclaredLemmas
+pub mod MatchingLemmas
+pub mod Asking

@@ -22,6 +22,7 @@ name_of (code.AdditionalItems start schema) = codes "additionalItems"
 name_of (code.NoAdditionalItems start schema) = codes "additionalItems"
 name_of (code.Contains schema least most) = codes "contains"
 name_of (code.Properties schemas) = codes "properties"
+name_of (code.PatternProperties schemas) = codes "patternProperties"
 name_of (code.AdditionalProperties declared schema) = codes "additionalProperties"
 name_of (code.NoAdditionalProperties declared schema) = codes "additionalProperties"
 name_of (code.NoProperties schema) = codes "additionalProperties"
@@ -44,6 +45,7 @@ refused_name (code.AdditionalItems start schema) n = codes "additionalItems"
 refused_name (code.NoAdditionalItems start schema) n = codes "additionalItems"
 refused_name (code.Contains schema least most) n = count_refused_at least most n
 refused_name (code.Properties schemas) n = codes "properties"
+refused_name (code.PatternProperties schemas) n = codes "patternProperties"
 refused_name (code.AdditionalProperties declared schema) n = codes "additionalProperties"
 refused_name (code.NoAdditionalProperties declared schema) n = codes "additionalProperties"
 refused_name (code.NoProperties schema) n = codes "additionalProperties"
@@ -66,6 +68,7 @@ is_every (code.AdditionalItems start schema) = true
 is_every (code.NoAdditionalItems start schema) = false
 is_every (code.Contains schema least most) = false
 is_every (code.Properties schemas) = true
+is_every (code.PatternProperties schemas) = true
 is_every (code.AdditionalProperties declared schema) = true
 is_every (code.NoAdditionalProperties declared schema) = false
 is_every (code.NoProperties schema) = false
@@ -88,6 +91,7 @@ has_notes (code.AdditionalItems start schema) = false
 has_notes (code.NoAdditionalItems start schema) = false
 has_notes (code.Contains schema least most) = false
 has_notes (code.Properties schemas) = false
+has_notes (code.PatternProperties schemas) = false
 has_notes (code.AdditionalProperties declared schema) = false
 has_notes (code.NoAdditionalProperties declared schema) = false
 has_notes (code.NoProperties schema) = false
@@ -110,6 +114,7 @@ notes_by (code.AdditionalItems start schema) d = []
 notes_by (code.NoAdditionalItems start schema) d = []
 notes_by (code.Contains schema least most) d = []
 notes_by (code.Properties schemas) d = []
+notes_by (code.PatternProperties schemas) d = []
 notes_by (code.AdditionalProperties declared schema) d = []
 notes_by (code.NoAdditionalProperties declared schema) d = []
 notes_by (code.NoProperties schema) d = []
@@ -127,6 +132,75 @@ notes_by (code.If condition then_schema else_schema) d = []
 abbrev pub IsEvery : Applicator → Type 0
 IsEvery a = (site : List Part → Data → Site) (matches : List ℕ → List ℕ → Bool) (d : Data) → rule matches d (shape_of site a) ≡ every (at (name_of a)) (notes_by a d) (asks (rule matches d (shape_of site a)))
 
+-- whether its verdict is by the number of answers that are yes and by what it notes of the value itself
+abbrev pub is_by_answers : Applicator → Bool
+is_by_answers (code.Items start schema) = true
+is_by_answers (code.ItemList schemas) = true
+is_by_answers (code.PrefixItems schemas) = true
+is_by_answers (code.AdditionalItems start schema) = true
+is_by_answers (code.NoAdditionalItems start schema) = true
+is_by_answers (code.Contains schema least most) = true
+is_by_answers (code.Properties schemas) = true
+is_by_answers (code.PatternProperties schemas) = true
+is_by_answers (code.AdditionalProperties declared schema) = true
+is_by_answers (code.NoAdditionalProperties declared schema) = true
+is_by_answers (code.NoProperties schema) = true
+is_by_answers (code.PropertyNames schema) = true
+is_by_answers (code.NoPropertyNames schema) = true
+is_by_answers (code.DependentSchemas schemas) = true
+is_by_answers (code.Dependencies entries) = true
+is_by_answers (code.AllOf schemas) = true
+is_by_answers (code.AnyOf schemas) = true
+is_by_answers (code.OneOf schemas) = true
+is_by_answers (code.Not schema) = true
+is_by_answers (code.If condition then_schema else_schema) = false
+
+-- whether its questions ask the names of members
+abbrev pub asks_names : Applicator → Bool
+asks_names (code.Items start schema) = false
+asks_names (code.ItemList schemas) = false
+asks_names (code.PrefixItems schemas) = false
+asks_names (code.AdditionalItems start schema) = false
+asks_names (code.NoAdditionalItems start schema) = false
+asks_names (code.Contains schema least most) = false
+asks_names (code.Properties schemas) = false
+asks_names (code.PatternProperties schemas) = false
+asks_names (code.AdditionalProperties declared schema) = false
+asks_names (code.NoAdditionalProperties declared schema) = false
+asks_names (code.NoProperties schema) = false
+asks_names (code.PropertyNames schema) = true
+asks_names (code.NoPropertyNames schema) = true
+asks_names (code.DependentSchemas schemas) = false
+asks_names (code.Dependencies entries) = false
+asks_names (code.AllOf schemas) = false
+asks_names (code.AnyOf schemas) = false
+asks_names (code.OneOf schemas) = false
+asks_names (code.Not schema) = false
+asks_names (code.If condition then_schema else_schema) = false
+
+-- whether its rule is `each_named`: every answer of a name is yes, and a name's faults are told of the object
+abbrev pub is_each_named : Applicator → Bool
+is_each_named (code.Items start schema) = false
+is_each_named (code.ItemList schemas) = false
+is_each_named (code.PrefixItems schemas) = false
+is_each_named (code.AdditionalItems start schema) = false
+is_each_named (code.NoAdditionalItems start schema) = false
+is_each_named (code.Contains schema least most) = false
+is_each_named (code.Properties schemas) = false
+is_each_named (code.PatternProperties schemas) = false
+is_each_named (code.AdditionalProperties declared schema) = false
+is_each_named (code.NoAdditionalProperties declared schema) = false
+is_each_named (code.NoProperties schema) = false
+is_each_named (code.PropertyNames schema) = true
+is_each_named (code.NoPropertyNames schema) = false
+is_each_named (code.DependentSchemas schemas) = false
+is_each_named (code.Dependencies entries) = false
+is_each_named (code.AllOf schemas) = false
+is_each_named (code.AnyOf schemas) = false
+is_each_named (code.OneOf schemas) = false
+is_each_named (code.Not schema) = false
+is_each_named (code.If condition then_schema else_schema) = false
+
 -- whether its verdict is by the number of answers that are yes and by what it notes of the value itself, and its questions ask the
 -- value, its items or its members
 abbrev pub asks_values : Applicator → Bool
@@ -137,6 +211,7 @@ asks_values (code.AdditionalItems start schema) = true
 asks_values (code.NoAdditionalItems start schema) = true
 asks_values (code.Contains schema least most) = true
 asks_values (code.Properties schemas) = true
+asks_values (code.PatternProperties schemas) = true
 asks_values (code.AdditionalProperties declared schema) = true
 asks_values (code.NoAdditionalProperties declared schema) = true
 asks_values (code.NoProperties schema) = true
@@ -159,6 +234,7 @@ decided (code.AdditionalItems start schema) d n m = m == n
 decided (code.NoAdditionalItems start schema) d n m = m == n
 decided (code.Contains schema least most) d n m = if is_some (as_array d) then (is_enough least m && is_few most m) else (m == n)
 decided (code.Properties schemas) d n m = m == n
+decided (code.PatternProperties schemas) d n m = m == n
 decided (code.AdditionalProperties declared schema) d n m = m == n
 decided (code.NoAdditionalProperties declared schema) d n m = m == n
 decided (code.NoProperties schema) d n m = m == n
@@ -174,5 +250,5 @@ decided (code.If condition then_schema else_schema) d n m = m == n
 
 -- the verdict, where so many questions are asked and so many of them are answered yes
 pub record Decides (a : Applicator) (d : Data) (asked accepted : ℕ) (b : Bool) : Type 0 where
-  pub is : asks_values a ≡ true → has_notes a ≡ false → (site : List Part → Data → Site) (matches : List ℕ → List ℕ → Bool) (bs : List Bool) → length bs ≡ asked → count_true bs ≡ accepted
+  pub is : is_by_answers a ≡ true → has_notes a ≡ false → (site : List Part → Data → Site) (matches : List ℕ → List ℕ → Bool) (bs : List Bool) → length bs ≡ asked → count_true bs ≡ accepted
       → accepts (rule matches d (shape_of site a)) bs ≡ b

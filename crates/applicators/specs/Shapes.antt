@@ -1,5 +1,5 @@
 -- The shapes that applicators stand for, over the sites of their subschemas.
-use Rattle.std.specs.Prelude.{ℕ, suc, List, [], ◌∷◌, false, not, Option, None, Some, option_map, codes, String}
+use Rattle.std.specs.Prelude.{ℕ, suc, List, [], ◌∷◌, Bool, not, Option, None, Some, option_map, codes, String}
 use Rattle.std.specs.Global.{Global}
 use Rattle.std.specs.BTreeMap.{BTreeMap}
 use Rattle.std.specs.Borrow.{Bor}
@@ -10,9 +10,10 @@ use Rattle.json_paths.specs.Parts.{Part}
 use Rattle.schema_reading.specs.Sites.{Site}
 use Rattle.serde_json.specs.declared.value.Value.{Value}
 use Rattle.schema_reading.specs.Rows.{sites_named, member_names, in_list, sites_applied}
-use Rattle.schema_meaning.specs.Questions.{at, at_name, at_index, Declared, is_declared, members_of}
-use Rattle.schema_meaning.specs.Keywords.{Shape, items, item_list, prefix_items, additional_items, no_additional_items, contains, properties, additional_properties, no_additional_properties, no_properties, property_names, no_property_names, dependent_schemas, all_of, any_of, one_of, negation, condition, Dependency, needs, applies, dependencies}
+use Rattle.schema_meaning.specs.Questions.{at, at_name, at_index, Declared, is_declared}
+use Rattle.schema_meaning.specs.Keywords.{Shape, items, item_list, prefix_items, additional_items, no_additional_items, contains, properties, pattern_properties, additional_properties, no_additional_properties, no_properties, property_names, no_property_names, dependent_schemas, all_of, any_of, one_of, negation, condition, Dependency, needs, applies, dependencies}
 use Rattle.assertions.specs.Texts.{texts_of}
+use Rattle.applicators.specs.declared.declared.Declared as beside
 use Rattle.applicators.specs.declared.applicator.Applicator.{Applicator}
 use Rattle.applicators.specs.declared.applicator.Applicator.TheVariants as code
 use Rattle.applicators.specs.declared.subschema.Entry.{Entry}
@@ -53,20 +54,18 @@ dependencies_in site (member n d ms) = (n, dependency_at site n d) ∷ dependenc
 abbrev pub site_of : (List Part → Data → Site) → List ℕ → Data → Site
 site_of site k d = site (at k) d
 
--- what `properties` beside declares: no pattern
+-- the names of the members of an object that may stand beside
 abbrev pub names_declared : Option (Bor Schemas) → List (List ℕ)
 names_declared None = []
 names_declared (Some schemas) = member_names (members_view schemas.now.entries)
 
-abbrev pub declared_by : Option (Bor Schemas) → Declared
-declared_by declared = record { names = names_declared declared; patterns = [] }
+-- what `properties` and `patternProperties` beside declare: names, and patterns
+abbrev pub declared_by : beside.Declared → Declared
+declared_by declared = record { names = names_declared declared.names; patterns = names_declared declared.patterns }
 
--- the members that it does not declare
-abbrev pub undeclared_among : Option (Bor Schemas) → List (List ℕ × Data) → List (List ℕ × Data)
-undeclared_among declared ms = filter (λ m. not (is_declared (λ p k. false) (declared_by declared) m.0)) ms
-
-abbrev pub undeclared : Option (Bor Schemas) → Data → List (List ℕ × Data)
-undeclared declared d = undeclared_among declared (members_of d)
+-- the members that are not declared
+abbrev pub others_among : (List ℕ → List ℕ → Bool) → Declared → List (List ℕ × Data) → List (List ℕ × Data)
+others_among matches declared ms = filter (λ m. not (is_declared matches declared m.0)) ms
 
 abbrev pub shape_of : (List Part → Data → Site) → Applicator → Shape Site
 shape_of site (code.Items start schema) = items start (site_of site (codes "items") (view schema.now))
@@ -76,6 +75,7 @@ shape_of site (code.AdditionalItems start schema) = additional_items start (site
 shape_of site (code.NoAdditionalItems start schema) = no_additional_items start (site_of site (codes "additionalItems") (view schema.now))
 shape_of site (code.Contains schema least most) = contains (site_of site (codes "contains") (view schema.now)) least most
 shape_of site (code.Properties schemas) = properties (sites_of_map site (codes "properties") (members_view schemas.now.entries))
+shape_of site (code.PatternProperties schemas) = pattern_properties (sites_of_map site (codes "patternProperties") (members_view schemas.now.entries))
 shape_of site (code.AdditionalProperties declared schema) = additional_properties (declared_by declared) (site_of site (codes "additionalProperties") (view schema.now))
 shape_of site (code.NoAdditionalProperties declared schema) = no_additional_properties (declared_by declared) (site_of site (codes "additionalProperties") (view schema.now))
 shape_of site (code.NoProperties schema) = no_properties (site_of site (codes "additionalProperties") (view schema.now))
@@ -99,6 +99,7 @@ leads_of site (code.AdditionalItems start schema) = site_of site (codes "additio
 leads_of site (code.NoAdditionalItems start schema) = site_of site (codes "additionalItems") (view schema.now) ∷ []
 leads_of site (code.Contains schema least most) = site_of site (codes "contains") (view schema.now) ∷ []
 leads_of site (code.Properties schemas) = sites_named (sites_of_map site (codes "properties") (members_view schemas.now.entries))
+leads_of site (code.PatternProperties schemas) = sites_named (sites_of_map site (codes "patternProperties") (members_view schemas.now.entries))
 leads_of site (code.AdditionalProperties declared schema) = site_of site (codes "additionalProperties") (view schema.now) ∷ []
 leads_of site (code.NoAdditionalProperties declared schema) = site_of site (codes "additionalProperties") (view schema.now) ∷ []
 leads_of site (code.NoProperties schema) = site_of site (codes "additionalProperties") (view schema.now) ∷ []

@@ -1,5 +1,6 @@
 //! Keywords that apply subschemas, read from their values.
 
+use crate::declared::Declared;
 use serde_json::{Map, Value};
 
 /// A keyword that applies subschemas, with what its value and its neighbours say. What a schema lends is not copied.
@@ -30,14 +31,16 @@ pub enum Applicator<'r> {
         most: Option<u64>,
     },
     Properties(&'r Map<String, Value>),
-    /// One schema for the members that are not declared: `declared` is the object at `properties` beside, where there is one.
+    /// A schema for each pattern.
+    PatternProperties(&'r Map<String, Value>),
+    /// One schema for the members that `properties` and `patternProperties` beside do not declare.
     AdditionalProperties {
-        declared: Option<&'r Map<String, Value>>,
+        declared: Declared<'r>,
         schema: &'r Value,
     },
     /// The same where the schema is `false`.
     NoAdditionalProperties {
-        declared: Option<&'r Map<String, Value>>,
+        declared: Declared<'r>,
         schema: &'r Value,
     },
     /// `additionalProperties` as `false`, where neither `properties` nor `patternProperties` stands beside.

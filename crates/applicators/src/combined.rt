@@ -1,7 +1,7 @@
 //! How the answers to an applicator's questions are combined.
 ghost use Rattle.std.specs.Prelude.{◌≡◌, true};
 ghost use Rattle.serde_json.specs.View.{view};
-ghost use Rattle.applicators.specs.Combined.{name_of, refused_name, is_every, IsEvery, decided, Decides};
+ghost use Rattle.applicators.specs.Combined.{name_of, refused_name, is_every, IsEvery, asks_names, is_each_named, decided, Decides};
 ghost use Rattle.schema_meaning.specs.Rules as rules;
 
 use crate::applicator::Applicator;
@@ -58,6 +58,7 @@ impl Applicator<'_> {
             Applicator::NoAdditionalItems { .. } => "additionalItems",
             Applicator::Contains { .. } => "contains",
             Applicator::Properties(_) => "properties",
+            Applicator::PatternProperties(_) => "patternProperties",
             Applicator::AdditionalProperties { .. } => "additionalProperties",
             Applicator::NoAdditionalProperties { .. } => "additionalProperties",
             Applicator::NoProperties(_) => "additionalProperties",
@@ -86,11 +87,29 @@ impl Applicator<'_> {
                 | Applicator::PrefixItems(_)
                 | Applicator::AdditionalItems { .. }
                 | Applicator::Properties(_)
+                | Applicator::PatternProperties(_)
                 | Applicator::AdditionalProperties { .. }
                 | Applicator::DependentSchemas(_)
                 | Applicator::Dependencies(_)
                 | Applicator::AllOf(_)
         )
+    }
+
+    /// Whether its questions ask the names of members.
+    pub const fn asks_names(&self) -> bool
+        ensures { result ≡ asks_names self.now }
+    {
+        matches!(
+            self,
+            Applicator::PropertyNames(_) | Applicator::NoPropertyNames(_)
+        )
+    }
+
+    /// Whether it accepts a value just where every answer is yes, and tells each fault of a name of the object.
+    pub const fn is_each_named(&self) -> bool
+        ensures { result ≡ is_each_named self.now }
+    {
+        matches!(self, Applicator::PropertyNames(_))
     }
 
     /// The name under which it refuses a value, where so many answers are yes: of `contains` that of the bound that is not kept.

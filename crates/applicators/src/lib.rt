@@ -4,6 +4,7 @@
 pub mod applicator;
 pub mod combined;
 pub mod declared;
+mod patterns;
 pub mod question;
 pub mod questions;
 pub mod subschema;

@@ -6,16 +6,19 @@ ghost use Rattle.serde_json.specs.Find.{get, get_member};
 ghost use Rattle.json_paths.specs.Parts.{Part};
 ghost use Rattle.schema_reading.specs.Sites.{Site};
 ghost use Rattle.schema_meaning.specs.Places.{to_member};
-ghost use Rattle.schema_meaning.specs.Questions.{question, at, here, each_branch, items_of, items_from, each_item, item_by_item, listed_members, members_of, names_of, if_member, each_declared, each_member, each_name, each_triggered};
+ghost use Rattle.schema_meaning.specs.Questions.{question, at, here, each_branch, items_of, items_from, each_item, item_by_item, listed_members, members_of, other_members, names_of, if_member, each_declared, each_member, each_name, each_triggered};
 ghost use Rattle.schema_meaning.specs.Rules.{asks, consequents};
 ghost use Rattle.schema_meaning.specs.Keywords.{rule, consequent, applied};
-ghost use Rattle.applicators.specs.Shapes.{site_of, sites_of_list, sites_of_map, undeclared_among, undeclared, shape_of, dependency_at, dependencies_in};
+ghost use Rattle.schema_matches.specs.Read.{reads};
+ghost use Rattle.applicators.specs.Shapes.{site_of, sites_of_list, sites_of_map, declared_by, others_among, shape_of, dependency_at, dependencies_in};
 ghost use Rattle.applicators.specs.Questions.{step_of, questions_of, each_dependency};
 
 use crate::applicator::Applicator;
-use crate::declared::is_declared;
+use crate::declared::{Declared, is_declared};
+use crate::patterns::push_patterns;
 use crate::question::{Asked, Question};
 use crate::subschema::{Entry, Subschema};
+use schema_matches::matches::Matches;
 use serde_json::{Map, Value};
 use std::alloc::{AllocError, Global};
 
@@ -280,39 +283,46 @@ fn push_members<'r, 'i>(
     }
 }
 
-fn push_undeclared_of_object<'r, 'i>(
+fn push_others_of_object<'r, 'i>(
+    alloc: Global,
+    matches: &Matches,
     questions: &mut Vec<Question<'r, 'i>>,
-    keyword: &'static str,
     schema: &'r Value,
-    declared: Option<&Map<String, Value>>,
+    declared: Declared<'_>,
     members: &'i Map<String, Value>,
 ) -> Result<(), AllocError>
     ensures { OnOk result ((site : List Part → Data → Site) → questions_of site questions.new.items
-        ≡ questions_of site questions.old.items ++ each_member keyword.now (site_of site keyword.now (view schema.now)) (undeclared_among declared.entry (listed_members (members_view members.now.entries)))) }
+        ≡ questions_of site questions.old.items ++ each_member (codes "additionalProperties") (site_of site (codes "additionalProperties") (view schema.now)) (others_among (reads matches.now) (declared_by declared.entry) (listed_members (members_view members.now.entries)))) }
 {
     for (name, member) in members.iter() {
         let name = name.as_str();
-        if !is_declared(declared, name) {
-            push(questions, keyword, schema, Asked::Member { name, member })?;
+        if !is_declared(alloc, matches, declared, name)? {
+            push(
+                questions,
+                "additionalProperties",
+                schema,
+                Asked::Member { name, member },
+            )?;
         }
     }
     Ok(())
 }
 
 // Each member that is not declared by one schema.
-fn push_undeclared<'r, 'i>(
+fn push_others<'r, 'i>(
+    alloc: Global,
+    matches: &Matches,
     questions: &mut Vec<Question<'r, 'i>>,
-    keyword: &'static str,
     schema: &'r Value,
-    declared: Option<&Map<String, Value>>,
+    declared: Declared<'_>,
     value: &'i Value,
 ) -> Result<(), AllocError>
     ensures { OnOk result ((site : List Part → Data → Site) → questions_of site questions.new.items
-        ≡ questions_of site questions.old.items ++ each_member keyword.now (site_of site keyword.now (view schema.now)) (undeclared declared.entry (view value.now))) }
+        ≡ questions_of site questions.old.items ++ each_member (codes "additionalProperties") (site_of site (codes "additionalProperties") (view schema.now)) (other_members (reads matches.now) (declared_by declared.entry) (view value.now))) }
 {
     match value {
         Value::Object(members) => {
-            push_undeclared_of_object(questions, keyword, schema, declared, members)
+            push_others_of_object(alloc, matches, questions, schema, declared, members)
         }
         _ => Ok(()),
     }
@@ -381,12 +391,14 @@ fn push_condition<'r, 'i>(
 }
 
 fn push_questions<'r, 'i>(
+    alloc: Global,
+    matches: &Matches,
     questions: &mut Vec<Question<'r, 'i>>,
     applicator: &Applicator<'r>,
     value: &'i Value,
 ) -> Result<(), AllocError>
-    ensures { OnOk result ((matches : List ℕ → List ℕ → Bool) (site : List Part → Data → Site) → questions_of site questions.new.items
-        ≡ questions_of site questions.old.items ++ asks (rule matches (view value.now) (shape_of site applicator.now))) }
+    ensures { OnOk result ((site : List Part → Data → Site) → questions_of site questions.new.items
+        ≡ questions_of site questions.old.items ++ asks (rule (reads matches.now) (view value.now) (shape_of site applicator.now))) }
 {
     match *applicator {
         Applicator::Items { start, schema } => {
@@ -408,11 +420,14 @@ fn push_questions<'r, 'i>(
         Applicator::Properties(schemas) => {
             push_declared(questions, "properties", schemas, value)
         }
+        Applicator::PatternProperties(schemas) => {
+            push_patterns(alloc, matches, questions, schemas, value)
+        }
         Applicator::AdditionalProperties { declared, schema } => {
-            push_undeclared(questions, "additionalProperties", schema, declared, value)
+            push_others(alloc, matches, questions, schema, declared, value)
         }
         Applicator::NoAdditionalProperties { declared, schema } => {
-            push_undeclared(questions, "additionalProperties", schema, declared, value)
+            push_others(alloc, matches, questions, schema, declared, value)
         }
         Applicator::NoProperties(schema) => {
             push_members(questions, "additionalProperties", schema, value)
@@ -440,22 +455,23 @@ fn push_questions<'r, 'i>(
 }
 
 /// The questions that an applicator asks of a value, in order: those of `if` first by the condition, then by `then` and `else`,
-/// whichever of them its answer chooses.
+/// whichever of them its answer chooses. A member is asked of by `patternProperties` for each pattern that matches its name.
 ///
-/// It takes memory for the list alone.
+/// It takes memory for the list, and where patterns are asked for, for the texts of a literal form.
 ///
 /// # Errors
 ///
 /// Where memory is refused.
 pub fn questions<'r, 'i>(
     alloc: Global,
+    matches: &Matches,
     applicator: &Applicator<'r>,
     value: &'i Value,
 ) -> Result<Vec<Question<'r, 'i>>, AllocError>
-    ensures { IfOk result (λ qs. (matches : List ℕ → List ℕ → Bool) (site : List Part → Data → Site)
-        → questions_of site qs.items ≡ asks (rule matches (view value.now) (shape_of site applicator.now))) }
+    ensures { IfOk result (λ qs. (site : List Part → Data → Site)
+        → questions_of site qs.items ≡ asks (rule (reads matches.now) (view value.now) (shape_of site applicator.now))) }
 {
     let mut questions = Vec::new(alloc);
-    push_questions(&mut questions, applicator, value)?;
+    push_questions(alloc, matches, &mut questions, applicator, value)?;
     Ok(questions)
 }

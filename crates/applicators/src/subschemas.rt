@@ -118,6 +118,7 @@ fn push_subschemas<'r>(
         }
         Applicator::Contains { schema, .. } => push_whole(found, "contains", schema),
         Applicator::Properties(schemas) => push_map(found, "properties", schemas),
+        Applicator::PatternProperties(schemas) => push_map(found, "patternProperties", schemas),
         Applicator::AdditionalProperties { schema, .. } => {
             push_whole(found, "additionalProperties", schema)
         }

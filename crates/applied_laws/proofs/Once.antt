@@ -1,22 +1,21 @@
 -- The one fault of a keyword that tells no fault of its subschemas as its own.
-use Rattle.std.proofs.Common.{◌≡◌, ℕ, List, [], ◌∷◌, Bool, true, false, Option, Bor, length, codes, refl, sym, ap, subst, arith, String, Global}
+use Rattle.std.proofs.Common.{◌≡◌, ℕ, List, [], ◌∷◌, Bool, false, Option, Bor, length, codes, refl, arith, String, Global}
 use Rattle.serde_json.specs.Data.{Data, null, boolean, number, string, array, object}
-use Rattle.serde_json.specs.View.{view}
 use Rattle.serde_json.specs.declared.value.Value.{Value}
 use Rattle.json_paths.specs.Parts.{Part}
 use Rattle.schema_meaning.specs.Members.{count_true}
 use Rattle.schema_meaning.specs.Places.{Spot}
 use Rattle.schema_meaning.specs.Faults.{Fault, Faults, Contains}
-use Rattle.schema_meaning.specs.Questions.{Question, at, each_item, items_of}
+use Rattle.schema_meaning.specs.Questions.{at}
 use Rattle.schema_meaning.specs.Rules.{Rule, every, accepts, asks, faults, one_fault, own_fault, verdicts_of}
-use Rattle.schema_meaning.specs.Keywords.{counting, rule}
+use Rattle.schema_meaning.specs.Keywords.{rule}
 use Rattle.schema_reading.specs.Sites.{Site}
-use Rattle.applicators.specs.Shapes.{shape_of, site_of}
-use Rattle.applicators.specs.Combined.{refused_name, is_every, asks_values, has_notes, notes_by}
+use Rattle.applicators.specs.Shapes.{shape_of}
+use Rattle.applicators.specs.Combined.{refused_name, is_every, has_notes, notes_by}
 use Rattle.std.specs.BTreeMap.{BTreeMap}
 use Rattle.applicators.specs.declared.applicator.Applicator.{Applicator}
 use Rattle.applicators.specs.declared.applicator.Applicator.TheVariants as code
-use Rattle.applied_laws.specs.Notes.{TellsOnce, TellOnce}
+use Rattle.applied_laws.specs.Notes.{TellOnce}
 
 -- a value that is no list is asked nothing, and told nothing
 nothing_told : (w : Spot) (above : List Part) (answers : List Faults) (f : Fault) → length answers ≡ 0
@@ -40,25 +39,26 @@ module _ (site : List Part → Data → Site) (matches : List ℕ → List ℕ �
   counted_once (object ms) is many = nothing_told w above answers the_fault many
 
 pub tell_once : TellOnce
-tell_once (code.Items start schema) values once = absurd (cc)
-tell_once (code.ItemList schemas) values once = absurd (cc)
-tell_once (code.PrefixItems schemas) values once = absurd (cc)
-tell_once (code.AdditionalItems start schema) values once = absurd (cc)
-tell_once (code.NoAdditionalItems start schema) values once = record { is = λ site matches w above answers many. refl }
-tell_once (code.Contains schema least most) values once = record { is = λ site matches w above answers many. counted_once site matches schema least most w above answers w.value refl many }
-tell_once (code.Properties schemas) values once = absurd (cc)
-tell_once (code.AdditionalProperties declared schema) values once = absurd (cc)
-tell_once (code.NoAdditionalProperties declared schema) values once = record { is = λ site matches w above answers many. refl }
-tell_once (code.NoProperties schema) values once = record { is = λ site matches w above answers many. refl }
-tell_once (code.PropertyNames schema) values once = absurd (cc)
-tell_once (code.NoPropertyNames schema) values once = absurd (cc)
-tell_once (code.DependentSchemas schemas) values once = absurd (cc)
-tell_once (code.Dependencies entries) values once = absurd (cc)
-tell_once (code.AllOf schemas) values once = absurd (cc)
-tell_once (code.AnyOf schemas) values once = record { is = λ site matches w above answers many. refl }
-tell_once (code.OneOf schemas) values once = record { is = λ site matches w above answers many. refl }
-tell_once (code.Not schema) values once = record { is = λ site matches w above answers many. refl }
-tell_once (code.If condition then_schema else_schema) values once = absurd (cc)
+tell_once (code.Items start schema) counts once own = absurd (cc)
+tell_once (code.ItemList schemas) counts once own = absurd (cc)
+tell_once (code.PrefixItems schemas) counts once own = absurd (cc)
+tell_once (code.AdditionalItems start schema) counts once own = absurd (cc)
+tell_once (code.NoAdditionalItems start schema) counts once own = record { is = λ site matches w above answers many. refl }
+tell_once (code.Contains schema least most) counts once own = record { is = λ site matches w above answers many. counted_once site matches schema least most w above answers w.value refl many }
+tell_once (code.Properties schemas) counts once own = absurd (cc)
+tell_once (code.PatternProperties schemas) counts once own = absurd (cc)
+tell_once (code.AdditionalProperties declared schema) counts once own = absurd (cc)
+tell_once (code.NoAdditionalProperties declared schema) counts once own = record { is = λ site matches w above answers many. refl }
+tell_once (code.NoProperties schema) counts once own = record { is = λ site matches w above answers many. refl }
+tell_once (code.PropertyNames schema) counts once own = absurd (cc)
+tell_once (code.NoPropertyNames schema) counts once own = record { is = λ site matches w above answers many. refl }
+tell_once (code.DependentSchemas schemas) counts once own = absurd (cc)
+tell_once (code.Dependencies entries) counts once own = absurd (cc)
+tell_once (code.AllOf schemas) counts once own = absurd (cc)
+tell_once (code.AnyOf schemas) counts once own = record { is = λ site matches w above answers many. refl }
+tell_once (code.OneOf schemas) counts once own = record { is = λ site matches w above answers many. refl }
+tell_once (code.Not schema) counts once own = record { is = λ site matches w above answers many. refl }
+tell_once (code.If condition then_schema else_schema) counts once own = absurd (cc)
 
 -- it notes nothing beside
 pub once_plain : (a : Applicator) → is_every a ≡ false → has_notes a ≡ false
@@ -69,6 +69,7 @@ once_plain (code.AdditionalItems start schema) once = refl
 once_plain (code.NoAdditionalItems start schema) once = refl
 once_plain (code.Contains schema least most) once = refl
 once_plain (code.Properties schemas) once = refl
+once_plain (code.PatternProperties schemas) once = refl
 once_plain (code.AdditionalProperties declared schema) once = refl
 once_plain (code.NoAdditionalProperties declared schema) once = refl
 once_plain (code.NoProperties schema) once = refl
@@ -91,6 +92,7 @@ no_notes (code.AdditionalItems start schema) d other = refl
 no_notes (code.NoAdditionalItems start schema) d other = refl
 no_notes (code.Contains schema least most) d other = refl
 no_notes (code.Properties schemas) d other = refl
+no_notes (code.PatternProperties schemas) d other = refl
 no_notes (code.AdditionalProperties declared schema) d other = refl
 no_notes (code.NoAdditionalProperties declared schema) d other = refl
 no_notes (code.NoProperties schema) d other = refl

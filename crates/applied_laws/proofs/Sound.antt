@@ -1,26 +1,29 @@
 -- Each question of a keyword whose verdict is by the number of answers that are yes.
-use Rattle.std.proofs.Common.{◌≡◌, ℕ, suc, List, [], ◌∷◌, ◌++◌, Bool, true, false, codes, Option, None, Some, refl}
-use Rattle.std.specs.List.{AllByRecursion}
+use Rattle.std.proofs.Common.{◌≡◌, ℕ, suc, List, [], ◌∷◌, ◌++◌, map, Bool, true, false, codes, Option, None, Some, refl, subst}
+use Rattle.std.specs.List.{AllByRecursion, filter}
 use Rattle.std.specs.Prelude.{⊤}
 use Rattle.serde_json.specs.Data.{Data, null, boolean, number, string, array, object, Items, no_items, item}
 use Rattle.serde_json.specs.Find.{get}
 use Rattle.serde_json.specs.View.{view, items_view, members_view}
+use Rattle.schema_values.specs.Patterns.{matched}
 use Rattle.json_paths.specs.Parts.{Part}
 use Rattle.schema_meaning.specs.Members.{In, first, later}
-use Rattle.schema_meaning.specs.Places.{stay, to_member, called_after}
-use Rattle.schema_meaning.specs.Questions.{Question, question, at_name, each_branch, items_of, items_from, each_item, item_by_item, if_member, each_declared, members_of, each_member, each_triggered}
+use Rattle.schema_meaning.specs.Places.{Step, stay, to_member, to_name, path_after, called_after}
+use Rattle.schema_meaning.specs.Questions.{Question, question, at, at_name, each_branch, items_of, items_from, each_item, item_by_item, if_member, each_declared, each_matching, members_of, other_members, each_member, each_name, each_triggered}
 use Rattle.schema_meaning.specs.Rules.{asks}
 use Rattle.schema_meaning.specs.Keywords.{counting, rule, Dependency, needs, applies, applied}
 use Rattle.schema_reading.specs.Sites.{Site}
 use Rattle.schema_reading.specs.Rows.{sites_applied}
+use Rattle.schema_reading.specs.AllKeys.{spots_in}
+use Rattle.plain_laws.proofs.Steps.{Keeps, first_spot}
 use Rattle.plain_laws.proofs.Elements.{each_in, each_laid_flat, in_mapped}
 use Rattle.plain_laws.proofs.Asked.{Holds, Sound, all_sound, IsApplied}
-use Rattle.applicators.specs.Shapes.{shape_of, leads_of, site_of, undeclared, sites_of_list, sites_of_map, dependencies_in}
+use Rattle.applicators.specs.Shapes.{shape_of, leads_of, site_of, declared_by, sites_of_list, sites_of_map, dependencies_in}
 use Rattle.applicators.specs.Questions.{each_dependency}
-use Rattle.applicators.specs.Combined.{asks_values}
+use Rattle.applicators.specs.Combined.{is_by_answers}
 use Rattle.applicators.specs.declared.applicator.Applicator.{Applicator}
 use Rattle.applicators.specs.declared.applicator.Applicator.TheVariants as code
-use Rattle.applied_laws.specs.Laws.{IsSound, QuestionsAreSound}
+use Rattle.applied_laws.specs.Laws.{QuestionsAreSound}
 
 -- ---- where subschemas stand
 
@@ -44,7 +47,7 @@ module _ (P : Site → Type 0) where
 abbrev Led : (List Part → Data → Site) → Applicator → Site → Type 0
 Led site a s = In s (leads_of site a)
 
-all_led : (site : List Part → Data → Site) (a : Applicator) → asks_values a ≡ true → Holds (Led site a) (λ s. ⊤) (shape_of site a)
+all_led : (site : List Part → Data → Site) (a : Applicator) → is_by_answers a ≡ true → Holds (Led site a) (λ s. ⊤) (shape_of site a)
 all_led site (code.Items start schema) h = first
 all_led site (code.ItemList schemas) h = each_among (λ s. s) (sites_of_list site (codes "items") 0 (items_view schemas.now)) (Led site (code.ItemList schemas)) (λ s i. i)
 all_led site (code.PrefixItems schemas) h = each_among (λ s. s) (sites_of_list site (codes "prefixItems") 0 (items_view schemas.now)) (Led site (code.PrefixItems schemas)) (λ s i. i)
@@ -53,11 +56,13 @@ all_led site (code.NoAdditionalItems start schema) h = first
 all_led site (code.Contains schema least most) h = first
 all_led site (code.Properties schemas) h =
     let ps = sites_of_map site (codes "properties") (members_view schemas.now.entries) in each_among (λ p. p.1) ps (Led site (code.Properties schemas)) (λ p i. in_mapped (λ q. q.1) p ps i)
+all_led site (code.PatternProperties schemas) h =
+    let ps = sites_of_map site (codes "patternProperties") (members_view schemas.now.entries) in each_among (λ p. p.1) ps (Led site (code.PatternProperties schemas)) (λ p i. in_mapped (λ q. q.1) p ps i)
 all_led site (code.AdditionalProperties declared schema) h = first
 all_led site (code.NoAdditionalProperties declared schema) h = first
 all_led site (code.NoProperties schema) h = first
-all_led site (code.PropertyNames schema) h = absurd (cc)
-all_led site (code.NoPropertyNames schema) h = absurd (cc)
+all_led site (code.PropertyNames schema) h = first
+all_led site (code.NoPropertyNames schema) h = first
 all_led site (code.DependentSchemas schemas) h =
     let ps = sites_of_map site (codes "dependentSchemas") (members_view schemas.now.entries) in each_among (λ p. p.1) ps (Led site (code.DependentSchemas schemas)) (λ p i. in_mapped (λ q. q.1) p ps i)
 all_led site (code.Dependencies entries) h = applied_among (Led site (code.Dependencies entries)) (dependencies_in site (members_view entries.now.entries)) (λ s i. i)
@@ -67,23 +72,23 @@ all_led site (code.OneOf schemas) h = each_among (λ s. s) (sites_of_list site (
 all_led site (code.Not schema) h = first
 all_led site (code.If condition then_schema else_schema) h = absurd (cc)
 
--- ---- of what they are asked: not of names; and no reference is followed
+-- ---- no reference is followed
 
 abbrev IsCalm : Question Site → Type 0
-IsCalm q = (called_after None q.step ≡ None) × (q.follows ≡ false)
+IsCalm q = q.follows ≡ false
 
 calm_items : (keyword : List ℕ) (s : Site) (i : ℕ) (ds : Items) → AllByRecursion IsCalm (each_item keyword s i ds)
 calm_items keyword s i no_items = tt
-calm_items keyword s i (item d ds) = ((refl, refl), calm_items keyword s (suc i) ds)
+calm_items keyword s i (item d ds) = (refl, calm_items keyword s (suc i) ds)
 
 calm_by_item : (keyword : List ℕ) (ss : List Site) (i : ℕ) (ds : Items) → AllByRecursion IsCalm (item_by_item keyword ss i ds)
 calm_by_item keyword [] i ds = tt
 calm_by_item keyword (s ∷ ss) i no_items = tt
-calm_by_item keyword (s ∷ ss) i (item d ds) = ((refl, refl), calm_by_item keyword ss (suc i) ds)
+calm_by_item keyword (s ∷ ss) i (item d ds) = (refl, calm_by_item keyword ss (suc i) ds)
 
 calm_branches : (keyword : List ℕ) (i : ℕ) (ss : List Site) → AllByRecursion IsCalm (each_branch keyword i ss)
 calm_branches keyword i [] = tt
-calm_branches keyword i (s ∷ ss) = ((refl, refl), calm_branches keyword (suc i) ss)
+calm_branches keyword i (s ∷ ss) = (refl, calm_branches keyword (suc i) ss)
 
 any_pair : {A : Type 0} (ps : List A) → AllByRecursion (λ p. ⊤) ps
 any_pair [] = tt
@@ -91,7 +96,7 @@ any_pair (p ∷ ps) = (tt, any_pair ps)
 
 calm_member : (keyword k : List ℕ) (s : Site) (o : Option Data) → AllByRecursion IsCalm (if_member o (λ e. question s (to_member k e) (at_name keyword k) ∷ []))
 calm_member keyword k s None = tt
-calm_member keyword k s (Some e) = ((refl, refl), tt)
+calm_member keyword k s (Some e) = (refl, tt)
 
 calm_declared : (keyword : List ℕ) (d : Data) (ps : List (List ℕ × Site)) → AllByRecursion IsCalm (each_declared keyword d ps)
 calm_declared keyword d ps =
@@ -99,7 +104,7 @@ calm_declared keyword d ps =
 
 calm_trigger : (keyword k : List ℕ) (s : Site) (o : Option Data) → AllByRecursion IsCalm (if_member o (λ e. question s stay (at_name keyword k) ∷ []))
 calm_trigger keyword k s None = tt
-calm_trigger keyword k s (Some e) = ((refl, refl), tt)
+calm_trigger keyword k s (Some e) = (refl, tt)
 
 calm_triggered : (keyword : List ℕ) (d : Data) (ps : List (List ℕ × Site)) → AllByRecursion IsCalm (each_triggered keyword d ps)
 calm_triggered keyword d ps =
@@ -107,7 +112,20 @@ calm_triggered keyword d ps =
 
 calm_members : (keyword : List ℕ) (s : Site) (ms : List (List ℕ × Data)) → AllByRecursion IsCalm (each_member keyword s ms)
 calm_members keyword s [] = tt
-calm_members keyword s (m ∷ ms) = ((refl, refl), calm_members keyword s ms)
+calm_members keyword s (m ∷ ms) = (refl, calm_members keyword s ms)
+
+calm_matched : (keyword p : List ℕ) (s : Site) (ms : List (List ℕ × Data)) → AllByRecursion IsCalm (map (λ m. question s (to_member m.0 m.1) (at_name keyword p)) ms)
+calm_matched keyword p s [] = tt
+calm_matched keyword p s (m ∷ ms) = (refl, calm_matched keyword p s ms)
+
+calm_matching : (matches : List ℕ → List ℕ → Bool) (keyword : List ℕ) (d : Data) (ps : List (List ℕ × Site)) → AllByRecursion IsCalm (each_matching matches keyword d ps)
+calm_matching matches keyword d ps =
+    each_laid_flat (λ p. ⊤) IsCalm (λ p. map (λ m. question p.1 (to_member m.0 m.1) (at_name keyword p.0)) (filter (λ m. matched matches p.0 m.0) (members_of d)))
+    (λ p u. calm_matched keyword p.0 p.1 (filter (λ m. matched matches p.0 m.0) (members_of d))) ps (any_pair ps)
+
+calm_names : (added : List Part) (s : Site) (ms : List (List ℕ × Data)) → AllByRecursion IsCalm (each_name added s (map (λ m. m.0) ms))
+calm_names added s [] = tt
+calm_names added s (m ∷ ms) = (refl, calm_names added s ms)
 
 calm_counted : (s : Site) (least most : Option ℕ) (d : Data) → AllByRecursion IsCalm (asks (counting d least most (each_item (codes "contains") s 0 (items_of d))))
 calm_counted s least most null = tt
@@ -119,7 +137,7 @@ calm_counted s least most (object ms) = tt
 
 calm_applied : (k : List ℕ) (x : Dependency Site) → AllByRecursion IsCalm (applied k x)
 calm_applied k (needs names) = tt
-calm_applied k (applies s) = ((refl, refl), tt)
+calm_applied k (applies s) = (refl, tt)
 
 calm_dependency : (k : List ℕ) (x : Dependency Site) (o : Option Data) → AllByRecursion IsCalm (if_member o (λ e. applied k x))
 calm_dependency k x None = tt
@@ -128,7 +146,7 @@ calm_dependency k x (Some e) = calm_applied k x
 calm_dependencies : (d : Data) (ps : List (List ℕ × Dependency Site)) → AllByRecursion IsCalm (each_dependency d ps)
 calm_dependencies d ps = each_laid_flat (λ p. ⊤) IsCalm (λ p. if_member (get p.0 d) (λ e. applied p.0 p.1)) (λ p u. calm_dependency p.0 p.1 (get p.0 d)) ps (any_pair ps)
 
-all_calm : (site : List Part → Data → Site) (matches : List ℕ → List ℕ → Bool) (d : Data) (a : Applicator) → asks_values a ≡ true → AllByRecursion IsCalm (asks (rule matches d (shape_of site a)))
+all_calm : (site : List Part → Data → Site) (matches : List ℕ → List ℕ → Bool) (d : Data) (a : Applicator) → is_by_answers a ≡ true → AllByRecursion IsCalm (asks (rule matches d (shape_of site a)))
 all_calm site matches d (code.Items start schema) h = calm_items (codes "items") (site_of site (codes "items") (view schema.now)) start (items_from start (items_of d))
 all_calm site matches d (code.ItemList schemas) h = calm_by_item (codes "items") (sites_of_list site (codes "items") 0 (items_view schemas.now)) 0 (items_of d)
 all_calm site matches d (code.PrefixItems schemas) h = calm_by_item (codes "prefixItems") (sites_of_list site (codes "prefixItems") 0 (items_view schemas.now)) 0 (items_of d)
@@ -138,23 +156,29 @@ all_calm site matches d (code.NoAdditionalItems start schema) h =
     calm_items (codes "additionalItems") (site_of site (codes "additionalItems") (view schema.now)) start (items_from start (items_of d))
 all_calm site matches d (code.Contains schema least most) h = calm_counted (site_of site (codes "contains") (view schema.now)) least most d
 all_calm site matches d (code.Properties schemas) h = calm_declared (codes "properties") d (sites_of_map site (codes "properties") (members_view schemas.now.entries))
+all_calm site matches d (code.PatternProperties schemas) h = calm_matching matches (codes "patternProperties") d (sites_of_map site (codes "patternProperties") (members_view schemas.now.entries))
 all_calm site matches d (code.AdditionalProperties declared schema) h =
-    calm_members (codes "additionalProperties") (site_of site (codes "additionalProperties") (view schema.now)) (undeclared declared d)
+    calm_members (codes "additionalProperties") (site_of site (codes "additionalProperties") (view schema.now)) (other_members matches (declared_by declared) d)
 all_calm site matches d (code.NoAdditionalProperties declared schema) h =
-    calm_members (codes "additionalProperties") (site_of site (codes "additionalProperties") (view schema.now)) (undeclared declared d)
+    calm_members (codes "additionalProperties") (site_of site (codes "additionalProperties") (view schema.now)) (other_members matches (declared_by declared) d)
 all_calm site matches d (code.NoProperties schema) h = calm_members (codes "additionalProperties") (site_of site (codes "additionalProperties") (view schema.now)) (members_of d)
-all_calm site matches d (code.PropertyNames schema) h = absurd (cc)
-all_calm site matches d (code.NoPropertyNames schema) h = absurd (cc)
+all_calm site matches d (code.PropertyNames schema) h = calm_names (at (codes "propertyNames")) (site_of site (codes "propertyNames") (view schema.now)) (members_of d)
+all_calm site matches d (code.NoPropertyNames schema) h = calm_names (at (codes "propertyNames")) (site_of site (codes "propertyNames") (view schema.now)) (members_of d)
 all_calm site matches d (code.DependentSchemas schemas) h = calm_triggered (codes "dependentSchemas") d (sites_of_map site (codes "dependentSchemas") (members_view schemas.now.entries))
 all_calm site matches d (code.Dependencies entries) h = calm_dependencies d (dependencies_in site (members_view entries.now.entries))
 all_calm site matches d (code.AllOf schemas) h = calm_branches (codes "allOf") 0 (sites_of_list site (codes "allOf") 0 (items_view schemas.now))
 all_calm site matches d (code.AnyOf schemas) h = calm_branches (codes "anyOf") 0 (sites_of_list site (codes "anyOf") 0 (items_view schemas.now))
 all_calm site matches d (code.OneOf schemas) h = calm_branches (codes "oneOf") 0 (sites_of_list site (codes "oneOf") 0 (items_view schemas.now))
-all_calm site matches d (code.Not schema) h = ((refl, refl), tt)
+all_calm site matches d (code.Not schema) h = (refl, tt)
 all_calm site matches d (code.If condition then_schema else_schema) h = absurd (cc)
 
+-- a name of which it is asked is one of the value's
+name_lies : (d : Data) (step : Step) → Keeps d step → (k : List ℕ) → step ≡ to_name k → (path : List Part) → In (path, Some k) (spots_in path d)
+name_lies d step keeps k is path =
+    subst (λ (t : Step). In (path_after path t, called_after None t) (spots_in path d)) is (keeps.here (spots_in path d) path None (λ x i. i) (first_spot path d))
+
 pub questions_are_sound : QuestionsAreSound
-questions_are_sound site matches d a values q i =
-    let known = each_in (Sound (Led site a) (λ s. ⊤) d) (asks (rule matches d (shape_of site a))) (all_sound (Led site a) (λ s. ⊤) matches d (shape_of site a) (all_led site a values)) q i in
-    let calm = each_in IsCalm (asks (rule matches d (shape_of site a))) (all_calm site matches d a values) q i in
-    record { led = known.within calm.1; within = calm.1; uncalled = calm.0; spots = λ path w h. known.step.inside path w h }
+questions_are_sound site matches d a counts q i =
+    let known = each_in (Sound (Led site a) (λ s. ⊤) d) (asks (rule matches d (shape_of site a))) (all_sound (Led site a) (λ s. ⊤) matches d (shape_of site a) (all_led site a counts)) q i in
+    let calm = each_in IsCalm (asks (rule matches d (shape_of site a))) (all_calm site matches d a counts) q i in
+    record { led = known.within calm; within = calm; spots = λ path w h. known.step.inside path w h; named = λ k is path. name_lies d q.step known.step k is path }

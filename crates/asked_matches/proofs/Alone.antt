@@ -8,7 +8,7 @@ use Rattle.schema_documents.specs.Bearers.{Document, Documents, standings, meta,
 use Rattle.schema_reading.specs.Sites.{Site}
 use Rattle.schema_reading.specs.Rows.{Row, rows_at}
 use Rattle.plain_laws.proofs.Asked.{Holds}
-use Rattle.added_documents.specs.Added.{Mixed, neither, one_kept, Joined, none, mixed, EachNamed, EachNamedIn, EachNamedAmong, EachNamedBy, IsToldAlike, IsFree, LeftAlone}
+use Rattle.added_readings.specs.Passed.{Mixed, neither, one_kept, Joined, none, mixed, EachNamed, EachNamedIn, EachNamedAmong, EachNamedBy, IsToldAlike, IsFree, LeftAlone}
 use Rattle.added_readings.proofs.Sites.{in_same}
 
 if_any : {A : Type 0} (P : A → Type 0) → ((x : A) → P x) → (o : Option A) → IfSome o P

@@ -1,5 +1,7 @@
 -- Faults told one after another.
 use Rattle.std.proofs.Common.{◌≡◌, ℕ, List, [], ◌∷◌, Bool, true, false, Option, Some, None, refl, sym, ap, ◌∙◌, subst}
+use Rattle.std.specs.Prelude.{Box}
+use Rattle.std.specs.declared.alloc.Global.{Global}
 use Rattle.std.proofs.lemmas.Bool.{true≢false}
 use Rattle.serde_json.specs.Data.{Data}
 use Rattle.schema_meaning.specs.Faults.{Faults, none, also, joined, is_none}
@@ -7,7 +9,7 @@ use Rattle.schema_meaning.specs.Rules.{Note, own_faults}
 use Rattle.schema_meaning.specs.Questions.{at}
 use Rattle.schema_meaning.specs.Keywords.{Assertion, named, wrong}
 use Rattle.schema_reports.specs.RoadPaths.{schema_in}
-use Rattle.schema_reports.specs.Stands.{is_one_of}
+use Rattle.schema_reports.specs.Stands.{is_kept_of}
 use Rattle.schema_reports.specs.Observers.{Hears, is_for_all}
 use Rattle.schema_reports.specs.declared.error.ValidationError.{ValidationError}
 use Rattle.schema_reports.specs.declared.roads.Roads.{Roads}
@@ -22,7 +24,7 @@ use Rattle.assertion_faults.specs.Tellings.{spot_at, fault_at, TellsOne, TellsNo
 
 -- ---- an observer that has enough with the first
 
-one_more : (o : Option ValidationError) (ts gs : Faults) → is_none ts ≡ false → is_one_of o ts → is_one_of o (joined ts gs)
+one_more : (o : Option (Box ValidationError Global)) (ts gs : Faults) → is_none ts ≡ false → is_kept_of o ts → is_kept_of o (joined ts gs)
 one_more None ts gs some e = absurd (true≢false (sym (ap is_none e) ∙ some))
 one_more (Some x) ts gs some told = Told-joined gs told
 

@@ -2,6 +2,8 @@
 #![tactic(auto)]
 
 mod kinds;
+mod patterns;
 mod telling;
 
+pub use patterns::tell_pattern;
 pub use telling::{tell_assertion, tell_missing_beside};

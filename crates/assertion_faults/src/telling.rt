@@ -3,6 +3,7 @@ ghost use Rattle.std.specs.Prelude.{◌≡◌, false, OnOk};
 ghost use Rattle.serde_json.specs.View.{view, members_view};
 ghost use Rattle.schema_meaning.specs.Keywords.{missing_beside};
 ghost use Rattle.assertions.specs.Texts.{entries_of};
+ghost use Rattle.schema_reports.specs.Kinds.{kind_of};
 ghost use Rattle.schema_reports.specs.Observers.{is_for_all};
 ghost use Rattle.assertions.specs.Shapes.{assertion_of};
 ghost use Rattle.assertions.specs.Wrong.{kind_of as kind_of_wrong, notes_of};
@@ -11,9 +12,30 @@ ghost use Rattle.assertion_faults.specs.Tellings.{TellsOne, TellsNotes, TellsAss
 use crate::kinds::kind_of_wrong;
 use assertions::assertion::{Assertion, Wrong};
 use assertions::missing::{all_missing_beside, first_missing_beside};
-use schema_reports::{Observer, Roads};
+use schema_reports::{Observer, Roads, ValidationErrorKind};
 use serde_json::{Map, Value};
 use std::alloc::{AllocError, Global};
+
+// A fault of this kind, under the keyword's name.
+pub(crate) fn tell_kind<'i>(
+    alloc: Global,
+    keyword: &str,
+    kind: ValidationErrorKind<'i>,
+    value: &'i Value,
+    roads: Roads<'_>,
+    observer: &mut Observer<'i>,
+) -> Result<(), AllocError>
+    ensures { OnOk result (TellsOne (view value.now) roads.entry keyword.now (kind_of kind.entry) observer.old observer.new) }
+{
+    let schema = roads.schema.push_name(keyword);
+    let evaluation = roads.evaluation.push_name(keyword);
+    let at = Roads {
+        schema: &schema,
+        evaluation: &evaluation,
+        ..roads
+    };
+    observer.tell(alloc, kind, value, at)
+}
 
 // A fault of a keyword, which is made where the observer wants it.
 fn tell_wrong<'i>(
@@ -29,14 +51,14 @@ fn tell_wrong<'i>(
     if !observer.hear() {
         return Ok(());
     }
-    let schema = roads.schema.push_name(keyword);
-    let evaluation = roads.evaluation.push_name(keyword);
-    let at = Roads {
-        schema: &schema,
-        evaluation: &evaluation,
-        ..roads
-    };
-    observer.tell(alloc, kind_of_wrong(alloc, wrong)?, value, at)
+    tell_kind(
+        alloc,
+        keyword,
+        kind_of_wrong(alloc, wrong)?,
+        value,
+        roads,
+        observer,
+    )
 }
 
 fn tell_each<'i>(

@@ -8,16 +8,17 @@ use schema_reports::{
     Verdict,
 };
 use serde_json::Value;
-use std::alloc::{AllocError, Global};
-use std::test::Fail;
+use std::alloc::Global;
+use std::process::Abort;
 
 // The first item of the instance, refused by a schema below another.
 fn tell<'i>(
+    rt: &impl Abort,
     alloc: Global,
     assertion: &Assertion<'_>,
     value: &'i Value,
     observer: &mut Observer<'i>,
-) -> Result<(), AllocError> {
+) {
     let top = LazyLocation::new();
     let item = top.push_index(0);
     let schema = top.push_name("not");
@@ -28,10 +29,10 @@ fn tell<'i>(
         reference: Reference::none(),
         evaluation: &evaluation,
     };
-    tell_assertion(alloc, assertion, value, roads, observer)
+    tell_assertion(alloc, assertion, value, roads, observer).expect(rt, "memory");
 }
 
-fn observing<'i>(alloc: Global, kept: Observation) -> Observer<'i> {
+pub(crate) fn observing<'i>(alloc: Global, kept: Observation) -> Observer<'i> {
     match kept {
         Observation::Verdict => Observer::Verdict(Verdict::new()),
         Observation::First => Observer::First(FirstFault::new()),
@@ -39,188 +40,210 @@ fn observing<'i>(alloc: Global, kept: Observation) -> Observer<'i> {
     }
 }
 
-fn push_line(
-    alloc: Global,
-    text: &mut String,
-    error: &ValidationError<'_>,
-) -> Result<(), AllocError> {
+fn push_line(rt: &impl Abort, alloc: Global, text: &mut String, error: &ValidationError<'_>) {
     let kind = error.kind();
-    let instance = error.instance_path().to_pointer(alloc)?;
-    let schema = error.schema_path().to_pointer(alloc)?;
-    let evaluation = error.evaluation_path().to_pointer(alloc)?;
-    let line = format!(in alloc; "{instance} {schema} {evaluation} {kind:?}\n")?;
-    text.push_str(line.as_str())
+    let instance = error.instance_path().to_pointer(alloc).expect(rt, "memory");
+    let schema = error.schema_path().to_pointer(alloc).expect(rt, "memory");
+    let evaluation = error
+        .evaluation_path()
+        .to_pointer(alloc)
+        .expect(rt, "memory");
+    writeln!(text, "{instance} {schema} {evaluation} {kind:?}").expect(rt, "memory");
 }
 
 // A line for each fault that the observer keeps.
-fn lines(alloc: Global, observer: Observer<'_>) -> Result<String, AllocError> {
+pub(crate) fn lines(rt: &impl Abort, alloc: Global, observer: Observer<'_>) -> String {
     let mut text = String::new(alloc);
     match observer {
         Observer::Verdict(verdict) => {
             if !verdict.accepts() {
-                text.push_str("refused")?;
+                text.push_str("refused").expect(rt, "memory");
             }
         }
         Observer::First(first) => {
             if let Some(error) = first.into_error() {
-                push_line(alloc, &mut text, &error)?;
+                push_line(rt, alloc, &mut text, &error);
             }
         }
         Observer::All(all) => {
             for error in all.into_errors() {
-                push_line(alloc, &mut text, &error)?;
+                push_line(rt, alloc, &mut text, &error);
             }
         }
     }
-    Ok(text)
+    text
 }
 
 // What an observer keeps of a value that the keyword is asked of.
 fn heard(
+    rt: &impl Abort,
     alloc: Global,
     kept: Observation,
     assertion: &Assertion<'_>,
     value: &Value,
-) -> Result<String, AllocError> {
+) -> String {
     let mut observer = observing(alloc, kept);
-    tell(alloc, assertion, value, &mut observer)?;
-    lines(alloc, observer)
+    tell(rt, alloc, assertion, value, &mut observer);
+    lines(rt, alloc, observer)
 }
 
 // A limit is read with `true` as the strict one beside.
 fn told(
+    rt: &impl Abort,
     alloc: Global,
     kept: Observation,
     draft: Draft,
     name: &str,
     keyword: &str,
     value: &str,
-) -> Result<String, Fail> {
-    let keyword = Value::from_str(alloc, keyword)?;
-    let value = Value::from_str(alloc, value)?;
+) -> String {
+    let keyword = Value::from_str(alloc, keyword).expect(rt, "JSON");
+    let value = Value::from_str(alloc, value).expect(rt, "JSON");
     let strict = Value::Bool(true);
-    let reading = read(alloc, draft, name, &keyword, Some(&strict))?;
+    let reading = read(alloc, draft, name, &keyword, Some(&strict)).expect(rt, "memory");
     match reading {
-        Some(Reading::Read(assertion)) => Ok(heard(alloc, kept, &assertion, &value)?),
-        _ => Err(Fail::new("no assertion")),
+        Some(Reading::Read(assertion)) => heard(rt, alloc, kept, &assertion, &value),
+        _ => panic!(rt; "no assertion"),
     }
 }
 
-#[test]
-fn tells_kinds_and_paths(rt: HostRuntime) -> Result<(), Fail> {
-    let alloc = rt.alloc();
-    for (name, keyword, value, kind) in [
-        ("type", r#""null""#, "3", "Types { names: One(Null) }"),
-        (
-            "enum",
-            "[1,\"a\"]",
-            "3",
-            "Enumeration { options: Array [Number(1), String(\"a\")] }",
-        ),
-        (
-            "const",
-            "{\"a\":1}",
-            "{}",
-            "Constant { expected_value: Object {\"a\": Number(1)} }",
-        ),
-        (
-            "multipleOf",
-            "2",
-            "-3",
-            "MultipleOf { multiple_of: Number(2) }",
-        ),
-        ("maximum", "-3", "-2", "Maximum { limit: Number(-3) }"),
-        (
-            "exclusiveMaximum",
-            "3",
-            "3",
-            "ExclusiveMaximum { limit: Number(3) }",
-        ),
-        (
-            "minimum",
-            "18446744073709551615",
-            "0",
-            "Minimum { limit: Number(18446744073709551615) }",
-        ),
-        (
-            "exclusiveMinimum",
-            "3",
-            "3",
-            "ExclusiveMinimum { limit: Number(3) }",
-        ),
-        ("maxLength", "1", "\"ab\"", "MaxLength { limit: 1 }"),
-        ("minLength", "1", "\"\"", "MinLength { limit: 1 }"),
-        ("maxItems", "0", "[1]", "MaxItems { limit: 0 }"),
-        ("minItems", "2", "[1]", "MinItems { limit: 2 }"),
-        ("uniqueItems", "true", "[1,1]", "UniqueItems"),
-        (
-            "maxProperties",
-            "0",
-            "{\"a\":1}",
-            "MaxProperties { limit: 0 }",
-        ),
-        ("minProperties", "1", "{}", "MinProperties { limit: 1 }"),
-        ("required", "[\"a\"]", "{}", "Required { property: \"a\" }"),
-        (
-            "dependentRequired",
-            "{\"a\":[\"b\"]}",
-            "{\"a\":1}",
-            "Required { property: \"b\" }",
-        ),
-    ] {
+fn line(rt: &impl Abort, alloc: Global, name: &str, kind: &str) -> String {
+    format!(in alloc; "/0 /not/{name} /$ref/{name} {kind}\n").expect(rt, "memory")
+}
+
+fn assert_told(rt: &impl Abort, alloc: Global, rows: &[(&str, &str, &str, &str)]) {
+    for (name, keyword, value, kind) in rows {
         let found = told(
+            rt,
             alloc,
             Observation::All,
             Draft::Draft202012,
             name,
             keyword,
             value,
-        )?;
-        let want = format!(in alloc; "/0 /not/{name} /$ref/{name} {kind}\n")?;
-        assert_eq!(rt; found.as_str(), want.as_str(), "{name}");
+        );
+        assert_eq!(rt;
+            found.as_str(),
+            line(rt, alloc, name, kind).as_str(),
+            "{name}"
+        );
     }
-    Ok(())
 }
 
 #[test]
-fn strict_limits_of_draft_4_have_the_name_of_the_boolean(rt: HostRuntime) -> Result<(), Fail> {
+fn tells_kinds_and_paths(rt: HostRuntime) {
+    assert_told(
+        &rt,
+        rt.alloc(),
+        &[
+            ("type", r#""null""#, "3", "Types { names: One(Null) }"),
+            (
+                "enum",
+                "[1,\"a\"]",
+                "3",
+                "Enumeration { options: Array [Number(1), String(\"a\")] }",
+            ),
+            (
+                "const",
+                "{\"a\":1}",
+                "{}",
+                "Constant { expected_value: Object {\"a\": Number(1)} }",
+            ),
+            (
+                "multipleOf",
+                "2",
+                "-3",
+                "MultipleOf { multiple_of: Number(2) }",
+            ),
+            ("maximum", "-3", "-2", "Maximum { limit: Number(-3) }"),
+            (
+                "exclusiveMaximum",
+                "3",
+                "3",
+                "ExclusiveMaximum { limit: Number(3) }",
+            ),
+            (
+                "minimum",
+                "18446744073709551615",
+                "0",
+                "Minimum { limit: Number(18446744073709551615) }",
+            ),
+            (
+                "exclusiveMinimum",
+                "3",
+                "3",
+                "ExclusiveMinimum { limit: Number(3) }",
+            ),
+            ("maxLength", "1", "\"ab\"", "MaxLength { limit: 1 }"),
+            ("minLength", "1", "\"\"", "MinLength { limit: 1 }"),
+            ("maxItems", "0", "[1]", "MaxItems { limit: 0 }"),
+            ("minItems", "2", "[1]", "MinItems { limit: 2 }"),
+            ("uniqueItems", "true", "[1,1]", "UniqueItems"),
+            (
+                "maxProperties",
+                "0",
+                "{\"a\":1}",
+                "MaxProperties { limit: 0 }",
+            ),
+            ("minProperties", "1", "{}", "MinProperties { limit: 1 }"),
+            ("required", "[\"a\"]", "{}", "Required { property: \"a\" }"),
+            (
+                "dependentRequired",
+                "{\"a\":[\"b\"]}",
+                "{\"a\":1}",
+                "Required { property: \"b\" }",
+            ),
+        ],
+    );
+}
+
+#[test]
+fn strict_limits_of_draft_4_have_the_name_of_the_boolean(rt: HostRuntime) {
     let found = told(
+        &rt,
         rt.alloc(),
         Observation::All,
         Draft::Draft4,
         "maximum",
         "3",
         "3",
-    )?;
+    );
     assert_eq!(rt;
         found.as_str(),
         "/0 /not/exclusiveMaximum /$ref/exclusiveMaximum ExclusiveMaximum { limit: Number(3) }\n"
     );
-    Ok(())
 }
 
-#[test]
-fn observers_keep_what_they_are_for(rt: HostRuntime) -> Result<(), Fail> {
-    let first = "/0 /not/required /$ref/required Required { property: \"a\" }\n";
-    let both =
-        "/0 /not/required /$ref/required Required { property: \"a\" }\n/0 /not/required /$ref/required Required { property: \"c\" }\n";
-    for (kept, value, want) in [
-        (Observation::Verdict, "{\"b\":1}", "refused"),
-        (Observation::First, "{\"b\":1}", first),
-        (Observation::All, "{\"b\":1}", both),
-        (Observation::Verdict, "[]", ""),
-        (Observation::First, "[]", ""),
-        (Observation::All, "[]", ""),
-    ] {
+fn assert_kept(rt: &impl Abort, alloc: Global, rows: &[(Observation, &str, &str)]) {
+    for (kept, value, want) in rows {
         let found = told(
-            rt.alloc(),
-            kept,
+            rt,
+            alloc,
+            *kept,
             Draft::Draft202012,
             "required",
             "[\"a\",\"b\",\"c\"]",
             value,
-        )?;
-        assert_eq!(rt; found.as_str(), want, "{kept:?} {value}");
+        );
+        assert_eq!(rt; found.as_str(), *want, "{kept:?} {value}");
     }
-    Ok(())
+}
+
+#[test]
+fn observers_keep_what_they_are_for(rt: HostRuntime) {
+    let first = "/0 /not/required /$ref/required Required { property: \"a\" }\n";
+    let both =
+        "/0 /not/required /$ref/required Required { property: \"a\" }\n/0 /not/required /$ref/required Required { property: \"c\" }\n";
+    assert_kept(
+        &rt,
+        rt.alloc(),
+        &[
+            (Observation::Verdict, "{\"b\":1}", "refused"),
+            (Observation::First, "{\"b\":1}", first),
+            (Observation::All, "{\"b\":1}", both),
+            (Observation::Verdict, "[]", ""),
+            (Observation::First, "[]", ""),
+            (Observation::All, "[]", ""),
+        ],
+    );
 }

@@ -7,3 +7,5 @@ mod accepting;
 mod faults;
 #[cfg(test)]
 mod orders;
+#[cfg(test)]
+mod patterns;

@@ -1,1 +1,3 @@
-pub mod Checked
+mod Checked
+mod ReadLemmas
+pub mod FinishedLemmas

@@ -1,19 +1,27 @@
 -- What the answer of a check says of two paths.
-use Rattle.std.specs.Prelude.{◌≡◌, ℕ, List, Bool}
+use Rattle.std.specs.Prelude.{◌≡◌, ℕ, List, Bool, true, false, Option, Some, None}
 use Rattle.serde_json.specs.Data.{Data}
 use Rattle.schema_documents.specs.Bearers.{Documents}
 use Rattle.schema_documents.specs.Lookup.{Target}
 use Rattle.schema_reading.specs.Sites.{root_site}
+use Rattle.schema_reading.specs.Rows as rows
+use Rattle.schema_reading.specs.BuildCauses.{IsCauseOf}
 use Rattle.schema_reading.specs.PathTexts.{AreCertificate}
-use Rattle.schema_matches.specs.Read.{reads}
+use Rattle.schema_matches.specs.Texts.{texts_in}
+use Rattle.schema_matches.specs.Read.{reads, IsReadBy}
 use Rattle.schema_matches.specs.declared.matches.Matches.{Matches}
-use Rattle.schema_roots.specs.Roots.{Root, Finds}
-use Rattle.schema_roots.specs.Answers.{ComesBack}
+use Rattle.schema_values.specs.Patterns.{matched, known}
+use Rattle.asked_matches.specs.Asked.{IsAsked, AreAmong}
+use Rattle.schema_roots.specs.Roots.{Root, Patterns, Finds, IsSound}
+use Rattle.schema_roots.specs.Answers.{Finish, ComesBack}
+use Rattle.schema_roots.specs.Matched.{AreReadOf}
+use Rattle.reached_sites.specs.declared.cause.BuildCause.{BuildCause}
+use Rattle.reached_sites.specs.declared.cause.BuildCause.TheVariants.{KeywordValue, BadPattern, Unevaluated, Reference, NodeLimit, Memory}
 use Rattle.check_laws.specs.Spelled.{AreSpelled}
 use Rattle.fault_steps.specs.Passed.{Scene, reading_of, IsRight, IsStraight}
 use Rattle.fault_steps.specs.Passed.{IsDecided}
 use Rattle.fault_checks.specs.declared.checking.CheckAnswer.{CheckAnswer}
-use Rattle.fault_checks.specs.declared.checking.CheckAnswer.TheVariants.{Accepted, Refused, Circular}
+use Rattle.fault_checks.specs.declared.checking.CheckAnswer.TheVariants.{Accepted, Refused, Circular, Unfinished}
 
 -- the answer of a walk from a root, by the matches that were read
 pub record DecidesRoot (t : Target) (docs : Documents) (m : Matches) (d : Data) (instance evaluation : List ℕ) (b : Bool) : Type 0 where
@@ -21,11 +29,52 @@ pub record DecidesRoot (t : Target) (docs : Documents) (m : Matches) (d : Data) 
       → let x : Scene = record { documents = docs; makes = makes; matches = reads m } in
       IsRight x (root_site t) → IsStraight x (root_site t) d → IsDecided b (AreSpelled (reading_of x) (root_site t) d instance evaluation)
 
--- where no references come back, two texts are accepted exactly where they are a certificate; and where it is said that references come back, they do
-pub record IsChecked (r : Root) (d : Data) (instance evaluation : List ℕ) (answer : CheckAnswer) : Type 0 where
-  pub accepted : answer ≡ Accepted → (makes : List ℕ → Bool) (matches : List ℕ → List ℕ → Bool) (target : Target) → Finds r target
-      → (ComesBack r makes matches target d → ⊥) → AreCertificate r.documents makes matches target d instance evaluation
-  pub refused : answer ≡ Refused → (makes : List ℕ → Bool) (matches : List ℕ → List ℕ → Bool) (target : Target) → Finds r target
-      → (ComesBack r makes matches target d → ⊥) → AreCertificate r.documents makes matches target d instance evaluation → ⊥
-  pub circular : answer ≡ Circular → (makes : List ℕ → Bool) (matches : List ℕ → List ℕ → Bool) (target : Target) → Finds r target
-      → ComesBack r makes matches target d
+-- of each match that a value asks for these say what is known of it
+pub record AgreeWithKnown (p : Patterns) (r : Root) (matches : List ℕ → List ℕ → Bool) (target : Target) (d : Data) : Type 0 where
+  pub agree : (pattern text : List ℕ) → IsAsked r.documents p.makes (root_site target) matches d pattern text
+      → (answer : Bool) → known p.finished pattern text ≡ Some answer → matched matches pattern text ≡ answer
+
+-- a match that a value asks for stays unfinished
+pub record StaysUnfinished (p : Patterns) (r : Root) (matches : List ℕ → List ℕ → Bool) (target : Target) (d : Data) : Type 0 where
+  pub pattern : List ℕ
+  pub text : List ℕ
+  pub asked : IsAsked r.documents p.makes (root_site target) matches d pattern text
+  pub unfinished : known p.finished pattern text ≡ None
+
+-- where the matches finish and no references come back, two texts are accepted exactly where they are a certificate; where it is said that references
+-- come back, they do; and where it is said that a match stays unfinished, one does
+pub record IsChecked (p : Patterns) (r : Root) (d : Data) (instance evaluation : List ℕ) (answer : CheckAnswer) : Type 0 where
+  pub accepted : answer ≡ Accepted → (matches : List ℕ → List ℕ → Bool) (target : Target) → Finds r target → Finish p r matches target d
+      → (ComesBack p r matches target d → ⊥) → AreCertificate r.documents p.makes matches target d instance evaluation
+  pub refused : answer ≡ Refused → (matches : List ℕ → List ℕ → Bool) (target : Target) → Finds r target → Finish p r matches target d
+      → (ComesBack p r matches target d → ⊥) → AreCertificate r.documents p.makes matches target d instance evaluation → ⊥
+  pub circular : answer ≡ Circular → (matches : List ℕ → List ℕ → Bool) (target : Target) → Finds r target → Finish p r matches target d → ComesBack p r matches target d
+  pub unfinished : answer ≡ Unfinished → (matches : List ℕ → List ℕ → Bool) (target : Target) → Finds r target → AgreeWithKnown p r matches target d → StaysUnfinished p r matches target d
+
+-- what a check of the faults of a value goes by: the matches of the patterns reached from a root, and none where no build takes the root
+abbrev pub AreReadIn : Patterns → Root → Data → Option Matches → Type 0
+AreReadIn p r d None = IsSound p r → ⊥
+AreReadIn p r d (Some m) = AreReadOf p r d m
+
+-- the same of the patterns reached from a target, and none where a schema there is wrong
+pub record ReadsReached (p : Patterns) (docs : Documents) (t : Target) (d : Data) (m : Matches) : Type 0 where
+  pub patterns : List (List ℕ)
+  pub among : AreAmong docs p.makes (root_site t) patterns
+  pub read : IsReadBy p.finished patterns (texts_in d) m
+
+-- whether a refusal names a cause at the schemas, and not want of memory or too many compile keys
+abbrev pub is_of_schemas : BuildCause → Bool
+is_of_schemas (KeywordValue place expected) = true
+is_of_schemas (BadPattern place) = true
+is_of_schemas (Unevaluated place) = true
+is_of_schemas (Reference place error) = true
+is_of_schemas (NodeLimit limit) = false
+is_of_schemas Memory = false
+
+pub record HasCauseAt (p : Patterns) (docs : Documents) (t : Target) : Type 0 where
+  pub cause : rows.BuildCause
+  pub stands : IsCauseOf docs p.makes (root_site t) cause
+
+abbrev pub ReadsAt : Patterns → Documents → Target → Data → Option Matches → Type 0
+ReadsAt p docs t d None = HasCauseAt p docs t
+ReadsAt p docs t d (Some m) = ReadsReached p docs t d m

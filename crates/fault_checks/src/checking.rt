@@ -1,19 +1,20 @@
 //! Checks of faults by the documents alone.
-ghost use Rattle.std.specs.Prelude.{◌≡◌, ◌≤◌, ◌∷◌, [], IfOk};
+ghost use Rattle.std.specs.Prelude.{◌≡◌, ◌≤◌, ◌∷◌, [], IfOk, option_copied};
 ghost use Rattle.serde_json.specs.Data.{depth};
 ghost use Rattle.serde_json.specs.View.{view};
 ghost use Rattle.schema_reading.specs.Plain.{deepest};
 ghost use Rattle.fault_steps.specs.Passed.{documents_in, target_in};
-ghost use Rattle.schema_roots.specs.Roots.{IsSound, root_on};
-ghost use Rattle.fault_checks.specs.Checked.{IsChecked, DecidesRoot};
+ghost use Rattle.schema_roots.specs.Roots.{Patterns, IsSound, patterns_by, root_on};
+ghost use Rattle.fault_checks.specs.Checked.{AreReadIn, IsChecked, DecidesRoot};
 ghost use Rattle.path_parts.specs.Texts.{text_left};
-ghost use Rattle.fault_steps.specs.Steps.{Passes};
 
-use fault_steps::stepping::step;
-use fault_steps::walk::{Step, Walk};
+use crate::reading::read_matches;
+use fault_steps::walk::Walk;
+use fault_steps::walking::walked;
 use fault_steps::{Error, Resolved, at_root};
 use path_parts::parts::opened;
 use schema_matches::matches::Matches;
+use schema_patterns::PatternMaker;
 use schema_reports::Reference;
 use schema_roots::SchemaRegistry;
 use serde_json::Value;
@@ -35,19 +36,8 @@ pub enum CheckAnswer {
     Refused,
     /// References come back to where they were. It is not answered yet.
     Circular,
-}
-
-// The walk to its end.
-fn walked<'r, 'i, 'p>(alloc: Global, walk: Walk<'r, 'i, 'p>) -> Result<bool, AllocError>
-    ensures { IfOk result (λ b. Passes walk.entry (Step.Answered b)) }
-{
-    let mut now = walk;
-    loop {
-        match step(alloc, now)? {
-            Step::Answered(accepted) => return Ok(accepted),
-            Step::On(next) => now = next,
-        }
-    }
+    /// A match that the value asks for stays unfinished. It is not answered yet: the match counts as none.
+    Unfinished,
 }
 
 // The check at a root.
@@ -76,22 +66,46 @@ fn is_spelled(
 
 /// Whether two paths are spelled by some chain of obliged steps, from a root to a keyword that refuses a value.
 ///
-/// It reads the documents plainly and asks no validator: one step for each part of the evaluation path, each with the look-up of its
-/// keyword or reference, and at the end the verdict of one keyword. For a root that leads nowhere, and for schemas that are not read, it
-/// refuses.
+/// It reads the documents plainly and asks no validator: the patterns that are reached from the root are made and their matches read,
+/// then comes one step for each part of the evaluation path, each with the look-up of its keyword or reference, and at the end the verdict
+/// of one keyword. Behind `propertyNames` it takes the steps again for each name, until one's are right. For a root that leads nowhere, and
+/// for schemas that no build takes, it refuses.
 ///
 /// # Errors
 ///
 /// Where memory was refused or a count of owners is full.
-pub fn check_fault(
+pub fn check_fault<P: PatternMaker>(
     alloc: Global,
     registry: &SchemaRegistry,
     root: &str,
+    maker: &P,
     value: &Value,
     path: FaultPath<'_>,
 ) -> Result<CheckAnswer, AllocError>
-    ensures { IfOk result (λ a. IsSound (root_on registry.now root.now) → IsChecked (root_on registry.now root.now) (view value.now) path.entry.instance_path.now path.entry.evaluation_path.now a) }
+    ensures { IfOk result (λ a. IsSound (patterns_by P.makes P.finished maker.now) (root_on registry.now root.now) → IsChecked (patterns_by P.makes P.finished maker.now) (root_on registry.now root.now) (view value.now) path.entry.instance_path.now path.entry.evaluation_path.now a) }
 {
+    let matches = read_matches(alloc, registry, root, maker, value)?;
+    check_by(alloc, registry, root, matches.as_ref(), value, path)
+}
+
+/// The same by matches that were read of the value, for any number of paths. Without matches it refuses.
+///
+/// # Errors
+///
+/// Where memory was refused or a count of owners is full.
+pub fn check_by(
+    alloc: Global,
+    registry: &SchemaRegistry,
+    root: &str,
+    matches: Option<&Matches>,
+    value: &Value,
+    path: FaultPath<'_>,
+) -> Result<CheckAnswer, AllocError>
+    ensures { IfOk result (λ a. (p : Patterns) → AreReadIn p (root_on registry.now root.now) (view value.now) (option_copied matches.entry) → IsSound p (root_on registry.now root.now) → IsChecked p (root_on registry.now root.now) (view value.now) path.entry.instance_path.now path.entry.evaluation_path.now a) }
+{
+    let Some(matches) = matches else {
+        return Ok(CheckAnswer::Refused);
+    };
     let Some(instance) = opened(path.instance_path) else {
         return Ok(CheckAnswer::Refused);
     };
@@ -101,9 +115,7 @@ pub fn check_fault(
     let resolver = registry.registry().resolver(registry.base().clone()?)?;
     match resolver.lookup(root) {
         Ok(found) => {
-            let matches = Matches::none(alloc);
-            let accepted = is_spelled(alloc, &found, &matches, value, instance, evaluation)?;
-            if accepted {
+            if is_spelled(alloc, &found, matches, value, instance, evaluation)? {
                 Ok(CheckAnswer::Accepted)
             } else {
                 Ok(CheckAnswer::Refused)

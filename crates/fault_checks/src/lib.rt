@@ -2,3 +2,10 @@
 #![tactic(auto)]
 
 pub mod checking;
+pub mod reading;
+
+pub use fault_steps::{Resolved, tell_root};
+pub use reached_sites::cause::BuildCause;
+pub use reached_sites::checking::check_reached;
+pub use reached_sites::place::SchemaPlace;
+pub use reached_sites::{Draft, Error, Registry, uri};

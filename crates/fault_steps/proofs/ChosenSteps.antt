@@ -1,9 +1,8 @@
 -- Steps by `if`: into the schema that it chooses, and into no other.
-use Rattle.std.proofs.Common.{◌≡◌, ◌∙◌, ◌++◌, ◌≤◌, ℕ, List, [], ◌∷◌, Bool, true, false, Bor, Option, None, Some, length, codes, refl, sym, ap, subst, append-nil, arith}
+use Rattle.std.proofs.Common.{◌≡◌, ◌∙◌, ◌++◌, ℕ, List, [], ◌∷◌, Bool, false, Bor, Option, None, Some, length, codes, refl, sym, ap, subst, append-nil, arith}
 use Rattle.serde_json.specs.Data.{Data}
 use Rattle.serde_json.specs.View.{view}
 use Rattle.serde_json.specs.declared.value.Value.{Value}
-use Rattle.json_paths.specs.Parts.{Part}
 use Rattle.json_paths.specs.Pointers.{escape}
 use Rattle.schema_meaning.specs.Members.{In, first, later}
 use Rattle.schema_meaning.specs.Places.{whole, value_after, path_after}
@@ -30,7 +29,7 @@ use Rattle.keyword_refusals.proofs.Choices.{name_of}
 use Rattle.keyword_refusals.proofs.Chosen.{the_row, the_rule, part_site, if_answers, part_right, refuses_under, added_under, none_obliged, one_obliged, part_back}
 use Rattle.fault_steps.specs.declared.walk.Walk.{Walk}
 use Rattle.fault_steps.specs.declared.walk.Step.{Step}
-use Rattle.fault_steps.specs.declared.walk.Step.TheVariants.{Answered, On}
+use Rattle.fault_steps.specs.declared.walk.Step.TheVariants.{Answered, On, Named}
 use Rattle.fault_steps.specs.Steps.{path_at, IsLeft, IsMore, IsNotLonger, GoesInto, LeadsInto, PassesBy}
 use Rattle.fault_steps.proofs.Going.{not_named, one_begun}
 
@@ -135,7 +134,7 @@ module _ (w : Walk) (schema : Bor Value) (then_schema else_schema : Option (Bor 
           let meets = child_meets w.site v.site (view part.now) (at (name_of b)) (path_at w) x s child stage.meets right in
           let path : path_at v ≡ at (name_of b) ++ path_at w = into.path ∙ ap (λ m. at m ++ path_at w) named in
           let left : IsLeft x v inner ≡ AreSpelled (reading_of x) inner d (text_left w.instance) (text_left after) =
-          ap (λ f. AreSpelled (reading_of x) inner f (text_left v.instance) (text_left v.evaluation)) into.value
+          ap (λ f. AreSpelled (reading_of x) inner f (text_left v.instance) (text_left v.evaluation)) (into.value refl)
           ∙ ap (λ t. AreSpelled (reading_of x) inner d (text_left t) (text_left v.evaluation)) into.instance
           ∙ ap (λ t. AreSpelled (reading_of x) inner d (text_left w.instance) (text_left t)) into.evaluation in
           record {
@@ -143,7 +142,7 @@ module _ (w : Walk) (schema : Bor Value) (then_schema else_schema : Option (Bor 
             meets = subst (λ p. Meets v.site p x inner) (sym path) meets;
             back = λ circular.
                 part_back w.site (path_at w) d schema then_schema else_schema w.shallow n x s stage b verdict bs.0 bs.1 part chooses
-                (subst (λ f. IsCircular (reading_of x) inner (whole f)) into.value circular);
+                (subst (λ f. IsCircular (reading_of x) inner (whole f)) (into.value refl) circular);
             to = λ h. subst (λ P. P) (sym left) (onward x s stage h);
             from = λ under. back x s stage (subst (λ P. P) left under);
           };
@@ -151,9 +150,11 @@ module _ (w : Walk) (schema : Bor Value) (then_schema else_schema : Option (Bor 
 
     pub to_chosen : (step : Step) (k : Bor (List ℕ)) → k.now ≡ name_of b → LeadsInto w (into_part w k part after) step → PassesBy w (code.If schema then_schema else_schema) n after step
     to_chosen (Answered r) k named into = absurd into
+    to_chosen (Named m) k named into = absurd into
     to_chosen (On v) k named into = into_chosen v k named into
 
 pub chosen_shorter : (w : Walk) (k : Bor (List ℕ)) (part : Bor Value) (after : Option (Bor (List ℕ))) (step : Step) → LeadsInto w (into_part w k part after) step → IsNotLonger after step
 chosen_shorter w k part after (Answered r) into = absurd into
+chosen_shorter w k part after (Named m) into = absurd into
 chosen_shorter w k part after (On v) into =
     let same : length (text_left v.evaluation) ≡ length (text_left after) = ap (λ t. length (text_left t)) into.evaluation in omega (arith, same)

@@ -24,7 +24,7 @@ use Rattle.json_pointers.proofs.EscapeLemmas.{unescape-escape}
 use Rattle.walk_laws.specs.Words.{cuts, cuts_behind, IsRest, nothing}
 use Rattle.walk_laws.proofs.Cuts.{NotSlash, cut_is, cut_joined, cuts_first, escape_no_slash}
 use Rattle.fault_steps.specs.declared.walk.Step.{Step}
-use Rattle.fault_steps.specs.declared.walk.Step.TheVariants.{Answered, On}
+use Rattle.fault_steps.specs.declared.walk.Step.TheVariants.{Answered, On, Named}
 use Rattle.path_parts.specs.Texts.{text_left}
 use Rattle.path_parts.proofs.TextFacts.{rest_left, tail_is, behind_same, no_part}
 use Rattle.keyword_refusals.specs.Scenes.{behind}
@@ -118,11 +118,19 @@ pub behind_more : (ps : List RoadPart) (p : RoadPart) (path : List Part) → beh
 behind_more [] p path = refl
 behind_more (q ∷ ps) p path = behind_more ps p (part_of q ∷ path)
 
+-- a part for one that is the same
+pub behind_for : (xs ys : List RoadPart) (p q : RoadPart) (path : List Part) → part_of p ≡ part_of q → behind (xs ++ p ∷ ys) path ≡ behind (xs ++ q ∷ ys) path
+behind_for [] ys p q path e = ap (λ x. behind ys (x ∷ path)) e
+behind_for (x ∷ xs) ys p q path e = behind_for xs ys p q (part_of x ∷ path) e
+
 -- ---- less is left
 
 pub shorter_by : (step : Step) (text token : List ℕ) (after : Option (Bor (List ℕ))) → cuts text ≡ token ∷ cuts_behind (text_left after) → IsNotLonger after step → IsShorter (47 ∷ text) step
 shorter_by (Answered b) text token after cut h = tt
 shorter_by (On w) text token after cut h =
+    let joined : length text ≡ length token + length (text_left after) = ap length (cut_joined text token (text_left after) cut (rest_left after)) ∙ length-append token (text_left after) in
+    omega (arith, h, joined)
+shorter_by (Named n) text token after cut h =
     let joined : length text ≡ length token + length (text_left after) = ap length (cut_joined text token (text_left after) cut (rest_left after)) ∙ length-append token (text_left after) in
     omega (arith, h, joined)
 
@@ -132,11 +140,12 @@ shorter_at step t u e h = subst (λ x. IsShorter x step) (sym e) h
 pub lies_in : (c : code.Site) (d : Data) (k : Keyword) → Finds c d k → depth d < depth (view c.contents.now) → AsksInside c k → LiesIn c k
 lies_in c d code.Nothing f h i = tt
 lies_in c d (code.Assertion a) f h i = tt
+lies_in c d (code.Pattern p) f h i = tt
 lies_in c d (code.Items start schema) f h i = subst (λ e. depth e < depth (view c.contents.now)) f h
 lies_in c d (code.Properties map) f h i = subst (λ e. depth e < depth (view c.contents.now)) f h
 lies_in c d (code.If schema then_schema else_schema) f h i = record { inside = subst (λ e. depth e < depth (view c.contents.now)) f h; beside = i }
 lies_in c d (code.Consequent k schema) f h i = tt
-lies_in c d (code.Applicator a) f h i = record { values = f; inside = i }
+lies_in c d (code.Applicator a) f h i = record { by_answers = f; inside = i }
 lies_in c d (code.Reference by text target) f h i = f
 
 pub shorter_part : (after : Option (Bor (List ℕ))) (text token : List ℕ) (left : Option (Bor (List ℕ))) → text_left after ≡ 47 ∷ text → cuts text ≡ token ∷ cuts_behind (text_left left)

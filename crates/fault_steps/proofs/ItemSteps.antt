@@ -1,5 +1,5 @@
 -- Steps by `items`.
-use Rattle.std.proofs.Common.{◌≡◌, ◌∙◌, ◌++◌, ℕ, List, [], ◌∷◌, false, Bor, Option, codes, decimal, reverse, refl, sym, ap, subst, append-nil}
+use Rattle.std.proofs.Common.{◌≡◌, ◌∙◌, ◌++◌, ℕ, List, [], ◌∷◌, false, Bor, Option, codes, decimal, reverse, sym, ap, subst, append-nil}
 use Rattle.serde_json.specs.Data.{Data}
 use Rattle.serde_json.specs.View.{view}
 use Rattle.json_paths.specs.Pointers.{escape}
@@ -114,7 +114,7 @@ items_on w v start schema after text token more is cut indexed item child path l
         site = items_site schema x s;
         meets = subst (λ p. Meets v.site p x (items_site schema x s)) (sym path) (child_meets w.site v.site schema (asking.at (codes "items")) (path_at w) x s child stage.meets
             (right_on x s row (items_site schema x s) stage.meets.right stage.stands first));
-        back = asked_back x s row d (items start (items_site schema x s)) (question (items_site schema x s) (to_item item.index e) (asking.at (codes "items"))) stage.stands first asked refl;
+        back = asked_back x s row d (items start (items_site schema x s)) (question (items_site schema x s) (to_item item.index e) (asking.at (codes "items"))) stage.stands first asked;
         to = λ h.
             let g = going (reading_of x) d (asking.at (codes "items")) [] (items_questions start schema d x s) _ _ (not_last w.instance after (codes "items") n more stage.named.0 plain) h in
             let came = item_came x s d start schema n text token v.instance after stage.named.0 plain indexed cut

@@ -3,6 +3,7 @@ pub mod ItemSteps
 pub mod MemberSteps
 pub mod ObligedFacts
 pub mod AppliedSteps
+pub mod NamedSteps
 pub mod ChosenSteps
 pub mod ReferenceSteps
 pub mod OwnNames

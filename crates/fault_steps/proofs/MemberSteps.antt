@@ -1,5 +1,5 @@
 -- Steps by `properties`.
-use Rattle.std.proofs.Common.{◌≡◌, ◌⊎◌, inl, inr, ◌∙◌, ◌++◌, ℕ, List, [], ◌∷◌, true, false, Bor, Option, Some, codes, map, reverse, refl, sym, ap, subst, append_assoc, append-nil}
+use Rattle.std.proofs.Common.{◌≡◌, ◌⊎◌, inl, inr, ◌∙◌, ◌++◌, ℕ, List, [], ◌∷◌, true, false, Bor, Option, Some, codes, map, reverse, sym, ap, subst, append_assoc, append-nil}
 use Rattle.serde_json.specs.Data.{Data, Members}
 use Rattle.serde_json.specs.Find.{get, get_member, unescape}
 use Rattle.serde_json.specs.View.{view}
@@ -170,7 +170,7 @@ members_on w v ms after there text token other k c rising more p alike found chi
         site = site;
         meets = subst (λ q. Meets v.site q x site) (sym path) (child_meets w.site v.site c (asking.at_name (codes "properties") k) (path_at w) x s child stage.meets
             (right_on x s row site stage.meets.right stage.stands led));
-        back = asked_back x s row d (properties (declared_in ms x s)) (asks x s k c e) stage.stands first asked refl;
+        back = asked_back x s row d (properties (declared_in ms x s)) (asks x s k c e) stage.stands first asked;
         to = λ h.
             let came = came_by w ms after there text token other v.evaluation v.instance rising more p x s n stage h in
             let once = member_once ms d token came.1 k came.2 c came.3 e came.4 found in

@@ -49,6 +49,7 @@ module _ (site : List Part → Data → Site) (matches : List ℕ → List ℕ �
   all_or_none (code.NoAdditionalItems start schema) n h is = refl
   all_or_none (code.Contains schema least most) n h is = none_obliged (site_of site (codes "contains") (view schema.now)) least most d bs
   all_or_none (code.Properties schemas) n h is = refl
+  all_or_none (code.PatternProperties schemas) n h is = refl
   all_or_none (code.AdditionalProperties declared schema) n h is = refl
   all_or_none (code.NoAdditionalProperties declared schema) n h is = refl
   all_or_none (code.NoProperties schema) n h is = refl

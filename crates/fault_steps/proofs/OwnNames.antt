@@ -1,5 +1,5 @@
 -- The names under which the shapes of a keyword may refuse.
-use Rattle.std.proofs.Common.{◌≡◌, ◌∙◌, ℕ, List, [], ◌∷◌, Bool, true, false, ◌||◌, bytes_eq, codes, refl, sym, ap, subst}
+use Rattle.std.proofs.Common.{◌≡◌, ◌∙◌, ℕ, List, [], ◌∷◌, Bool, true, false, ◌||◌, bytes_eq, codes, refl, sym, ap}
 use Rattle.std.specs.List.{AllByRecursion}
 use Rattle.std.proofs.lemmas.Slice.Eq.{bytes_eq-Decides}
 use Rattle.json_paths.specs.Parts.{Part}
@@ -13,10 +13,10 @@ use Rattle.schema_reading.specs.Sites.{Site, below}
 use Rattle.applicators.specs.Shapes.{shape_of}
 use Rattle.applicators.specs.declared.applicator.Applicator as code
 use Rattle.applicators.specs.declared.applicator.Applicator.TheVariants as applied
-use Rattle.walk_laws.specs.Words.{Bears, LeadsBack, IsUnder, member_of, count_names, choice_names}
+use Rattle.walk_laws.specs.Words.{Bears, IsUnder, member_of, count_names, choice_names}
 use Rattle.walk_laws.proofs.Named.{listed_in}
 use Rattle.keyword_refusals.specs.Passed.{Keyword, assertion_of, kind_of, row_of}
-use Rattle.keyword_refusals.specs.Passed.{Nothing, Assertion, Items, Properties, If, Consequent, Applicator, Reference}
+use Rattle.keyword_refusals.specs.Passed.{Nothing, Assertion, Pattern, Items, Properties, If, Consequent, Applicator, Reference}
 use Rattle.fault_steps.specs.Names.{bears, applicator_bears}
 
 -- a shape that may refuse under a name, which is written as it is
@@ -68,12 +68,13 @@ module _ (old : Bool) (member n : List ℕ) where
     applied_named (applied.NoAdditionalItems start schema) u e = to_own (codes "additionalItems") _ u refl refl e
     applied_named (applied.Contains schema least most) u e = listed_in n count_names e
     applied_named (applied.Properties schemas) u e = to_own (codes "properties") _ u refl refl e
+    applied_named (applied.PatternProperties schemas) u e = to_own (codes "patternProperties") _ u refl refl e
     applied_named (applied.AdditionalProperties declared schema) u e = to_own (codes "additionalProperties") _ u refl refl e
     applied_named (applied.NoAdditionalProperties declared schema) u e = to_own (codes "additionalProperties") _ u refl refl e
     applied_named (applied.Dependencies entries) u e = to_own (codes "dependencies") _ u refl refl e
     applied_named (applied.NoProperties schema) u e = to_own (codes "additionalProperties") _ u refl refl e
-    applied_named (applied.PropertyNames schema) u e = absurd u.named
-    applied_named (applied.NoPropertyNames schema) u e = absurd u.named
+    applied_named (applied.PropertyNames schema) u e = to_own (codes "propertyNames") _ u refl refl e
+    applied_named (applied.NoPropertyNames schema) u e = to_own (codes "propertyNames") _ u refl refl e
     applied_named (applied.DependentSchemas schemas) u e = to_own (codes "dependentSchemas") _ u refl refl e
     applied_named (applied.AllOf schemas) u e = to_own (codes "allOf") _ u refl refl e
     applied_named (applied.AnyOf schemas) u e = to_own (codes "anyOf") _ u refl refl e
@@ -89,12 +90,13 @@ module _ (old : Bool) (member n : List ℕ) where
     applied_bears (applied.NoAdditionalItems start schema) u g = of_own (codes "additionalItems") _ u refl refl g
     applied_bears (applied.Contains schema least most) u g = in_listed n count_names g
     applied_bears (applied.Properties schemas) u g = of_own (codes "properties") _ u refl refl g
+    applied_bears (applied.PatternProperties schemas) u g = of_own (codes "patternProperties") _ u refl refl g
     applied_bears (applied.AdditionalProperties declared schema) u g = of_own (codes "additionalProperties") _ u refl refl g
     applied_bears (applied.NoAdditionalProperties declared schema) u g = of_own (codes "additionalProperties") _ u refl refl g
     applied_bears (applied.Dependencies entries) u g = of_own (codes "dependencies") _ u refl refl g
     applied_bears (applied.NoProperties schema) u g = of_own (codes "additionalProperties") _ u refl refl g
-    applied_bears (applied.PropertyNames schema) u g = absurd g
-    applied_bears (applied.NoPropertyNames schema) u g = absurd g
+    applied_bears (applied.PropertyNames schema) u g = of_own (codes "propertyNames") _ u refl refl g
+    applied_bears (applied.NoPropertyNames schema) u g = of_own (codes "propertyNames") _ u refl refl g
     applied_bears (applied.DependentSchemas schemas) u g = of_own (codes "dependentSchemas") _ u refl refl g
     applied_bears (applied.AllOf schemas) u g = of_own (codes "allOf") _ u refl refl g
     applied_bears (applied.AnyOf schemas) u g = of_own (codes "anyOf") _ u refl refl g
@@ -107,6 +109,7 @@ module _ (old : Bool) (member n : List ℕ) where
       → AllByRecursion (IsOwn n) (row_of docs s k).shapes
   own_named Nothing docs s h e = tt
   own_named (Assertion a) docs s h e = (owned _ h.0 (same_bytes (named (assertion_of a)) n e), tt)
+  own_named (Pattern p) docs s h e = (owned _ h.0 (to_own (codes "pattern") _ h.0 refl refl e), tt)
   own_named (Items start schema) docs s h e = (owned _ h.0 (to_own (codes "items") _ h.0 refl refl e), tt)
   own_named (Properties map) docs s h e = (owned _ h.0 (to_own (codes "properties") _ h.0 refl refl e), tt)
   own_named (If schema then_schema else_schema) docs s h e = (owned _ h.0 (listed_in n choice_names e), tt)
@@ -121,6 +124,8 @@ module _ (old : Bool) (member n : List ℕ) where
   named_own Nothing docs s shape i h g = elim i [ ]
   named_own (Assertion a) docs s _ first h g = bytes_same (named (assertion_of a)) n g
   named_own (Assertion a) docs s shape (later i) h g = elim i [ ]
+  named_own (Pattern p) docs s _ first h g = of_own (codes "pattern") _ h.0 refl refl g
+  named_own (Pattern p) docs s shape (later i) h g = elim i [ ]
   named_own (Items start schema) docs s _ first h g = of_own (codes "items") _ h.0 refl refl g
   named_own (Items start schema) docs s shape (later i) h g = elim i [ ]
   named_own (Properties map) docs s _ first h g = of_own (codes "properties") _ h.0 refl refl g

@@ -56,7 +56,7 @@ reference_on w v by text target after more at path value instance left = record 
       record {
         site = site;
         meets = subst (λ q. Meets v.site q x site) (sym path) (target_meets w.site v.site by text target (path_at w) x s at stage.meets (right_on x s row site stage.meets.right stage.stands first));
-        back = λ circular. asked_back x s row d (reference (kind_of by) site) _ stage.stands first first refl (subst (λ e. IsCircular (reading_of x) site (whole e)) same circular);
+        back = λ circular. asked_back x s row d (reference (kind_of by) site) _ stage.stands first first (subst (λ e. IsCircular (reading_of x) site (whole e)) same circular);
         to = λ h.
             let g = going (reading_of x) d (asking.at (name_of by)) [] qs _ _ (not_last w.instance after (name_of by) n more stage.named.0 plain) h in
             let q = only_one _ g.question g.asked in

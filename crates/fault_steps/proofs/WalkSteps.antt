@@ -1,7 +1,6 @@
 -- One step of a walk, and walks of many.
-use Rattle.std.proofs.Common.{◌≡◌, ◌∙◌, ◌++◌, ℕ, List, [], ◌∷◌, Bool, true, false, true≢false, Bor, Option, None, Some, bytes_eq, map, refl, sym, ap, subst, append-nil}
+use Rattle.std.proofs.Common.{◌≡◌, ◌∙◌, ◌++◌, ℕ, List, [], ◌∷◌, Bool, true, false, true≢false, Bor, Option, None, Some, map, refl, sym, ap, subst, append-nil}
 use Rattle.std.specs.List.{AllByRecursion}
-use Rattle.std.proofs.lemmas.Slice.Eq.{bytes_eq-Decides}
 use Rattle.serde_json.specs.Data.{Data, null, boolean, number, string, array, object, Members}
 use Rattle.serde_json.specs.Find.{get_member}
 use Rattle.serde_json.specs.View.{view}
@@ -9,39 +8,39 @@ use Rattle.json_paths.specs.Pointers.{escape}
 use Rattle.schema_meaning.specs.Members.{In, first, later}
 use Rattle.schema_meaning.specs.Places.{whole}
 use Rattle.schema_meaning.specs.Circular.{IsCircular}
-use Rattle.schema_meaning.specs.Questions.{at, listed_members}
-use Rattle.schema_meaning.specs.Rules.{Rule, refuses_at}
+use Rattle.schema_meaning.specs.Questions.{at}
 use Rattle.schema_meaning.specs.Keywords.{Shape, rule}
-use Rattle.schema_meaning.specs.Readings.{Reading}
 use Rattle.schema_reading.specs.Sites.{Site}
 use Rattle.schema_reading.specs.Rows.{Row, is_draft_4, row_at, rows_at}
+use Rattle.schema_reading.specs.BuildCauses.{at_root}
 use Rattle.keyword_refusals.specs.Passed.{scope_of}
 use Rattle.schema_documents.specs.Bearers.{Documents}
 use Rattle.schema_documents.specs.Places.{Dialect}
-use Rattle.keyword_refusals.specs.Passed.{documents_at, Stands, is_draft_4_at}
-use Rattle.keyword_refusals.specs.Passed.{row_of, context_at}
+use Rattle.keyword_refusals.specs.Passed.{Stands, is_draft_4_at}
+use Rattle.keyword_refusals.specs.Passed.{row_of, context_at, IsRowOf}
 use Rattle.keyword_refusals.specs.Passed.{Refuses}
 use Rattle.keyword_refusals.specs.Passed.{Keyword}
 use Rattle.keyword_refusals.specs.Passed.{Refusal}
 use Rattle.keyword_refusals.specs.PassedRefusals as refusal
 use Rattle.place_laws.specs.Rising.{are_rising}
 use Rattle.schema_reading.specs.PathTexts.{path_text}
-use Rattle.check_laws.specs.Spelled.{AreSpelled, AreSpelledBy, refuses, goes}
+use Rattle.check_laws.specs.Spelled.{AreSpelled, AreSpelledBy, refuses}
 use Rattle.check_laws.proofs.Steps.{from_step}
 use Rattle.walk_laws.specs.Words.{Bears, IsUnder, member_of, cuts, cuts_behind}
 use Rattle.walk_laws.proofs.Cuts.{cut_is, cut_joined, escape_no_slash}
 use Rattle.walk_laws.proofs.Listed.{each_in, in_mapped}
+use Rattle.walk_laws.proofs.Named.{shapes_are_under}
 use Rattle.walk_laws.proofs.Begun.{Begun, begun, one_rule, context, rules_of, spelled_member, rules_stand, member_row, not_spelled, false_spelled, spelled_false}
 use Rattle.fault_steps.specs.declared.walk.Walk.{Walk}
 use Rattle.fault_steps.specs.declared.walk.Step.{Step}
-use Rattle.fault_steps.specs.declared.walk.Step.TheVariants.{Answered, On}
+use Rattle.fault_steps.specs.declared.walk.Step.TheVariants.{Answered, On, Named}
 use Rattle.path_parts.specs.Texts.{text_left}
 use Rattle.fault_steps.specs.Steps.{path_at, Outcome, IsLeft, Passes, PassesAs, PassesBy}
 use Rattle.fault_steps.specs.Names.{bears}
 use Rattle.keyword_refusals.specs.Scenes.{Scene, reading_of, IsRight, Meets, Stage}
 use Rattle.keyword_refusals.specs.Verdicts.{SomeRefusesAt, rules_by, IsRefusalAt}
 use Rattle.keyword_refusals.proofs.Names.{listed_found, found_listed}
-use Rattle.keyword_refusals.proofs.Right.{no_cause, member_read, member_named}
+use Rattle.keyword_refusals.proofs.Right.{right_read, no_cause}
 use Rattle.path_parts.proofs.ItemFacts.{some_one}
 use Rattle.path_parts.proofs.TextFacts.{rest_left, no_part}
 use Rattle.fault_steps.proofs.Going.{name_text, one_begun}
@@ -52,6 +51,10 @@ in_map f x [] i = elim i [ ]
 in_map f x (y ∷ xs) first = first
 in_map f x (y ∷ xs) (later i) = later (in_map f x xs i)
 
+-- nothing is wrong with a row of a schema that is right
+row_right : (x : Scene) (s : Site) (row : Row) → IsRight x s → In row (rows_at x.documents x.makes s) → row.causes ≡ []
+row_right x s row right stands = (right_read x s right).right s at_root row stands
+
 -- ---- one step behind another
 
 pub outcome_through : (x : Scene) (s t : Site) (d e : Data) (P Q : Type 0) (step : Step)
@@ -60,6 +63,8 @@ outcome_through x s t d e P Q (Answered true) back to from o = from o
 outcome_through x s t d e P Q (Answered false) back to from o = λ p. o (to p)
 outcome_through x s t d e P Q (On w) back to from o =
     record { site = o.site; meets = o.meets; back = λ c. back (o.back c); to = λ p. o.to (to p); from = λ u. from (o.from u) }
+outcome_through x s t d e P Q (Named n) back to from o =
+    record { site = o.site; meets = o.meets; right = o.right; back = λ k i c. back (o.back k i c); to = λ p. o.to (to p); from = λ u. from (o.from u) }
 
 pub passes_on : (w v : Walk) (step : Step) → Passes w (On v) → Passes v step → Passes w step
 passes_on w v step p q = record {
@@ -93,16 +98,15 @@ begun_among x d shapes P named each i e h =
 
 -- ---- nothing is left of the evaluation path
 
-module _ (x : Scene) (s : Site) (d : Data) (right : IsRight x s) where
+module _ (x : Scene) (s : Site) (d : Data) where
   abbrev of_draft_4 : Bool
   of_draft_4 = is_draft_4 s.dialect.draft
 
   -- the shape by whose rule a member's certificate begins, and the name under which it refuses
-  under : (ms : Members) (k : List ℕ) (v : Data) (i e : List ℕ) → s.contents ≡ object ms → In (k, v) (listed_members ms)
-      → AreSpelledBy (reading_of x) d (rules_of x.documents x.makes x.matches s ms d k v) i e
+  under : (ms : Members) (k : List ℕ) (v : Data) (i e : List ℕ) → AreSpelledBy (reading_of x) d (rules_of x.documents x.makes x.matches s ms d k v) i e
       → (shape : Shape Site) × In shape (row_at (context x.documents x.makes x.matches s ms) k v).shapes × IsUnder of_draft_4 k shape × Begun (reading_of x) d shape e
-  under ms k v i e is listed h =
-      begun_among x d (row_at (context x.documents x.makes x.matches s ms) k v).shapes (IsUnder of_draft_4 k) (λ shape u. (u.name, u.named)) (member_named x s ms k v right is listed) i e h
+  under ms k v i e h =
+      begun_among x d (row_at (context x.documents x.makes x.matches s ms) k v).shapes (IsUnder of_draft_4 k) (λ shape u. (u.name, u.named)) (shapes_are_under (context x.documents x.makes x.matches s ms) k v) i e h
 
   ends_false : (i e : List ℕ) → e ≡ [] → AreSpelled (reading_of x) s d i e → (c : Data) → s.contents ≡ c → (c ≡ boolean false) × (i ≡ [])
   ends_false i e none h null is = absurd (not_spelled x.documents x.makes x.matches s null d i e is refl h)
@@ -113,7 +117,7 @@ module _ (x : Scene) (s : Site) (d : Data) (right : IsRight x s) where
   ends_false i e none h (array ds) is = absurd (not_spelled x.documents x.makes x.matches s (array ds) d i e is refl h)
   ends_false i e none h (object ms) is =
       let m = spelled_member x.documents x.makes x.matches s ms d i e is h in
-      let u = under ms m.0 m.1 i e is m.2 m.3 in
+      let u = under ms m.0 m.1 i e m.3 in
       absurd (no_part 47 _ (sym u.3.text ∙ none))
 
   -- a part is left where there are no members
@@ -136,7 +140,7 @@ module _ (x : Scene) (s : Site) (d : Data) (right : IsRight x s) where
       × AreSpelledBy (reading_of x) d (rules_of x.documents x.makes x.matches s ms d (member_of of_draft_4 token) v) i (47 ∷ text)
   name_found ms i text token after is rising cut h =
       let m = spelled_member x.documents x.makes x.matches s ms d i (47 ∷ text) is h in
-      let u = under ms m.0 m.1 i (47 ∷ text) is m.2 m.3 in
+      let u = under ms m.0 m.1 i (47 ∷ text) m.3 in
       let b = u.3 in
       let both = cut_is text token (text_left after) (escape b.name) b.rest cut (rest_left after) (escape_no_slash b.name) b.is_rest (let e : 47 ∷ text ≡ 47 ∷ (escape b.name ++ b.rest) = b.text in cc) in
       let back = u.2.back b.name b.named in
@@ -160,7 +164,7 @@ ended w true none holds only = record {
 }
 ended w false none holds only = record {
   outcome = λ x s meets straight h.
-      let f = ends_false x s (view w.value.now) meets.right (text_left w.instance) (text_left w.evaluation) none h (view w.site.contents.now) meets.stands.contents in
+      let f = ends_false x s (view w.value.now) (text_left w.instance) (text_left w.evaluation) none h (view w.site.contents.now) meets.stands.contents in
       true≢false (sym (only f.0 f.1));
 }
 
@@ -171,7 +175,7 @@ module _ (w : Walk) (text : List ℕ) (is : text_left w.evaluation ≡ 47 ∷ te
   pub no_members : ((ms : Members) → view w.site.contents.now ≡ object ms → ⊥) → Passes w (Answered false)
   no_members none = record {
     outcome = λ x s meets straight h.
-        let o = needs_object x s (view w.value.now) meets.right (text_left w.instance) text (on_text x s h) (view w.site.contents.now) meets.stands.contents in
+        let o = needs_object x s (view w.value.now) (text_left w.instance) text (on_text x s h) (view w.site.contents.now) meets.stands.contents in
         none o.0 o.1;
   }
 
@@ -184,7 +188,7 @@ module _ (w : Walk) (text : List ℕ) (is : text_left w.evaluation ≡ 47 ∷ te
         × AreSpelledBy (reading_of x) (view w.value.now) (rules_of x.documents x.makes x.matches s ms (view w.value.now) member v) (text_left w.instance) (47 ∷ text)
     found_here x s meets h =
         let d = view w.value.now in
-        let f = name_found x s d meets.right ms (text_left w.instance) text token after (meets.stands.contents ∙ contents) rising cut (on_text x s h) in
+        let f = name_found x s d ms (text_left w.instance) text token after (meets.stands.contents ∙ contents) rising cut (on_text x s h) in
         let same : member_of (is_draft_4 s.dialect.draft) token ≡ member = ap (λ (y : Dialect). member_of (is_draft_4 y.draft) token) meets.stands.dialect ∙ sym of_member in (
           f.0,
           subst (λ k. get_member k ms ≡ Some f.0) same f.1,
@@ -199,11 +203,14 @@ module _ (w : Walk) (text : List ℕ) (is : text_left w.evaluation ≡ 47 ∷ te
     }
 
     module _ (v : Data) (k : Keyword) (found : get_member member ms ≡ Some v)
-        (reads : (makes : List ℕ → Bool) (s : Site) → Stands w.site s → s.scope ≡ scope_of w.site.resolver → row_at (context_at w.site ms makes s) member v ≡ row_of (documents_at w.site) s k) where
+        (read : (makes : List ℕ → Bool) (s : Site) → Stands w.site s → s.scope ≡ scope_of w.site.resolver → IsRowOf (context_at w.site ms makes s) member (row_at (context_at w.site ms makes s) member v) k) where
       row_here : (x : Scene) (s : Site) → Meets w.site (path_at w) x s → row_at (context x.documents x.makes x.matches s ms) member v ≡ row_of x.documents s k
       row_here x s meets =
-          subst (λ (docs : Documents). row_at (record { documents = docs; makes = x.makes; site = s; members = ms }) member v ≡ row_of docs s k) (sym meets.documents)
-          (reads x.makes s meets.stands meets.scope)
+          let row = row_at (context x.documents x.makes x.matches s ms) member v in
+          let is : IsRowOf (context x.documents x.makes x.matches s ms) member row k =
+          subst (λ (docs : Documents). IsRowOf (record { documents = docs; makes = x.makes; site = s; members = ms }) member (row_at (record { documents = docs; makes = x.makes; site = s; members = ms }) member v) k) (sym meets.documents)
+          (read x.makes s meets.stands meets.scope) in
+          is.made (is.right (row_right x s row meets.right (member_row x.documents x.makes x.matches s ms member v (meets.stands.contents ∙ contents) (found_listed member v ms found))))
 
       spelled_here : (x : Scene) (s : Site) → Meets w.site (path_at w) x s → IsLeft x w s
           → AreSpelledBy (reading_of x) (view w.value.now) (rules_by x s (view w.value.now) k) (text_left w.instance) (47 ∷ text)
@@ -217,7 +224,7 @@ module _ (w : Walk) (text : List ℕ) (is : text_left w.evaluation ≡ 47 ∷ te
       under_here : (x : Scene) (s : Site) → Meets w.site (path_at w) x s → AllByRecursion (IsUnder (is_draft_4 s.dialect.draft) member) (row_of x.documents s k).shapes
       under_here x s meets =
           subst (λ (r : Row). AllByRecursion (IsUnder (is_draft_4 s.dialect.draft) member) r.shapes) (row_here x s meets)
-          (member_named x s ms member v meets.right (meets.stands.contents ∙ contents) (found_listed member v ms found))
+          (shapes_are_under (context x.documents x.makes x.matches s ms) member v)
 
       -- where the keyword refuses under the name
       under_name : (step : Step) → bears k member token ≡ true → PassesBy w k token after step → Passes w step
@@ -279,7 +286,6 @@ module _ (w : Walk) (text : List ℕ) (is : text_left w.evaluation ≡ 47 ∷ te
     refused_not x s v (refusal.Target target) right there found other r = no_cause x s _ _ right (stands_there x s v there found) r.stands
     refused_not x s v (refusal.Reference error) right there found other r = no_cause x s _ _ right (stands_there x s v there found) r.2.stands
     refused_not x s v refusal.LeftOut right there found other r = no_cause x s _ _ right (stands_there x s v there found) r.stands
-    refused_not x s v refusal.NotYet right there found other r = true≢false (sym r ∙ member_read x s ms member v right there (found_listed member v ms found))
     refused_not x s v refusal.Memory right there found other r = absurd (other refl)
 
     pub refused_member : (v : Data) (e : Refusal) → get_member member ms ≡ Some v → (e ≡ refusal.Memory → ⊥)

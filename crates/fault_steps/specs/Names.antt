@@ -5,7 +5,7 @@ use Rattle.schema_meaning.specs.Keywords.{named}
 use Rattle.applicators.specs.declared.applicator.Applicator as applied
 use Rattle.applicators.specs.declared.applicator.Applicator.TheVariants as code
 use Rattle.keyword_refusals.specs.Passed.{Keyword, assertion_of}
-use Rattle.keyword_refusals.specs.Passed.{Nothing, Assertion, Items, Properties, If, Consequent, Applicator, Reference}
+use Rattle.keyword_refusals.specs.Passed.{Nothing, Assertion, Pattern, Items, Properties, If, Consequent, Applicator, Reference}
 use Rattle.walk_laws.specs.Words.{count_names, choice_names}
 
 -- `contains` may under those of its bounds too, `if` under `then` and `else`
@@ -17,6 +17,7 @@ applicator_bears (code.AdditionalItems start schema) member n = bytes_eq member 
 applicator_bears (code.NoAdditionalItems start schema) member n = bytes_eq member n
 applicator_bears (code.Contains schema least most) member n = is_listed n count_names
 applicator_bears (code.Properties schemas) member n = bytes_eq member n
+applicator_bears (code.PatternProperties schemas) member n = bytes_eq member n
 applicator_bears (code.AdditionalProperties declared schema) member n = bytes_eq member n
 applicator_bears (code.NoAdditionalProperties declared schema) member n = bytes_eq member n
 applicator_bears (code.Dependencies entries) member n = bytes_eq member n
@@ -34,6 +35,7 @@ applicator_bears (code.If condition then_schema else_schema) member n = is_liste
 abbrev pub bears : Keyword → List ℕ → List ℕ → Bool
 bears Nothing member n = bytes_eq member n
 bears (Assertion a) member n = bytes_eq (named (assertion_of a)) n
+bears (Pattern p) member n = bytes_eq member n
 bears (Items start schema) member n = bytes_eq member n
 bears (Properties map) member n = bytes_eq member n
 bears (If schema then_schema else_schema) member n = is_listed n choice_names

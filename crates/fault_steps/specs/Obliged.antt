@@ -12,6 +12,7 @@ obliges (code.AdditionalItems start schema) n = true
 obliges (code.NoAdditionalItems start schema) n = true
 obliges (code.Contains schema least most) n = false
 obliges (code.Properties schemas) n = true
+obliges (code.PatternProperties schemas) n = true
 obliges (code.AdditionalProperties declared schema) n = true
 obliges (code.NoAdditionalProperties declared schema) n = true
 obliges (code.NoProperties schema) n = true

@@ -3,3 +3,4 @@ pub use Rattle.keyword_refusals.specs.Scenes.{IsRight, IsStraight, Scene, behind
 pub use Rattle.keyword_refusals.specs.Verdicts.{IsDecided}
 pub use Rattle.keyword_refusals.specs.Passed.{base_of, documents_in, scope_of, target_in}
 pub use Rattle.keyword_refusals.specs.Passed.{Stands, documents_at}
+pub use Rattle.keyword_refusals.specs.Passed.{TellsRoot, AreRead}

@@ -1,10 +1,12 @@
 -- What a step of a walk comes to.
-use Rattle.std.specs.Prelude.{◌≡◌, ◌++◌, ◌<◌, ◌≤◌, ℕ, List, map, [], ◌∷◌, Option, length, Bool, true, false}
+use Rattle.std.specs.Prelude.{◌≡◌, ◌++◌, ◌<◌, ◌≤◌, ℕ, List, map, [], ◌∷◌, Option, None, length, Bool, true, false, codes}
 use Rattle.std.specs.Borrow.{Bor}
-use Rattle.serde_json.specs.Data.{Data, boolean}
+use Rattle.serde_json.specs.Data.{Data, boolean, string}
 use Rattle.serde_json.specs.View.{view}
 use Rattle.json_paths.specs.Parts.{Part}
-use Rattle.schema_meaning.specs.Places.{whole, value_after}
+use Rattle.schema_meaning.specs.Members.{In}
+use Rattle.schema_meaning.specs.Places.{whole, value_after, called_after}
+use Rattle.schema_meaning.specs.Questions.{at, names_of}
 use Rattle.schema_meaning.specs.Circular.{IsCircular}
 use Rattle.schema_meaning.specs.Keywords.{rule}
 use Rattle.schema_documents.specs.Scopes.{entered_scope}
@@ -19,10 +21,11 @@ use Rattle.keyword_refusals.specs.Passed.{Keyword}
 use Rattle.check_laws.specs.Spelled.{AreSpelled, AreSpelledBy}
 use Rattle.fault_steps.specs.Names.{bears}
 use Rattle.fault_steps.specs.declared.walk.Walk.{Walk}
+use Rattle.fault_steps.specs.declared.walk.AtNames.{AtNames}
 use Rattle.fault_steps.specs.declared.walk.Step.{Step}
-use Rattle.fault_steps.specs.declared.walk.Step.TheVariants.{Answered, On}
+use Rattle.fault_steps.specs.declared.walk.Step.TheVariants.{Answered, On, Named}
 use Rattle.path_parts.specs.Texts.{text_left}
-use Rattle.keyword_refusals.specs.Scenes.{Scene, reading_of, Meets, IsStraight, Stage, behind}
+use Rattle.keyword_refusals.specs.Scenes.{Scene, reading_of, IsRight, Meets, IsStraight, Stage, behind}
 use Rattle.keyword_refusals.specs.Verdicts.{IsDecided, rules_by}
 
 -- the path of the schema where a walk has come to
@@ -41,9 +44,30 @@ pub record GoesOn (x : Scene) (s : Site) (d : Data) (P : Type 0) (w : Walk) : Ty
   pub to : P → IsLeft x w site
   pub from : IsLeft x w site → P
 
+-- the site of the schema of names
+abbrev pub names_site : Scene → AtNames → Site → Site
+names_site x n s = below x.documents s (at (codes "propertyNames")) (view n.schema.now)
+
+-- what is left is spelled from there at a name; at some name of the object
+abbrev pub IsLeftAt : Scene → AtNames → Site → List ℕ → Type 0
+IsLeftAt x n s k = AreSpelled (reading_of x) (names_site x n s) (string k) (text_left n.walk.instance) (text_left n.evaluation)
+
+abbrev pub SomeLeft : Scene → AtNames → Site → Type 0
+SomeLeft x n s = (k : List ℕ) × In k (names_of (view n.walk.value.now)) × IsLeftAt x n s k
+
+-- the walk goes on at names: at one of them what is left is spelled exactly where P holds
+pub record GoesOnAt (x : Scene) (s : Site) (d : Data) (P : Type 0) (n : AtNames) : Type 0 where
+  pub site : Site
+  pub meets : Meets n.walk.site (path_at n.walk) x site
+  pub right : IsRight x (names_site x n site)
+  pub back : (k : List ℕ) → In k (names_of (view n.walk.value.now)) → IsCircular (reading_of x) (names_site x n site) (whole (string k)) → IsCircular (reading_of x) s (whole d)
+  pub to : P → SomeLeft x n site
+  pub from : SomeLeft x n site → P
+
 abbrev pub Outcome : Scene → Site → Data → Type 0 → Step → Type 0
 Outcome x s d P (Answered b) = IsDecided b P
 Outcome x s d P (On w) = GoesOn x s d P w
+Outcome x s d P (Named n) = GoesOnAt x s d P n
 
 -- the step of a walk
 pub record Passes (w : Walk) (step : Step) : Type 0 where
@@ -64,7 +88,7 @@ pub record PassesThrough (w : Walk) (row : Scene → Site → Row) (after : Opti
   pub outcome : (x : Scene) (s : Site) (name : List ℕ) → Stage w.site (path_at w) (view w.value.now) name (row x s) x s
       → Outcome x s (view w.value.now) (AreSpelledBy (reading_of x) (view w.value.now) (map (rule x.matches (view w.value.now)) (row x s).shapes) (text_left w.instance) (47 ∷ (name ++ text_left after))) step
 
--- the walk goes on at a question's subschema and at what it asks of
+-- the walk goes on at a question's subschema and at what it asks of, which is no name
 pub record GoesInto (w : Walk) (a : Ahead) (v : Walk) : Type 0 where
   pub contents : view v.site.contents.now ≡ view a.question.subschema.schema.now
   pub documents : documents_at v.site ≡ documents_at w.site
@@ -72,23 +96,26 @@ pub record GoesInto (w : Walk) (a : Ahead) (v : Walk) : Type 0 where
   pub stands : (s : Site) (added : List Part) → Stands w.site s → Stands v.site (below (documents_at w.site) s added (view a.question.subschema.schema.now))
   pub matches : v.site.matches ≡ w.site.matches
   pub path : path_at v ≡ added_at a.question.subschema.keyword.now a.question.subschema.entry ++ path_at w
-  pub value : view v.value.now ≡ value_after (view w.value.now) (step_of a.question.asked)
+  pub value : called_after None (step_of a.question.asked) ≡ None → view v.value.now ≡ value_after (view w.value.now) (step_of a.question.asked)
   pub instance : v.instance ≡ a.instance
   pub evaluation : v.evaluation ≡ a.evaluation
 
 abbrev pub LeadsInto : Walk → Ahead → Step → Type 0
 LeadsInto w a (Answered b) = ⊥
 LeadsInto w a (On v) = GoesInto w a v
+LeadsInto w a (Named n) = ⊥
 
 -- no more than this is left of the evaluation path
 abbrev pub IsNotLonger : Option (Bor (List ℕ)) → Step → Type 0
 IsNotLonger after (Answered b) = Unit {0}
 IsNotLonger after (On w) = length (text_left w.evaluation) ≤ length (text_left after)
+IsNotLonger after (Named n) = length (text_left n.evaluation) ≤ length (text_left after)
 
 -- less is left of the evaluation path
 abbrev pub IsShorter : List ℕ → Step → Type 0
 IsShorter evaluation (Answered b) = Unit {0}
 IsShorter evaluation (On w) = length (text_left w.evaluation) < length evaluation
+IsShorter evaluation (Named n) = length (text_left n.evaluation) < length evaluation
 
 -- something is left of one of the paths
 pub record IsMore (instance after : Option (Bor (List ℕ))) : Type 0 where

@@ -1,19 +1,21 @@
 //! Steps by other keywords that apply subschemas.
-ghost use Rattle.std.specs.Prelude.{◌≡◌, ◌<◌, ◌++◌, [], IfOk, OnOk, length, true};
+ghost use Rattle.std.specs.Prelude.{◌≡◌, ◌<◌, ◌++◌, [], IfOk, OnOk, length, None, true};
 ghost use Rattle.serde_json.specs.Data.{depth};
 ghost use Rattle.serde_json.specs.View.{view};
-ghost use Rattle.schema_meaning.specs.Places.{value_after};
+ghost use Rattle.schema_meaning.specs.Places.{value_after, called_after};
+ghost use Rattle.applicators.specs.Combined.{asks_values};
 ghost use Rattle.applicators.specs.Shapes.{added_at};
 ghost use Rattle.applicators.specs.Questions.{step_of};
+ghost use Rattle.schema_matches.specs.Read.{reads};
 ghost use Rattle.keyword_refusals.specs.Scenes.{behind};
-ghost use Rattle.keyword_refusals.specs.Passed.{AreAsked, IsPart};
+ghost use Rattle.keyword_refusals.specs.Passed.{AreAsked};
 ghost use Rattle.keyword_refusals.specs.Rows.{applied_row};
 ghost use Rattle.keyword_refusals.specs.Verdicts.{AppliesIn};
 ghost use Rattle.question_paths.specs.Laws.{OneAhead};
 ghost use Rattle.fault_steps.specs.Obliged.{obliges};
 ghost use Rattle.fault_steps.specs.Steps.{PassesThrough, LeadsInto, IsMore, IsNotLonger};
 
-use crate::walk::{Step, Walk};
+use crate::walk::{AtNames, Step, Walk};
 use applicators::applicator::Applicator;
 use applicators::question::{Asked, Question};
 use applicators::questions::questions;
@@ -26,8 +28,7 @@ use std::alloc::{AllocError, Global};
 
 // What a question asks of; a name is never asked of here.
 fn value_of<'i>(asked: Asked<'i>, value: &'i Value) -> &'i Value
-    requires part { IsPart (view value.now) asked }
-    ensures { view result.now ≡ value_after (view value.now) (step_of asked.entry) }
+    ensures { called_after None (step_of asked.entry) ≡ None → view result.now ≡ value_after (view value.now) (step_of asked.entry) }
 {
     match asked {
         Asked::Value => value,
@@ -80,7 +81,6 @@ pub(crate) fn to_question<'r, 'i, 'p>(
     ahead: Ahead<'r, 'i, 'p>,
 ) -> Result<Step<'r, 'i, 'p>, AllocError>
     requires inside { depth (view ahead.question.subschema.schema.now) < depth (view walk.site.contents.now) }
-    requires part { IsPart (view walk.value.now) ahead.question.asked }
     ensures { IfOk result (LeadsInto walk.entry ahead.entry) }
 {
     let subschema = ahead.question.subschema;
@@ -106,8 +106,9 @@ fn along<'r, 'i, 'p>(
     after: Option<&'p str>,
 ) -> Result<Step<'r, 'i, 'p>, AllocError>
     requires applies { AppliesIn walk.site applicator }
+    requires values { asks_values applicator ≡ true }
     requires more { IsMore walk.instance after }
-    requires asked { AreAsked applicator (view walk.value.now) asked.now }
+    requires asked { AreAsked (reads walk.site.matches.now) applicator (view walk.value.now) asked.now }
     requires obliging { obliges applicator (length asked.now) ≡ true }
     requires once { OneAhead applicator (view walk.value.now) }
     ensures passes { IfOk result (PassesThrough walk.entry (applied_row applicator.entry) after.entry) }
@@ -119,8 +120,30 @@ fn along<'r, 'i, 'p>(
     }
 }
 
+// The step by a keyword that asks the value, its items or its members.
+fn through_questions<'r, 'i, 'p>(
+    alloc: Global,
+    walk: Walk<'r, 'i, 'p>,
+    applicator: Applicator<'r>,
+    after: Option<&'p str>,
+) -> Result<Step<'r, 'i, 'p>, AllocError>
+    requires applies { AppliesIn walk.site applicator }
+    requires values { asks_values applicator ≡ true }
+    requires more { IsMore walk.instance after }
+    ensures passes { IfOk result (PassesThrough walk.entry (applied_row applicator.entry) after.entry) }
+    ensures shorter { IfOk result (IsNotLonger after.entry) }
+{
+    one_ahead(&applicator, walk.value);
+    let asked = questions(alloc, walk.site.matches, &applicator, walk.value)?;
+    let asked = asked.as_slice();
+    if obliges(&applicator, asked.len()) {
+        return along(alloc, walk, applicator, asked, after);
+    }
+    Ok(Step::Answered(false))
+}
+
 /// The step of a walk by another keyword that applies subschemas. It goes on to no subschema whose no is not the keyword's: to none of
-/// `not`, and to one of `anyOf` or `oneOf` where there is no other.
+/// `not`, and to one of `anyOf` or `oneOf` where there is no other. By `propertyNames` it goes on at the names.
 ///
 /// It takes memory for the questions of the keyword, and looks at them in order.
 pub fn through_applicator<'r, 'i, 'p>(
@@ -134,11 +157,17 @@ pub fn through_applicator<'r, 'i, 'p>(
     ensures passes { IfOk result (PassesThrough walk.entry (applied_row applicator.entry) after.entry) }
     ensures shorter { IfOk result (IsNotLonger after.entry) }
 {
-    one_ahead(&applicator, walk.value);
-    let asked = questions(alloc, &applicator, walk.value)?;
-    let asked = asked.as_slice();
-    if obliges(&applicator, asked.len()) {
-        return along(alloc, walk, applicator, asked, after);
+    match applicator {
+        Applicator::PropertyNames(schema) => Ok(Step::Named(AtNames {
+            walk,
+            schema,
+            evaluation: after,
+        })),
+        Applicator::NoPropertyNames(schema) => Ok(Step::Named(AtNames {
+            walk,
+            schema,
+            evaluation: after,
+        })),
+        _ => through_questions(alloc, walk, applicator, after),
     }
-    Ok(Step::Answered(false))
 }

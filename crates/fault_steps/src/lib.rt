@@ -8,5 +8,6 @@ mod members;
 mod names;
 pub mod stepping;
 pub mod walk;
+pub mod walking;
 
-pub use keyword_refusals::{Error, Resolved, at_root};
+pub use keyword_refusals::{Error, Resolved, at_root, tell_root};

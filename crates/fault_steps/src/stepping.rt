@@ -90,6 +90,7 @@ fn through<'r, 'i, 'p>(
         } => { through_reference(alloc, walk, by, text, target, after) }
         Keyword::Nothing => Ok(Step::Answered(false)),
         Keyword::Consequent { .. } => Ok(Step::Answered(false)),
+        Keyword::Pattern(_) => Ok(Step::Answered(false)),
         Keyword::Assertion(_assertion) => Ok(Step::Answered(false)),
     }
 }

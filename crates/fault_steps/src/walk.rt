@@ -1,5 +1,5 @@
 //! Where a walk by the two paths of a fault has come to.
-ghost use Rattle.std.specs.Prelude.{◌≤◌};
+ghost use Rattle.std.specs.Prelude.{◌≤◌, ◌<◌};
 ghost use Rattle.serde_json.specs.Data.{depth};
 ghost use Rattle.serde_json.specs.View.{view};
 ghost use Rattle.schema_reading.specs.Plain.{deepest};
@@ -23,9 +23,21 @@ pub struct Walk<'r, 'i, 'p> {
     ghost shallow: { depth (view site.contents.now) ≤ deepest (documents_at site) },
 }
 
-/// What a step comes to: an answer, or the walk from where it leads.
+/// A walk that goes on at the names of an object, by a subschema of `propertyNames`.
+#[derive(Drop)]
+pub struct AtNames<'r, 'i, 'p> {
+    /// The walk to the keyword, at the object.
+    pub walk: Walk<'r, 'i, 'p>,
+    pub schema: &'r Value,
+    /// What is left of the path of the evaluation behind the keyword.
+    pub evaluation: Option<&'p str>,
+    ghost inside: { depth (view schema.now) < depth (view walk.site.contents.now) },
+}
+
+/// What a step comes to: an answer, the walk from where it leads, or one at each of several names.
 #[derive(Drop)]
 pub enum Step<'r, 'i, 'p> {
     Answered(bool),
     On(Walk<'r, 'i, 'p>),
+    Named(AtNames<'r, 'i, 'p>),
 }

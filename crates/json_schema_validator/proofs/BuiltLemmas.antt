@@ -1,29 +1,56 @@
 -- Validators built of documents that were prepared for them alone.
-use Rattle.std.proofs.Common.{◌≡◌, ◌⊎◌, inr, ℕ, List, Result, Ok, Err, IfOk, IfErr}
+use Rattle.std.proofs.Common.{◌≡◌, ◌⊎◌, inr, ℕ, List, [], Bool, Option, Result, Ok, Err, IfOk, IfErr, subst}
 use Rattle.serde_json.specs.Data.{Data}
 use Rattle.schema_documents.specs.Lookup.{Target}
 use Rattle.given_documents.specs.Given.{Given}
 use Rattle.schema_roots.specs.Passed.{SchemaRegistry}
-use Rattle.schema_roots.specs.Roots.{Finds, root_on}
+use Rattle.schema_roots.specs.Roots.{Patterns, Finds, patterns_by, root_on}
 use Rattle.json_schema_validator.specs.Seen.{root_in}
 use Rattle.json_schema_validator.specs.Counted.{IsWithin}
 use Rattle.json_schema_validator.specs.Asked.{IsMet}
 use Rattle.json_schema_validator.specs.Prepared.{IsRegistry}
 use Rattle.json_schema_validator.specs.Refused.{RefusesPreparing, RefusesRoot}
 use Rattle.json_schema_validator.specs.Built.{IsBuilt, RefusesBuilding}
+use Rattle.json_schema_validator.specs.New.{AreDefault, alone, IsNew, Refuses}
 use Rattle.json_schema_validator.specs.declared.error.BuildError.{BuildError}
 use Rattle.json_schema_validator.specs.declared.options.ValidationOptions.{ValidationOptions}
 use Rattle.json_schema_validator.specs.declared.validator.Validator.{Validator}
 
-module _ {R : Type 0} (may_answer : R → List ℕ → Data → Type 0) (may_refuse : R → List ℕ → Type 0) (o : ValidationOptions R) (given : List Given) (reference : List ℕ)
+module _ {P R : Type 0} (p : Patterns) (may_answer : R → List ℕ → Data → Type 0) (may_refuse : R → List ℕ → Type 0) (o : ValidationOptions P R) (given : List Given) (reference : List ℕ)
     (r : SchemaRegistry) (prepared : IsRegistry may_answer may_refuse o given r) where
-  pub built_by : (x : Result Validator BuildError) → IfOk x (λ v. root_in v ≡ root_on r reference) → IfOk x (λ v. IsWithin o.node_limit (root_in v))
-      → IfOk x (λ v. (target : Target) → Finds (root_in v) target → IsMet o.node_limit r.parent target)
-      → IfOk x (IsBuilt may_answer may_refuse o given reference)
+  pub built_by : {M : Type 0} (x : Result (Validator M) BuildError) → IfOk x (λ v. root_in v ≡ root_on r reference) → IfOk x (λ v. IsWithin p o.node_limit (root_in v))
+      → IfOk x (λ v. (target : Target) → Finds (root_in v) target → IsMet p o.node_limit r.parent target)
+      → IfOk x (IsBuilt p may_answer may_refuse o given reference)
   built_by (Ok v) is within met = record { registry = r; prepared = prepared; root = is; within = within; met = met }
   built_by (Err e) is within met = tt
 
-  pub building_refused : (x : Result Validator BuildError) → IfErr x (RefusesRoot o.node_limit r (root_on r reference))
-      → IfErr x (λ e. RefusesPreparing may_answer may_refuse o given e ⊎ RefusesBuilding may_answer may_refuse o given reference e)
+  pub building_refused : {T : Type 0} (x : Result T BuildError) → IfErr x (RefusesRoot p o.node_limit r (root_on r reference))
+      → IfErr x (λ e. RefusesPreparing may_answer may_refuse o given e ⊎ RefusesBuilding p may_answer may_refuse o given reference e)
   building_refused (Ok v) why = tt
   building_refused (Err e) why = inr (record { registry = r; prepared = prepared; refused = why })
+
+-- a validator of one schema, by the options that stand until it is said otherwise
+module _ {P R : Type 0} (makes : P → List ℕ → Bool) (finished : P → List ℕ → List ℕ → Option Bool) (may_answer : R → List ℕ → Data → Type 0) (may_refuse : R → List ℕ → Type 0)
+    (o : ValidationOptions P R) (maker : P) (d : Data) (given : List Given) (default : AreDefault o) (is_maker : o.maker ≡ maker) (is : given ≡ alone d) where
+  pub new_by : {M : Type 0} (x : Result (Validator M) BuildError) → IfOk x (IsBuilt (patterns_by makes finished o.maker) may_answer may_refuse o given [])
+      → IfOk x (IsNew (patterns_by makes finished maker) may_answer may_refuse maker d)
+  new_by (Ok v) built = record {
+    options = o;
+    default = default;
+    is_maker = is_maker;
+    built = subst (λ (m : P). IsBuilt (patterns_by makes finished m) may_answer may_refuse o (alone d) [] v) is_maker
+        (subst (λ (g : List Given). IsBuilt (patterns_by makes finished o.maker) may_answer may_refuse o g [] v) is built);
+  }
+  new_by (Err e) built = tt
+
+  pub new_refused : {T : Type 0} (x : Result T BuildError)
+      → IfErr x (λ e. RefusesPreparing may_answer may_refuse o given e ⊎ RefusesBuilding (patterns_by makes finished o.maker) may_answer may_refuse o given [] e)
+      → IfErr x (Refuses (patterns_by makes finished maker) may_answer may_refuse maker d)
+  new_refused (Ok y) why = tt
+  new_refused (Err e) why = inr (inr (record {
+    options = o;
+    default = default;
+    is_maker = is_maker;
+    refused = subst (λ (m : P). RefusesPreparing may_answer may_refuse o (alone d) e ⊎ RefusesBuilding (patterns_by makes finished m) may_answer may_refuse o (alone d) [] e) is_maker
+        (subst (λ (g : List Given). RefusesPreparing may_answer may_refuse o g e ⊎ RefusesBuilding (patterns_by makes finished o.maker) may_answer may_refuse o g [] e) is why);
+  }))

@@ -1,9 +1,12 @@
 -- Documents for which nothing is retrieved.
-use Rattle.std.proofs.Common.{◌≡◌, ◌∙◌, ℕ, List, Option, Some, None, ap}
+use Rattle.std.proofs.Common.{◌≡◌, ◌∙◌, ◌⊎◌, inl, inr, ℕ, List, Option, Some, None, Result, Ok, Err, IfErr, IsErrAnd, ap, sym, subst}
 use Rattle.schema_drafts.specs.declared.draft.Draft.{Draft}
 use Rattle.schema_documents.specs.Bearers.{Document}
-use Rattle.given_documents.specs.Given.{Given}
-use Rattle.schema_roots.specs.Passed.{Asking, AnswersNothing, SharedRegistry, SchemaRegistry, IsPrepared, beside, documents_in_registry}
+use Rattle.given_documents.specs.Given.{Given, documents_by}
+use Rattle.referencing_errors.specs.Causes.{IsMemory}
+use Rattle.referencing_errors.specs.declared.error.Error as reference
+use Rattle.schema_roots.specs.Passed.{Asking, AnswersNothing, SharedRegistry, SchemaRegistry, RefusesRegistry, IsPrepared, beside, documents_in_registry, documents_shared, retrieved_shared}
+use Rattle.json_schema_validator.specs.Refused.{RefusesGiven}
 use Rattle.json_schema_validator.specs.Prepared.{AreMetaSchemas, AreDocuments, own_documents, documents_alone}
 
 alone_in : (a : Asking) (limit : ℕ) (draft : Draft) (metas : Option (List Given)) (parent : Option SharedRegistry) (given : List Given) (documents : List Document) (uris : List (List ℕ))
@@ -17,3 +20,14 @@ alone_in a limit draft (Some metas) (Some p) given documents uris nothing first 
 pub documents_stay_alone : (a : Asking) (limit : ℕ) (draft : Draft) (metas : Option (List Given)) (given : List Given) (r : SchemaRegistry)
     → AnswersNothing a → AreDocuments a limit draft metas given r → documents_in_registry r ≡ documents_alone metas draft given
 documents_stay_alone a limit draft metas given r nothing are = alone_in a limit draft metas r.parent given _ _ nothing are.parent are.own
+
+-- documents that are refused beside those of the meta-schemas
+pub refused_beside : {T : Type 0} (a : Asking) (limit : ℕ) (draft : Draft) (metas given : List Given) (parent : SharedRegistry) (e : reference.Error)
+    → IsPrepared a limit (documents_by draft metas) (documents_shared parent) (retrieved_shared parent) → RefusesRegistry a limit (beside (documents_shared parent) draft given) e
+    → (x : Result T reference.Error) → IsErrAnd x (λ y. y ≡ e) → IfErr x (λ y. IsMemory y ⊎ RefusesGiven a limit draft (Some metas) given y)
+refused_beside a limit draft metas given parent e prepared h (Ok y) is = tt
+refused_beside a limit draft metas given parent e prepared h (Err y) is =
+    subst (λ (z : reference.Error). IsMemory z ⊎ RefusesGiven a limit draft (Some metas) given z) (sym is) (elim h [
+      | inl m ↦ inl m
+      | inr r ↦ inr (inr (record { parent = documents_shared parent; uris = retrieved_shared parent; gathered = prepared.gathered; refused = r }))
+    ])

@@ -1,6 +1,5 @@
 -- Meta-schemas that are asked: the one that a root's `$schema` names, or that of its draft, where it was handed in (Core 8.1.1).
-use Rattle.std.specs.Prelude.{◌≡◌, ℕ, List, [], ◌∷◌, true, false, codes, Option, Some, None, option_and_then}
-use Rattle.serde_json.specs.Data.{Data}
+use Rattle.std.specs.Prelude.{◌≡◌, ℕ, List, true, false, codes, Option, Some, None, option_and_then}
 use Rattle.schema_drafts.specs.declared.draft.Draft.{Draft}
 use Rattle.schema_drafts.specs.declared.draft.Draft.TheVariants.{Draft4, Draft6, Draft7, Draft201909, Draft202012, Unknown}
 use Rattle.schema_documents.specs.Words.{or_else, has_text}
@@ -9,7 +8,7 @@ use Rattle.schema_documents.specs.Lookup.{Target}
 use Rattle.schema_documents.specs.Places.{schema_in_force, meta_schema_uri}
 use Rattle.schema_meaning.specs.Readings.{verdicts}
 use Rattle.schema_roots.specs.Passed.{SharedRegistry, documents_shared, retrieved_shared}
-use Rattle.schema_roots.specs.Roots.{Root, Finds, IsSound}
+use Rattle.schema_roots.specs.Roots.{Root, Patterns, Finds, IsSound}
 use Rattle.schema_roots.specs.Answers.{IsAnswer}
 use Rattle.json_schema_validator.specs.Counted.{IsWithin}
 use Rattle.json_schema_validator.specs.Seen.{root_of}
@@ -45,10 +44,11 @@ pub record IsAsked (p : SharedRegistry) (t : Target) (uri : List ℕ) : Type 0 w
   pub handed_in : IsHandedIn p uri
 
 -- the meta-schema of a root, where it is asked, may be read, reaches no more compile keys than the limit, and accepts the root's value
-abbrev pub IsMetIn : ℕ → SharedRegistry → Target → Type 0
-IsMetIn limit p t = (uri : List ℕ) → IsAsked p t uri → IsSound (meta_root p uri) × IsWithin limit (meta_root p uri) × IsAnswer verdicts (meta_root p uri) t.contents true
+abbrev pub IsMetIn : Patterns → ℕ → SharedRegistry → Target → Type 0
+IsMetIn p limit parent t = (uri : List ℕ) → IsAsked parent t uri
+    → IsSound p (meta_root parent uri) × IsWithin p limit (meta_root parent uri) × IsAnswer verdicts p (meta_root parent uri) t.contents true
 
 -- the same where meta-schemas were handed in
-abbrev pub IsMet : ℕ → Option SharedRegistry → Target → Type 0
-IsMet limit None t = Unit {0}
-IsMet limit (Some p) t = IsMetIn limit p t
+abbrev pub IsMet : Patterns → ℕ → Option SharedRegistry → Target → Type 0
+IsMet p limit None t = Unit {0}
+IsMet p limit (Some parent) t = IsMetIn p limit parent t

@@ -4,7 +4,7 @@ use Rattle.serde_json.specs.Data.{Data}
 use Rattle.schema_documents.specs.Lookup.{Target}
 use Rattle.given_documents.specs.Given.{Given}
 use Rattle.schema_roots.specs.Passed.{SchemaRegistry}
-use Rattle.schema_roots.specs.Roots.{Finds, root_on}
+use Rattle.schema_roots.specs.Roots.{Patterns, Finds, root_on}
 use Rattle.json_schema_validator.specs.Seen.{root_in}
 use Rattle.json_schema_validator.specs.Counted.{IsWithin}
 use Rattle.json_schema_validator.specs.Asked.{IsMet}
@@ -15,15 +15,15 @@ use Rattle.json_schema_validator.specs.declared.options.ValidationOptions.{Valid
 use Rattle.json_schema_validator.specs.declared.validator.Validator.{Validator}
 
 -- on the registry of the documents, no more compile keys than the limit are reached, and the root's meta-schema accepts it
-pub record IsBuilt {R : Type 0} (may_answer : R → List ℕ → Data → Type 0) (may_refuse : R → List ℕ → Type 0) (o : ValidationOptions R) (given : List Given) (reference : List ℕ) (v : Validator) : Type 0 where
+pub record IsBuilt {P R M : Type 0} (p : Patterns) (may_answer : R → List ℕ → Data → Type 0) (may_refuse : R → List ℕ → Type 0) (o : ValidationOptions P R) (given : List Given) (reference : List ℕ) (v : Validator M) : Type 0 where
   pub registry : SchemaRegistry
   pub prepared : IsRegistry may_answer may_refuse o given registry
   pub root : root_in v ≡ root_on registry reference
-  pub within : IsWithin o.node_limit (root_in v)
-  pub met : (target : Target) → Finds (root_in v) target → IsMet o.node_limit registry.parent target
+  pub within : IsWithin p o.node_limit (root_in v)
+  pub met : (target : Target) → Finds (root_in v) target → IsMet p o.node_limit registry.parent target
 
 -- the documents were prepared, and the root is refused
-pub record RefusesBuilding {R : Type 0} (may_answer : R → List ℕ → Data → Type 0) (may_refuse : R → List ℕ → Type 0) (o : ValidationOptions R) (given : List Given) (reference : List ℕ) (e : BuildError) : Type 0 where
+pub record RefusesBuilding {P R : Type 0} (p : Patterns) (may_answer : R → List ℕ → Data → Type 0) (may_refuse : R → List ℕ → Type 0) (o : ValidationOptions P R) (given : List Given) (reference : List ℕ) (e : BuildError) : Type 0 where
   pub registry : SchemaRegistry
   pub prepared : IsRegistry may_answer may_refuse o given registry
-  pub refused : RefusesRoot o.node_limit registry (root_on registry reference) e
+  pub refused : RefusesRoot p o.node_limit registry (root_on registry reference) e

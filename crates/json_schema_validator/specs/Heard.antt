@@ -9,13 +9,17 @@ use Rattle.schema_reports.specs.Told.{fault_of}
 use Rattle.schema_reports.specs.declared.error.ValidationError.{ValidationError}
 use Rattle.schema_reports.specs.declared.observer.Observation.{Observation}
 use Rattle.schema_reports.specs.declared.observer.Observer.{Observer}
-use Rattle.schema_roots.specs.Roots.{Root, Finds}
-use Rattle.schema_roots.specs.Answers.{cut_at}
+use Rattle.schema_roots.specs.Roots.{Root, Patterns, Finds}
+use Rattle.schema_roots.specs.Answers.{Finish, cut_at}
 
--- the faults of the cut reading, from the root on
-pub record HearsCut (r : Root) (d : Data) (old new : Observer) : Type 0 where
-  pub hears : (makes : List ℕ → Bool) (matches : List ℕ → List ℕ → Bool) (target : Target) → Finds r target
-      → (kept : Observation) (fs : Faults) → Hears kept old fs → Hears kept new (joined fs (cut_at bags r makes matches target d))
+-- the faults of the cut reading, from the root on, where the matches finish
+pub record HearsCut (p : Patterns) (r : Root) (d : Data) (old new : Observer) : Type 0 where
+  pub hears : (matches : List ℕ → List ℕ → Bool) (target : Target) → Finds r target → Finish p r matches target d
+      → (kept : Observation) (fs : Faults) → Hears kept old fs → Hears kept new (joined fs (cut_at bags p r matches target d))
+
+-- an observer keeps what it kept: it cannot be that it heard of no faults that it would keep so
+pub record StillKeeps (old new : Observer) : Type 0 where
+  pub keeps : (kept : Observation) → Hears kept old none → ((fs : Faults) → Hears kept new fs → ⊥) → ⊥
 
 -- one of the faults is said, or there are none
 abbrev pub SaysOne : {T : Type 0} → Result T ValidationError → Faults → Type 0

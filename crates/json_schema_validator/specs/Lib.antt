@@ -1,4 +1,5 @@
 pub mod Seen
+pub mod Made
 pub mod Heard
 pub mod Counted
 pub mod Asked
@@ -7,3 +8,4 @@ pub mod Refused
 pub mod Built
 pub mod Joined
 pub mod New
+pub mod Passed

@@ -5,7 +5,7 @@ use Rattle.schema_drafts.specs.Drafts.{newest}
 use Rattle.given_documents.specs.Given.{Given}
 use Rattle.schema_roots.specs.Passed.{given_under, RefusesValue, DocumentError}
 use Rattle.schema_roots.specs.Passed as document
-use Rattle.json_schema_validator.specs.Prepared.{IsRegistry}
+use Rattle.schema_roots.specs.Roots.{Patterns}
 use Rattle.json_schema_validator.specs.Refused.{RefusesPreparing}
 use Rattle.json_schema_validator.specs.Built.{IsBuilt, RefusesBuilding}
 use Rattle.json_schema_validator.specs.declared.error.BuildError.{BuildError}
@@ -14,7 +14,7 @@ use Rattle.json_schema_validator.specs.declared.options.ValidationOptions.{Valid
 use Rattle.json_schema_validator.specs.declared.validator.Validator.{Validator}
 
 -- the newest draft, the base of schemas that have none, at most 256 documents retrieved, at most 65,536 compile keys, and no meta-schemas
-pub record AreDefault {R : Type 0} (o : ValidationOptions R) : Type 0 where
+pub record AreDefault {P R : Type 0} (o : ValidationOptions P R) : Type 0 where
   pub draft : o.draft ≡ newest
   pub base : o.base ≡ codes "json-schema:///"
   pub limit : o.limit ≡ 256
@@ -25,11 +25,12 @@ pub record AreDefault {R : Type 0} (o : ValidationOptions R) : Type 0 where
 abbrev pub alone : Data → List Given
 alone d = given_under [] d ∷ []
 
--- the validator at its root
-pub record IsNew {R : Type 0} (may_answer : R → List ℕ → Data → Type 0) (may_refuse : R → List ℕ → Type 0) (d : Data) (v : Validator) : Type 0 where
-  pub options : ValidationOptions R
+-- the validator at its root, by the maker
+pub record IsNew {P R M : Type 0} (p : Patterns) (may_answer : R → List ℕ → Data → Type 0) (may_refuse : R → List ℕ → Type 0) (maker : P) (d : Data) (v : Validator M) : Type 0 where
+  pub options : ValidationOptions P R
   pub default : AreDefault options
-  pub built : IsBuilt may_answer may_refuse options (alone d) [] v
+  pub is_maker : options.maker ≡ maker
+  pub built : IsBuilt p may_answer may_refuse options (alone d) [] v
 
 -- the error that one of a document becomes
 abbrev pub IsOfDocument : DocumentError → BuildError → Type 0
@@ -41,11 +42,12 @@ pub record RefusesAlone (d : Data) (b : BuildError) : Type 0 where
   pub refused : RefusesValue [] d cause
   pub told : IsOfDocument cause b
 
-pub record RefusesNew {R : Type 0} (may_answer : R → List ℕ → Data → Type 0) (may_refuse : R → List ℕ → Type 0) (d : Data) (b : BuildError) : Type 0 where
-  pub options : ValidationOptions R
+pub record RefusesNew {P R : Type 0} (p : Patterns) (may_answer : R → List ℕ → Data → Type 0) (may_refuse : R → List ℕ → Type 0) (maker : P) (d : Data) (b : BuildError) : Type 0 where
+  pub options : ValidationOptions P R
   pub default : AreDefault options
-  pub refused : RefusesPreparing may_answer may_refuse options (alone d) b ⊎ RefusesBuilding may_answer may_refuse options (alone d) [] b
+  pub is_maker : options.maker ≡ maker
+  pub refused : RefusesPreparing may_answer may_refuse options (alone d) b ⊎ RefusesBuilding p may_answer may_refuse options (alone d) [] b
 
 -- want of memory, a schema that is no document, or one that is refused
-abbrev pub Refuses : {R : Type 0} → (R → List ℕ → Data → Type 0) → (R → List ℕ → Type 0) → Data → BuildError → Type 0
-Refuses may_answer may_refuse d b = (b ≡ error.Memory) ⊎ (RefusesAlone d b ⊎ RefusesNew may_answer may_refuse d b)
+abbrev pub Refuses : {P R : Type 0} → Patterns → (R → List ℕ → Data → Type 0) → (R → List ℕ → Type 0) → P → Data → BuildError → Type 0
+Refuses p may_answer may_refuse maker d b = (b ≡ error.Memory) ⊎ (RefusesAlone d b ⊎ RefusesNew p may_answer may_refuse maker d b)

@@ -8,10 +8,10 @@ use Rattle.schema_roots.specs.Passed.{Asking, asking, SharedRegistry, SchemaRegi
 use Rattle.json_schema_validator.specs.declared.options.ValidationOptions.{ValidationOptions}
 
 -- the retriever of the options is asked for values with whole numbers alone
-abbrev pub asking_by : {R : Type 0} → (R → List ℕ → Data → Type 0) → (R → List ℕ → Type 0) → ValidationOptions R → Asking
+abbrev pub asking_by : {P R : Type 0} → (R → List ℕ → Data → Type 0) → (R → List ℕ → Type 0) → ValidationOptions P R → Asking
 asking_by may_answer may_refuse o = asking (may_answer_whole may_answer) (may_refuse_whole may_answer may_refuse) o.retriever o.draft
 
-abbrev pub meta_schemas_given : {R : Type 0} → ValidationOptions R → Option (List Given)
+abbrev pub meta_schemas_given : {P R : Type 0} → ValidationOptions P R → Option (List Given)
 meta_schemas_given o = option_map documents_given o.meta_schemas
 
 -- the registry of the meta-schemas is prepared first, by itself
@@ -30,7 +30,7 @@ pub record AreDocuments (a : Asking) (limit : ℕ) (draft : Draft) (metas : Opti
   pub parent : AreMetaSchemas a limit draft metas r.parent
   pub own : IsPrepared a limit (own_documents r.parent draft given) (documents_in_registry r) (retrieved_shared r.own)
 
-pub record IsRegistry {R : Type 0} (may_answer : R → List ℕ → Data → Type 0) (may_refuse : R → List ℕ → Type 0) (o : ValidationOptions R) (given : List Given) (r : SchemaRegistry) : Type 0 where
+pub record IsRegistry {P R : Type 0} (may_answer : R → List ℕ → Data → Type 0) (may_refuse : R → List ℕ → Type 0) (o : ValidationOptions P R) (given : List Given) (r : SchemaRegistry) : Type 0 where
   pub documents : AreDocuments (asking_by may_answer may_refuse o) o.limit o.draft (meta_schemas_given o) given r
   pub base : r.base ≡ o.base
 

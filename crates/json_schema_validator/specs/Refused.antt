@@ -1,5 +1,5 @@
 -- Which error comes when. Each but want of memory names a cause.
-use Rattle.std.specs.Prelude.{◌≡◌, ◌⊎◌, ℕ, List, [], ◌∷◌, Bool, Option, Some, None, Err, string_bytes}
+use Rattle.std.specs.Prelude.{◌≡◌, ◌⊎◌, ℕ, List, Option, Some, None, Err, string_bytes}
 use Rattle.serde_json.specs.Data.{Data}
 use Rattle.schema_drafts.specs.declared.draft.Draft.{Draft}
 use Rattle.schema_meaning.specs.Faults.{Fault, instance_path, evaluation_path}
@@ -7,13 +7,14 @@ use Rattle.schema_documents.specs.Bearers.{Document}
 use Rattle.schema_documents.specs.Lookup.{Target, LookupCause, lookup}
 use Rattle.schema_reading.specs.PathTexts.{path_text}
 use Rattle.schema_reading.specs.Sites.{root_site}
-use Rattle.unread_keywords.specs.NotYet.{Cause, IsBuildCause}
+use Rattle.schema_reading.specs.Rows as rows
+use Rattle.schema_reading.specs.BuildCauses.{IsCauseOf}
 use Rattle.given_documents.specs.Given.{Given, documents_by}
 use Rattle.referencing_errors.specs.Causes.{IsMemory, NamesLookup}
 use Rattle.referencing_errors.specs.declared.error.Error as reference
-use Rattle.reached_sites.specs.Causes.{NamesCause, IsExceeded}
+use Rattle.fault_checks.specs.Passed.{NamesCause, IsExceeded}
 use Rattle.schema_roots.specs.Passed.{Asking, IsGathered, Stops, HasCause, SharedRegistry, SchemaRegistry, beside}
-use Rattle.schema_roots.specs.Roots.{Root, Finds, IsSound}
+use Rattle.schema_roots.specs.Roots.{Root, Patterns, Finds, IsSound}
 use Rattle.schema_roots.specs.Answers.{IsFault}
 use Rattle.json_schema_validator.specs.Asked.{IsAsked, meta_root}
 use Rattle.json_schema_validator.specs.Prepared.{asking_by, meta_schemas_given}
@@ -38,7 +39,7 @@ abbrev pub RefusesGiven : Asking → ℕ → Draft → Option (List Given) → L
 RefusesGiven a limit draft None given e = RefusesDocuments a limit (documents_by draft given) e
 RefusesGiven a limit draft (Some metas) given e = RefusesDocuments a limit (documents_by draft metas) e ⊎ RefusesBeside a limit draft metas given e
 
-abbrev pub RefusesPreparing : {R : Type 0} → (R → List ℕ → Data → Type 0) → (R → List ℕ → Type 0) → ValidationOptions R → List Given → BuildError → Type 0
+abbrev pub RefusesPreparing : {P R : Type 0} → (R → List ℕ → Data → Type 0) → (R → List ℕ → Type 0) → ValidationOptions P R → List Given → BuildError → Type 0
 RefusesPreparing may_answer may_refuse o given (error.Document e) = ⊥
 RefusesPreparing may_answer may_refuse o given (error.Registry e) = RefusesGiven (asking_by may_answer may_refuse o) o.limit o.draft (meta_schemas_given o) given e
 RefusesPreparing may_answer may_refuse o given (error.Root e) = ⊥
@@ -53,15 +54,15 @@ IsOfRegistry e b = (IsMemory e × (b ≡ error.Memory)) ⊎ ((IsMemory e → ⊥
 -- ---- roots
 
 -- a root is refused because its reference leads nowhere, for a cause at what is reached from it, or because that is too much
-abbrev pub RefusesBuild : ℕ → Root → BuildError → Type 0
-RefusesBuild limit r (error.Document e) = ⊥
-RefusesBuild limit r (error.Registry e) = ⊥
-RefusesBuild limit r (error.Root e) = (cause : LookupCause) × (lookup r.documents r.base r.reference ≡ Err cause) × NamesLookup cause e
-RefusesBuild limit r (error.Schema e) =
+abbrev pub RefusesBuild : Patterns → ℕ → Root → BuildError → Type 0
+RefusesBuild p limit r (error.Document e) = ⊥
+RefusesBuild p limit r (error.Registry e) = ⊥
+RefusesBuild p limit r (error.Root e) = (cause : LookupCause) × (lookup r.documents r.base r.reference ≡ Err cause) × NamesLookup cause e
+RefusesBuild p limit r (error.Schema e) =
     (target : Target) × Finds r target
-    × (IsExceeded r.documents (root_site target) limit e ⊎ ((cause : Cause) × NamesCause cause e × ((makes : List ℕ → Bool) → IsBuildCause r.documents makes (root_site target) cause)))
-RefusesBuild limit r (error.MetaSchema i e) = ⊥
-RefusesBuild limit r error.Memory = Unit {0}
+    × (IsExceeded r.documents p.makes (root_site target) limit e ⊎ ((cause : rows.BuildCause) × NamesCause cause e × IsCauseOf r.documents p.makes (root_site target) cause))
+RefusesBuild p limit r (error.MetaSchema i e) = ⊥
+RefusesBuild p limit r error.Memory = Unit {0}
 
 -- ---- meta-schemas
 
@@ -79,28 +80,28 @@ TellsFault f (error.MetaSchema i e) = SpellsFault f (string_bytes i) (string_byt
 TellsFault f error.Memory = ⊥
 
 -- a meta-schema that may be read refuses the value, with this fault
-pub record RefusesValue (r : Root) (d : Data) (e : BuildError) : Type 0 where
-  pub sound : IsSound r
+pub record RefusesValue (p : Patterns) (r : Root) (d : Data) (e : BuildError) : Type 0 where
+  pub sound : IsSound p r
   pub fault : Fault
-  pub is_fault : IsFault r d fault
+  pub is_fault : IsFault p r d fault
   pub told : TellsFault fault e
 
 -- one that is asked may not be read, or refuses the value
-pub record RefusesAsked (limit : ℕ) (p : SharedRegistry) (t : Target) (e : BuildError) : Type 0 where
+pub record RefusesAsked (p : Patterns) (limit : ℕ) (parent : SharedRegistry) (t : Target) (e : BuildError) : Type 0 where
   pub uri : List ℕ
-  pub asked : IsAsked p t uri
-  pub why : RefusesBuild limit (meta_root p uri) e ⊎ RefusesValue (meta_root p uri) t.contents e
+  pub asked : IsAsked parent t uri
+  pub why : RefusesBuild p limit (meta_root parent uri) e ⊎ RefusesValue p (meta_root parent uri) t.contents e
 
-abbrev pub RefusesByMeta : ℕ → SharedRegistry → Target → BuildError → Type 0
-RefusesByMeta limit p t e = (e ≡ error.Memory) ⊎ RefusesAsked limit p t e
+abbrev pub RefusesByMeta : Patterns → ℕ → SharedRegistry → Target → BuildError → Type 0
+RefusesByMeta p limit parent t e = (e ≡ error.Memory) ⊎ RefusesAsked p limit parent t e
 
-pub record RefusesMeta (limit : ℕ) (r : SchemaRegistry) (root : Root) (e : BuildError) : Type 0 where
+pub record RefusesMeta (p : Patterns) (limit : ℕ) (r : SchemaRegistry) (root : Root) (e : BuildError) : Type 0 where
   pub parent : SharedRegistry
   pub is_parent : r.parent ≡ Some parent
   pub target : Target
   pub found : Finds root target
-  pub refused : RefusesByMeta limit parent target e
+  pub refused : RefusesByMeta p limit parent target e
 
 -- a root is refused for its own sake, or by its meta-schema
-abbrev pub RefusesRoot : ℕ → SchemaRegistry → Root → BuildError → Type 0
-RefusesRoot limit r root e = RefusesBuild limit root e ⊎ RefusesMeta limit r root e
+abbrev pub RefusesRoot : Patterns → ℕ → SchemaRegistry → Root → BuildError → Type 0
+RefusesRoot p limit r root e = RefusesBuild p limit root e ⊎ RefusesMeta p limit r root e

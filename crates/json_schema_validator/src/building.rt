@@ -3,32 +3,35 @@
 ghost use Rattle.std.specs.Prelude.{◌≡◌, IfOk, IfErr};
 ghost use Rattle.schema_documents.specs.Lookup.{Target};
 ghost use Rattle.schema_roots.specs.Passed.{documents_shared};
-ghost use Rattle.schema_roots.specs.Roots.{IsSound, Finds};
+ghost use Rattle.schema_roots.specs.Roots.{Finds, patterns_by};
 ghost use Rattle.json_schema_validator.specs.Counted.{IsWithin};
+ghost use Rattle.json_schema_validator.specs.Made.{IsMadeBy};
 ghost use Rattle.json_schema_validator.specs.Refused.{RefusesBuild};
 ghost use Rattle.json_schema_validator.specs.Seen.{root_in, root_of};
 
 use crate::error::BuildError;
 use crate::validator::Validator;
-use reached_sites::checking::check_reached;
+use fault_checks::check_reached;
+use schema_patterns::{PatternMaker, PatternMatcher};
 use schema_roots::SharedRegistry;
 use std::alloc::Global;
 use uri_references::uri::Uri;
 
-impl Validator {
+impl<M: PatternMatcher> Validator<M> {
     // A validator by the schema that a reference leads to, whether it has a meta-schema or not.
-    pub(crate) fn at(
+    pub(crate) fn at<P: PatternMaker<Matcher = M>>(
         alloc: Global,
         registry: &SharedRegistry,
         base: &Uri,
         root: &str,
+        maker: &P,
         node_limit: usize,
-    ) -> Result<Validator, BuildError>
+    ) -> Result<Validator<M>, BuildError>
         ensures root { IfOk result (λ v. root_in v ≡ root_of (documents_shared registry.now) base.now root.now) }
-        ensures sound { IfOk result (λ v. IsSound (root_in v)) }
+        ensures made { IfOk result (IsMadeBy M.finds (patterns_by P.makes P.finished maker.now)) }
         ensures draft { IfOk result (λ v. (target : Target) → Finds (root_in v) target → v.draft ≡ target.dialect.draft) }
-        ensures within { IfOk result (λ v. IsWithin node_limit (root_in v)) }
-        ensures refused { IfErr result (RefusesBuild node_limit (root_of (documents_shared registry.now) base.now root.now)) }
+        ensures within { IfOk result (λ v. IsWithin (patterns_by P.makes P.finished maker.now) node_limit (root_in v)) }
+        ensures refused { IfErr result (RefusesBuild (patterns_by P.makes P.finished maker.now) node_limit (root_of (documents_shared registry.now) base.now root.now)) }
     {
         let resolver = registry.registry().resolver(base.clone()?)?;
         let found = match resolver.lookup(root) {
@@ -37,15 +40,17 @@ impl Validator {
         };
         registry.documents_are_apart();
         registry.registry().names_rise();
-        if let Err(cause) = check_reached(alloc, &found, node_limit) {
-            return Err(BuildError::of_schema(cause));
-        }
+        let table = match check_reached(alloc, &found, maker, node_limit) {
+            Ok(table) => table,
+            Err(cause) => return Err(BuildError::of_schema(cause)),
+        };
         Ok(Validator {
             alloc,
             registry: registry.share()?,
             base: base.clone()?,
             root: String::from_str(alloc, root)?,
             draft: found.draft(),
+            table,
         })
     }
 }

@@ -5,13 +5,12 @@ ghost use Rattle.schema_documents.specs.Lookup.{Target, lookup};
 ghost use Rattle.schema_reading.specs.Sites.{root_site};
 ghost use Rattle.schema_reports.specs.Told.{fault_of};
 ghost use Rattle.referencing_errors.specs.Causes.{RefusesLookup};
-ghost use Rattle.reached_sites.specs.Causes as reached;
-ghost use Rattle.schema_roots.specs.Roots.{Root, Finds};
+ghost use Rattle.fault_checks.specs.Passed as reached;
+ghost use Rattle.schema_roots.specs.Roots.{Root, Patterns, Finds};
 ghost use Rattle.json_schema_validator.specs.Refused.{IsOfRegistry, RefusesBuild, TellsFault};
 ghost use Rattle.json_schema_validator.specs.New.{IsOfDocument};
 
-use reached_sites::Error as ReferenceError;
-use reached_sites::cause::BuildCause;
+use fault_checks::{BuildCause, Error as ReferenceError};
 use schema_reports::ValidationError;
 use schema_roots::DocumentError;
 use std::alloc::{AllocError, Global};
@@ -29,7 +28,7 @@ pub enum BuildError {
     /// The reference to the root leads nowhere.
     #[error(transparent)]
     Root(ReferenceError),
-    /// Something is wrong, or not there yet, at a schema that the root leads to, or it leads to more schemas than are allowed.
+    /// Something is wrong at a schema that the root leads to, or it leads to more schemas than are allowed.
     #[error(transparent)]
     Schema(BuildCause),
     /// The meta-schema of the root, which was handed in, refuses the root's value: the paths of one of its faults, as JSON Pointers.
@@ -76,7 +75,7 @@ impl BuildError {
 
     /// The error of a root that is not found.
     pub(crate) fn of_root(error: ReferenceError) -> BuildError
-        ensures { (limit : ℕ) (root : Root) → RefusesLookup (lookup root.documents root.base root.reference) error → RefusesBuild limit root result }
+        ensures { (p : Patterns) (limit : ℕ) (root : Root) → RefusesLookup (lookup root.documents root.base root.reference) error → RefusesBuild p limit root result }
     {
         match error {
             ReferenceError::Memory => BuildError::Memory,
@@ -86,7 +85,7 @@ impl BuildError {
 
     /// The error of a root that leads to a cause, or to too much.
     pub(crate) fn of_schema(cause: BuildCause) -> BuildError
-        ensures { (limit : ℕ) (root : Root) (target : Target) → Finds root target → reached.RefusesWithin root.documents (root_site target) limit cause → RefusesBuild limit root result }
+        ensures { (p : Patterns) (limit : ℕ) (root : Root) (target : Target) → Finds root target → reached.RefusesWithin root.documents p.makes (root_site target) limit cause → RefusesBuild p limit root result }
     {
         match cause {
             BuildCause::Memory => BuildError::Memory,

@@ -15,10 +15,10 @@ mod validator;
 pub use checking::check_error;
 pub use error::BuildError;
 pub use fault_checks::checking::{CheckAnswer, FaultPath, check_fault};
+pub use fault_checks::{BuildCause, Draft, Error, SchemaPlace, uri};
 pub use options::ValidationOptions;
-pub use reached_sites::cause::BuildCause;
-pub use reached_sites::place::SchemaPlace;
-pub use reached_sites::{Draft, Error, uri};
+pub use regex_patterns::{RegexMaker, RegexMatcher};
+pub use schema_patterns::{MatchAnswer, PatternError, PatternMaker, PatternMatcher};
 pub use schema_reports::{ErrorIterator, ValidationError, ValidationErrorKind};
 pub use schema_roots::{
     DefaultRetriever, DocumentError, Documents, MapRetriever, Retrieve, SchemaRegistry,

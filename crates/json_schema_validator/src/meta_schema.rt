@@ -3,17 +3,19 @@
 ghost use Rattle.std.specs.Prelude.{◌≡◌, IfOk, IfErr, OnOk, codes, option_map, false, true};
 ghost use Rattle.schema_documents.specs.Places as places;
 ghost use Rattle.schema_documents.specs.Words.{has_text};
-ghost use Rattle.reached_sites.specs.Passed.{target_in};
+ghost use Rattle.fault_checks.specs.Passed.{target_in};
 ghost use Rattle.schema_roots.specs.Passed.{retrieved_by};
+ghost use Rattle.schema_roots.specs.Roots.{patterns_by};
 ghost use Rattle.json_schema_validator.specs.Asked.{schema_of_draft, schema_text, meta_schema_of, IsHandedIn, IsMetIn};
 ghost use Rattle.json_schema_validator.specs.Refused.{RefusesByMeta};
 
 use crate::error::BuildError;
 use crate::validator::Validator;
-use referencing::{Error, Registry, Resolved};
+use fault_checks::{Error, Registry, Resolved};
 use schema_drafts::draft::Draft;
 use schema_identifiers::bases::resolved;
 use schema_identifiers::identifiers::schema_in_force;
+use schema_patterns::PatternMaker;
 use schema_roots::SharedRegistry;
 use std::alloc::{AllocError, Global};
 use uri_grammar::components::split_fragment;
@@ -94,20 +96,21 @@ fn is_handed_in(parent: &SharedRegistry, base: &Uri, uri: &str) -> Result<bool, 
 }
 
 /// Asks the meta-schema of a root whether it accepts the root's value: the one that its `$schema` names, or without one that of its
-/// draft, where it was handed in. It is read as a root of the meta-schemas alone, under the limit on compile keys, and is not asked about
-/// in turn.
+/// draft, where it was handed in. It is read as a root of the meta-schemas alone, by the same maker of patterns and under the limit on
+/// compile keys, and is not asked about in turn.
 ///
 /// # Errors
 ///
 /// Why the meta-schema is not read, one of its faults, or want of memory.
-pub(crate) fn ask_meta_schema(
+pub(crate) fn ask_meta_schema<P: PatternMaker>(
     alloc: Global,
     parent: &SharedRegistry,
     root: &Resolved<'_>,
+    maker: &P,
     node_limit: usize,
 ) -> Result<(), BuildError>
-    ensures accepted { OnOk result (IsMetIn node_limit parent.now (target_in root.now)) }
-    ensures refused { IfErr result (RefusesByMeta node_limit parent.now (target_in root.now)) }
+    ensures accepted { OnOk result (IsMetIn (patterns_by P.makes P.finished maker.now) node_limit parent.now (target_in root.now)) }
+    ensures refused { IfErr result (RefusesByMeta (patterns_by P.makes P.finished maker.now) node_limit parent.now (target_in root.now)) }
 {
     let base = base(alloc)?;
     let Some(uri) = uri_of(alloc, &base, root)? else {
@@ -116,7 +119,7 @@ pub(crate) fn ask_meta_schema(
     if !is_handed_in(parent, &base, uri.as_str())? {
         return Ok(());
     }
-    let meta_schema = Validator::at(alloc, parent, &base, uri.as_str(), node_limit)?;
+    let meta_schema = Validator::at(alloc, parent, &base, uri.as_str(), maker, node_limit)?;
     match meta_schema.validate(root.contents())? {
         Ok(()) => Ok(()),
         Err(error) => Err(BuildError::of_fault(alloc, &error)?),

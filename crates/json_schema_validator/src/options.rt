@@ -5,8 +5,9 @@ ghost use Rattle.schema_drafts.specs.Drafts as drafts;
 ghost use Rattle.schema_documents.specs.Lookup.{Target};
 ghost use Rattle.referencing_errors.specs.Causes.{IsMemory};
 ghost use Rattle.schema_roots.specs.Passed.{documents_given};
-ghost use Rattle.schema_roots.specs.Roots.{IsSound, Finds, root_on};
+ghost use Rattle.schema_roots.specs.Roots.{Finds, patterns_by, root_on};
 ghost use Rattle.json_schema_validator.specs.Counted.{IsWithin};
+ghost use Rattle.json_schema_validator.specs.Made.{IsMadeBy};
 ghost use Rattle.json_schema_validator.specs.Asked.{IsMet};
 ghost use Rattle.json_schema_validator.specs.Prepared.{asking_by, meta_schemas_given, AreDocuments, IsRegistry};
 ghost use Rattle.json_schema_validator.specs.Refused.{RefusesGiven, RefusesPreparing, RefusesRoot};
@@ -16,8 +17,10 @@ ghost use Rattle.json_schema_validator.specs.Seen.{root_in};
 use crate::error::BuildError;
 use crate::meta_schema::ask_meta_schema;
 use crate::validator::Validator;
-use reached_sites::Error;
+use fault_checks::Error;
+use regex_patterns::RegexMaker;
 use schema_drafts::draft::Draft;
+use schema_patterns::PatternMaker;
 use schema_roots::{
     DefaultRetriever, Documents, Retrieve, SchemaRegistry, SharedRegistry, WholeNumbers,
 };
@@ -35,10 +38,11 @@ const DEFAULT_NODE_LIMIT: usize = 65_536;
 
 /// How validators are built.
 #[derive(Drop)]
-pub struct ValidationOptions<R = DefaultRetriever> {
+pub struct ValidationOptions<P = RegexMaker, R = DefaultRetriever> {
     alloc: Global,
     draft: Draft,
     base: Uri,
+    maker: P,
     retriever: WholeNumbers<R>,
     limit: u64,
     node_limit: usize,
@@ -46,8 +50,8 @@ pub struct ValidationOptions<R = DefaultRetriever> {
 }
 
 impl ValidationOptions {
-    /// The newest draft, the base URI `json-schema:///`, nobody who is asked, at most 256 documents retrieved, at most 65,536
-    /// compile keys, and no meta-schemas.
+    /// The newest draft, the base URI `json-schema:///`, the patterns that `regex` reads, nobody who is asked, at most 256 documents
+    /// retrieved, at most 65,536 compile keys, and no meta-schemas.
     ///
     /// # Errors
     ///
@@ -64,6 +68,7 @@ impl ValidationOptions {
                 alloc,
                 draft: Draft::default(),
                 base,
+                maker: RegexMaker,
                 retriever: WholeNumbers::new(DefaultRetriever),
                 limit: DEFAULT_LIMIT,
                 node_limit: DEFAULT_NODE_LIMIT,
@@ -75,35 +80,36 @@ impl ValidationOptions {
 }
 
 // Asks the meta-schema of the root that a reference leads to, where meta-schemas were handed in.
-fn meet(
+fn meet<P: PatternMaker>(
     alloc: Global,
     registry: &SchemaRegistry,
     root: &str,
+    maker: &P,
     node_limit: usize,
 ) -> Result<(), BuildError>
-    ensures met { OnOk result ((target : Target) → Finds (root_on registry.now root.now) target → IsMet node_limit registry.now.parent target) }
-    ensures refused { IfErr result (RefusesRoot node_limit registry.now (root_on registry.now root.now)) }
+    ensures met { OnOk result ((target : Target) → Finds (root_on registry.now root.now) target → IsMet (patterns_by P.makes P.finished maker.now) node_limit registry.now.parent target) }
+    ensures refused { IfErr result (RefusesRoot (patterns_by P.makes P.finished maker.now) node_limit registry.now (root_on registry.now root.now)) }
 {
     let Some(parent) = registry.parent() else {
         return Ok(());
     };
     let resolver = registry.registry().resolver(registry.base().clone()?)?;
     match resolver.lookup(root) {
-        Ok(found) => ask_meta_schema(alloc, parent, &found, node_limit),
+        Ok(found) => ask_meta_schema(alloc, parent, &found, maker, node_limit),
         Err(error) => Err(BuildError::of_root(error)),
     }
 }
 
-impl<R: Drop> ValidationOptions<R> {
+impl<P: Drop, R: Drop> ValidationOptions<P, R> {
     /// Sets the draft of the documents that name none, the meta-schemas among them.
-    pub fn with_draft(self, draft: Draft) -> ValidationOptions<R>
+    pub fn with_draft(self, draft: Draft) -> ValidationOptions<P, R>
         ensures { result ≡ record self { draft = draft } }
     {
         ValidationOptions { draft, ..self }
     }
 
     /// Sets the URI that references to roots are resolved against.
-    pub fn with_base(self, base: Uri) -> ValidationOptions<R>
+    pub fn with_base(self, base: Uri) -> ValidationOptions<P, R>
         ensures { result ≡ record self { base = base } }
     {
         ValidationOptions { base, ..self }
@@ -111,7 +117,7 @@ impl<R: Drop> ValidationOptions<R> {
 
     /// Sets the meta-schemas: a root is then refused where its own is among them and refuses its value. They are at hand for each
     /// document's `$schema` and `$ref` besides.
-    pub fn with_meta_schemas(self, documents: Documents) -> ValidationOptions<R>
+    pub fn with_meta_schemas(self, documents: Documents) -> ValidationOptions<P, R>
         ensures { result ≡ record self { meta_schemas = Some documents } }
     {
         ValidationOptions {
@@ -121,7 +127,7 @@ impl<R: Drop> ValidationOptions<R> {
     }
 
     /// Sets how many documents are retrieved at most, for the meta-schemas and then anew for the documents.
-    pub fn with_retrieval_limit(self, limit: u64) -> ValidationOptions<R>
+    pub fn with_retrieval_limit(self, limit: u64) -> ValidationOptions<P, R>
         ensures { result ≡ record self { limit = limit } }
     {
         ValidationOptions { limit, ..self }
@@ -129,16 +135,39 @@ impl<R: Drop> ValidationOptions<R> {
 
     /// Sets how many compile keys are reached at most from a root, and from its meta-schema where that is asked: a schema counts once for
     /// each base, dialect, scope key and schema path with which it is reached.
-    pub fn with_node_limit(self, node_limit: usize) -> ValidationOptions<R>
+    pub fn with_node_limit(self, node_limit: usize) -> ValidationOptions<P, R>
         ensures { result ≡ record self { node_limit = node_limit } }
     {
         ValidationOptions { node_limit, ..self }
     }
 
-    /// Sets whom the documents that are wanted are asked of. An answer with a number that is no whole number of 64 bits counts as refused.
-    pub fn with_retriever<T: Retrieve>(self, retriever: T) -> ValidationOptions<T>
+    /// Sets what makes the matchers of patterns. The literal forms of patterns never go to it.
+    pub fn with_pattern_maker<Q: PatternMaker>(self, maker: Q) -> ValidationOptions<Q, R>
         ensures draft { result.draft ≡ self.draft }
         ensures base { result.base ≡ self.base }
+        ensures maker { result.maker ≡ maker }
+        ensures retriever { result.retriever ≡ self.retriever }
+        ensures limit { result.limit ≡ self.limit }
+        ensures node_limit { result.node_limit ≡ self.node_limit }
+        ensures meta_schemas { result.meta_schemas ≡ self.meta_schemas }
+    {
+        ValidationOptions {
+            alloc: self.alloc,
+            draft: self.draft,
+            base: self.base,
+            maker,
+            retriever: self.retriever,
+            limit: self.limit,
+            node_limit: self.node_limit,
+            meta_schemas: self.meta_schemas,
+        }
+    }
+
+    /// Sets whom the documents that are wanted are asked of. An answer with a number that is no whole number of 64 bits counts as refused.
+    pub fn with_retriever<T: Retrieve>(self, retriever: T) -> ValidationOptions<P, T>
+        ensures draft { result.draft ≡ self.draft }
+        ensures base { result.base ≡ self.base }
+        ensures maker { result.maker ≡ self.maker }
         ensures retriever { result.retriever.retriever ≡ retriever }
         ensures limit { result.limit ≡ self.limit }
         ensures node_limit { result.node_limit ≡ self.node_limit }
@@ -148,38 +177,53 @@ impl<R: Drop> ValidationOptions<R> {
             alloc: self.alloc,
             draft: self.draft,
             base: self.base,
+            maker: self.maker,
             retriever: WholeNumbers::new(retriever),
             limit: self.limit,
             node_limit: self.node_limit,
             meta_schemas: self.meta_schemas,
         }
     }
+}
 
+impl<P: PatternMaker + Drop, R: Drop> ValidationOptions<P, R> {
     /// A validator by the schema that a reference leads to, against the registry's base. Where meta-schemas were handed in, that of the
     /// root is asked. No document is retrieved.
     ///
-    /// It walks what is reached from there once. The registry is shared.
+    /// It walks what is reached from there once, and makes each pattern there once. The registry is shared.
     ///
     /// # Errors
     ///
-    /// Where the reference leads nowhere, where something is wrong at a schema reached from there or is not read yet, where more compile keys
-    /// are reached than the limit, where the root's meta-schema refuses its value or is not read for such a reason, or want of memory.
-    pub fn build_on(&self, registry: &SchemaRegistry, root: &str) -> Result<Validator, BuildError>
+    /// Where the reference leads nowhere, where something is wrong at a schema reached from there, a pattern that the maker refuses among
+    /// it, where more compile keys are reached than the limit, where the root's meta-schema refuses its value or is not read for such a
+    /// reason, or want of memory.
+    pub fn build_on(
+        &self,
+        registry: &SchemaRegistry,
+        root: &str,
+    ) -> Result<Validator<P::Matcher>, BuildError>
         ensures root { IfOk result (λ v. root_in v ≡ root_on registry.now root.now) }
-        ensures sound { IfOk result (λ v. IsSound (root_in v)) }
+        ensures made { IfOk result (IsMadeBy P.Matcher.finds (patterns_by P.makes P.finished self.now.maker)) }
         ensures draft { IfOk result (λ v. (target : Target) → Finds (root_in v) target → v.draft ≡ target.dialect.draft) }
-        ensures within { IfOk result (λ v. IsWithin self.now.node_limit (root_in v)) }
-        ensures met { IfOk result (λ v. (target : Target) → Finds (root_in v) target → IsMet self.now.node_limit registry.now.parent target) }
-        ensures refused { IfErr result (RefusesRoot self.now.node_limit registry.now (root_on registry.now root.now)) }
+        ensures within { IfOk result (λ v. IsWithin (patterns_by P.makes P.finished self.now.maker) self.now.node_limit (root_in v)) }
+        ensures met { IfOk result (λ v. (target : Target) → Finds (root_in v) target → IsMet (patterns_by P.makes P.finished self.now.maker) self.now.node_limit registry.now.parent target) }
+        ensures refused { IfErr result (RefusesRoot (patterns_by P.makes P.finished self.now.maker) self.now.node_limit registry.now (root_on registry.now root.now)) }
     {
         let (alloc, limit) = (self.alloc, self.node_limit);
-        let validator = Validator::at(alloc, registry.own(), registry.base(), root, limit)?;
-        meet(alloc, registry, root, limit)?;
+        let validator = Validator::at(
+            alloc,
+            registry.own(),
+            registry.base(),
+            root,
+            &self.maker,
+            limit,
+        )?;
+        meet(alloc, registry, root, &self.maker, limit)?;
         Ok(validator)
     }
 }
 
-impl<R: Retrieve + Drop> ValidationOptions<R> {
+impl<P: Drop, R: Retrieve + Drop> ValidationOptions<P, R> {
     // The documents with what they want, beside those of the meta-schemas with what these want.
     fn gather(&self, documents: &Documents, base: Uri) -> Result<SchemaRegistry, Error>
         ensures documents { IfOk result (AreDocuments (asking_by R.may_answer R.may_refuse self.now) self.now.limit self.now.draft (meta_schemas_given self.now) (documents_given documents.now)) }
@@ -219,17 +263,23 @@ impl<R: Retrieve + Drop> ValidationOptions<R> {
             Err(error) => Err(BuildError::of_registry(error)),
         }
     }
+}
 
+impl<P: PatternMaker + Drop, R: Retrieve + Drop> ValidationOptions<P, R> {
     /// A validator by the schema that a reference leads to in documents, prepared for it alone.
     ///
     /// # Errors
     ///
     /// Those of `prepare` and of `build_on`.
-    pub fn build(&self, documents: &Documents, root: &str) -> Result<Validator, BuildError>
-        ensures built { IfOk result (IsBuilt R.may_answer R.may_refuse self.now (documents_given documents.now) root.now) }
-        ensures sound { IfOk result (λ v. IsSound (root_in v)) }
+    pub fn build(
+        &self,
+        documents: &Documents,
+        root: &str,
+    ) -> Result<Validator<P::Matcher>, BuildError>
+        ensures built { IfOk result (IsBuilt (patterns_by P.makes P.finished self.now.maker) R.may_answer R.may_refuse self.now (documents_given documents.now) root.now) }
+        ensures made { IfOk result (IsMadeBy P.Matcher.finds (patterns_by P.makes P.finished self.now.maker)) }
         ensures draft { IfOk result (λ v. (target : Target) → Finds (root_in v) target → v.draft ≡ target.dialect.draft) }
-        ensures refused { IfErr result (λ e. RefusesPreparing R.may_answer R.may_refuse self.now (documents_given documents.now) e ⊎ RefusesBuilding R.may_answer R.may_refuse self.now (documents_given documents.now) root.now e) }
+        ensures refused { IfErr result (λ e. RefusesPreparing R.may_answer R.may_refuse self.now (documents_given documents.now) e ⊎ RefusesBuilding (patterns_by P.makes P.finished self.now.maker) R.may_answer R.may_refuse self.now (documents_given documents.now) root.now e) }
     {
         let registry = self.prepare(documents)?;
         self.build_on(&registry, root)

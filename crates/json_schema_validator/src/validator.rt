@@ -4,26 +4,26 @@ ghost use Rattle.std.specs.Prelude.{◌≡◌, ◌≤◌, OnOk, ◌∷◌, [], I
 ghost use Rattle.serde_json.specs.Data.{depth};
 ghost use Rattle.serde_json.specs.View.{view};
 ghost use Rattle.schema_reading.specs.Plain.{deepest};
-ghost use Rattle.plain_reader.specs.Roots.{TellsRoot};
+ghost use Rattle.fault_checks.specs.Passed.{TellsRoot};
 ghost use Rattle.schema_drafts.specs.Drafts as drafts;
 ghost use Rattle.schema_meaning.specs.Faults.{Faults};
 ghost use Rattle.schema_meaning.specs.Readings.{verdicts, bags};
-ghost use Rattle.reached_sites.specs.Passed.{documents_in, documents_of, target_in};
+ghost use Rattle.fault_checks.specs.Passed.{documents_in, documents_of, target_in};
 ghost use Rattle.schema_reports.specs.Left.{errors_left};
 ghost use Rattle.schema_reports.specs.Stands.{first_stands};
 ghost use Rattle.schema_reports.specs.Told.{fault_of, faults_of};
-ghost use Rattle.json_schema_validator.specs.Heard.{SaysOne};
+ghost use Rattle.json_schema_validator.specs.Heard.{StillKeeps, SaysOne};
 ghost use Rattle.schema_roots.specs.Answers.{IsCut, IsAnswer, IsFault};
 ghost use Rattle.schema_roots.specs.Certified.{IsCertified, HasCertificate, HaveCertificates};
-ghost use Rattle.schema_roots.specs.Roots.{IsSound};
+ghost use Rattle.schema_roots.specs.Roots.{Patterns, IsSoundBySome, patterns_by};
 
 use crate::error::BuildError;
 use crate::options::ValidationOptions;
-use plain_reader::root::tell_root;
-use reached_sites::Registry;
-use referencing::Resolved;
+use fault_checks::{Registry, Resolved, tell_root};
+use regex_patterns::RegexMatcher;
 use schema_drafts::draft::Draft;
 use schema_matches::matches::Matches;
+use schema_patterns::{PatternMaker, PatternMatcher, PatternTable};
 use schema_reports::{AllFaults, ErrorIterator, FirstFault, Observer, ValidationError, Verdict};
 use schema_roots::{DefaultRetriever, Documents, Retrieve};
 use serde_json::Value;
@@ -33,24 +33,22 @@ use uri_references::uri::Uri;
 
 /// A schema to validate by: the one that a reference leads to in documents that were prepared.
 ///
-/// It shares the documents, and looks its root up anew in each call.
+/// It shares the documents and keeps the patterns that were made, looks its root up anew in each call, and reads the matches of a value
+/// before the value's schemas.
 #[derive(Drop)]
-pub struct Validator {
+pub struct Validator<M = RegexMatcher> {
     pub(crate) alloc: Global,
     pub(crate) registry: Rc<Registry<'static>>,
     pub(crate) base: Uri,
     pub(crate) root: String,
     pub(crate) draft: Draft,
-    ghost sound: { IsSound (record { documents = documents_of registry.value ∷ []; base = base; reference = string_bytes root }) },
+    pub(crate) table: PatternTable<M>,
+    ghost sound: { IsSoundBySome (record { documents = documents_of registry.value ∷ []; base = base; reference = string_bytes root }) },
 }
 
 impl Validator {
-    ghost use Rattle.json_schema_validator.specs.Seen.{root_in};
-    ghost use Rattle.json_schema_validator.specs.Heard.{HearsCut};
-    ghost use Rattle.json_schema_validator.specs.New.{IsNew, Refuses};
-
-    /// How validators are built: by the draft 2020-12 and the base URI `json-schema:///`, with nobody asked for documents, at most 256
-    /// of them, at most 65,536 compile keys, and no meta-schemas, until it is said otherwise.
+    /// How validators are built: by the draft 2020-12 and the base URI `json-schema:///`, by the patterns that `regex` reads, with nobody
+    /// asked for documents, at most 256 of them, at most 65,536 compile keys, and no meta-schemas, until it is said otherwise.
     ///
     /// # Errors
     ///
@@ -64,21 +62,32 @@ impl Validator {
     {
         ValidationOptions::new(alloc)
     }
+}
 
-    /// A validator of a schema by the options that stand until it is said otherwise: the schema is the document at the base URI, and the
-    /// root of validation.
+impl<M: PatternMatcher> Validator<M> {
+    ghost use Rattle.json_schema_validator.specs.Seen.{root_in};
+    ghost use Rattle.json_schema_validator.specs.Made.{IsMadeBy};
+    ghost use Rattle.json_schema_validator.specs.Heard.{HearsCut};
+    ghost use Rattle.json_schema_validator.specs.New.{IsNew, Refuses};
+
+    /// A validator of a schema by a maker of patterns, and by the options that stand until it is said otherwise: the schema is the document
+    /// at the base URI, and the root of validation.
     ///
     /// It costs what `build` costs. The schema is not copied.
     ///
     /// # Errors
     ///
     /// Where a number of the schema is no whole number of 64 bits; those of `build`; and want of memory.
-    pub fn new(alloc: Global, schema: Value) -> Result<Validator, BuildError>
-        ensures built { IfOk result (IsNew ⟦<DefaultRetriever as Retrieve>⟧.may_answer ⟦<DefaultRetriever as Retrieve>⟧.may_refuse (view schema)) }
-        ensures sound { IfOk result (λ v. IsSound (root_in v)) }
-        ensures refused { IfErr result (Refuses ⟦<DefaultRetriever as Retrieve>⟧.may_answer ⟦<DefaultRetriever as Retrieve>⟧.may_refuse (view schema)) }
+    pub fn new<P: PatternMaker<Matcher = M> + Drop>(
+        alloc: Global,
+        schema: Value,
+        maker: P,
+    ) -> Result<Validator<M>, BuildError>
+        ensures built { IfOk result (IsNew (patterns_by P.makes P.finished maker) ⟦<DefaultRetriever as Retrieve>⟧.may_answer ⟦<DefaultRetriever as Retrieve>⟧.may_refuse maker (view schema)) }
+        ensures made { IfOk result (IsMadeBy M.finds (patterns_by P.makes P.finished maker)) }
+        ensures refused { IfErr result (Refuses (patterns_by P.makes P.finished maker) ⟦<DefaultRetriever as Retrieve>⟧.may_answer ⟦<DefaultRetriever as Retrieve>⟧.may_refuse maker (view schema)) }
     {
-        let options = Validator::options(alloc)?;
+        let options = Validator::options(alloc)?.with_pattern_maker(maker);
         let mut documents = Documents::new(alloc);
         match documents.add("", schema) {
             Ok(()) => options.build(&documents, ""),
@@ -86,9 +95,10 @@ impl Validator {
         }
     }
 
-    /// Where it begins leads somewhere, and nothing is wrong at the schemas reached from there. It does nothing.
+    /// Where it begins leads somewhere, and by the patterns of some maker nothing is wrong at the schemas reached from there. It does
+    /// nothing.
     pub fn root_is_sound(&self)
-        ensures { IsSound (root_in self.now) }
+        ensures { IsSoundBySome (root_in self.now) }
     {}
 
     /// The draft of the root.
@@ -107,9 +117,9 @@ impl Validator {
     ///
     /// Where memory was refused or a count of owners is full.
     pub fn is_valid(&self, value: &Value) -> Result<bool, AllocError>
-        ensures cut { IfOk result (IsCut verdicts (root_in self.now) (view value.now)) }
-        ensures verdict { IfOk result (IsAnswer verdicts (root_in self.now) (view value.now)) }
-        ensures certified { IfOk result (IsCertified (root_in self.now) (view value.now)) }
+        ensures cut { IfOk result (λ b. (p : Patterns) → IsMadeBy M.finds p self.now → IsCut verdicts p (root_in self.now) (view value.now) b) }
+        ensures verdict { IfOk result (λ b. (p : Patterns) → IsMadeBy M.finds p self.now → IsAnswer verdicts p (root_in self.now) (view value.now) b) }
+        ensures certified { IfOk result (λ b. (p : Patterns) → IsMadeBy M.finds p self.now → IsCertified p (root_in self.now) (view value.now) b) }
     {
         let observer = self.told(value, Observer::Verdict(Verdict::new()))?;
         match observer {
@@ -130,10 +140,10 @@ impl Validator {
         &self,
         value: &'i Value,
     ) -> Result<Result<(), ValidationError<'i>>, AllocError>
-        ensures cut { IfOk result (λ answer. IsCut verdicts (root_in self.now) (view value.now) (is_ok answer)) }
-        ensures verdict { IfOk result (λ answer. IsAnswer verdicts (root_in self.now) (view value.now) (is_ok answer)) }
-        ensures fault { IfOk result (λ answer. IfErr answer (λ e. IsFault (root_in self.now) (view value.now) (fault_of e))) }
-        ensures certified { IfOk result (λ answer. IfErr answer (λ e. HasCertificate (root_in self.now) (view value.now) (fault_of e))) }
+        ensures cut { IfOk result (λ answer. (p : Patterns) → IsMadeBy M.finds p self.now → IsCut verdicts p (root_in self.now) (view value.now) (is_ok answer)) }
+        ensures verdict { IfOk result (λ answer. (p : Patterns) → IsMadeBy M.finds p self.now → IsAnswer verdicts p (root_in self.now) (view value.now) (is_ok answer)) }
+        ensures fault { IfOk result (λ answer. IfErr answer (λ e. (p : Patterns) → IsMadeBy M.finds p self.now → IsFault p (root_in self.now) (view value.now) (fault_of e))) }
+        ensures certified { IfOk result (λ answer. IfErr answer (λ e. (p : Patterns) → IsMadeBy M.finds p self.now → HasCertificate p (root_in self.now) (view value.now) (fault_of e))) }
     {
         let observer = self.told(value, Observer::First(FirstFault::new()))?;
         match observer {
@@ -151,9 +161,9 @@ impl Validator {
     ///
     /// Where memory was refused or a count of owners is full.
     pub fn iter_errors<'i>(&self, value: &'i Value) -> Result<ErrorIterator<'i>, AllocError>
-        ensures cut { IfOk result (λ errors. IsCut bags (root_in self.now) (view value.now) (faults_of (errors_left errors))) }
-        ensures faults { IfOk result (λ errors. IsAnswer bags (root_in self.now) (view value.now) (faults_of (errors_left errors))) }
-        ensures certified { IfOk result (λ errors. HaveCertificates (root_in self.now) (view value.now) (faults_of (errors_left errors))) }
+        ensures cut { IfOk result (λ errors. (p : Patterns) → IsMadeBy M.finds p self.now → IsCut bags p (root_in self.now) (view value.now) (faults_of (errors_left errors))) }
+        ensures faults { IfOk result (λ errors. (p : Patterns) → IsMadeBy M.finds p self.now → IsAnswer bags p (root_in self.now) (view value.now) (faults_of (errors_left errors))) }
+        ensures certified { IfOk result (λ errors. (p : Patterns) → IsMadeBy M.finds p self.now → HaveCertificates p (root_in self.now) (view value.now) (faults_of (errors_left errors))) }
     {
         let observer = self.told(value, Observer::All(AllFaults::new(self.alloc)))?;
         match observer {
@@ -169,12 +179,13 @@ impl Validator {
         value: &'i Value,
         mut observer: Observer<'i>,
     ) -> Result<Observer<'i>, AllocError>
-        ensures { IfOk result (HearsCut (root_in self.now) (view value.now) observer.entry) }
+        ensures heard { IfOk result (λ o. (p : Patterns) → IsMadeBy M.finds p self.now → HearsCut p (root_in self.now) (view value.now) observer.entry o) }
+        ensures kept { IfOk result (StillKeeps observer.entry) }
     {
         let resolver = self.registry.resolver(self.base.clone()?)?;
         match resolver.lookup(self.root.as_str()) {
             Ok(root) => {
-                let matches = Matches::none(self.alloc);
+                let matches = Matches::read(self.alloc, &self.table, value)?;
                 tell_at(self.alloc, &root, &matches, value, &mut observer)?;
                 Ok(observer)
             }

@@ -5,11 +5,11 @@ use Rattle.schema_meaning.specs.Members.{In, first, later}
 use Rattle.schema_meaning.specs.Questions.{listed_members}
 use Rattle.schema_meaning.specs.Keywords.{never, condition}
 use Rattle.schema_reading.specs.Sites.{Site}
-use Rattle.schema_reading.specs.Rows.{Row, reads, refused, BuildCause, no_schema, Context, row_at, rows_of, rows_in, rows_at}
+use Rattle.schema_reading.specs.Rows.{Row, reads, refused, BuildCause, Context, row_at, rows_of, rows_in, rows_at}
 use Rattle.walk_laws.proofs.BesideLed.{IsChoice, LedBy, then_led, else_led}
 use Rattle.walk_laws.proofs.Begun.{context, rows_there, member_row}
 use Rattle.keyword_refusals.specs.Scenes.{Scene, IsRight}
-use Rattle.keyword_refusals.proofs.Right.{right_on, member_read}
+use Rattle.keyword_refusals.proofs.Right.{right_on}
 
 -- the row of `if`
 abbrev choice_row : Site → Option Site → Option Site → Row
@@ -50,7 +50,7 @@ module _ (x : Scene) (s : Site) (right : IsRight x s) (c : Site) (t e : Option S
   of_member : (ms : Members) → s.contents ≡ object ms → In (choice_row c t e) (rows_of (in_it ms) ms) → IsMember
   of_member ms is i =
       let w = row_listed (in_it ms) ms (choice_row c t e) i in
-      record { members = ms; is = is; name = w.0; value = w.1; choice = record { listed = w.2; read = member_read x s ms w.0 w.1 right is w.2; row = sym w.3 } }
+      record { members = ms; is = is; name = w.0; value = w.1; choice = record { listed = w.2; row = sym w.3 } }
 
   module _ (stands : In (choice_row c t e) (rows_at x.documents x.makes s)) where
     the_member : IsMember

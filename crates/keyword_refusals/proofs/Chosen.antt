@@ -1,5 +1,5 @@
 -- Whether `if` refuses, by the verdicts of its schema and of the one that it chooses.
-use Rattle.std.proofs.Common.{◌≡◌, ◌∙◌, ◌++◌, ◌≤◌, ℕ, List, [], ◌∷◌, Bool, true, false, true≢false, not, codes, Bor, Option, Some, None, IfSome, option_map, refl, sym, ap, subst}
+use Rattle.std.proofs.Common.{◌≡◌, ◌∙◌, ◌++◌, ◌≤◌, ℕ, List, [], ◌∷◌, Bool, true, false, true≢false, not, codes, Bor, Option, Some, None, IfSome, option_map, sym, ap, subst}
 use Rattle.serde_json.specs.Data.{Data, depth}
 use Rattle.serde_json.specs.View.{view}
 use Rattle.serde_json.specs.declared.value.Value.{Value}
@@ -8,7 +8,7 @@ use Rattle.schema_meaning.specs.Members.{In, first, later}
 use Rattle.schema_meaning.specs.Places.{whole}
 use Rattle.schema_meaning.specs.Questions.{Question, at, here}
 use Rattle.schema_meaning.specs.Rules.{Rule, asks, accepts, obliged, refuses_at}
-use Rattle.schema_meaning.specs.Keywords.{Shape, condition, rule}
+use Rattle.schema_meaning.specs.Keywords.{Shape, condition}
 use Rattle.schema_meaning.specs.Readings.{verdicts, IsTold}
 use Rattle.schema_meaning.specs.Certificates.{AreAnswers}
 use Rattle.schema_meaning.specs.Circular.{IsCircular}
@@ -80,7 +80,7 @@ module _ (c : code.Site) (path : List Part) (d : Data) (schema : Bor Value) (the
       condition_told : IsTold verdicts (reading_of x) (condition_site x s) (whole d) b
       condition_told =
           verdict.told x s stage.meets (right_on x s (the_row x s) (condition_site x s) stage.meets.right stage.stands first)
-          (λ circular. stage.straight (asked_back x s (the_row x s) d (the_shape x s) (here (codes "if") (condition_site x s)) stage.stands first first refl circular))
+          (λ circular. stage.straight (asked_back x s (the_row x s) d (the_shape x s) (here (codes "if") (condition_site x s)) stage.stands first first circular))
 
       module _ (bs : List Bool) (are : AreAnswers (reading_of x) (whole d) (the_rule x s) bs) where
         pub refuses_under : refuses_at (the_rule x s) bs ≡ at (name_of b)
@@ -111,7 +111,7 @@ module _ (c : code.Site) (path : List Part) (d : Data) (schema : Bor Value) (the
 
           -- where references come back below what is chosen, they do at the site
           pub part_back : IsCircular (reading_of x) the_site (whole d) → IsCircular (reading_of x) s (whole d)
-          part_back circular = asked_back x s (the_row x s) d (the_shape x s) (here (name_of b) the_site) stage.stands first one_asked refl circular
+          part_back circular = asked_back x s (the_row x s) d (the_shape x s) (here (name_of b) the_site) stage.stands first one_asked circular
 
           part_accepts : (v : Bool) → IsInnerVerdict c path d (name_of b) (view part.now) v → accepts (the_rule x s) bs ≡ v
           part_accepts v h =

@@ -15,13 +15,14 @@ use Rattle.schema_reading.specs.Sites.{Site, below}
 use Rattle.schema_reading.specs.Plain.{deepest}
 use Rattle.meaning_laws.proofs.Refuses.{answers_once, told_once}
 use Rattle.applicators.specs.Shapes.{shape_of}
-use Rattle.applicators.specs.Combined.{asks_values, has_notes, refused_name, Decides}
+use Rattle.applicators.specs.Combined.{is_by_answers, has_notes, refused_name, Decides}
 use Rattle.applicators.specs.Questions.{question_of, questions_of}
 use Rattle.applicators.specs.declared.applicator.Applicator.{Applicator}
 use Rattle.applicators.specs.declared.question.Question.{Question}
 use Rattle.check_laws.proofs.Answers.{answers_there}
 use Rattle.check_laws.proofs.Values.{is_told_same}
 use Rattle.plain_laws.proofs.Elements.{in_mapped}
+use Rattle.schema_matches.specs.Read.{reads}
 use Rattle.plain_reader.specs.Applied.{AreAsked}
 use Rattle.plain_reader.specs.Passed.{documents_at}
 use Rattle.plain_reader.specs.Passed as code
@@ -30,6 +31,7 @@ use Rattle.keyword_refusals.specs.Scenes.{Scene, reading_of, Stage}
 use Rattle.keyword_refusals.specs.Rows.{applied_row}
 use Rattle.keyword_refusals.specs.Verdicts.{IsDecided, SomeRefusesAt, IsAnswered, IsRefusalAt, AreCounted}
 use Rattle.keyword_refusals.proofs.NamedRefusals.{refused_under, as_many_answers}
+use Rattle.keyword_refusals.proofs.AppliedQuestions.{asked_there}
 use Rattle.keyword_refusals.proofs.Right.{told_there}
 use Rattle.keyword_refusals.proofs.Children.{meets_shallow}
 
@@ -99,7 +101,7 @@ module _ (c : code.Site) (path : List Part) (d : Data) where
     answers = λ cs h. let w = t.answers (false ∷ cs) (answer, h) in (w.0, w.1, w.2);
   }
 
-  module _ (a : Applicator) (all : List Question) (are : AreAsked a d all) (values : asks_values a ≡ true) where
+  module _ (a : Applicator) (all : List Question) (are : AreAsked (reads c.matches.now) a d all) (by_answers : is_by_answers a ≡ true) where
     are_told : (x : Scene) (s : Site) (k : List ℕ) → Stage c path d k (applied_row a x s) x s → (qs : List Question) (bs : List Bool) → ((q : Question) → In q qs → In q all) → AreAnswered qs bs
         → AreTold (reading_of x) d (questions_of (below x.documents s) qs) bs
     are_told x s k stage [] [] among h = tt
@@ -107,8 +109,8 @@ module _ (c : code.Site) (path : List Part) (d : Data) where
     are_told x s k stage (q ∷ qs) [] among h = elim h [ ]
     are_told x s k stage (q ∷ qs) (b ∷ bs) among h =
         let site = below x.documents s in
-        let there = subst (λ ks. In (question_of site q) ks) (are x.matches site) (in_mapped (question_of site) q all (among q first)) in
-        (h.0.told a values x s k there stage, are_told x s k stage qs bs (λ p i. among p (later i)) h.1)
+        let there = subst (λ ks. In (question_of site q) ks) (asked_there c path d a all are x s stage.meets) (in_mapped (question_of site) q all (among q first)) in
+        (h.0.told a by_answers x s k there stage, are_told x s k stage qs bs (λ p i. among p (later i)) h.1)
 
     pub tallied : (n : ℕ) → depth (view c.contents.now) ≤ deepest (documents_at c) → Tallied all [] n → AreCounted c path d a (length all) n
     tallied n shallow t = record {
@@ -121,7 +123,7 @@ module _ (c : code.Site) (path : List Part) (d : Data) where
           let word : Rule Site = rule x.matches d (shape_of site a) in
           let here = told_there x s d (meets_shallow c path x s stage.meets shallow) stage.straight in
           let known = answers_there r s d _ here word (rules_stand x.documents x.makes x.matches s row d stage.stands word first) in
-          let each = subst (λ qs. AreTold r d qs bs) (are x.matches site) (are_told x s k stage all bs (λ q i. i) w.1) in
+          let each = subst (λ qs. AreTold r d qs bs) (asked_there c path d a all are x s stage.meets) (are_told x s k stage all bs (λ q i. i) w.1) in
           let same : known.0 ≡ bs = known_told r d known.1.unfoldings (asks word) bs known.0 each known.1.are in
           let counted : count_true bs ≡ n + 0 = w.2 in
           (bs, subst (λ xs. AreAnswers r (whole d) word xs) same known.1, as_many all bs w.1, omega (arith, counted));
@@ -129,7 +131,7 @@ module _ (c : code.Site) (path : List Part) (d : Data) where
 
 -- ---- the keyword
 
-module _ (c : code.Site) (path : List Part) (d : Data) (a : Applicator) (n m : ℕ) (name : List ℕ) (values : asks_values a ≡ true) (plain : has_notes a ≡ false) (counted : AreCounted c path d a n m) where
+module _ (c : code.Site) (path : List Part) (d : Data) (a : Applicator) (n m : ℕ) (name : List ℕ) (by_answers : is_by_answers a ≡ true) (plain : has_notes a ≡ false) (counted : AreCounted c path d a n m) where
   abbrev the_rule : Scene → Site → Rule Site
   the_rule x s = rule x.matches d (shape_of (below x.documents s) a)
 
@@ -156,12 +158,12 @@ module _ (c : code.Site) (path : List Part) (d : Data) (a : Applicator) (n m : �
   decided_by false x s decides same stage =
       let w = counted.answers x s name stage in
       let site = below x.documents s in
-      let wrong : accepts (the_rule x s) w.0 ≡ false = decides.is values plain site x.matches w.0 w.2 w.3 in
-      let under = refused_under site x.matches w.0 a d values (as_many_answers (reading_of x) d (the_rule x s) w.0 w.1) wrong in
+      let wrong : accepts (the_rule x s) w.0 ≡ false = decides.is by_answers plain site x.matches w.0 w.2 w.3 in
+      let under = refused_under site x.matches w.0 a d by_answers (as_many_answers (reading_of x) d (the_rule x s) w.0 w.1) wrong in
       (the_rule x s, w.0, first, w.1, wrong, under ∙ ap (λ j. at (refused_name a j)) w.3 ∙ ap at same)
   decided_by true x s decides same stage = λ h.
       let w = by_them x s stage h in
-      true≢false (sym (decides.is values plain (below x.documents s) x.matches w.0 w.1 w.2) ∙ w.3)
+      true≢false (sym (decides.is by_answers plain (below x.documents s) x.matches w.0 w.1 w.2) ∙ w.3)
 
   pub by_count : (b : Bool) → Decides a d n m b → refused_name a m ≡ name → IsRefusalAt c path d (code.Applicator a) name (not b)
   by_count b decides same = record { decides = λ x s stage. decided_by b x s decides same stage }
@@ -174,6 +176,6 @@ module _ (c : code.Site) (path : List Part) (d : Data) (a : Applicator) (n m : �
         let site = below x.documents s in
         let v = by_them x s stage h in
         let many : length v.0 ≡ length (asks (the_rule x s)) = v.1 ∙ sym w.2 ∙ as_many_answers (reading_of x) d (the_rule x s) w.0 w.1 in
-        let under = refused_under site x.matches v.0 a d values many v.3 ∙ ap (λ j. at (refused_name a j)) v.2 in
+        let under = refused_under site x.matches v.0 a d by_answers many v.3 ∙ ap (λ j. at (refused_name a j)) v.2 in
         other (one_part (refused_name a m) name (sym under ∙ v.4));
   }

@@ -10,7 +10,9 @@ use Rattle.schema_meaning.specs.Places.{whole, value_after, stay}
 use Rattle.schema_meaning.specs.Rules.{every}
 use Rattle.schema_meaning.specs.Questions.{Question, listed_members, items_of, items_from}
 use Rattle.schema_meaning.specs.Questions as asking
-use Rattle.schema_meaning.specs.Keywords.{Assertion, named, wrong, items, properties, reference, rule}
+use Rattle.schema_meaning.specs.Faults.{Pattern}
+use Rattle.schema_matches.specs.Read.{reads}
+use Rattle.schema_meaning.specs.Keywords.{Assertion, named, wrong, unless, pattern, items, properties, reference, rule}
 use Rattle.schema_meaning.specs.Readings.{verdicts, IsTold}
 use Rattle.schema_reading.specs.Sites.{Site, target_site, path_of_reference}
 use Rattle.schema_reading.specs.Rows.{Row}
@@ -52,7 +54,7 @@ module _ (c b : code.Site) (path : List Part) (d : Data) (start : ℕ) (schema :
         let site = items_site schema x s in
         let meets = child_meets c b schema (asking.at (codes "items")) path x s child stage.meets (right_on x s row site stage.meets.right stage.stands first) in
         verdict.told x site (subst (λ p. Meets b p x site) (sym same) meets)
-        (λ circular. stage.straight (asked_back x s row d (items start site) (items.asks x s d start schema n e) stage.stands first (items.asked_of x s d start schema n e h g) refl circular));
+        (λ circular. stage.straight (asked_back x s row d (items start site) (items.asks x s d start schema n e) stage.stands first (items.asked_of x s d start schema n e h g) circular));
   }
 
   pub item_refused : (n : ℕ) (e : Data) → start ≤ n → at n d ≡ Some e → Accepted c path d start schema e false → AreRefused c path d (items_row start schema) (items_questions start schema d) true
@@ -102,7 +104,7 @@ module _ (c b : code.Site) (path : List Part) where
         let meets = child_meets c b schema (asking.at_name (codes "properties") n) path x s child stage.meets (right_on x s row site stage.meets.right stage.stands led) in
         let asked = members.asked_of x s d ms rising n schema e (listed_found n schema ms rising listed) g in
         verdict.told x site (subst (λ p. Meets b p x site) (sym same) meets)
-        (λ circular. stage.straight (asked_back x s row d (properties (declared_in ms x s)) (members.asks x s n schema e) stage.stands first asked refl circular));
+        (λ circular. stage.straight (asked_back x s row d (properties (declared_in ms x s)) (members.asks x s n schema e) stage.stands first asked circular));
   }
 
 module _ (c : code.Site) (path : List Part) (d : Data) (all : Members) (rising : are_rising all ≡ true) where
@@ -167,7 +169,7 @@ reference_refused c inner path d w text target road b at same verdict = record {
       let q : Question Site = record { site = site; step = stay; added = asking.at (name_of w); follows = true } in
       answers_one b (reading_of x) d q
       (verdict.told x site (subst (λ p. Meets inner p x site) (sym same) meets)
-      (λ circular. stage.straight (asked_back x s row d (reference (kind_of w) site) q stage.stands first first refl circular)));
+      (λ circular. stage.straight (asked_back x s row d (reference (kind_of w) site) q stage.stands first first circular)));
 }
 
 -- ---- a keyword, by its questions
@@ -188,6 +190,19 @@ pub by_assertion : (c : code.Site) (path : List Part) (d : Data) (k : Keyword) (
 by_assertion c path d k a b same rules = record {
   decides = λ x s n stage. decided_asserted b (reading_of x) d (asking.at (named a)) (wrong x.matches a d) (rules_by x s d k) (same x.matches) (rules x s);
 }
+
+pub by_pattern : (c : code.Site) (path : List Part) (d : Data) (k : Keyword) (p : List ℕ) (b : Bool) → wrong (reads c.matches.now) (pattern p) d ≡ unless b (Pattern p) d
+    → ((x : Scene) (s : Site) → rules_by x s d k ≡ every (asking.at (codes "pattern")) (wrong x.matches (pattern p) d) [] ∷ []) → IsRefusal c path d k (not b)
+by_pattern c path d k p b is rules = record {
+  decides = λ x s n stage.
+      let same : b ≡ is_empty (wrong x.matches (pattern p) d) =
+      empty_so b ∙ ap is_empty (sym is) ∙ ap (λ (m : List ℕ → List ℕ → Bool). is_empty (wrong m (pattern p) d)) (sym stage.meets.matches) in
+      decided_asserted b (reading_of x) d (asking.at (codes "pattern")) (wrong x.matches (pattern p) d) (rules_by x s d k) same (rules x s);
+}
+  where
+    empty_so : (v : Bool) → v ≡ is_empty (unless v (Pattern p) d)
+    empty_so true = refl
+    empty_so false = refl
 
 pub by_nothing : (c : code.Site) (path : List Part) (d : Data) (k : Keyword) → ((x : Scene) (s : Site) → rules_by x s d k ≡ []) → IsRefusal c path d k false
 by_nothing c path d k rules = record {

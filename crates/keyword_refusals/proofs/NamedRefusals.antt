@@ -3,21 +3,19 @@ use Rattle.std.proofs.Common.{◌≡◌, ◌∙◌, ℕ, List, [], ◌∷◌, Bo
 use Rattle.std.proofs.lemmas.List.{length-map}
 use Rattle.std.specs.List.{AllByRecursion}
 use Rattle.serde_json.specs.Data.{Data, null, boolean, number, string, array, object}
-use Rattle.serde_json.specs.View.{view}
 use Rattle.serde_json.specs.declared.value.Value.{Value}
 use Rattle.json_paths.specs.Parts.{Part}
 use Rattle.schema_documents.specs.Bearers.{Documents}
-use Rattle.schema_meaning.specs.Members.{In, known_too, all_known, all_true, count_true}
+use Rattle.schema_meaning.specs.Members.{known_too, all_known, all_true, count_true}
 use Rattle.schema_meaning.specs.Places.{whole}
 use Rattle.schema_meaning.specs.Questions.{at, asked_at}
-use Rattle.schema_meaning.specs.Questions as asking
 use Rattle.schema_meaning.specs.Rules.{Rule, asks, accepts, refuses_at}
-use Rattle.schema_meaning.specs.Keywords.{Shape, rule}
+use Rattle.schema_meaning.specs.Keywords.{rule}
 use Rattle.schema_meaning.specs.Readings.{Reading, verdicts, told}
 use Rattle.schema_meaning.specs.Certificates.{AreAnswers}
 use Rattle.schema_reading.specs.Sites.{Site, below}
 use Rattle.applicators.specs.Shapes.{shape_of}
-use Rattle.applicators.specs.Combined.{asks_values, is_every, refused_name}
+use Rattle.applicators.specs.Combined.{is_by_answers, is_every, refused_name}
 use Rattle.applicators.specs.declared.applicator.Applicator.{Applicator}
 use Rattle.applicators.specs.declared.applicator.Applicator.TheVariants as applied
 use Rattle.plain_reader.specs.Passed.{row_of}
@@ -25,8 +23,7 @@ use Rattle.plain_reader.specs.Passed as code
 use Rattle.walk_laws.specs.Words.{IsOf, Bears}
 use Rattle.walk_laws.proofs.Begun.{shape_begins}
 use Rattle.walk_laws.proofs.Listed.{each_in, in_mapped}
-use Rattle.keyword_refusals.specs.Scenes.{Scene, reading_of, Stage}
-use Rattle.keyword_refusals.specs.Verdicts.{IsDecided, SomeRefuses, SomeRefusesAt, IsRefusal, IsRefusalAt, rules_by}
+use Rattle.keyword_refusals.specs.Verdicts.{IsRefusal, IsRefusalAt}
 
 -- ---- keywords that refuse under one name
 
@@ -38,6 +35,7 @@ one_name site (applied.AdditionalItems start schema) n h g = g
 one_name site (applied.NoAdditionalItems start schema) n h g = g
 one_name site (applied.Contains schema least most) n h g = cc
 one_name site (applied.Properties schemas) n h g = g
+one_name site (applied.PatternProperties schemas) n h g = g
 one_name site (applied.AdditionalProperties declared schema) n h g = g
 one_name site (applied.NoAdditionalProperties declared schema) n h g = g
 one_name site (applied.Dependencies entries) n h g = g
@@ -55,6 +53,7 @@ one_name site (applied.If condition then_schema else_schema) n h g = cc
 abbrev pub HasOneName : code.Keyword → Type 0
 HasOneName code.Nothing = Unit {0}
 HasOneName (code.Assertion a) = Unit {0}
+HasOneName (code.Pattern p) = Unit {0}
 HasOneName (code.Items start schema) = Unit {0}
 HasOneName (code.Properties map) = Unit {0}
 HasOneName (code.If schema then_schema else_schema) = ⊥
@@ -65,6 +64,7 @@ HasOneName (code.Reference keyword text target) = Unit {0}
 only_named : (k : code.Keyword) (n : List ℕ) (docs : Documents) (s : Site) → HasOneName k → AllByRecursion (Bears n) (row_of docs s k).shapes → AllByRecursion (IsOf n) (row_of docs s k).shapes
 only_named code.Nothing n docs s one h = tt
 only_named (code.Assertion a) n docs s one h = h
+only_named (code.Pattern p) n docs s one h = h
 only_named (code.Items start schema) n docs s one h = h
 only_named (code.Properties map) n docs s one h = h
 only_named (code.If schema then_schema else_schema) n docs s one h = absurd one
@@ -118,23 +118,24 @@ module _ (site : List Part → Data → Site) (matches : List ℕ → List ℕ �
   counts_under schema least most (array ds) many wrong = refl
   counts_under schema least most (object ms) many wrong = absurd (nothing_refused bs many wrong)
 
-  pub refused_under : (a : Applicator) (d : Data) → asks_values a ≡ true → length bs ≡ length (asks (rule_of a d)) → accepts (rule_of a d) bs ≡ false → Names a d
-  refused_under (applied.Items start schema) d values many wrong = refl
-  refused_under (applied.ItemList schemas) d values many wrong = refl
-  refused_under (applied.PrefixItems schemas) d values many wrong = refl
-  refused_under (applied.AdditionalItems start schema) d values many wrong = refl
-  refused_under (applied.NoAdditionalItems start schema) d values many wrong = refl
-  refused_under (applied.Contains schema least most) d values many wrong = counts_under schema least most d many wrong
-  refused_under (applied.Properties schemas) d values many wrong = refl
-  refused_under (applied.AdditionalProperties declared schema) d values many wrong = refl
-  refused_under (applied.NoAdditionalProperties declared schema) d values many wrong = refl
-  refused_under (applied.Dependencies entries) d values many wrong = refl
-  refused_under (applied.NoProperties schema) d values many wrong = refl
-  refused_under (applied.PropertyNames schema) d values many wrong = refl
-  refused_under (applied.NoPropertyNames schema) d values many wrong = refl
-  refused_under (applied.DependentSchemas schemas) d values many wrong = refl
-  refused_under (applied.AllOf schemas) d values many wrong = refl
-  refused_under (applied.AnyOf schemas) d values many wrong = refl
-  refused_under (applied.OneOf schemas) d values many wrong = refl
-  refused_under (applied.Not schema) d values many wrong = refl
-  refused_under (applied.If condition then_schema else_schema) d values many wrong = cc
+  pub refused_under : (a : Applicator) (d : Data) → is_by_answers a ≡ true → length bs ≡ length (asks (rule_of a d)) → accepts (rule_of a d) bs ≡ false → Names a d
+  refused_under (applied.Items start schema) d by_answers many wrong = refl
+  refused_under (applied.ItemList schemas) d by_answers many wrong = refl
+  refused_under (applied.PrefixItems schemas) d by_answers many wrong = refl
+  refused_under (applied.AdditionalItems start schema) d by_answers many wrong = refl
+  refused_under (applied.NoAdditionalItems start schema) d by_answers many wrong = refl
+  refused_under (applied.Contains schema least most) d by_answers many wrong = counts_under schema least most d many wrong
+  refused_under (applied.Properties schemas) d by_answers many wrong = refl
+  refused_under (applied.PatternProperties schemas) d by_answers many wrong = refl
+  refused_under (applied.AdditionalProperties declared schema) d by_answers many wrong = refl
+  refused_under (applied.NoAdditionalProperties declared schema) d by_answers many wrong = refl
+  refused_under (applied.Dependencies entries) d by_answers many wrong = refl
+  refused_under (applied.NoProperties schema) d by_answers many wrong = refl
+  refused_under (applied.PropertyNames schema) d by_answers many wrong = refl
+  refused_under (applied.NoPropertyNames schema) d by_answers many wrong = refl
+  refused_under (applied.DependentSchemas schemas) d by_answers many wrong = refl
+  refused_under (applied.AllOf schemas) d by_answers many wrong = refl
+  refused_under (applied.AnyOf schemas) d by_answers many wrong = refl
+  refused_under (applied.OneOf schemas) d by_answers many wrong = refl
+  refused_under (applied.Not schema) d by_answers many wrong = refl
+  refused_under (applied.If condition then_schema else_schema) d by_answers many wrong = cc

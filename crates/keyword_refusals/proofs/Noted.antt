@@ -1,5 +1,5 @@
 -- What is noted of the value itself, and whether a keyword refuses by it.
-use Rattle.std.proofs.Common.{◌≡◌, ◌∙◌, ◌≤◌, List, [], ◌∷◌, Bool, true, false, not, ◌&&◌, Option, Some, None, is_some, option_map, refl, sym, ap}
+use Rattle.std.proofs.Common.{◌≡◌, ◌∙◌, ◌≤◌, List, [], ◌∷◌, Bool, true, false, not, ◌&&◌, Option, Some, None, is_some, option_map, refl, ap}
 use Rattle.serde_json.specs.Data.{Data, depth}
 use Rattle.serde_json.specs.View.{view}
 use Rattle.json_paths.specs.Parts.{Part}
@@ -17,7 +17,7 @@ use Rattle.check_laws.proofs.Answers.{answers_there}
 use Rattle.plain_reader.specs.Passed.{documents_at}
 use Rattle.plain_reader.specs.Passed as code
 use Rattle.walk_laws.proofs.Begun.{rules_stand}
-use Rattle.keyword_refusals.specs.Scenes.{Scene, reading_of}
+use Rattle.keyword_refusals.specs.Scenes.{reading_of}
 use Rattle.keyword_refusals.specs.Rows.{applied_row}
 use Rattle.keyword_refusals.specs.Verdicts.{IsRefusal}
 use Rattle.keyword_refusals.proofs.Right.{told_there}

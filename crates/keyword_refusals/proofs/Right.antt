@@ -1,18 +1,17 @@
 -- What nothing wrong below a site says of its rows.
-use Rattle.std.proofs.Common.{◌≡◌, ◌≤◌, ℕ, List, [], ◌∷◌, Bool, false, None, refl}
-use Rattle.serde_json.specs.Data.{Data, object, Members, depth}
+use Rattle.std.proofs.Common.{◌≡◌, ◌≤◌, List, [], ◌∷◌, Bool, refl}
+use Rattle.serde_json.specs.Data.{Data, depth}
 use Rattle.schema_meaning.specs.Members.{In, first}
-use Rattle.schema_meaning.specs.Places.{whole, value_after, called_after}
-use Rattle.schema_meaning.specs.Questions.{Question, listed_members}
+use Rattle.schema_meaning.specs.Places.{whole, value_after}
+use Rattle.schema_meaning.specs.Questions.{Question}
 use Rattle.schema_meaning.specs.Rules.{asks}
 use Rattle.schema_meaning.specs.Keywords.{Shape, rule}
 use Rattle.schema_meaning.specs.Readings.{verdicts, Asks, IsTold}
 use Rattle.schema_meaning.specs.Circular.{IsCircular}
 use Rattle.schema_meaning.specs.Cut.{cut}
 use Rattle.schema_reading.specs.Sites.{Site}
-use Rattle.schema_reading.specs.Rows.{BuildCause, Row, row_at, rows_at}
-use Rattle.schema_reading.specs.BuildCauses.{at_root, by_keyword}
-use Rattle.unread_keywords.specs.NotYet.{Cause, wrong, not_yet, unread, is_unread, IsBuildCause, is_wrong, is_not_yet}
+use Rattle.schema_reading.specs.Rows.{BuildCause, Row, rows_at}
+use Rattle.schema_reading.specs.BuildCauses.{at_root, by_keyword, IsCauseOf}
 use Rattle.schema_reading.specs.Plain.{deepest}
 use Rattle.schema_reading.specs.AllKeys.{keys_of}
 use Rattle.meaning_laws.proofs.Decided.{cut_is_decided}
@@ -20,10 +19,9 @@ use Rattle.meaning_laws.proofs.Obliged.{in_map}
 use Rattle.plain_laws.proofs.Nested.{nested}
 use Rattle.plain_laws.proofs.Keys.{all_keys}
 use Rattle.plain_reader.specs.Tellings.{AreRead}
-use Rattle.plain_reader.proofs.Reading.{reached_on, read_here, read_each}
+use Rattle.plain_reader.proofs.Reading.{reached_on}
 use Rattle.check_laws.proofs.Straight.{circular_above}
-use Rattle.walk_laws.proofs.Named.{AreUnder, shapes_are_under}
-use Rattle.walk_laws.proofs.Begun.{context, rules_stand}
+use Rattle.walk_laws.proofs.Begun.{rules_stand}
 use Rattle.keyword_refusals.specs.Scenes.{Scene, reading_of, IsRight, IsStraight}
 
 none_in : {A : Type 0} (xs : List A) → ((x : A) → In x xs → ⊥) → xs ≡ []
@@ -32,30 +30,21 @@ none_in (x ∷ xs) h = elim (h x first) [ ]
 
 module _ (x : Scene) where
   pub right_read : (s : Site) → IsRight x s → AreRead x.documents x.makes s
-  right_read s r = record { each = λ t reached. none_in (unread t) (λ p i. r.none (not_yet p) (is_not_yet (record { site = t; reached = reached; stands = i }))) }
+  right_read s r = record {
+    right = λ t reached row i. none_in row.causes (λ cause j. r.none cause (record { site = t; reached = reached; row = row; stands = i; wrong = j }));
+  }
 
-  cause_above : (s : Site) (row : Row) (t : Site) → In row (rows_at x.documents x.makes s) → In t row.leads → (cause : Cause)
-      → IsBuildCause x.documents x.makes t cause → IsBuildCause x.documents x.makes s cause
-  cause_above s row t i j _ (is_wrong w) =
-      is_wrong (record { site = w.site; reached = reached_on x.documents x.makes s t w.site (by_keyword row t at_root i j) w.reached; row = w.row; stands = w.stands; wrong = w.wrong })
-  cause_above s row t i j _ (is_not_yet u) =
-      is_not_yet (record { site = u.site; reached = reached_on x.documents x.makes s t u.site (by_keyword row t at_root i j) u.reached; stands = u.stands })
+  cause_above : (s : Site) (row : Row) (t : Site) → In row (rows_at x.documents x.makes s) → In t row.leads → (cause : BuildCause)
+      → IsCauseOf x.documents x.makes t cause → IsCauseOf x.documents x.makes s cause
+  cause_above s row t i j cause w =
+      record { site = w.site; reached = reached_on x.documents x.makes s t w.site (by_keyword row t at_root i j) w.reached; row = w.row; stands = w.stands; wrong = w.wrong }
 
   -- nothing is wrong below a site that a row leads to
   pub right_on : (s : Site) (row : Row) (t : Site) → IsRight x s → In row (rows_at x.documents x.makes s) → In t row.leads → IsRight x t
   right_on s row t r i j = record { none = λ cause h. r.none cause (cause_above s row t i j cause h) }
 
   pub no_cause : (s : Site) (row : Row) (cause : BuildCause) → IsRight x s → In row (rows_at x.documents x.makes s) → In cause row.causes → ⊥
-  no_cause s row cause r i j = r.none (wrong cause) (is_wrong (record { site = s; reached = at_root; row = row; stands = i; wrong = j }))
-
-  pub member_read : (s : Site) (ms : Members) (k : List ℕ) (v : Data) → IsRight x s → s.contents ≡ object ms → In (k, v) (listed_members ms) → is_unread s ms k v ≡ false
-  member_read s ms k v r is i = read_each s ms k v (read_here x.documents x.makes s (right_read s r)) is i
-
-  -- the names under which the shapes of a member refuse
-  pub member_named : (s : Site) (ms : Members) (k : List ℕ) (v : Data) → IsRight x s → s.contents ≡ object ms → In (k, v) (listed_members ms)
-      → AreUnder (context x.documents x.makes x.matches s ms) k (row_at (context x.documents x.makes x.matches s ms) k v)
-  member_named s ms k v r is i =
-      shapes_are_under (context x.documents x.makes x.matches s ms) k v (member_read s ms k v r is i)
+  no_cause s row cause r i j = r.none cause (record { site = s; reached = at_root; row = row; stands = i; wrong = j })
 
   -- where no references come back, the cut reading's verdict is the decided one
   pub told_there : (s : Site) (d : Data) → depth s.contents ≤ deepest x.documents → IsStraight x s d
@@ -79,5 +68,5 @@ module _ (x : Scene) where
 
   -- where references come back below a question, they do where it is asked
   pub asked_back : (s : Site) (row : Row) (d : Data) (shape : Shape Site) (q : Question Site) → In row (rows_at x.documents x.makes s) → In shape row.shapes
-      → In q (asks (rule x.matches d shape)) → called_after None q.step ≡ None → IsCircular (reading_of x) q.site (whole (value_after d q.step)) → IsCircular (reading_of x) s (whole d)
-  asked_back s row d shape q i j h called circular = circular_above (reading_of x) s d q (row_asks s row d shape q i j h) called circular
+      → In q (asks (rule x.matches d shape)) → IsCircular (reading_of x) q.site (whole (value_after d q.step)) → IsCircular (reading_of x) s (whole d)
+  asked_back s row d shape q i j h circular = circular_above (reading_of x) s d q (row_asks s row d shape q i j h) circular

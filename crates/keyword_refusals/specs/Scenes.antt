@@ -14,8 +14,8 @@ use Rattle.schema_meaning.specs.Circular.{IsCircular}
 use Rattle.schema_documents.specs.Bearers.{Documents}
 use Rattle.schema_reading.specs.Sites.{Site}
 use Rattle.schema_reading.specs.Plain.{plain}
-use Rattle.schema_reading.specs.Rows.{Row, rows_at}
-use Rattle.unread_keywords.specs.NotYet.{Cause, IsBuildCause}
+use Rattle.schema_reading.specs.Rows.{BuildCause, Row, rows_at}
+use Rattle.schema_reading.specs.BuildCauses.{IsCauseOf}
 use Rattle.schema_matches.specs.Read.{reads}
 use Rattle.plain_reader.specs.Passed.{scope_of}
 use Rattle.plain_reader.specs.Passed.{documents_at, Stands}
@@ -31,9 +31,9 @@ pub record Scene : Type 0 where
 abbrev pub reading_of : Scene → Reading Site
 reading_of x = plain x.documents x.makes x.matches
 
--- nothing is wrong or unread at the schemas reached from a site
+-- nothing is wrong at the schemas reached from a site
 pub record IsRight (x : Scene) (s : Site) : Type 0 where
-  pub none : (cause : Cause) → IsBuildCause x.documents x.makes s cause → ⊥
+  pub none : (cause : BuildCause) → IsCauseOf x.documents x.makes s cause → ⊥
 
 -- a site of the plain reading that the code's stands for, under this schema path, by the matches that were read
 pub record Meets (c : code.Site) (path : List Part) (x : Scene) (s : Site) : Type 0 where

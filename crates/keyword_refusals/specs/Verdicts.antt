@@ -19,11 +19,11 @@ use Rattle.place_laws.specs.Rising.{are_rising}
 use Rattle.plain_reader.specs.Passed.{shapes_of, row_of, site_at, FindsTarget}
 use Rattle.plain_reader.specs.Passed as code
 use Rattle.plain_reader.specs.Passed.{Keyword}
-use Rattle.plain_reader.specs.Passed.{Nothing, Assertion, Items, Properties, If, Consequent, Applicator, Reference}
+use Rattle.plain_reader.specs.Passed.{Nothing, Assertion, Pattern, Items, Properties, If, Consequent, Applicator, Reference}
 use Rattle.plain_reader.specs.Applied.{EachInside}
 use Rattle.plain_reader.specs.Choices.{IsInside, AreInside}
 use Rattle.applicators.specs.Shapes.{shape_of, place_of}
-use Rattle.applicators.specs.Combined.{asks_values}
+use Rattle.applicators.specs.Combined.{is_by_answers}
 use Rattle.applicators.specs.Questions.{step_of, question_of}
 use Rattle.applicators.specs.declared.applicator.Applicator as applied
 use Rattle.applicators.specs.declared.question.Question as asking
@@ -90,13 +90,14 @@ pub record ChoosesIn (c : code.Site) (schema : Bor Value) (then_schema else_sche
 
 -- its verdict is by the number of answers that are yes, and the schemas that it asks lie in the schema
 pub record AppliesIn (c : code.Site) (a : applied.Applicator) : Type 0 where
-  pub values : asks_values a ≡ true
+  pub by_answers : is_by_answers a ≡ true
   pub inside : EachInside c a
 
 -- the keyword's schemas lie in the schema, and its target is found
 abbrev pub LiesIn : code.Site → Keyword → Type 0
 LiesIn c Nothing = Unit {0}
 LiesIn c (Assertion a) = Unit {0}
+LiesIn c (Pattern p) = Unit {0}
 LiesIn c (Items start schema) = depth (view schema.now) < depth (view c.contents.now)
 LiesIn c (Properties map) = depth (object (members_view map.now.entries)) < depth (view c.contents.now)
 LiesIn c (If schema then_schema else_schema) = ChoosesIn c schema then_schema else_schema
@@ -111,7 +112,7 @@ pub record IsMemberRefused (c : code.Site) (path : List Part) (n : List ℕ) (sc
 
 -- the answer to a question, where an applicator asks it
 pub record IsAnswered (c : code.Site) (path : List Part) (d : Data) (q : asking.Question) (b : Bool) : Type 0 where
-  pub told : (a : applied.Applicator) → asks_values a ≡ true → (x : Scene) (s : Site) (k : List ℕ)
+  pub told : (a : applied.Applicator) → is_by_answers a ≡ true → (x : Scene) (s : Site) (k : List ℕ)
       → In (question_of (below x.documents s) q) (asks (rule x.matches d (shape_of (below x.documents s) a))) → Stage c path d k (applied_row a x s) x s
       → IsTold verdicts (reading_of x) (place_of (below x.documents s) q.subschema) (whole (value_after d (step_of q.asked))) b
 

@@ -6,9 +6,10 @@ ghost use Rattle.schema_meaning.specs.Places.{value_after};
 ghost use Rattle.schema_reading.specs.Plain.{deepest};
 ghost use Rattle.schema_reading.specs.Sites.{path_of_reference};
 ghost use Rattle.schema_meaning.specs.Members.{is_empty};
-ghost use Rattle.applicators.specs.Combined.{asks_values, notes_by};
+ghost use Rattle.applicators.specs.Combined.{is_by_answers, notes_by};
 ghost use Rattle.applicators.specs.Questions.{step_of};
-ghost use Rattle.plain_reader.specs.Applied.{EachInside, AreAsked, IsPart};
+ghost use Rattle.schema_matches.specs.Read.{reads};
+ghost use Rattle.plain_reader.specs.Applied.{EachInside, AreAsked};
 ghost use Rattle.plain_reader.specs.Passed.{documents_at};
 ghost use Rattle.schema_reports.specs.Locations.{location_of};
 ghost use Rattle.schema_reports.specs.References.{text_of};
@@ -37,14 +38,16 @@ fn is_asked_refused<'a, 'r>(
     value: &Value,
 ) -> Result<bool, AllocError>
     requires shallow { depth (view inner.now.contents.now) ≤ deepest (documents_at inner.now) }
-    requires part { IsPart (view value.now) asked }
     ensures { IfOk result (λ b. IsVerdict inner.now (location_of schema.now ++ path_of_reference (text_of reference.entry)) (value_after (view value.now) (step_of asked.entry)) (not b)) }
 {
     match asked {
         Asked::Value => is_refused(alloc, inner, schema, reference, value),
         Asked::Item { item, .. } => is_refused(alloc, inner, schema, reference, item),
         Asked::Member { member, .. } => is_refused(alloc, inner, schema, reference, member),
-        Asked::Name(_) => Ok(false),
+        Asked::Name(name) => {
+            let text = Value::String(String::from_str(alloc, name)?);
+            is_refused(alloc, inner, schema, reference, &text)
+        }
     }
 }
 
@@ -59,7 +62,6 @@ fn is_question_refused<'a, 'r>(
 ) -> Result<bool, AllocError>
     requires shallow { depth (view site.now.contents.now) ≤ deepest (documents_at site.now) }
     requires inside { depth (view question.subschema.schema.now) < depth (view site.now.contents.now) }
-    requires part { IsPart (view value.now) question.asked }
     ensures { IfOk result (λ b. IsAnswered site.now (location_of schema.now ++ path_of_reference (text_of reference.entry)) (view value.now) question.entry (not b)) }
 {
     let inner = site.below(alloc, question.subschema.schema)?;
@@ -88,9 +90,9 @@ fn some_of_refused<'a, 'r>(
     value: &Value,
 ) -> Result<bool, AllocError>
     requires shallow { depth (view site.now.contents.now) ≤ deepest (documents_at site.now) }
-    requires values { asks_values applicator ≡ true }
+    requires by_answers { is_by_answers applicator ≡ true }
     requires inside { EachInside site.now applicator }
-    requires asked { AreAsked applicator (view value.now) asked.now }
+    requires asked { AreAsked (reads site.now.matches.now) applicator (view value.now) asked.now }
     ensures { IfOk result (AreRefused site.now (location_of schema.now ++ path_of_reference (text_of reference.entry)) (view value.now) (applied_row applicator.entry) (applied_questions applicator.entry (view value.now))) }
 {
     for question in asked {
@@ -112,9 +114,9 @@ fn accepted_of<'a, 'r>(
     value: &Value,
 ) -> Result<usize, AllocError>
     requires shallow { depth (view site.now.contents.now) ≤ deepest (documents_at site.now) }
-    requires values { asks_values applicator ≡ true }
+    requires by_answers { is_by_answers applicator ≡ true }
     requires inside { EachInside site.now applicator }
-    requires asked { AreAsked applicator (view value.now) asked.now }
+    requires asked { AreAsked (reads site.now.matches.now) applicator (view value.now) asked.now }
     ensures { IfOk result (AreCounted site.now (location_of schema.now ++ path_of_reference (text_of reference.entry)) (view value.now) applicator.entry (length asked.now)) }
 {
     let mut accepted = 0;
@@ -152,7 +154,7 @@ pub fn applicator_refuses<'a, 'r>(
     requires applies { AppliesIn site.now applicator }
     ensures { IfOk result (IsRefusalAt site.now (location_of schema.now ++ path_of_reference (text_of reference.entry)) (view value.now) (code.Applicator applicator.entry) name.now) }
 {
-    let asked = questions(alloc, &applicator, value)?;
+    let asked = questions(alloc, site.matches, &applicator, value)?;
     let asked = asked.as_slice();
     if applicator.is_every() {
         if is_noted(&applicator, value) {

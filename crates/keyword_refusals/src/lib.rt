@@ -8,6 +8,7 @@ pub mod members;
 pub mod refusing;
 pub mod road;
 
+pub use plain_reader::root::tell_root;
 pub use plain_reader::{
     Applicator, Assertion, Error, Keyword, ReferenceKeyword, Refusal, Resolved, Site, at_root,
     at_target, keyword,

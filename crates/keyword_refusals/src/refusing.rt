@@ -18,6 +18,7 @@ use crate::choosing::condition_refuses;
 use crate::items::some_item_refused;
 use crate::members::some_member_refused;
 use crate::road::RoadPart;
+use matched_keywords::pattern::accepts_text;
 use plain_reader::site::tell_site;
 use plain_reader::{Keyword, ReferenceKeyword, Resolved, Site, at_target};
 use schema_reports::{LazyLocation, Observer, Reference, Verdict};
@@ -81,6 +82,7 @@ fn keyword_refuses<'a, 'r>(
     match keyword {
         Keyword::Nothing => Ok(false),
         Keyword::Assertion(assertion) => Ok(!assertion.accept(alloc, value)?),
+        Keyword::Pattern(pattern) => Ok(!accepts_text(alloc, site.matches, pattern, value)?),
         Keyword::Items {
             start,
             schema: part,

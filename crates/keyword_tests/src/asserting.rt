@@ -3,7 +3,7 @@ use crate::subject::{built, refused_otherwise, told, told_otherwise};
 use json_schema_validator::ErrorIterator;
 use serde_json::Value;
 use std::alloc::Global;
-use std::test::Fail;
+use std::process::Abort;
 
 const BAD_VALUES: [(&str, &str, &str); 16] = [
     ("{\"type\":[\"string\",5]}", "type", "type name"),
@@ -41,13 +41,15 @@ const BAD_VALUES: [(&str, &str, &str); 16] = [
 ];
 
 #[test]
-fn values_that_no_keyword_may_have(rt: HostRuntime) -> Result<(), Fail> {
-    assert_eq!(rt; refused_otherwise(rt.alloc(), &BAD_VALUES)?.as_str(), "");
-    Ok(())
+fn values_that_no_keyword_may_have(rt: HostRuntime) {
+    assert_eq!(rt;
+        refused_otherwise(&rt, rt.alloc(), &BAD_VALUES).as_str(),
+        ""
+    );
 }
 
 #[test]
-fn values_that_assert_nothing(rt: HostRuntime) -> Result<(), Fail> {
+fn values_that_assert_nothing(rt: HostRuntime) {
     let alloc = rt.alloc();
     for schema in [
         "{\"required\":[]}",
@@ -56,12 +58,11 @@ fn values_that_assert_nothing(rt: HostRuntime) -> Result<(), Fail> {
         "{\"$schema\":\"http://json-schema.org/draft-04/schema#\",\"const\":1,\"exclusiveMaximum\":5,\"dependentRequired\":1}",
         "{\"$schema\":\"http://json-schema.org/draft-07/schema#\",\"dependentRequired\":1}",
     ] {
-        let subject = built(alloc, schema)?;
+        let subject = built(&rt, alloc, schema);
         for value in ["[1,1]", "{}", "9"] {
-            assert_eq!(rt; told(alloc, &subject, value)?.as_str(), "");
+            assert_eq!(rt; told(&rt, alloc, &subject, value).as_str(), "");
         }
     }
-    Ok(())
 }
 
 const FAULTS: [(&str, &str, &str); 12] = [
@@ -104,9 +105,8 @@ const FAULTS: [(&str, &str, &str); 12] = [
 ];
 
 #[test]
-fn faults_of_each_keyword(rt: HostRuntime) -> Result<(), Fail> {
-    assert_eq!(rt; told_otherwise(rt.alloc(), &FAULTS)?.as_str(), "");
-    Ok(())
+fn faults_of_each_keyword(rt: HostRuntime) {
+    assert_eq!(rt; told_otherwise(&rt, rt.alloc(), &FAULTS).as_str(), "");
 }
 
 const DRAFT_4: [(&str, &str, &str); 6] = [
@@ -143,9 +143,8 @@ const DRAFT_4: [(&str, &str, &str); 6] = [
 ];
 
 #[test]
-fn strict_limits_of_draft_4(rt: HostRuntime) -> Result<(), Fail> {
-    assert_eq!(rt; told_otherwise(rt.alloc(), &DRAFT_4)?.as_str(), "");
-    Ok(())
+fn strict_limits_of_draft_4(rt: HostRuntime) {
+    assert_eq!(rt; told_otherwise(&rt, rt.alloc(), &DRAFT_4).as_str(), "");
 }
 
 const NUMBERS_AND_TEXTS: [(&str, &str, &str); 8] = [
@@ -176,49 +175,50 @@ const NUMBERS_AND_TEXTS: [(&str, &str, &str); 8] = [
 ];
 
 #[test]
-fn numbers_and_texts(rt: HostRuntime) -> Result<(), Fail> {
+fn numbers_and_texts(rt: HostRuntime) {
     assert_eq!(rt;
-        told_otherwise(rt.alloc(), &NUMBERS_AND_TEXTS)?.as_str(),
+        told_otherwise(&rt, rt.alloc(), &NUMBERS_AND_TEXTS).as_str(),
         ""
     );
-    Ok(())
 }
 
-fn kinds_of(alloc: Global, errors: ErrorIterator<'_>) -> Result<String, Fail> {
+fn kinds_of(rt: &impl Abort, alloc: Global, errors: ErrorIterator<'_>) -> String {
     let mut text = String::new(alloc);
     for error in errors {
-        write!(text, "{:?};", error.kind())?;
+        write!(text, "{:?};", error.kind()).expect(rt, "memory");
     }
-    Ok(text)
+    text
 }
 
 // The kinds of the faults, one after another.
-fn kinds(alloc: Global, schema: &str, value: &str) -> Result<String, Fail> {
-    let subject = built(alloc, schema)?;
-    let value = Value::from_str(alloc, value)?;
-    kinds_of(alloc, subject.validator.iter_errors(&value)?)
+fn kinds(rt: &impl Abort, alloc: Global, schema: &str, value: &str) -> String {
+    let subject = built(rt, alloc, schema);
+    let value = Value::from_str(alloc, value).expect(rt, "JSON");
+    let errors = subject.validator.iter_errors(&value).expect(rt, "memory");
+    kinds_of(rt, alloc, errors)
 }
 
 #[test]
-fn kinds_name_what_the_keyword_has(rt: HostRuntime) -> Result<(), Fail> {
+fn kinds_name_what_the_keyword_has(rt: HostRuntime) {
     let alloc = rt.alloc();
     assert_eq!(rt;
         kinds(
+            &rt,
             alloc,
             "{\"enum\":[1,\"a\"],\"required\":[\"k\"],\"minProperties\":2}",
             "{}"
-        )?
+        )
         .as_str(),
         "Enumeration { options: Array [Number(1), String(\"a\")] };MinProperties { limit: 2 };Required { property: \"k\" };"
     );
     assert_eq!(rt;
         kinds(
+            &rt,
             alloc,
             "{\"type\":[\"null\",\"array\"],\"maximum\":-1,\"const\":0}",
             "7"
-        )?
+        )
         .as_str(),
         "Constant { expected_value: Number(0) };Maximum { limit: Number(-1) };Types { names: Several([Null, Array]) };"
     );
-    Ok(())
 }

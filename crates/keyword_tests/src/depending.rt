@@ -1,6 +1,5 @@
 // Names and schemas that depend on a member (Validation 6.5.7 of Draft 7).
 use crate::subject::{refused_otherwise, told_otherwise};
-use std::test::Fail;
 
 const BAD_VALUES: [(&str, &str, &str); 7] = [
     ("{\"dependencies\":[]}", "dependencies", "object"),
@@ -37,9 +36,11 @@ const BAD_VALUES: [(&str, &str, &str); 7] = [
 ];
 
 #[test]
-fn values_that_no_keyword_may_have(rt: HostRuntime) -> Result<(), Fail> {
-    assert_eq!(rt; refused_otherwise(rt.alloc(), &BAD_VALUES)?.as_str(), "");
-    Ok(())
+fn values_that_no_keyword_may_have(rt: HostRuntime) {
+    assert_eq!(rt;
+        refused_otherwise(&rt, rt.alloc(), &BAD_VALUES).as_str(),
+        ""
+    );
 }
 
 const BOTH: &str = "{\"dependencies\":{\"a\":[\"b\",\"c\"],\"x\":{\"required\":[\"y\"]}}}";
@@ -77,7 +78,6 @@ const DEPENDING: [(&str, &str, &str); 13] = [
 ];
 
 #[test]
-fn names_and_schemas_beside_members(rt: HostRuntime) -> Result<(), Fail> {
-    assert_eq!(rt; told_otherwise(rt.alloc(), &DEPENDING)?.as_str(), "");
-    Ok(())
+fn names_and_schemas_beside_members(rt: HostRuntime) {
+    assert_eq!(rt; told_otherwise(&rt, rt.alloc(), &DEPENDING).as_str(), "");
 }

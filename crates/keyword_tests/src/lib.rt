@@ -1,19 +1,13 @@
-//! Tests of keywords: what they refuse in a build, and what they tell of values.
+//! Tests of keywords that assert, and of those of an object's members: what they refuse in a build, and what they tell of values.
 #![tactic(auto)]
 
 #[cfg(test)]
 mod asserting;
 #[cfg(test)]
-mod branching;
-#[cfg(test)]
-mod carrying;
-#[cfg(test)]
-mod choosing;
-#[cfg(test)]
-mod counting;
-#[cfg(test)]
 mod depending;
 #[cfg(test)]
 mod others;
+#[cfg(test)]
+mod patterns;
 #[cfg(test)]
 mod subject;

@@ -1,1 +1,3 @@
 mod Ends
+mod Others
+pub mod Passed

@@ -1,37 +1,37 @@
 //! What is written for a line.
 ghost use Rattle.std.specs.Prelude.{◌≡◌, ◌++◌, ℕ, List, OnOk, option_map, string_bytes};
 ghost use Rattle.serde_json.specs.View.{view};
-ghost use Rattle.json_schema_validator.specs.Seen.{root_in};
-ghost use Rattle.line_runs.specs.Runs.{IsLineText, ValueText};
+ghost use Rattle.line_runs.specs.Runs.{IsLineTextBy, ValueTextBy};
 
 use json_schema_validator::Validator;
 use line_cuts::LineAnswers;
 use line_texts::{line_value, write_faults};
+use schema_patterns::PatternMatcher;
 use serde_json::Value;
 use std::alloc::{AllocError, Global};
 
 // Answers each line with the faults of its value.
-#[derive(Clone, Copy)]
-pub(crate) struct LineFaults<'v> {
+#[derive(Drop)]
+pub(crate) struct LineFaults<'v, M> {
     pub(crate) alloc: Global,
-    pub(crate) validator: &'v Validator,
+    pub(crate) validator: &'v Validator<M>,
 }
 
-impl LineAnswers for LineFaults<'_> {
-    ghost answers = { λ s. IsLineText (root_in s.validator.now) };
+impl<M: PatternMatcher> LineAnswers for LineFaults<'_, M> {
+    ghost answers = { λ s. IsLineTextBy M.finds s.validator.now };
 
     fn answer(&self, line: &[u8], text: &mut String) -> Result<(), AllocError> {
         answer_line(self.alloc, self.validator, line, text)
     }
 }
 
-fn answer_line(
+fn answer_line<M: PatternMatcher>(
     alloc: Global,
-    validator: &Validator,
+    validator: &Validator<M>,
     line: &[u8],
     text: &mut String,
 ) -> Result<(), AllocError>
-    ensures { OnOk result ((written : List ℕ) × IsLineText (root_in validator.now) line.now written × (string_bytes text.new ≡ string_bytes text.old ++ written)) }
+    ensures { OnOk result ((written : List ℕ) × IsLineTextBy M.finds validator.now line.now written × (string_bytes text.new ≡ string_bytes text.old ++ written)) }
 {
     let value = line_value(alloc, line)?;
     answer_value(alloc, validator, value, text)?;
@@ -39,13 +39,13 @@ fn answer_line(
     Ok(())
 }
 
-fn answer_value(
+fn answer_value<M: PatternMatcher>(
     alloc: Global,
-    validator: &Validator,
+    validator: &Validator<M>,
     value: Option<Value>,
     text: &mut String,
 ) -> Result<(), AllocError>
-    ensures { OnOk result ((written : List ℕ) × ValueText (root_in validator.now) (option_map (λ v. view v) value) written × (string_bytes text.new ≡ string_bytes text.old ++ written)) }
+    ensures { OnOk result ((written : List ℕ) × ValueTextBy M.finds validator.now (option_map (λ v. view v) value) written × (string_bytes text.new ≡ string_bytes text.old ++ written)) }
 {
     match value {
         Some(value) => {

@@ -4,6 +4,8 @@
 mod answers;
 mod running;
 
-pub use json_schema_validator::{BuildError, DocumentError, Documents, Draft, Validator};
+pub use json_schema_validator::{
+    BuildError, DocumentError, Documents, Draft, ValidationOptions, Validator,
+};
 pub use line_cuts::{RunError, RunReport};
 pub use running::{lines_are_ended, run};

@@ -1,6 +1,8 @@
 //! Runs over all lines of a reader.
 ghost use Rattle.std.specs.Prelude.{◌≡◌, IfOk, IfErr, OnOk};
 ghost use Rattle.schema_reading.specs.Lines as lines;
+ghost use Rattle.json_schema_validator.specs.Passed.{Patterns};
+ghost use Rattle.json_schema_validator.specs.Made.{IsMadeBy};
 ghost use Rattle.json_schema_validator.specs.Seen.{root_in};
 ghost use Rattle.line_cuts.specs.Cuts.{lines_of};
 ghost use Rattle.line_cuts.specs.Runs.{Counts, RunsThrough, Stops};
@@ -10,6 +12,7 @@ use crate::answers::LineFaults;
 use json_schema_validator::Validator;
 use line_cuts::{RunError, RunReport, answer_lines};
 use line_devices::{ByteSink, ByteSource};
+use schema_patterns::PatternMatcher;
 use std::alloc::Global;
 
 /// Reads instances, a line each, and writes a line for each: the text of its faults, or `null` where the line is no JSON text of whole
@@ -22,16 +25,16 @@ use std::alloc::Global;
 ///
 /// Where a read fails, where a write fails or takes nothing, and where memory was refused. When a read fails, the answers to all lines that
 /// had ended are written, and nothing for the part of a line behind them.
-pub fn run<S: ByteSource, K: ByteSink>(
+pub fn run<M: PatternMatcher, S: ByteSource, K: ByteSink>(
     alloc: Global,
     reader: &mut S,
     writer: &mut K,
-    validator: &Validator,
+    validator: &Validator<M>,
 ) -> Result<RunReport, RunError>
-    ensures ok { IfOk result (λ report. RunsThrough (IsLineText (root_in validator.now)) (S.remaining reader.old) (S.remaining reader.new) (K.contents writer.old) (K.contents writer.new) report) }
+    ensures ok { IfOk result (λ report. (p : Patterns) → IsMadeBy M.finds p validator.now → RunsThrough (IsLineText p (root_in validator.now)) (S.remaining reader.old) (S.remaining reader.new) (K.contents writer.old) (K.contents writer.new) report) }
     ensures read_quiet { OnOk result (S.failures reader.new ≡ S.failures reader.old) }
     ensures write_quiet { OnOk result (K.failures writer.new ≡ K.failures writer.old) }
-    ensures stops { IfErr result (λ e. Stops (IsLineText (root_in validator.now)) e (S.remaining reader.old) (S.remaining reader.new) (K.contents writer.old) (K.contents writer.new)) }
+    ensures stops { IfErr result (λ e. (p : Patterns) → IsMadeBy M.finds p validator.now → Stops (IsLineText p (root_in validator.now)) e (S.remaining reader.old) (S.remaining reader.new) (K.contents writer.old) (K.contents writer.new)) }
     ensures counts { IfErr result (λ e. Counts e (S.failures reader.old) (S.failures reader.new) (K.failures writer.old) (K.failures writer.new)) }
 {
     let answers = LineFaults { alloc, validator };

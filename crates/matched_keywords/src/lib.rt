@@ -2,4 +2,3 @@
 #![tactic(auto)]
 
 pub mod pattern;
-pub mod questions;

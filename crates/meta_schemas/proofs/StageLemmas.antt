@@ -13,7 +13,7 @@ use Rattle.schema_vocabularies.specs.declared.dialect.Dialect.{Dialect}
 use Rattle.schema_vocabularies.specs.declared.meta_schemas.MetaSchemas.{MetaSchemas}
 use Rattle.schema_vocabularies.proofs.Dialects.{same_dialects}
 use Rattle.document_index.proofs.LastLemmas.{last_that-push}
-use Rattle.place_laws.proofs.Alike.{alike_tell}
+use Rattle.dialect_laws.proofs.Passed.{alike_tell}
 use Rattle.dialect_laws.specs.Stages.{unless_alike, anew_at, anew_after, AtRest}
 use Rattle.dialect_laws.proofs.Same.{told_alike_is_same}
 use Rattle.dialect_laws.proofs.Resting.{rest_stays}

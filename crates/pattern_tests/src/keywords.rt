@@ -1,14 +1,17 @@
 // Keywords that ask for matches ask for those that were read.
 
+use applicators::applicator::Applicator;
+use applicators::declared::{Declared, undeclared_names};
 use applicators::question::{Asked, Question};
+use applicators::questions::questions;
 use applicators::subschema::Entry;
 use matched_keywords::pattern::accepts_text;
-use matched_keywords::questions::pattern_questions;
 use schema_matches::matches::Matches;
 use schema_patterns::PatternTable;
 use schema_patterns::bench::ScriptedMaker;
 use serde_json::Value;
-use std::test::Fail;
+use std::alloc::Global;
+use std::process::Abort;
 
 fn asks(question: &Question<'_, '_>, pattern: &str, member: &str) -> bool {
     match (question.subschema.entry, question.asked) {
@@ -17,37 +20,64 @@ fn asks(question: &Question<'_, '_>, pattern: &str, member: &str) -> bool {
     }
 }
 
-#[test]
-fn asks_for_members_by_patterns(rt: HostRuntime) -> Result<(), Fail> {
-    let alloc = rt.alloc();
+const SCHEMAS: &str = r#"{"^bar":{"minimum":5},"spam$":{"maximum":10}}"#;
+
+const INSTANCE: &str = r#"{"bar":4,"spam":11,"foo":3,"faz":1}"#;
+
+fn json(rt: &impl Abort, alloc: Global, text: &str) -> Value {
+    serde_json::from_str(alloc, text).expect(rt, "JSON")
+}
+
+// The matches of a pattern that has no literal form, and matches `spam` alone.
+fn read(rt: &impl Abort, alloc: Global, value: &Value) -> Matches {
     let mut maker = ScriptedMaker::new(alloc);
-    maker.add_match(alloc, "spam$", "spam")?;
+    maker.add_match(alloc, "spam$", "spam").expect(rt, "memory");
     let mut table = PatternTable::new(alloc);
     assert!(rt; table.add(alloc, &maker, "spam$").is_ok());
-    let schemas: Value = serde_json::from_str(
-        alloc,
-        r#"{"^bar":{"minimum":5},"spam$":{"maximum":10}}"#,
-    )?;
-    let value: Value = serde_json::from_str(alloc, r#"{"bar":4,"spam":11,"foo":3,"faz":1}"#)?;
-    let matches = Matches::read(alloc, &table, &value)?;
-    let Some(schemas) = schemas.as_object() else {
-        return Err(Fail::new("no object"));
-    };
-    let questions = pattern_questions(alloc, &matches, schemas, &value)?;
+    Matches::read(alloc, &table, value).expect(rt, "memory")
+}
+
+#[test]
+fn asks_for_members_by_patterns(rt: HostRuntime) {
+    let alloc = rt.alloc();
+    let schemas = json(&rt, alloc, SCHEMAS);
+    let value = json(&rt, alloc, INSTANCE);
+    let matches = read(&rt, alloc, &value);
+    let schemas = schemas.as_object().expect(&rt, "an object");
+    let applicator = Applicator::PatternProperties(schemas);
+    let questions = questions(alloc, &matches, &applicator, &value).expect(&rt, "memory");
     assert_eq!(rt; questions.len(), 2);
     assert!(rt; asks(&questions[0], "^bar", "bar"));
     assert!(rt; asks(&questions[1], "spam$", "spam"));
+}
+
+#[test]
+fn names_members_that_are_undeclared(rt: HostRuntime) {
+    let alloc = rt.alloc();
+    let names = json(&rt, alloc, r#"{"foo":{"type":"string"}}"#);
+    let schemas = json(&rt, alloc, SCHEMAS);
+    let value = json(&rt, alloc, INSTANCE);
+    let matches = read(&rt, alloc, &value);
+    let declared = Declared {
+        names: names.as_object(),
+        patterns: schemas.as_object(),
+    };
+    let others = undeclared_names(alloc, &matches, declared, &value).expect(&rt, "memory");
+    assert_eq!(rt; others.len(), 1);
+    assert_eq!(rt; others[0].as_str(), "faz");
+}
+
+#[test]
+fn accepts_texts_by_literal_forms(rt: HostRuntime) {
+    let alloc = rt.alloc();
+    let matches = read(&rt, alloc, &json(&rt, alloc, INSTANCE));
     for (text, accepted) in [
         (r#""a\ufeffb""#, false),
         (r#""a\u0085b""#, true),
         ("1", true),
     ] {
-        let value: Value = serde_json::from_str(alloc, text)?;
-        assert_eq!(rt;
-            accepts_text(alloc, &matches, r"^\S*$", &value)?,
-            accepted,
-            "{text}"
-        );
+        let value = json(&rt, alloc, text);
+        let told = accepts_text(alloc, &matches, r"^\S*$", &value).expect(&rt, "memory");
+        assert_eq!(rt; told, accepted, "{text}");
     }
-    Ok(())
 }

@@ -6,7 +6,7 @@ use regex_patterns::{RegexMaker, RegexMatcher};
 use schema_patterns::{MatchAnswer, PatternError, PatternMaker, PatternMatcher, PatternTable};
 use std::alloc::Global;
 use std::cell::Cell;
-use std::test::Fail;
+use std::process::Abort;
 
 // Counts how often it is asked.
 #[derive(Drop)]
@@ -27,31 +27,43 @@ impl PatternMaker for CountingMaker {
     }
 }
 
-#[test]
-fn makes_each_text_once(rt: HostRuntime) -> Result<(), Fail> {
-    let alloc = rt.alloc();
+// Each pattern that is added, what comes of it, and how often the maker was asked by then.
+fn assert_added(
+    rt: &impl Abort,
+    alloc: Global,
+    table: &mut PatternTable<RegexMatcher>,
+    rows: &[(&str, Result<usize, PatternError>, u32)],
+) {
     let maker = CountingMaker {
         asked: Cell::new(0),
     };
-    let mut table = PatternTable::new(alloc);
-    for (pattern, number, asked) in [
-        ("a.c", Ok(0), 1),
-        ("a.c", Ok(0), 1),
-        ("^x-", Ok(1), 1),
-        ("a(", Err(PatternError::BadPattern), 2),
-        ("b.c", Ok(2), 3),
-        ("a.c", Ok(0), 3),
-    ] {
-        assert_eq!(rt; table.add(alloc, &maker, pattern), number, "{pattern}");
-        assert_eq!(rt; maker.asked.get(), asked, "{pattern}");
+    for (pattern, number, asked) in rows {
+        assert_eq!(rt; table.add(alloc, &maker, pattern), *number, "{pattern}");
+        assert_eq!(rt; maker.asked.get(), *asked, "{pattern}");
     }
+}
+
+#[test]
+fn makes_each_text_once(rt: HostRuntime) {
+    let alloc = rt.alloc();
+    let mut table = PatternTable::new(alloc);
+    assert_added(
+        &rt,
+        alloc,
+        &mut table,
+        &[
+            ("a.c", Ok(0), 1),
+            ("a.c", Ok(0), 1),
+            ("^x-", Ok(1), 1),
+            ("a(", Err(PatternError::BadPattern), 2),
+            ("b.c", Ok(2), 3),
+            ("a.c", Ok(0), 3),
+        ],
+    );
     let found = table.get("a.c").map(|pattern| pattern.is_match("abc"));
     assert_eq!(rt; found, Some(MatchAnswer::Yes));
     assert!(rt; table.get("a(").is_none());
-    let Some((text, pattern)) = table.at(1) else {
-        return Err(Fail::new("no pattern"));
-    };
+    let (text, pattern) = table.at(1).expect(&rt, "a pattern");
     assert_eq!(rt; (text, pattern.is_match("x-id")), ("^x-", MatchAnswer::Yes));
     assert!(rt; table.at(3).is_none());
-    Ok(())
 }

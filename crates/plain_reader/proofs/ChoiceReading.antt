@@ -6,7 +6,7 @@ use Rattle.serde_json.specs.View.{view}
 use Rattle.serde_json.specs.declared.value.Value.{Value}
 use Rattle.schema_meaning.specs.Members.{In, first, later}
 use Rattle.schema_meaning.specs.Places.{whole}
-use Rattle.schema_meaning.specs.Questions.{Question, at, here, listed_members}
+use Rattle.schema_meaning.specs.Questions.{Question, at, listed_members}
 use Rattle.schema_meaning.specs.Rules.{asks}
 use Rattle.schema_meaning.specs.Keywords.{Shape, condition, rule}
 use Rattle.schema_meaning.specs.Readings.{Asks}
@@ -15,7 +15,6 @@ use Rattle.schema_documents.specs.Places.{by_schema, schema_in_force}
 use Rattle.schema_reading.specs.Sites.{Site}
 use Rattle.schema_reading.specs.Rows.{Row, Context, row_at, rows_at}
 use Rattle.schema_reading.specs.Plain.{plain}
-use Rattle.unread_keywords.specs.NotYet.{is_unread}
 use Rattle.meaning_laws.proofs.Obliged.{in_map}
 use Rattle.place_laws.proofs.Depths.{placed_contents}
 use Rattle.plain_laws.proofs.Nested.{all_known}
@@ -31,7 +30,7 @@ use Rattle.plain_reader.specs.Settings.{Setting}
 use Rattle.plain_reader.specs.Tellings.{AreRead}
 use Rattle.plain_reader.specs.Choices.{beside_leads, choice_leads, IsInside, AreInside}
 use Rattle.plain_reader.specs.Shapes.{context_in}
-use Rattle.plain_reader.proofs.Reading.{read_here, read_on, read_each, row_here}
+use Rattle.plain_reader.proofs.Reading.{read_on, row_here}
 
 -- ---- less deep
 
@@ -114,7 +113,7 @@ module _ (x : Setting) (ms : Members) (k : List ℕ) (f : Data) (schema : Bor Va
 
   choice : IsChoice here_read k f (site_at x.documents x.site (codes "if") (view schema.now)) (option_map (λ v. site_at x.documents x.site (codes "then") (view v.now)) t)
       (option_map (λ v. site_at x.documents x.site (codes "else") (view v.now)) e)
-  choice = record { listed = listed; read = read_each x.site ms k f (read_here x.documents x.makes x.site read) is listed; row = row }
+  choice = record { listed = listed; row = row }
 
   pub choice_read : (u : Site) → In u (choice_leads schema t e x) → AreRead x.documents x.makes u
   choice_read u first =

@@ -1,31 +1,30 @@
 -- What `if` tells, by what its schema answers and by what the chosen one tells.
 use Rattle.std.proofs.Common.{◌≡◌, ◌<◌, ◌++◌, ℕ, List, [], ◌∷◌, Bool, true, false, map, codes, Bor, Option, Some, None, IfSome, refl, sym, ap, subst, ◌∙◌}
 use Rattle.std.specs.Prelude.{option_map}
-use Rattle.serde_json.specs.Data.{Data, null, object, depth, Members}
+use Rattle.serde_json.specs.Data.{Data, depth}
 use Rattle.serde_json.specs.View.{view}
 use Rattle.serde_json.specs.declared.value.Value.{Value}
-use Rattle.schema_meaning.specs.Members.{In, first, later}
-use Rattle.schema_meaning.specs.Places.{Key, whole}
+use Rattle.schema_meaning.specs.Members.{In, later}
+use Rattle.schema_meaning.specs.Places.{Key}
 use Rattle.schema_meaning.specs.Faults.{Faults, none, joined, join, is_none}
-use Rattle.schema_meaning.specs.Questions.{Question, at, here, listed_members}
-use Rattle.schema_meaning.specs.Rules.{asks, chosen, consequents}
-use Rattle.schema_meaning.specs.Keywords.{Shape, condition, consequent, rule}
+use Rattle.schema_meaning.specs.Questions.{Question, here}
+use Rattle.schema_meaning.specs.Rules.{chosen, consequents}
+use Rattle.schema_meaning.specs.Keywords.{Shape, condition, consequent}
 use Rattle.schema_reading.specs.Sites.{Site, below}
 use Rattle.plain_laws.proofs.Elements.{in_front, in_rest}
 use Rattle.applicators.specs.Questions.{question_of}
 use Rattle.applicators.specs.declared.question.Question as asking_of
-use Rattle.schema_sites.specs.Read.{row_of, context_at, site_at}
-use Rattle.schema_sites.specs.Seen.{documents_at, Stands}
+use Rattle.schema_sites.specs.Read.{site_at}
 use Rattle.schema_sites.specs.declared.site.Site as code
 use Rattle.schema_reports.specs.Observers.{Hears}
 use Rattle.schema_reports.specs.declared.roads.Roads.{Roads}
-use Rattle.schema_reports.specs.declared.observer.Observation.{Observation}
 use Rattle.schema_reports.specs.declared.observer.Observation.TheVariants as kept
 use Rattle.schema_reports.specs.declared.observer.Observer.{Observer}
+use Rattle.plain_reader.specs.Spots.{Spots}
 use Rattle.plain_reader.specs.Settings.{Setting, asked_in, asked_by, told_by}
-use Rattle.plain_reader.specs.Tellings.{Fits, AreRead, TellsShapes, TellsQuestions}
+use Rattle.plain_reader.specs.Tellings.{AreRead, TellsShapes, TellsQuestions}
 use Rattle.plain_reader.specs.Applied.{question_leads, one_question, IsPart}
-use Rattle.plain_reader.specs.Choices.{asking, site_in, asks_at, beside_leads, beside_questions, choice_leads, choice_shapes, chosen_leads, chosen_questions, IsInside, AreInside}
+use Rattle.plain_reader.specs.Choices.{asking, site_in, asks_at, beside_leads, beside_questions, choice_leads, choice_shapes, chosen_leads, chosen_questions, IsInside}
 use Rattle.plain_reader.proofs.CombinedTelling.{answered}
 use Rattle.plain_reader.proofs.KeywordTelling.{hears_none}
 use Rattle.plain_reader.proofs.ToldLemmas.{told_by-one, asked_by-none}
@@ -33,7 +32,7 @@ use Rattle.plain_reader.proofs.ToldLemmas.{told_by-one, asked_by-none}
 -- ---- the value itself is asked of
 
 pub value_part : (d : Data) (k : Bor (List ℕ)) (schema : Bor Value) (q : asking_of.Question) → q ≡ asking k schema → IsPart d q.asked
-value_part d k schema q is = subst (λ (p : asking_of.Question). IsPart d p.asked) (sym is) (record { uncalled = refl; spots = λ path w h. h })
+value_part d k schema q is = subst (λ (p : asking_of.Question). IsPart d p.asked) (sym is) (record { spots = λ path w h. h; named = λ m e. absurd (cc) })
 
 pub asked_inside_of : (c : code.Site) (k : Bor (List ℕ)) (schema : Bor Value) (q : asking_of.Question) → q ≡ asking k schema → IsInside c schema
     → depth (view q.subschema.schema.now) < depth (view c.contents.now)
@@ -70,7 +69,7 @@ chosen_among : (x : Setting) (schema : Bor Value) (t e : Option (Bor Value)) (b 
 chosen_among x schema t e true u i = later (in_front u (beside_leads (codes "then") t x) (beside_leads (codes "else") e x) i)
 chosen_among x schema t e false u i = later (in_rest u (beside_leads (codes "then") t x) (beside_leads (codes "else") e x) i)
 
-module _ (c : code.Site) (instance d : Data) (roads : Roads) (keys : List Key) where
+module _ (c : code.Site) (instance : Spots) (d : Data) (roads : Roads) (keys : List Key) where
   abbrev TellsOf : asking_of.Question → Observer → Observer → Type 0
   TellsOf q old new = TellsQuestions c instance d roads keys (question_leads q) (one_question q) old new
 

@@ -12,12 +12,13 @@ use Rattle.schema_meaning.specs.Rules.{asks, accepts, faults, one_fault, own_fau
 use Rattle.schema_meaning.specs.Keywords.{rule}
 use Rattle.schema_reading.specs.Sites.{Site, below}
 use Rattle.applicators.specs.Shapes.{shape_of}
-use Rattle.applicators.specs.Combined.{refused_name, is_every, asks_values, Decides}
+use Rattle.applicators.specs.Combined.{refused_name, is_every, is_by_answers, is_each_named, Decides}
 use Rattle.applicators.specs.Questions.{question_of, questions_of}
 use Rattle.applicators.specs.declared.applicator.Applicator.{Applicator}
 use Rattle.applicators.specs.declared.question.Question.{Question}
 use Rattle.applied_laws.specs.Notes.{kind_by, value_by}
 use Rattle.applied_laws.proofs.Once.{tell_once, once_plain}
+use Rattle.schema_matches.specs.Read.{reads}
 use Rattle.schema_sites.specs.Seen.{documents_at}
 use Rattle.schema_sites.specs.declared.site.Site as code
 use Rattle.schema_reports.specs.Observers.{Hears}
@@ -29,12 +30,13 @@ use Rattle.schema_reports.specs.declared.observer.Observation.{Observation}
 use Rattle.schema_reports.specs.declared.observer.Observation.TheVariants as kept
 use Rattle.schema_reports.specs.declared.observer.Observer.{Observer}
 use Rattle.assertion_faults.specs.Tellings.{spot_at}
+use Rattle.plain_reader.specs.Spots.{Spots}
 use Rattle.plain_reader.specs.Settings.{Setting, asked_in, told_by}
 use Rattle.plain_reader.specs.Tellings.{Fits, AreRead, TellsShapes, TellsQuestions, room}
 use Rattle.plain_reader.specs.Applied.{applied_leads, applied_shapes, applied_questions, AreAsked, question_leads, one_question}
 use Rattle.plain_reader.specs.Combined.{answers_in, Counts, HasBranches}
 use Rattle.plain_reader.specs.Refusals.{carries_branches, AreOf, TellsRefusal}
-use Rattle.plain_reader.proofs.AppliedTelling.{question_led}
+use Rattle.plain_reader.proofs.AppliedTelling.{question_led, asked_there}
 use Rattle.plain_reader.proofs.ItemTelling.{asked_by-one}
 use Rattle.plain_reader.proofs.KeywordTelling.{hears_none}
 use Rattle.plain_reader.proofs.Left.{CountLeft, BranchesLeft}
@@ -45,7 +47,7 @@ use Rattle.plain_reader.proofs.ToldLemmas.{told_by-one}
 abbrev errors_told : List (Vec ValidationError Global) → List Faults
 errors_told context = map (λ es. faults_of es.items) context
 
-module _ (c : code.Site) (whole d : Data) (roads : Roads) (keys : List Key) (q : Question) where
+module _ (c : code.Site) (whole : Spots) (d : Data) (roads : Roads) (keys : List Key) (q : Question) where
   pub answered : (k : Observation) (old new : Observer) → Hears k old none → TellsQuestions c whole d roads keys (question_leads q) (one_question q) old new
       → (x : Setting) → Fits c d roads keys x → ((t : Site) → In t (question_leads q x) → AreRead x.documents x.makes t)
       → room (documents_at c) whole keys (view c.contents.now) ≤ x.depth → Hears k new (asked_in x (question_of (below x.documents x.site) q))
@@ -53,7 +55,7 @@ module _ (c : code.Site) (whole d : Data) (roads : Roads) (keys : List Key) (q :
 
 -- ---- how many accept
 
-module _ (c : code.Site) (whole d : Data) (roads : Roads) (keys : List Key) (a : Applicator) where
+module _ (c : code.Site) (whole : Spots) (d : Data) (roads : Roads) (keys : List Key) (a : Applicator) where
   pub count_done : (all : List Question) (n : ℕ) → CountLeft c whole d roads keys a all [] n → Counts c whole d roads keys a n
   count_done all n l = record { counted = λ x fits read enough. let left = l.left x fits read enough in omega (arith, left) }
 
@@ -61,33 +63,33 @@ module _ (c : code.Site) (whole d : Data) (roads : Roads) (keys : List Key) (a :
   one_more true n m = omega arith
   one_more false n m = refl
 
-  count_step : (all rest : List Question) (q : Question) (n : ℕ) (b : Bool) (old new : Observer) → AreAsked a d all → asks_values a ≡ true → Hears kept.Verdict old none
+  count_step : (all rest : List Question) (q : Question) (n : ℕ) (b : Bool) (old new : Observer) → AreAsked (reads c.matches.now) a d all → is_by_answers a ≡ true → Hears kept.Verdict old none
       → TellsQuestions c whole d roads keys (question_leads q) (one_question q) old new → ((fs : Faults) → Hears kept.Verdict new fs → b ≡ is_none fs)
       → CountLeft c whole d roads keys a all (q ∷ rest) n → CountLeft c whole d roads keys a all rest (one_if b n)
-  count_step all rest q n b old new are values begun told says l = record {
+  count_step all rest q n b old new are by_answers begun told says l = record {
     among = λ p i. l.among p (later i);
     left = λ x fits read enough.
         let site = below x.documents x.site in
-        let here : (t : Site) → In t (question_leads q x) → AreRead x.documents x.makes t = λ t i. read t (question_led a d all are values q (l.among q first) x t i) in
+        let here : (t : Site) → In t (question_leads q x) → AreRead x.documents x.makes t = λ t i. read t (question_led (reads c.matches.now) a d all are by_answers q (l.among q first) x t i) in
         let is : b ≡ is_none (asked_in x (question_of site q)) = says _ (answered c whole d roads keys q kept.Verdict old new begun told x fits here enough) in
         let more = count_true (verdicts_of (map (asked_in x) (questions_of site rest))) in
         l.left x fits read enough ∙ ap (λ v. n + one_if v more) (sym is) ∙ one_more b n more;
   }
 
-  pub count_yes : (all rest : List Question) (q : Question) (n : ℕ) (b : Bool) (old new : Observer) → AreAsked a d all → asks_values a ≡ true → Hears kept.Verdict old none
+  pub count_yes : (all rest : List Question) (q : Question) (n : ℕ) (b : Bool) (old new : Observer) → AreAsked (reads c.matches.now) a d all → is_by_answers a ≡ true → Hears kept.Verdict old none
       → TellsQuestions c whole d roads keys (question_leads q) (one_question q) old new → ((fs : Faults) → Hears kept.Verdict new fs → b ≡ is_none fs) → b ≡ true
       → CountLeft c whole d roads keys a all (q ∷ rest) n → CountLeft c whole d roads keys a all rest (n + 1)
-  count_yes all rest q n b old new are values begun told says yes_is l =
-      subst (λ m. CountLeft c whole d roads keys a all rest m) (ap (λ v. one_if v n) yes_is ∙ more n) (count_step all rest q n b old new are values begun told says l)
+  count_yes all rest q n b old new are by_answers begun told says yes_is l =
+      subst (λ m. CountLeft c whole d roads keys a all rest m) (ap (λ v. one_if v n) yes_is ∙ more n) (count_step all rest q n b old new are by_answers begun told says l)
     where
       more : (n : ℕ) → suc n ≡ n + 1
       more n = omega arith
 
-  pub count_no : (all rest : List Question) (q : Question) (n : ℕ) (b : Bool) (old new : Observer) → AreAsked a d all → asks_values a ≡ true → Hears kept.Verdict old none
+  pub count_no : (all rest : List Question) (q : Question) (n : ℕ) (b : Bool) (old new : Observer) → AreAsked (reads c.matches.now) a d all → is_by_answers a ≡ true → Hears kept.Verdict old none
       → TellsQuestions c whole d roads keys (question_leads q) (one_question q) old new → ((fs : Faults) → Hears kept.Verdict new fs → b ≡ is_none fs) → b ≡ false
       → CountLeft c whole d roads keys a all (q ∷ rest) n → CountLeft c whole d roads keys a all rest n
-  count_no all rest q n b old new are values begun told says no_is l =
-      subst (λ m. CountLeft c whole d roads keys a all rest m) (ap (λ v. one_if v n) no_is) (count_step all rest q n b old new are values begun told says l)
+  count_no all rest q n b old new are by_answers begun told says no_is l =
+      subst (λ m. CountLeft c whole d roads keys a all rest m) (ap (λ v. one_if v n) no_is) (count_step all rest q n b old new are by_answers begun told says l)
 
 -- ---- the errors of each
 
@@ -100,19 +102,19 @@ told_branches : (xs : List (Vec ValidationError Global)) → branches_in xs ≡ 
 told_branches [] = refl
 told_branches (y ∷ ys) = ap (branch (faults_of y.items)) (told_branches ys)
 
-module _ (c : code.Site) (whole d : Data) (roads : Roads) (keys : List Key) (a : Applicator) where
+module _ (c : code.Site) (whole : Spots) (d : Data) (roads : Roads) (keys : List Key) (a : Applicator) where
   pub branches_done : (all : List Question) (context : List (Vec ValidationError Global)) → BranchesLeft c whole d roads keys a all [] context → HasBranches c whole d roads keys a context
   branches_done all context l = record { told = λ x fits read enough. told_branches context ∙ ap branches_of (sym (l.left x fits read enough)) }
 
-  pub branches_step : (all rest : List Question) (q : Question) (context more : List (Vec ValidationError Global)) (e : Vec ValidationError Global) (old new : Observer) → AreAsked a d all
-      → asks_values a ≡ true → Hears kept.All old none → TellsQuestions c whole d roads keys (question_leads q) (one_question q) old new
+  pub branches_step : (all rest : List Question) (q : Question) (context more : List (Vec ValidationError Global)) (e : Vec ValidationError Global) (old new : Observer) → AreAsked (reads c.matches.now) a d all
+      → is_by_answers a ≡ true → Hears kept.All old none → TellsQuestions c whole d roads keys (question_leads q) (one_question q) old new
       → ((fs : Faults) → Hears kept.All new fs → faults_of e.items ≡ fs) → more ≡ context ++ e ∷ []
       → BranchesLeft c whole d roads keys a all (q ∷ rest) context → BranchesLeft c whole d roads keys a all rest more
-  branches_step all rest q context more e old new are values begun told says pushed l = record {
+  branches_step all rest q context more e old new are by_answers begun told says pushed l = record {
     among = λ p i. l.among p (later i);
     left = λ x fits read enough.
         let site = below x.documents x.site in
-        let here : (t : Site) → In t (question_leads q x) → AreRead x.documents x.makes t = λ t i. read t (question_led a d all are values q (l.among q first) x t i) in
+        let here : (t : Site) → In t (question_leads q x) → AreRead x.documents x.makes t = λ t i. read t (question_led (reads c.matches.now) a d all are by_answers q (l.among q first) x t i) in
         let is : faults_of e.items ≡ asked_in x (question_of site q) = says _ (answered c whole d roads keys q kept.All old new begun told x fits here enough) in
         let others = map (asked_in x) (questions_of site rest) in
         l.left x fits read enough ∙ collected context e (asked_in x (question_of site q)) others is ∙ ap (λ es. errors_told es ++ others) (sym pushed);
@@ -124,9 +126,12 @@ map-length : {A B : Type 0} (f : A → B) (xs : List A) → length (map f xs) �
 map-length f [] = refl
 map-length f (x ∷ xs) = ap suc (map-length f xs)
 
-module _ (c : code.Site) (whole d : Data) (roads : Roads) (keys : List Key) (a : Applicator) (qs : List Question) (values : asks_values a ≡ true) (once : is_every a ≡ false) (are : AreAsked a d qs) where
+module _ (c : code.Site) (whole : Spots) (d : Data) (roads : Roads) (keys : List Key) (a : Applicator) (qs : List Question) (by_answers : is_by_answers a ≡ true) (once : is_every a ≡ false) (together : is_each_named a ≡ false) (are : AreAsked (reads c.matches.now) a d qs) where
+  abbrev fault_of : (List ℕ → List ℕ → Bool) → List Faults → Fault
+  fault_of m answers = own_fault (spot_at d roads) (schema_in roads) (at (refused_name a (count_true (verdicts_of answers)))) (record { kind = kind_by m a d answers; value = value_by a d })
+
   abbrev fault_by : List Faults → Fault
-  fault_by answers = own_fault (spot_at d roads) (schema_in roads) (at (refused_name a (count_true (verdicts_of answers)))) (record { kind = kind_by a d answers; value = value_by a d })
+  fault_by answers = fault_of (reads c.matches.now) answers
 
   one_told : (n : ℕ) (b : Bool) → Counts c whole d roads keys a n → Decides a d (length qs) n b → (x : Setting) → Fits c d roads keys x
       → ((t : Site) → In t (applied_leads a x) → AreRead x.documents x.makes t) → room (documents_at c) whole keys (view c.contents.now) ≤ x.depth
@@ -136,13 +141,14 @@ module _ (c : code.Site) (whole d : Data) (roads : Roads) (keys : List Key) (a :
       let shape = shape_of site a in
       let answers = answers_in a d x in
       let each : length answers ≡ length (asks (rule x.matches d shape)) = map-length (asked_in x) (applied_questions a d x) in
-      let many : length (verdicts_of answers) ≡ length qs = map-length is_none answers ∙ each ∙ ap length (sym (are x.matches site)) ∙ map-length (question_of site) qs in
-      let verdict : accepts (rule x.matches d shape) (verdicts_of answers) ≡ b = decides.is values (once_plain a once) site x.matches (verdicts_of answers) many (counted.counted x fits read enough) in
+      let many : length (verdicts_of answers) ≡ length qs = map-length is_none answers ∙ each ∙ ap length (sym (asked_there c whole d roads keys a qs are x fits)) ∙ map-length (question_of site) qs in
+      let verdict : accepts (rule x.matches d shape) (verdicts_of answers) ≡ b = decides.is by_answers (once_plain a once) site x.matches (verdicts_of answers) many (counted.counted x fits read enough) in
       told_by-one x shape
       ∙ ap (λ w. faults (rule x.matches w.value shape) w x.site.schema_path (map (asked_in x) (asks (rule x.matches w.value shape)))) fits.spot
       ∙ ap (λ p. faults (rule x.matches d shape) (spot_at d roads) p answers) fits.schema_path
-      ∙ (tell_once a values once).is site x.matches (spot_at d roads) (schema_in roads) answers each
-      ∙ ap (λ v. one_fault v (fault_by answers)) verdict
+      ∙ (tell_once a by_answers once together).is site x.matches (spot_at d roads) (schema_in roads) answers each
+      ∙ ap (λ v. one_fault v (fault_of x.matches answers)) verdict
+      ∙ ap (λ (m : List ℕ → List ℕ → Bool). one_fault b (fault_of m answers)) fits.matches
 
   -- no fault where it accepts
   pub combined_accepted : (n : ℕ) (b : Bool) (o : Observer) → Counts c whole d roads keys a n → Decides a d (length qs) n b → b ≡ true
@@ -172,9 +178,9 @@ module _ (c : code.Site) (whole d : Data) (roads : Roads) (keys : List Key) (a :
   -- it is told
   pub combined_told : (n : ℕ) (b : Bool) (old now new : Observer) (context : List (Vec ValidationError Global)) → Counts c whole d roads keys a n → Decides a d (length qs) n b
       → b ≡ false → ((k : Observation) (fs : Faults) → Hears k old fs → Hears k now fs) → (carries_branches a ≡ true → HasBranches c whole d roads keys a context)
-      → TellsRefusal d roads a n context now new → TellsShapes c whole d roads keys (applied_leads a) (applied_shapes a) old new
+      → TellsRefusal (reads c.matches.now) d roads a n context now new → TellsShapes c whole d roads keys (applied_leads a) (applied_shapes a) old new
   combined_told n b old now new context counted decides is unheard branches told = combined_refused n b old new counted decides is
       λ x fits read enough k fs h.
       let answers : AreOf a n context (answers_in a d x) = record { counted = counted.counted x fits read enough; told = λ carries. (branches carries).told x fits read enough } in
-      subst (λ m. Hears k new (joined fs (also (own_fault (spot_at d roads) (schema_in roads) (at (refused_name a m)) (record { kind = kind_by a d (answers_in a d x); value = value_by a d })) none)))
+      subst (λ m. Hears k new (joined fs (also (own_fault (spot_at d roads) (schema_in roads) (at (refused_name a m)) (record { kind = kind_by (reads c.matches.now) a d (answers_in a d x); value = value_by a d })) none)))
       (sym answers.counted) (told.tells (answers_in a d x) answers k fs (unheard k fs h))

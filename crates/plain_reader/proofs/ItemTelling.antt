@@ -14,7 +14,7 @@ use Rattle.serde_json.specs.declared.value.Value.{Value}
 use Rattle.json_paths.specs.Parts.{Part, name, index}
 use Rattle.schema_documents.specs.Scopes.{entered_scope}
 use Rattle.schema_meaning.specs.Members.{In, first, later}
-use Rattle.schema_meaning.specs.Places.{Spot, Step, to_item, to_member, after, Key}
+use Rattle.schema_meaning.specs.Places.{Spot, Step, to_item, to_member, after, called_after, Key}
 use Rattle.schema_meaning.specs.Faults.{Faults, joined}
 use Rattle.schema_meaning.specs.Questions.{Question, question, at, at_name, each_item, items_from, if_member}
 use Rattle.schema_reading.specs.Sites.{Site, below, path_of_reference}
@@ -31,9 +31,10 @@ use Rattle.schema_reports.specs.declared.reference.Reference.{Reference}
 use Rattle.schema_reports.specs.declared.roads.Roads.{Roads}
 use Rattle.schema_reports.specs.declared.observer.Observation.{Observation}
 use Rattle.schema_reports.specs.declared.observer.Observer.{Observer}
-use Rattle.plain_reader.specs.Settings.{Setting, asked_in, asked_by}
+use Rattle.plain_reader.specs.Spots.{Spots}
+use Rattle.plain_reader.specs.Settings.{Setting, uncalled, told_in, asked_in, asked_by}
 use Rattle.assertion_faults.specs.Tellings.{spot_at}
-use Rattle.plain_reader.specs.Tellings.{Fits, AreRead, Within, Tells, TellsQuestions, room}
+use Rattle.plain_reader.specs.Tellings.{Fits, AreRead, Within, Tells, TellsCalled, TellsQuestions, room}
 use Rattle.plain_reader.specs.Shapes.{items_site, items_leads, items_questions, property_site, property_leads, property_questions, properties_leads, properties_questions}
 use Rattle.schema_reports.proofs.FaultLemmas.{joined-none}
 use Rattle.plain_reader.proofs.ToldLemmas.{asked_by-more, asked_by-none, asked_inside, led_to}
@@ -60,7 +61,7 @@ child_shallow c b d child inside shallow =
 deeper_room : (n : ℕ) (a b : ℕ) → a < b → 12 * (n + a) + 11 < 12 * (n + b)
 deeper_room n a b h = omega (arith, h)
 
-pub child_falls : (c b : code.Site) (d whole : Data) (keys : List Key) → Child c b d → depth d < depth (view c.contents.now)
+pub child_falls : (c b : code.Site) (d : Data) (whole : Spots) (keys : List Key) → Child c b d → depth d < depth (view c.contents.now)
     → 12 * room (documents_at b) whole keys (view b.contents.now) + 11 < 12 * room (documents_at c) whole keys (view c.contents.now)
 child_falls c b d whole keys child inside =
     subst (λ e. 12 * room (documents_at b) whole keys e + 11 < 12 * room (documents_at c) whole keys (view c.contents.now)) (sym child.contents)
@@ -70,13 +71,16 @@ child_falls c b d whole keys child inside =
 abbrev asks : Data → List Part → Step → Setting → Question Site
 asks d added step x = question (below x.documents x.site added d) step added
 
+abbrev spot_of : Data → List Part → List Part → Spot
+spot_of d path road = record { value = d; path = path; called = None; road = road }
+
+abbrev as_value : Spot → Spot
+as_value w = spot_of w.value w.path w.road
+
 -- where a child is asked: what the keyword adds, the step, the two values and the roads to them
 pub record Asked (added : List Part) (step : Step) (value v : Data) (roads at_roads : Roads) : Type 0 where
   pub schema_path : schema_in at_roads ≡ added ++ schema_in roads
-  pub spot : after (spot_at value roads) step added ≡ spot_at v at_roads
-
-abbrev spot_of : Data → List Part → List Part → Spot
-spot_of d path road = record { value = d; path = path; called = None; road = road }
+  pub spot : as_value (after (spot_at value roads) step added) ≡ spot_at v at_roads
 
 -- two spots of a value at the same paths
 same_spot : (d : Data) (p q r s : List Part) → p ≡ q → r ≡ s → spot_of d p r ≡ spot_of d q s
@@ -103,8 +107,8 @@ member_asked k value e roads at_roads instance path reference evaluation = recor
   spot = same_spot e _ _ _ _ (sym instance) (sym evaluation);
 }
 
-module _ (c b : code.Site) (d whole value v : Data) (roads at_roads : Roads) (keys : List Key) (added : List Part) (step : Step) where
-  child_fits : (x : Setting) → Child c b d → Asked added step value v roads at_roads → Fits c value roads keys x → AreRead x.documents x.makes (below x.documents x.site added d) → Fits b v at_roads keys (led_to x (asks d added step x) x.keys)
+module _ (c b : code.Site) (d : Data) (whole : Spots) (value v : Data) (roads at_roads : Roads) (keys : List Key) (added : List Part) (step : Step) where
+  child_fits : (x : Setting) → Child c b d → Asked added step value v roads at_roads → Fits c value roads keys x → AreRead x.documents x.makes (below x.documents x.site added d) → Fits b v at_roads keys (uncalled (led_to x (asks d added step x) x.keys))
   child_fits x child asked fits read =
       let inner = below x.documents x.site added d in
       let stands : Stands b (below x.documents x.site added d) = subst (λ docs. Stands b (below docs x.site added d)) (sym fits.documents) (child.stands x.site added fits.stands) in
@@ -113,18 +117,30 @@ module _ (c b : code.Site) (d whole value v : Data) (roads at_roads : Roads) (ke
         stands = stands;
         scope = ap₂ (λ new present. entered_scope new present x.site.scope) stands.base fits.stands.base ∙ ap (entered_scope (base_of b.resolver) (base_of c.resolver)) fits.scope ∙ sym child.scope;
         schema_path = ap (λ path. added ++ path) fits.schema_path ∙ sym asked.schema_path;
-        spot = ap (λ (w : Spot). after w step added) fits.spot ∙ asked.spot;
+        spot = ap (λ (w : Spot). as_value (after w step added)) fits.spot ∙ asked.spot;
         keys = fits.keys;
         matches = fits.matches ∙ ap (λ (m : Bor Matches). reads m.now) (sym child.matches);
         read = read;
       }
 
-  pub child_told : (old new : Observer) → Child c b d → Asked added step value v roads at_roads → depth d < depth (view c.contents.now) → Tells b whole v at_roads keys old new
+  pub child_told : (old new : Observer) → Child c b d → Asked added step value v roads at_roads → depth d < depth (view c.contents.now) → TellsCalled b whole v at_roads keys (called_after None step) old new
       → (x : Setting) → Fits c value roads keys x → AreRead x.documents x.makes (below x.documents x.site added d) → room (documents_at c) whole keys (view c.contents.now) ≤ x.depth
       → (kept : Observation) (fs : Faults) → Hears kept old fs → Hears kept new (joined fs (asked_in x (asks d added step x)))
   child_told old new child asked inside told x fits read enough kept fs h =
       let deep : room (documents_at b) whole keys (view b.contents.now) < x.depth = omega (arith, child_falls c b d whole keys child inside, enough) in
-      subst (λ gs. Hears kept new (joined fs gs)) (sym (asked_inside x (asks d added step x) refl)) (told.tells (led_to x (asks d added step x) x.keys) (child_fits x child asked fits read) deep kept fs h)
+      subst (λ gs. Hears kept new (joined fs gs)) (sym (asked_inside x (asks d added step x) refl))
+      (told.tells (led_to x (asks d added step x) x.keys) (child_fits x child asked fits read) (ap (λ (w : Spot). called_after w.called step) fits.spot) deep kept fs h)
+
+-- ---- a value is called nothing
+
+pub told_uncalled : (c : code.Site) (whole : Spots) (d : Data) (roads : Roads) (keys : List Key) (old new : Observer) → Tells c whole d roads keys old new → TellsCalled c whole d roads keys None old new
+told_uncalled c whole d roads keys old new told = record {
+  tells = λ x fits called enough kept fs h.
+      let w = x.spot in
+      let same : uncalled x ≡ x =
+      ap (λ (o : Option (List ℕ)). record { documents = x.documents; makes = x.makes; matches = x.matches; depth = x.depth; keys = x.keys; site = x.site; spot = record { value = w.value; path = w.path; called = o; road = w.road } }) (sym called) in
+      subst (λ (y : Setting). Hears kept new (joined fs (told_in y))) same (told.tells (uncalled x) fits enough kept fs h);
+}
 
 -- ---- the places of a value's parts
 
@@ -169,13 +185,13 @@ in_object k d (string s) path w found h = absurd (cc)
 in_object k d (array ds) path w found h = absurd (cc)
 in_object k d (object ms) path w found h = later (in_members k d ms path w found h)
 
-pub member_within : (k : List ℕ) (d e whole : Data) (path inner : List Part) → get k e ≡ Some d → inner ≡ name k ∷ path → Within e path whole → Within d inner whole
+pub member_within : (k : List ℕ) (d e : Data) (whole : Spots) (path inner : List Part) → get k e ≡ Some d → inner ≡ name k ∷ path → Within e path whole → Within d inner whole
 member_within k d e whole path inner found is within = record { spots = λ w h. within.spots w (in_object k d e path w found (subst (λ p. In w (spots_in p d)) is h)) }
 
-pub item_within : (i : ℕ) (d e whole : Data) (all rest : Items) (path inner : List Part) → e ≡ array all → inner ≡ index i ∷ path
+pub item_within : (i : ℕ) (d e : Data) (whole : Spots) (all rest : Items) (path inner : List Part) → e ≡ array all → inner ≡ index i ∷ path
     → ((w : Where) → In w (spots_of_items path i (item d rest)) → In w (spots_of_items path 0 all)) → Within e path whole → Within d inner whole
 item_within i d e whole all rest path inner is at_item among within =
-    let within_all : (w : Where) → In w (spots_in path (array all)) → In w (spots_in [] whole) = λ w h. within.spots w (subst (λ f. In w (spots_in path f)) (sym is) h) in
+    let within_all : (w : Where) → In w (spots_in path (array all)) → In w whole = λ w h. within.spots w (subst (λ f. In w (spots_in path f)) (sym is) h) in
     record { spots = λ w h. within_all w (later (among w (in_left w (spots_in (index i ∷ path) d) (spots_of_items path (suc i) rest) (subst (λ p. In w (spots_in p d)) at_item h)))) }
 
 -- ---- `items`
@@ -186,7 +202,7 @@ drop-items zero (v ∷ vs) = refl
 drop-items (suc start) [] = refl
 drop-items (suc start) (v ∷ vs) = drop-items start vs
 
-module _ (c : code.Site) (whole value : Data) (roads : Roads) (keys : List Key) (schema : Data) (start : ℕ) where
+module _ (c : code.Site) (whole : Spots) (value : Data) (roads : Roads) (keys : List Key) (schema : Data) (start : ℕ) where
   -- a value that is no array has no items
   pub no_items_told : (old : Observer) → ((x : Setting) → items_questions start schema value x ≡ []) → TellsQuestions c whole value roads keys (items_leads schema) (items_questions start schema value) old old
   no_items_told old nothing = record {
@@ -225,7 +241,7 @@ module _ (c : code.Site) (whole value : Data) (roads : Roads) (keys : List Key) 
         let q = asks schema (at (codes "items")) (to_item i e) x in
         let more = each_item (codes "items") (items_site schema x) (suc i) rest in
         let left = subst (λ gs. LeftOf (asked_by x (items_questions start schema value x)) gs kept fs now) (asked_by-more x q more) (l.left x fits read enough kept fs h) in
-        told_one _ (asked_in x q) (asked_by x more) _ kept fs now new refl (λ gs g. child_told c b schema whole value e roads at_roads keys (at (codes "items")) (to_item i e) now new child asked inside told x fits read enough kept gs g) left;
+        told_one _ (asked_in x q) (asked_by x more) _ kept fs now new refl (λ gs g. child_told c b schema whole value e roads at_roads keys (at (codes "items")) (to_item i e) now new child asked inside (told_uncalled b whole e at_roads keys now new told) x fits read enough kept gs g) left;
   }
 
 -- ---- `properties`
@@ -234,7 +250,7 @@ in_first_site : (t s : Site) (more : List Site) → In t (s ∷ []) → In t (s 
 in_first_site t s more first = first
 in_first_site t s more (later i) = elim i [ ]
 
-module _ (c : code.Site) (whole value : Data) (roads : Roads) (keys : List Key) where
+module _ (c : code.Site) (whole : Spots) (value : Data) (roads : Roads) (keys : List Key) where
   pub property_told : (b : code.Site) (at_roads : Roads) (k : List ℕ) (schema e : Data) (old new : Observer) → Tells b whole e at_roads keys old new → Child c b schema
       → Asked (at_name (codes "properties") k) (to_member k e) value e roads at_roads → depth schema < depth (view c.contents.now)
       → TellsQuestions c whole value roads keys (property_leads k schema) (property_questions k schema e) old new
@@ -242,7 +258,7 @@ module _ (c : code.Site) (whole value : Data) (roads : Roads) (keys : List Key) 
     tells = λ x fits read enough kept fs h.
         let q = asks schema (at_name (codes "properties") k) (to_member k e) x in
         subst (λ gs. Hears kept new (joined fs gs)) (sym (asked_by-one x q))
-        (child_told c b schema whole value e roads at_roads keys (at_name (codes "properties") k) (to_member k e) old new child asked inside told x fits (read _ first) enough kept fs h);
+        (child_told c b schema whole value e roads at_roads keys (at_name (codes "properties") k) (to_member k e) old new child asked inside (told_uncalled b whole e at_roads keys old new told) x fits (read _ first) enough kept fs h);
   }
 
   pub declared_init : (all : Members) (old : Observer) → DeclaredLeft c whole value roads keys all all old old

@@ -1,5 +1,5 @@
 -- What a member of a schema tells, by what its keyword does.
-use Rattle.std.proofs.Common.{◌≡◌, ◌<◌, ◌≤◌, ℕ, zero, suc, List, [], ◌∷◌, Bool, true, false, Bor, Option, refl, sym, ap, ◌∙◌, arith, subst}
+use Rattle.std.proofs.Common.{◌≡◌, ◌<◌, ◌≤◌, ℕ, zero, suc, List, [], ◌∷◌, Bool, true, false, Bor, Option, codes, refl, sym, ap, ◌∙◌, arith, subst}
 use Rattle.std.specs.List.{flat_map}
 use Rattle.serde_json.specs.Data.{Data, null, boolean, number, string, array, object, Members}
 use Rattle.serde_json.specs.View.{view}
@@ -9,22 +9,24 @@ use Rattle.schema_meaning.specs.Places.{Key}
 use Rattle.schema_meaning.specs.Faults.{FalseSchema, fault, Faults, none, also, joined}
 use Rattle.schema_meaning.specs.Rules.{own_faults}
 use Rattle.schema_meaning.specs.Questions.{Question, at, listed_members}
-use Rattle.schema_meaning.specs.Keywords.{Shape, Reference, Assertion, items, properties, reference, never, named, wrong, reference_name}
+use Rattle.schema_meaning.specs.Keywords.{Shape, Reference, Assertion, pattern, items, properties, reference, never, named, wrong, reference_name}
 use Rattle.schema_meaning.specs.Readings.{bags}
 use Rattle.schema_meaning.specs.Cut.{cut_within}
+use Rattle.schema_documents.specs.Bearers.{Documents}
 use Rattle.schema_documents.specs.Lookup.{Target}
+use Rattle.schema_matches.specs.Read.{reads}
 use Rattle.schema_reading.specs.Sites.{Site, below, target_site}
 use Rattle.applicators.specs.Shapes.{shape_of}
 use Rattle.applicators.specs.Combined.{is_every, notes_by, name_of as applicator_name}
 use Rattle.applicators.specs.declared.applicator.Applicator.{Applicator}
 use Rattle.applicators.proofs.CombinedLemmas.{every_rule}
+use Rattle.plain_reader.specs.Spots.{Spots}
 use Rattle.plain_reader.specs.Applied.{applied_leads, applied_shapes, applied_questions}
 use Rattle.schema_reading.specs.Rows.{Row, Context, row_at, assertion, rows_in}
-use Rattle.unread_keywords.specs.NotYet.{is_unread}
 use Rattle.schema_reading.specs.Plain.{keywords_at}
 use Rattle.schema_sites.specs.Passed.{scope_of}
 use Rattle.schema_sites.specs.Seen.{documents_at, Stands}
-use Rattle.schema_sites.specs.Read.{leads_of, row_of, context_at}
+use Rattle.schema_sites.specs.Read.{leads_of, row_of, context_at, IsRowOf}
 use Rattle.schema_sites.specs.Refused.{Refuses}
 use Rattle.schema_sites.specs.declared.site.Site as code
 use Rattle.schema_sites.specs.declared.keyword.Keyword.{Keyword}
@@ -36,7 +38,7 @@ use Rattle.schema_reports.specs.Observers.{Hears}
 use Rattle.schema_reports.specs.declared.roads.Roads.{Roads}
 use Rattle.schema_reports.specs.declared.observer.Observation.{Observation}
 use Rattle.schema_reports.specs.declared.observer.Observer.{Observer}
-use Rattle.assertion_faults.specs.Tellings.{TellsAssertion, TellsNotes, spot_at}
+use Rattle.assertion_faults.specs.Tellings.{TellsAssertion, TellsPattern, TellsNotes, spot_at}
 use Rattle.plain_reader.specs.Settings.{Setting, reading_in, told_in, told_by, asked_by}
 use Rattle.plain_reader.specs.Tellings.{Fits, AreRead, Tells, TellsShapes, TellsQuestions, room}
 use Rattle.plain_reader.specs.Shapes.{no_leads, context_in, shapes_at, shapes_among, keyword_leads, keyword_shapes, items_site, items_leads, items_questions, declared_in, properties_leads, properties_questions}
@@ -45,14 +47,14 @@ use Rattle.plain_reader.specs.Targets.{reference_leads, reference_questions}
 use Rattle.schema_reports.proofs.FaultLemmas.{joined-none, joined-joined}
 use Rattle.plain_reader.proofs.ToldLemmas.{told_by-none, told_by-asserts, told_by-never, told_by-items, told_by-properties, told_by-every, told_by-reference, asked_by-none, asked_by-more, told_deeper}
 use Rattle.plain_reader.proofs.ChoiceReading.{choice_read}
-use Rattle.plain_reader.proofs.Reading.{read_here, read_on, read_each, row_here, keywords-of}
+use Rattle.plain_reader.proofs.Reading.{right_here, read_on, row_here, keywords-of}
 
 -- ---- nothing more is told
 
 pub hears_none : (kept : Observation) (o : Observer) (fs gs : Faults) → gs ≡ none → Hears kept o fs → Hears kept o (joined fs gs)
 hears_none kept o fs gs e h = subst (Hears kept o) (sym (ap (joined fs) e ∙ joined-none fs)) h
 
-module _ (c : code.Site) (whole d : Data) (roads : Roads) (progress : List Key) where
+module _ (c : code.Site) (whole : Spots) (d : Data) (roads : Roads) (progress : List Key) where
   pub tells_nothing : (leads : Setting → List Site) (shapes : Setting → List (Shape Site)) (o : Observer) → ((x : Setting) → Fits c d roads progress x → shapes x ≡ []) → TellsShapes c whole d roads progress leads shapes o o
   tells_nothing leads shapes o e =
       record { tells = λ x fits read deep kept fs h. hears_none kept o fs (told_by x (shapes x)) (ap (told_by x) (e x fits) ∙ told_by-none x) h }
@@ -68,6 +70,19 @@ module _ (c : code.Site) (whole d : Data) (roads : Roads) (progress : List Key) 
         ∙ ap (λ w. own_faults w x.site.schema_path (at (named a)) (wrong x.matches a w.value)) fits.spot
         ∙ ap (λ p. own_faults (spot_at d roads) p (at (named a)) (wrong x.matches a d)) fits.schema_path in
         subst (λ gs. Hears kept new (joined fs gs)) (sym same) (told.tells x.matches kept fs h);
+  }
+
+  pub tells_pattern : (k : Keyword) (p : List ℕ) (old new : Observer) → ((x : Setting) → keyword_shapes k x ≡ assertion (pattern p))
+      → TellsPattern d roads (reads c.matches.now) p old new → TellsShapes c whole d roads progress (keyword_leads k) (keyword_shapes k) old new
+  tells_pattern k p old new e told = record {
+    tells = λ x fits read deep kept fs h.
+        let k_at = at (codes "pattern") in
+        let same : told_by x (keyword_shapes k x) ≡ own_faults (spot_at d roads) (schema_in roads) k_at (wrong (reads c.matches.now) (pattern p) d) =
+        ap (told_by x) (e x) ∙ told_by-asserts x (pattern p)
+        ∙ ap (λ w. own_faults w x.site.schema_path k_at (wrong x.matches (pattern p) w.value)) fits.spot
+        ∙ ap (λ above. own_faults (spot_at d roads) above k_at (wrong x.matches (pattern p) d)) fits.schema_path
+        ∙ ap (λ (m : List ℕ → List ℕ → Bool). own_faults (spot_at d roads) (schema_in roads) k_at (wrong m (pattern p) d)) fits.matches in
+        subst (λ gs. Hears kept new (joined fs gs)) (sym same) (told.tells kept fs h);
   }
 
   pub tells_questions : (k : Keyword) (leads : Setting → List Site) (questions : Setting → List (Question Site)) (old new : Observer)
@@ -141,6 +156,7 @@ module _ (c : code.Site) (whole d : Data) (roads : Roads) (progress : List Key) 
       by : (w : Keyword) → row_at (context_in ms x) k e ≡ row_of x.documents x.site w → In t (keyword_leads w x) → AreRead x.documents x.makes t
       by keyword.Nothing row i = led keyword.Nothing row i
       by (keyword.Assertion a) row i = led (keyword.Assertion a) row i
+      by (keyword.Pattern p) row i = led (keyword.Pattern p) row i
       by (keyword.Items start schema) row i = led (keyword.Items start schema) row i
       by (keyword.Properties map) row i = led (keyword.Properties map) row i
       by (keyword.If schema then_schema else_schema) row i = choice_read x ms k e schema then_schema else_schema (fits.stands.contents ∙ is) listed fits.read row t i
@@ -149,38 +165,37 @@ module _ (c : code.Site) (whole d : Data) (roads : Roads) (progress : List Key) 
       by (keyword.Reference r text target) row i = led (keyword.Reference r text target) row i
 
   pub tells_member : (ms : Members) (k : List ℕ) (e : Data) (word : Keyword) (old new : Observer) → view c.contents.now ≡ object ms → In (k, e) (listed_members ms)
-      → ((makes : List ℕ → Bool) (s : Site) → Stands c s → s.scope ≡ scope_of c.resolver → row_at (context_at c ms makes s) k e ≡ row_of (documents_at c) s word)
+      → ((makes : List ℕ → Bool) (s : Site) → Stands c s → s.scope ≡ scope_of c.resolver → IsRowOf (context_at c ms makes s) k (row_at (context_at c ms makes s) k e) word)
       → TellsShapes c whole d roads progress (keyword_leads word) (keyword_shapes word) old new
       → TellsShapes c whole d roads progress no_leads (shapes_at ms k e) old new
-  tells_member ms k e word old new is listed reads told = record {
+  tells_member ms k e word old new is listed row_is told = record {
     tells = λ x fits none deep kept fs h.
-        let row : row_at (context_in ms x) k e ≡ row_of x.documents x.site word =
-        subst (λ docs. row_at (record { documents = docs; makes = x.makes; site = x.site; members = ms }) k e ≡ row_of docs x.site word) (sym fits.documents) (reads x.makes x.site fits.stands fits.scope) in
+        let is_row : IsRowOf (context_in ms x) k (row_at (context_in ms x) k e) word =
+        subst (λ (docs : Documents). IsRowOf (record { documents = docs; makes = x.makes; site = x.site; members = ms }) k (row_at (record { documents = docs; makes = x.makes; site = x.site; members = ms }) k e) word) (sym fits.documents) (row_is x.makes x.site fits.stands fits.scope) in
+        let right = right_here x.documents x.makes x.site _ fits.read (row_here x.documents x.makes x.site ms k e (fits.stands.contents ∙ is) listed) in
+        let row : row_at (context_in ms x) k e ≡ row_of x.documents x.site word = is_row.made (is_row.right right) in
         let read : (t : Site) → In t (keyword_leads word x) → AreRead x.documents x.makes t = λ t i. asked_read ms k e word is listed x fits row t i in
         subst (λ r. Hears kept new (joined fs (told_by x r.shapes))) (sym row) (told.tells x fits read deep kept fs h);
   }
 
 -- ---- a member that is refused
 
-refused_shapes : (x : Context) (k : List ℕ) (d : Data) (row : Row) (r : Refusal) → Refuses x k d row r → (r ≡ refusal.Memory → ⊥) → is_unread x.site x.members k d ≡ false → row.shapes ≡ []
-refused_shapes x k d row (refusal.Value expected) h other read = h.alone
-refused_shapes x k d row (refusal.Entry n expected) h other read = h.alone
-refused_shapes x k d row (refusal.Element i expected) h other read = h.alone
-refused_shapes x k d row (refusal.Target target) h other read = h.alone
-refused_shapes x k d row (refusal.Reference error) h other read = h.2.alone
-refused_shapes x k d row refusal.LeftOut h other read = h.alone
-refused_shapes x k d row refusal.NotYet h other read = absurd (cc)
-refused_shapes x k d row refusal.Memory h other read = absurd (other refl)
+refused_shapes : (x : Context) (k : List ℕ) (d : Data) (row : Row) (r : Refusal) → Refuses x k d row r → (r ≡ refusal.Memory → ⊥) → row.shapes ≡ []
+refused_shapes x k d row (refusal.Value expected) h other = h.alone
+refused_shapes x k d row (refusal.Entry n expected) h other = h.alone
+refused_shapes x k d row (refusal.Element i expected) h other = h.alone
+refused_shapes x k d row (refusal.Target target) h other = h.alone
+refused_shapes x k d row (refusal.Reference error) h other = h.2.alone
+refused_shapes x k d row refusal.LeftOut h other = h.alone
+refused_shapes x k d row refusal.Memory h other = absurd (other refl)
 
-module _ (c : code.Site) (whole d : Data) (roads : Roads) (progress : List Key) where
-  pub tells_refused : (ms : Members) (k : List ℕ) (e : Data) (r : Refusal) (o : Observer) → view c.contents.now ≡ object ms → In (k, e) (listed_members ms) → (r ≡ refusal.Memory → ⊥)
+module _ (c : code.Site) (whole : Spots) (d : Data) (roads : Roads) (progress : List Key) where
+  pub tells_refused : (ms : Members) (k : List ℕ) (e : Data) (r : Refusal) (o : Observer) → (r ≡ refusal.Memory → ⊥)
       → ((makes : List ℕ → Bool) (s : Site) → Stands c s → s.scope ≡ scope_of c.resolver → Refuses (context_at c ms makes s) k e (row_at (context_at c ms makes s) k e) r)
       → TellsShapes c whole d roads progress no_leads (shapes_at ms k e) o o
-  tells_refused ms k e r o is listed other refuses = tells_nothing c whole d roads progress no_leads (shapes_at ms k e) o
+  tells_refused ms k e r o other refuses = tells_nothing c whole d roads progress no_leads (shapes_at ms k e) o
       λ x fits.
-      let here = read_here x.documents x.makes x.site fits.read in
-      let counted = read_each x.site ms k e here (fits.stands.contents ∙ is) listed in
-      let none = refused_shapes (context_at c ms x.makes x.site) k e (row_at (context_at c ms x.makes x.site) k e) r (refuses x.makes x.site fits.stands fits.scope) other counted in
+      let none = refused_shapes (context_at c ms x.makes x.site) k e (row_at (context_at c ms x.makes x.site) k e) r (refuses x.makes x.site fits.stands fits.scope) other in
       subst (λ docs. (row_at (record { documents = docs; makes = x.makes; site = x.site; members = ms }) k e).shapes ≡ []) (sym fits.documents) none
 
 -- ---- a site
@@ -201,7 +216,7 @@ depth_below : (k r : ℕ) → r < k → Below k r
 depth_below zero r h = absurd (omega arith)
 depth_below (suc n) r h = record { before = n; is = refl; enough = omega arith }
 
-module _ (c : code.Site) (whole d : Data) (roads : Roads) (progress : List Key) where
+module _ (c : code.Site) (whole : Spots) (d : Data) (roads : Roads) (progress : List Key) where
   pub tells_site : (shapes : Setting → List (Shape Site)) (old new : Observer) → ((x : Setting) → Fits c d roads progress x → keywords_at x.documents x.makes x.site ≡ shapes x)
       → TellsShapes c whole d roads progress no_leads shapes old new → Tells c whole d roads progress old new
   tells_site shapes old new same told = record {

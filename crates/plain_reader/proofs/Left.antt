@@ -9,7 +9,7 @@ use Rattle.schema_meaning.specs.Members.{In, count_true}
 use Rattle.schema_meaning.specs.Places.{Key}
 use Rattle.schema_meaning.specs.Faults.{Faults, joined}
 use Rattle.schema_meaning.specs.Questions.{each_item, listed_members}
-use Rattle.schema_meaning.specs.Rules.{verdicts_of}
+use Rattle.schema_meaning.specs.Rules.{verdicts_of, each_of_object}
 use Rattle.schema_reading.specs.Sites.{Site, below}
 use Rattle.applicators.specs.Questions.{questions_of}
 use Rattle.applicators.specs.declared.applicator.Applicator.{Applicator}
@@ -22,8 +22,9 @@ use Rattle.schema_reports.specs.declared.roads.Roads.{Roads}
 use Rattle.schema_reports.specs.declared.observer.Observation.{Observation}
 use Rattle.schema_reports.specs.declared.observer.Observer.{Observer}
 use Rattle.schema_reports.specs.RoadPaths.{instance_in}
-use Rattle.schema_reports.specs.Told.{faults_of}
+use Rattle.schema_reports.specs.Told.{faults_of, spot_of}
 use Rattle.schema_reports.specs.declared.error.ValidationError.{ValidationError}
+use Rattle.plain_reader.specs.Spots.{Spots}
 use Rattle.plain_reader.specs.Settings.{Setting, told_by, asked_in, asked_by}
 use Rattle.plain_reader.specs.Tellings.{Fits, AreRead, room}
 use Rattle.plain_reader.specs.Applied.{applied_leads, applied_questions}
@@ -36,7 +37,7 @@ pub record LeftOf (all left : Faults) (kept : Observation) (fs : Faults) (now : 
   pub heard : Hears kept now (joined fs done)
   pub rest : all ≡ joined done left
 
-module _ (c : code.Site) (whole d : Data) (roads : Roads) (progress : List Key) where
+module _ (c : code.Site) (whole : Spots) (d : Data) (roads : Roads) (progress : List Key) where
   pub record MembersLeft (all rest : Members) (old now : Observer) : Type 0 where
     pub among : (k : List ℕ) (e : Data) → In (k, e) (listed_members rest) → In (k, e) (listed_members all)
     pub left : (x : Setting) → Fits c d roads progress x → room (documents_at c) whole progress (view c.contents.now) ≤ x.depth
@@ -55,6 +56,15 @@ module _ (c : code.Site) (whole d : Data) (roads : Roads) (progress : List Key) 
         → room (documents_at c) whole progress (view c.contents.now) ≤ x.depth
         → (kept : Observation) (fs : Faults) → Hears kept old fs
         → LeftOf (asked_by x (applied_questions a d x)) (asked_by x (questions_of (below x.documents x.site) rest)) kept fs now
+
+  -- of the object, for each fault of what they ask
+  pub record NamedLeft (a : Applicator) (all rest : List Question) (old now : Observer) : Type 0 where
+    pub among : (q : Question) → In q rest → In q all
+    pub left : (x : Setting) → Fits c d roads progress x → ((t : Site) → In t (applied_leads a x) → AreRead x.documents x.makes t)
+        → room (documents_at c) whole progress (view c.contents.now) ≤ x.depth
+        → (kept : Observation) (fs : Faults) → Hears kept old fs
+        → LeftOf (each_of_object (spot_of d (instance_in roads)) (asked_by x (applied_questions a d x)))
+        (each_of_object (spot_of d (instance_in roads)) (asked_by x (questions_of (below x.documents x.site) rest))) kept fs now
 
   pub record DeclaredLeft (all rest : Members) (old now : Observer) : Type 0 where
     pub shallow : depth (object rest) ≤ depth (object all)

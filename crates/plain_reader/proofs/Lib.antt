@@ -14,3 +14,4 @@ pub mod Reading
 pub mod KeywordTelling
 pub mod ChoiceReading
 pub mod ChoiceTelling
+pub mod NameTelling

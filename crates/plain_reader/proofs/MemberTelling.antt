@@ -10,6 +10,7 @@ use Rattle.schema_reports.specs.Observers.{Hears}
 use Rattle.schema_reports.specs.declared.roads.Roads.{Roads}
 use Rattle.schema_reports.specs.declared.observer.Observation.{Observation}
 use Rattle.schema_reports.specs.declared.observer.Observer.{Observer}
+use Rattle.plain_reader.specs.Spots.{Spots}
 use Rattle.plain_reader.specs.Settings.{told_by}
 use Rattle.plain_reader.specs.Tellings.{TellsShapes}
 use Rattle.plain_reader.specs.Shapes.{no_leads, shapes_among, shapes_at}
@@ -19,7 +20,7 @@ use Rattle.plain_reader.proofs.LeftLemmas.{all_left, none_left, settled_left, to
 
 -- ---- members
 
-module _ (c : code.Site) (whole d : Data) (roads : Roads) (progress : List Key) where
+module _ (c : code.Site) (whole : Spots) (d : Data) (roads : Roads) (progress : List Key) where
   pub members_first : (all : Members) (now : Observer) → MembersLeft c whole d roads progress all all now now
   members_first all now = record { among = λ k e i. i; left = λ x fits fit kept fs h. all_left (told_by x (shapes_among all all x)) kept fs now h }
 

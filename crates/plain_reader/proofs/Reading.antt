@@ -1,15 +1,16 @@
 -- The schemas that are read, and what that says of their members.
-use Rattle.std.proofs.Common.{◌≡◌, ◌<◌, ◌≤◌, ℕ, List, [], ◌∷◌, Bool, true, false, if◌then◌else◌, refl, sym, ap, arith, subst}
+use Rattle.std.proofs.Common.{◌≡◌, ◌<◌, ◌≤◌, ◌||◌, ℕ, List, [], Bool, true, false, is_some, refl, sym, ap, arith, subst}
 use Rattle.std.specs.List.{flat_map}
 use Rattle.serde_json.specs.Data.{Data, object, Members, no_members, member, depth, members_depth}
+use Rattle.schema_values.specs.Patterns.{literal_of}
 use Rattle.schema_meaning.specs.Members.{In, first, later}
 use Rattle.schema_meaning.specs.Questions.{listed_members}
 use Rattle.schema_documents.specs.Bearers.{Documents}
 use Rattle.schema_reading.specs.Sites.{Site}
-use Rattle.schema_reading.specs.Rows.{Row, Place, Context, row_at, rows_of, rows_at, rows_in}
-use Rattle.unread_keywords.specs.NotYet.{unread, unread_in, unread_members, is_unread}
+use Rattle.schema_reading.specs.Rows.{Row, Context, row_at, rows_of, rows_at, rows_in}
 use Rattle.schema_reading.specs.BuildCauses.{Reached, at_root, by_keyword}
 use Rattle.schema_reading.specs.Plain.{keywords_at}
+use Rattle.applicators.specs.Made.{AreMade}
 use Rattle.plain_reader.specs.Tellings.{AreRead}
 
 -- ---- what is reached
@@ -20,29 +21,24 @@ reached_on docs makes s t u h (by_keyword {s = v} row w r i j) = by_keyword row 
 
 -- a site that a keyword leads to
 pub read_on : (docs : Documents) (makes : List ℕ → Bool) (s : Site) (row : Row) (t : Site) → AreRead docs makes s → In row (rows_at docs makes s) → In t row.leads → AreRead docs makes t
-read_on docs makes s row t read i j = record { each = λ u r. read.each u (reached_on docs makes s t u (by_keyword row t at_root i j) r) }
+read_on docs makes s row t read i j = record { right = λ u r. read.right u (reached_on docs makes s t u (by_keyword row t at_root i j) r) }
 
-pub read_here : (docs : Documents) (makes : List ℕ → Bool) (s : Site) → AreRead docs makes s → unread s ≡ []
-read_here docs makes s read = read.each s at_root
+-- nothing is wrong with a row of it
+pub right_here : (docs : Documents) (makes : List ℕ → Bool) (s : Site) (row : Row) → AreRead docs makes s → In row (rows_at docs makes s) → row.causes ≡ []
+right_here docs makes s row read i = read.right s at_root row i
 
--- ---- a site that is read
+-- ---- patterns
 
-record Two (b : Bool) (ps : List Place) : Type 0 where
-  left : b ≡ false
-  none : ps ≡ []
+pub none_to_make : {makes : List ℕ → Bool} → AreMade makes []
+none_to_make = record { each = λ p i. elim i [ ] }
 
-two : (b : Bool) (p : Place) (ps : List Place) → (if b then p ∷ ps else ps) ≡ [] → Two b ps
-two true p ps e = absurd (cc)
-two false p ps e = record { left = refl; none = e }
-
-read_member : (s : Site) (all ms : Members) (k : List ℕ) (d : Data) → unread_members s all ms ≡ [] → In (k, d) (listed_members ms) → is_unread s all k d ≡ false
-read_member s all no_members k d e i = elim i [ ]
-read_member s all (member n c ms) k d e first = (two (is_unread s all n c) _ _ e).left
-read_member s all (member n c ms) k d e (later i) = read_member s all ms k d (two (is_unread s all n c) _ _ e).none i
-
--- its members are all read
-pub read_each : (s : Site) (ms : Members) (k : List ℕ) (d : Data) → unread s ≡ [] → s.contents ≡ object ms → In (k, d) (listed_members ms) → is_unread s ms k d ≡ false
-read_each s ms k d read is i = read_member s ms ms k d (subst (λ e. unread_in s e ≡ []) is read) i
+-- where the maker makes every pattern
+pub all_made : (ps : List (List ℕ)) → AreMade (λ p. true) ps
+all_made ps = record { each = λ p i. either (is_some (literal_of p)) }
+  where
+    either : (b : Bool) → (b || true) ≡ true
+    either true = refl
+    either false = refl
 
 -- ---- rows
 

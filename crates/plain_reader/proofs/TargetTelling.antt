@@ -1,6 +1,7 @@
 -- What a reference tells: what its target does, unless it is in progress.
 use Rattle.std.proofs.Common.{◌≡◌, ◌<◌, ◌≤◌, ◌+◌, ◌*◌, ℕ, suc, List, [], ◌∷◌, Bool, true, false, None, refl, sym, ap, ap₂, ◌∙◌, subst, arith, map}
 use Rattle.std.specs.Borrow.{Bor}
+use Rattle.name_laws.specs.Laws.{keys_among}
 use Rattle.schema_matches.specs.Read.{reads}
 use Rattle.schema_matches.specs.declared.matches.Matches.{Matches}
 use Rattle.std.proofs.Math.Nat.{mul-le-mul_right}
@@ -17,7 +18,7 @@ use Rattle.schema_documents.specs.Bearers.{Documents}
 use Rattle.schema_documents.specs.Lookup.{Target}
 use Rattle.schema_reading.specs.Sites.{Site, target_site, path_of_reference}
 use Rattle.schema_reading.specs.Plain.{deepest}
-use Rattle.schema_reading.specs.AllKeys.{spots_in, places_of, keys_of}
+use Rattle.schema_reading.specs.AllKeys.{spots_in, places_of}
 use Rattle.target_laws.specs.Laws.{place_of, Lies}
 use Rattle.target_laws.proofs.Listed.{in_map, in_flat_map}
 use Rattle.schema_sites.specs.Passed.{base_of, scope_of}
@@ -27,6 +28,7 @@ use Rattle.schema_reports.specs.Observers.{Hears}
 use Rattle.schema_reports.specs.RoadPaths.{instance_in, schema_in, evaluation_in}
 use Rattle.schema_reports.specs.declared.roads.Roads.{Roads}
 use Rattle.schema_reports.specs.declared.observer.Observer.{Observer}
+use Rattle.plain_reader.specs.Spots.{Spots}
 use Rattle.plain_reader.specs.Keys.{key}
 use Rattle.plain_reader.specs.Settings.{Setting, told_in, asked_in, asked_by}
 use Rattle.plain_reader.specs.Targets.{reference_leads, reference_questions}
@@ -40,7 +42,7 @@ use Rattle.plain_reader.proofs.ToldLemmas.{asked_by-none, asked_by-more, led_to,
 room_less : (a b m x y : ℕ) → a < b → x ≤ m → a * suc m + x < b * suc m + y
 room_less a b m x y h i = let p : suc a * suc m ≤ b * suc m = mul-le-mul_right (suc m) h in omega (arith, p, i)
 
-own_spot : (path : List Part) (d : Data) → In (path, None) (spots_in path d)
+pub own_spot : (path : List Part) (d : Data) → In (path, None) (spots_in path d)
 own_spot path null = first
 own_spot path (boolean b) = first
 own_spot path (number n) = first
@@ -48,21 +50,21 @@ own_spot path (string s) = first
 own_spot path (array ds) = first
 own_spot path (object ms) = first
 
-known_key : (docs : Documents) (whole d : Data) (t : Target) (path : List Part) → Lies docs t → Within d path whole → In (key t.document t.path path) (keys_of docs whole)
+known_key : (docs : Documents) (whole : Spots) (d : Data) (t : Target) (path : List Part) → Lies docs t → Within d path whole → In (key t.document t.path path) (keys_among docs whole)
 known_key docs whole d t path lies within =
-    let keys : SchemaPlace → List Key = λ p. map (λ spot. record { target = p; path = spot.0; called = spot.1 }) (spots_in [] whole) in
+    let keys : SchemaPlace → List Key = λ p. map (λ spot. record { target = p; path = spot.0; called = spot.1 }) whole in
     in_flat_map keys (place_of t) (places_of docs) (key t.document t.path path) lies.place
-    (in_map (λ spot. record { target = place_of t; path = spot.0; called = spot.1 }) (path, None) (spots_in [] whole) (within.spots (path, None) (own_spot path d)))
+    (in_map (λ spot. record { target = place_of t; path = spot.0; called = spot.1 }) (path, None) whole (within.spots (path, None) (own_spot path d)))
 
-pub target_deeper : (docs : Documents) (whole d schema : Data) (t : Target) (path : List Part) (progress : List Key)
+pub target_deeper : (docs : Documents) (whole : Spots) (d schema : Data) (t : Target) (path : List Part) (progress : List Key)
     → Lies docs t → Within d path whole → is_in_progress (key t.document t.path path) progress ≡ false
     → room docs whole (key t.document t.path path ∷ progress) t.contents < room docs whole progress schema
 target_deeper docs whole d schema t path progress lies within new =
-    room_less _ _ (deepest docs) _ _ (left_falls (key t.document t.path path) progress (keys_of docs whole) (known_key docs whole d t path lies within) new) lies.shallow
+    room_less _ _ (deepest docs) _ _ (left_falls (key t.document t.path path) progress (keys_among docs whole) (known_key docs whole d t path lies within) new) lies.shallow
 
 -- ---- the question
 
-module _ (c : code.Site) (whole d : Data) (roads : Roads) (progress : List Key) (k text : List ℕ) (t : Target) where
+module _ (c : code.Site) (whole : Spots) (d : Data) (roads : Roads) (progress : List Key) (k text : List ℕ) (t : Target) where
   asks : Setting → Question Site
   asks x = record { site = target_site x.site text t; step = stay; added = at k; follows = true }
 
@@ -120,7 +122,7 @@ module _ (c : code.Site) (whole d : Data) (roads : Roads) (progress : List Key) 
 
 -- ---- what the call asks
 
-pub falls_by_target : (docs other : Documents) (whole : Data) (t : Target) (u : List ℕ) (p path : List Part) (progress : List Key) (f schema : Data) → u ≡ t.document → p ≡ t.path
+pub falls_by_target : (docs other : Documents) (whole : Spots) (t : Target) (u : List ℕ) (p path : List Part) (progress : List Key) (f schema : Data) → u ≡ t.document → p ≡ t.path
     → other ≡ docs → t.contents ≡ f → room docs whole (key t.document t.path path ∷ progress) t.contents < room docs whole progress schema
     → 12 * room other whole (key u p path ∷ progress) f + 11 < 12 * room docs whole progress schema + 3
 falls_by_target docs other whole t u p path progress f schema document place same contents less =
@@ -135,7 +137,7 @@ pub shallow_by_target : (docs other : Documents) (t : Target) (f : Data) → oth
 shallow_by_target docs other t f same contents lies =
     subst (λ (ds : Documents). depth f ≤ deepest ds) (sym same) (subst (λ (x : Data). depth x ≤ deepest docs) contents lies.shallow)
 
-pub at_target_told : (inner : code.Site) (whole d : Data) (on : Roads) (t : Target) (u : List ℕ) (p path : List Part) (progress : List Key) (old new : Observer) → u ≡ t.document → p ≡ t.path
+pub at_target_told : (inner : code.Site) (whole : Spots) (d : Data) (on : Roads) (t : Target) (u : List ℕ) (p path : List Part) (progress : List Key) (old new : Observer) → u ≡ t.document → p ≡ t.path
     → Tells inner whole d on (key u p path ∷ progress) old new → Tells inner whole d on (key t.document t.path path ∷ progress) old new
 at_target_told inner whole d on t u p path progress old new document place told =
     subst (λ (ks : List Key). Tells inner whole d on ks old new) (ap₂ (λ (v : List ℕ) (q : List Part). key v q path ∷ progress) document place) told

@@ -1,10 +1,10 @@
 -- What keywords with subschemas ask, and what their questions tell.
-use Rattle.std.specs.Prelude.{◌≡◌, ◌<◌, ◌++◌, ℕ, List, [], ◌∷◌, Bool, Option, None}
+use Rattle.std.specs.Prelude.{◌≡◌, ◌<◌, ◌++◌, ℕ, List, [], ◌∷◌, Bool, Option, None, Some}
 use Rattle.serde_json.specs.Data.{Data, depth}
 use Rattle.serde_json.specs.View.{view}
 use Rattle.json_paths.specs.Parts.{Part, name, index}
 use Rattle.schema_meaning.specs.Members.{In}
-use Rattle.schema_meaning.specs.Places.{Key, value_after, path_after, called_after}
+use Rattle.schema_meaning.specs.Places.{Key, to_name, value_after, path_after, called_after}
 use Rattle.schema_meaning.specs.Questions as told
 use Rattle.schema_meaning.specs.Rules.{asks}
 use Rattle.schema_meaning.specs.Keywords.{Shape, rule}
@@ -25,8 +25,9 @@ use Rattle.schema_sites.specs.declared.site.Site as code
 use Rattle.schema_reports.specs.RoadPaths.{instance_in, schema_in, evaluation_in}
 use Rattle.schema_reports.specs.declared.roads.Roads.{Roads}
 use Rattle.schema_reports.specs.declared.observer.Observer.{Observer}
+use Rattle.plain_reader.specs.Spots.{Spots}
 use Rattle.plain_reader.specs.Settings.{Setting}
-use Rattle.plain_reader.specs.Tellings.{Tells}
+use Rattle.plain_reader.specs.Tellings.{TellsCalled}
 use Rattle.plain_reader.specs.Choices.{AreInside}
 
 abbrev pub applied_leads : Applicator → Setting → List Site
@@ -38,9 +39,9 @@ applied_shapes a x = shape_of (below x.documents x.site) a ∷ []
 abbrev pub applied_questions : Applicator → Data → Setting → List (told.Question Site)
 applied_questions a d x = asks (rule x.matches d (shape_of (below x.documents x.site) a))
 
--- the code's questions are those that an applicator asks of a value
-abbrev pub AreAsked : Applicator → Data → List Question → Type 0
-AreAsked a d qs = (matches : List ℕ → List ℕ → Bool) (site : List Part → Data → Site) → questions_of site qs ≡ asks (rule matches d (shape_of site a))
+-- the code's questions are those that an applicator asks of a value by these matches
+abbrev pub AreAsked : (List ℕ → List ℕ → Bool) → Applicator → Data → List Question → Type 0
+AreAsked matches a d qs = (site : List Part → Data → Site) → questions_of site qs ≡ asks (rule matches d (shape_of site a))
 
 -- of one of these questions
 abbrev pub question_leads : Question → Setting → List Site
@@ -57,6 +58,7 @@ pub record EachInside (c : code.Site) (a : Applicator) : Type 0 where
 abbrev pub AsksInside : code.Site → Keyword → Type 0
 AsksInside c keyword.Nothing = Unit {0}
 AsksInside c (keyword.Assertion a) = Unit {0}
+AsksInside c (keyword.Pattern p) = Unit {0}
 AsksInside c (keyword.Items start schema) = Unit {0}
 AsksInside c (keyword.Properties map) = Unit {0}
 AsksInside c (keyword.If schema then_schema else_schema) = AreInside c then_schema else_schema
@@ -64,10 +66,10 @@ AsksInside c (keyword.Consequent k schema) = Unit {0}
 AsksInside c (keyword.Applicator a) = EachInside c a
 AsksInside c (keyword.Reference by text target) = Unit {0}
 
--- what is asked of is no name, and its places are the value's
+-- the places of what is asked of, and of a name, are the value's
 pub record IsPart (d : Data) (a : Asked) : Type 0 where
-  pub uncalled : called_after None (step_of a) ≡ None
   pub spots : (path : List Part) (w : List Part × Option (List ℕ)) → In w (spots_in (path_after path (step_of a)) (value_after d (step_of a))) → In w (spots_in path d)
+  pub named : (k : List ℕ) → step_of a ≡ to_name k → (path : List Part) → In (path, Some k) (spots_in path d)
 
 -- the parts behind a keyword's name, last part first
 abbrev pub entry_parts : Entry → List Part
@@ -76,9 +78,9 @@ entry_parts (entry.Name n) = name n.now ∷ []
 entry_parts (entry.Index i) = index i ∷ []
 
 -- the observer is told what the schema at a site tells of what is asked of, the roads going on by these parts
-pub record TellsAsked (c : code.Site) (whole d : Data) (roads : Roads) (keys : List Key) (asked : Asked) (parts : List Part) (old new : Observer) : Type 0 where
+pub record TellsAsked (c : code.Site) (whole : Spots) (d : Data) (roads : Roads) (keys : List Key) (asked : Asked) (parts : List Part) (old new : Observer) : Type 0 where
   pub at : Roads
   pub instance : instance_in at ≡ path_after (instance_in roads) (step_of asked)
   pub schema : schema_in at ≡ parts ++ schema_in roads
   pub evaluation : evaluation_in at ≡ parts ++ evaluation_in roads
-  pub told : Tells c whole (value_after d (step_of asked)) at keys old new
+  pub told : TellsCalled c whole (value_after d (step_of asked)) at keys (called_after None (step_of asked)) old new

@@ -15,6 +15,7 @@ use Rattle.schema_sites.specs.declared.site.Site as code
 use Rattle.schema_reports.specs.Told.{branches_in}
 use Rattle.schema_reports.specs.declared.error.ValidationError.{ValidationError}
 use Rattle.schema_reports.specs.declared.roads.Roads.{Roads}
+use Rattle.plain_reader.specs.Spots.{Spots}
 use Rattle.plain_reader.specs.Settings.{Setting, asked_in}
 use Rattle.plain_reader.specs.Tellings.{Fits, AreRead, room}
 use Rattle.plain_reader.specs.Applied.{applied_leads, applied_questions}
@@ -24,7 +25,7 @@ abbrev pub answers_in : Applicator → Data → Setting → List Faults
 answers_in a d x = map (asked_in x) (applied_questions a d x)
 
 -- where the sites that the keyword leads to are read
-module _ (c : code.Site) (whole d : Data) (roads : Roads) (progress : List Key) (a : Applicator) where
+module _ (c : code.Site) (whole : Spots) (d : Data) (roads : Roads) (progress : List Key) (a : Applicator) where
   -- so many answers are yes
   pub record Counts (n : ℕ) : Type 0 where
     pub counted : (x : Setting) → Fits c d roads progress x → ((t : Site) → In t (applied_leads a x) → AreRead x.documents x.makes t)

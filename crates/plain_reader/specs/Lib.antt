@@ -1,9 +1,11 @@
 pub mod Settings
+pub mod Spots
 pub mod Keys
 pub mod Tellings
 pub mod Choices
 pub mod Shapes
 pub mod Applied
+pub mod Names
 pub mod Combined
 pub mod Refusals
 pub mod Targets

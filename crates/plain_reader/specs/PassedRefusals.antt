@@ -1,2 +1,2 @@
 -- Why a member is not read, passed on to the crates above.
-pub use Rattle.schema_sites.specs.declared.keyword.Refusal.TheVariants.{Element, Entry, LeftOut, Memory, NotYet, Reference, Target, Value}
+pub use Rattle.schema_sites.specs.declared.keyword.Refusal.TheVariants.{Element, Entry, LeftOut, Memory, Reference, Target, Value}

@@ -29,6 +29,7 @@ carries_branches (code.AdditionalItems start schema) = false
 carries_branches (code.NoAdditionalItems start schema) = false
 carries_branches (code.Contains schema least most) = false
 carries_branches (code.Properties schemas) = false
+carries_branches (code.PatternProperties schemas) = false
 carries_branches (code.AdditionalProperties declared schema) = false
 carries_branches (code.NoAdditionalProperties declared schema) = false
 carries_branches (code.NoProperties schema) = false
@@ -47,9 +48,9 @@ pub record AreOf (a : Applicator) (accepted : ℕ) (context : List (Vec Validati
   pub counted : count_true (verdicts_of answers) ≡ accepted
   pub told : carries_branches a ≡ true → branches_in context ≡ branches_of answers
 
-pub record IsRefusal (d : Data) (a : Applicator) (accepted : ℕ) (context : List (Vec ValidationError Global)) (kind : ValidationErrorKind) : Type 0 where
-  pub is : (answers : List Faults) → AreOf a accepted context answers → kind_of kind ≡ kind_by a d answers
+pub record IsRefusal (matches : List ℕ → List ℕ → Bool) (d : Data) (a : Applicator) (accepted : ℕ) (context : List (Vec ValidationError Global)) (kind : ValidationErrorKind) : Type 0 where
+  pub is : (answers : List Faults) → AreOf a accepted context answers → kind_of kind ≡ kind_by matches a d answers
 
-pub record TellsRefusal (d : Data) (roads : Roads) (a : Applicator) (accepted : ℕ) (context : List (Vec ValidationError Global)) (old new : Observer) : Type 0 where
+pub record TellsRefusal (matches : List ℕ → List ℕ → Bool) (d : Data) (roads : Roads) (a : Applicator) (accepted : ℕ) (context : List (Vec ValidationError Global)) (old new : Observer) : Type 0 where
   pub tells : (answers : List Faults) → AreOf a accepted context answers → (kept : Observation) (fs : Faults) → Hears kept old fs
-      → Hears kept new (joined fs (also (fault_at (value_by a d) roads (refused_name a accepted) (kind_by a d answers)) none))
+      → Hears kept new (joined fs (also (fault_at (value_by a d) roads (refused_name a accepted) (kind_by matches a d answers)) none))

@@ -1,5 +1,5 @@
 -- What a reader tells of a schema's keywords where it stands.
-use Rattle.std.specs.Prelude.{ℕ, List, Bool, map}
+use Rattle.std.specs.Prelude.{ℕ, List, Bool, None, map}
 use Rattle.schema_meaning.specs.Places.{Spot, Key}
 use Rattle.schema_meaning.specs.Faults.{Faults, join}
 use Rattle.schema_meaning.specs.Questions.{Question}
@@ -19,6 +19,18 @@ pub record Setting : Type 0 where
   pub keys : List Key
   pub site : Site
   pub spot : Spot
+
+-- the same at a value, where it is at a name
+abbrev pub uncalled : Setting → Setting
+uncalled x = record {
+  documents = x.documents;
+  makes = x.makes;
+  matches = x.matches;
+  depth = x.depth;
+  keys = x.keys;
+  site = x.site;
+  spot = record { value = x.spot.value; path = x.spot.path; called = None; road = x.spot.road };
+}
 
 abbrev pub reading_in : Setting → Reading Site
 reading_in x = plain x.documents x.makes x.matches

@@ -32,6 +32,7 @@ shapes_at all k d x = (row_at (context_in all x) k d).shapes
 abbrev pub keyword_leads : Keyword → Setting → List Site
 keyword_leads keyword.Nothing x = []
 keyword_leads (keyword.Assertion a) x = []
+keyword_leads (keyword.Pattern p) x = []
 keyword_leads (keyword.Items start schema) x = leads_of x.documents x.site (keyword.Items start schema)
 keyword_leads (keyword.Properties map) x = leads_of x.documents x.site (keyword.Properties map)
 keyword_leads (keyword.If schema then_schema else_schema) x = choice_leads schema then_schema else_schema x

@@ -11,10 +11,11 @@ use Rattle.schema_meaning.specs.Keywords.{Shape}
 use Rattle.schema_meaning.specs.Cut.{left}
 use Rattle.schema_documents.specs.Bearers.{Documents}
 use Rattle.schema_reading.specs.Sites.{Site}
+use Rattle.schema_reading.specs.Rows.{Row, rows_at}
 use Rattle.schema_reading.specs.BuildCauses.{Reached}
-use Rattle.unread_keywords.specs.NotYet.{unread}
 use Rattle.schema_reading.specs.Plain.{deepest}
-use Rattle.schema_reading.specs.AllKeys.{keys_of, spots_in}
+use Rattle.schema_reading.specs.AllKeys.{spots_in}
+use Rattle.name_laws.specs.Laws.{keys_among}
 use Rattle.schema_matches.specs.Read.{reads}
 use Rattle.schema_sites.specs.Passed.{scope_of}
 use Rattle.schema_sites.specs.Seen.{documents_at, Stands}
@@ -25,11 +26,12 @@ use Rattle.schema_reports.specs.declared.roads.Roads.{Roads}
 use Rattle.schema_reports.specs.declared.observer.Observation.{Observation}
 use Rattle.schema_reports.specs.declared.observer.Observer.{Observer}
 use Rattle.assertion_faults.specs.Tellings.{spot_at}
-use Rattle.plain_reader.specs.Settings.{Setting, told_in, told_by, asked_by}
+use Rattle.plain_reader.specs.Spots.{Spots}
+use Rattle.plain_reader.specs.Settings.{Setting, uncalled, told_in, told_by, asked_by}
 
--- every schema reached from here is read
+-- nothing is wrong with the keywords of the schemas reached from here
 pub record AreRead (docs : Documents) (makes : List ℕ → Bool) (s : Site) : Type 0 where
-  pub each : (t : Site) → Reached docs makes s t → unread t ≡ []
+  pub right : (t : Site) → Reached docs makes s t → (row : Row) → In row (rows_at docs makes t) → row.causes ≡ []
 
 -- a setting is that of the code's site with the matches read of the instance, of its value and its roads
 pub record Fits (c : code.Site) (d : Data) (roads : Roads) (progress : List Key) (x : Setting) : Type 0 where
@@ -43,17 +45,22 @@ pub record Fits (c : code.Site) (d : Data) (roads : Roads) (progress : List Key)
   pub read : AreRead x.documents x.makes x.site
 
 -- how deep a reading of a schema may still go
-abbrev pub room : Documents → Data → List Key → Data → ℕ
-room docs whole keys schema = left keys (keys_of docs whole) * suc (deepest docs) + depth schema
+abbrev pub room : Documents → Spots → List Key → Data → ℕ
+room docs whole keys schema = left keys (keys_among docs whole) * suc (deepest docs) + depth schema
 
--- the value's places are the whole's
-pub record Within (d : Data) (path : List Part) (whole : Data) : Type 0 where
-  pub spots : (spot : List Part × Option (List ℕ)) → In spot (spots_in path d) → In spot (spots_in [] whole)
+-- the value's places are among these
+pub record Within (d : Data) (path : List Part) (whole : Spots) : Type 0 where
+  pub spots : (spot : List Part × Option (List ℕ)) → In spot (spots_in path d) → In spot whole
 
-module _ (c : code.Site) (whole d : Data) (roads : Roads) (progress : List Key) where
+module _ (c : code.Site) (whole : Spots) (d : Data) (roads : Roads) (progress : List Key) where
   -- the observer is told what the schema tells
   pub record Tells (old new : Observer) : Type 0 where
     pub tells : (x : Setting) → Fits c d roads progress x → room (documents_at c) whole progress (view c.contents.now) < x.depth
+        → (kept : Observation) (fs : Faults) → Hears kept old fs → Hears kept new (joined fs (told_in x))
+
+  -- of a name, or of a value, that is called so
+  pub record TellsCalled (called : Option (List ℕ)) (old new : Observer) : Type 0 where
+    pub tells : (x : Setting) → Fits c d roads progress (uncalled x) → x.spot.called ≡ called → room (documents_at c) whole progress (view c.contents.now) < x.depth
         → (kept : Observation) (fs : Faults) → Hears kept old fs → Hears kept new (joined fs (told_in x))
 
   -- what keywords tell, where the sites that they lead to are read

@@ -3,12 +3,14 @@
 
 mod asking;
 mod heard;
+mod names;
 mod notes;
 mod progress;
 mod read;
 mod refusals;
 pub mod root;
 pub mod site;
+mod whole;
 
 pub use schema_sites::keyword::{Keyword, Refusal};
 pub use schema_sites::reading::keyword;

@@ -5,6 +5,7 @@ ghost use Rattle.serde_json.specs.Data.{depth, object};
 ghost use Rattle.serde_json.specs.View.{view, members_view};
 ghost use Rattle.schema_meaning.specs.Members.{In};
 ghost use Rattle.schema_meaning.specs.Questions.{listed_members};
+ghost use Rattle.schema_matches.specs.Read.{reads};
 ghost use Rattle.schema_reading.specs.Plain.{deepest};
 ghost use Rattle.schema_sites.specs.Passed.{target_in};
 ghost use Rattle.schema_sites.specs.Read.{Finds, FindsTarget};
@@ -12,24 +13,27 @@ ghost use Rattle.schema_sites.specs.References.{name_of};
 ghost use Rattle.schema_sites.specs.Seen.{documents_at};
 ghost use Rattle.schema_reports.specs.RoadPaths.{instance_in};
 ghost use Rattle.plain_reader.specs.Keys.{keys_in};
+ghost use Rattle.plain_reader.specs.Spots.{spots_of};
 ghost use Rattle.plain_reader.specs.Tellings.{Within, Tells, TellsShapes, TellsQuestions};
 ghost use Rattle.plain_reader.specs.Choices.{beside_leads, beside_questions, choice_leads, choice_shapes, AreInside, IsInside};
 ghost use Rattle.plain_reader.specs.Shapes.{no_leads, shapes_among, shapes_at, keyword_leads, keyword_shapes, items_leads, items_questions, properties_leads, properties_questions, property_leads, property_questions};
-ghost use Rattle.applicators.specs.Combined.{is_every, asks_values};
+ghost use Rattle.applicators.specs.Combined.{is_every, is_by_answers, is_each_named};
 ghost use Rattle.plain_reader.specs.Applied.{AsksInside, EachInside, AreAsked, IsPart, TellsAsked, entry_parts, applied_leads, applied_shapes, applied_questions, question_leads, one_question};
 ghost use Rattle.plain_reader.specs.Combined.{Counts, HasBranches};
 ghost use Rattle.plain_reader.specs.Targets.{reference_leads, reference_questions};
 
 use crate::asking::of_value;
 use crate::heard::{all_heard, heard_none};
+use crate::names::{read_name, read_named};
 use crate::notes::tell_notes;
 use crate::progress::{Progress, is_in_progress};
 use crate::refusals::{carries_branches, tell_refusal};
+use crate::whole::Reading;
 use applicators::applicator::Applicator;
 use applicators::question::{Asked, Question};
 use applicators::questions::questions;
 use applicators::subschema::Entry;
-use assertion_faults::tell_assertion;
+use assertion_faults::{tell_assertion, tell_pattern};
 use member_walks::member_walk::MemberWalk;
 use schema_reports::{
     AllFaults, LazyLocation, Observer, Reference, Roads, ValidationError, ValidationErrorKind,
@@ -41,19 +45,12 @@ use schema_sites::reading::keyword;
 use schema_sites::reference_keyword::ReferenceKeyword;
 use schema_sites::site::{Site, at_target};
 use serde_json::{Map, Value};
-use std::alloc::{AllocError, Global};
-
-/// What is read: a whole instance.
-#[derive(Clone, Copy)]
-pub struct Reading<'i> {
-    pub alloc: Global,
-    pub whole: &'i Value,
-}
+use std::alloc::AllocError;
 
 /// What a schema tells of a value.
 #[cycle(read)]
 pub fn read_site<'r, 'i>(
-    reading: &Reading<'i>,
+    reading: &Reading<'_, 'i>,
     site: &Site<'r>,
     value: &'i Value,
     roads: Roads<'_>,
@@ -61,8 +58,8 @@ pub fn read_site<'r, 'i>(
     observer: &mut Observer<'i>,
 ) -> Result<(), AllocError>
     requires shallow { depth (view site.now.contents.now) ≤ deepest (documents_at site.now) }
-    requires within { Within (view value.now) (instance_in roads) (view reading.now.whole.now) }
-    ensures { OnOk result (Tells site.now (view reading.now.whole.now) (view value.now) roads.entry (keys_in progress.now) observer.old observer.new) }
+    requires within { Within (view value.now) (instance_in roads) (spots_of reading.now) }
+    ensures { OnOk result (Tells site.now (spots_of reading.now) (view value.now) roads.entry (keys_in progress.now) observer.old observer.new) }
 {
     match site.contents {
         Value::Bool(true) => Ok(()),
@@ -82,7 +79,7 @@ pub fn read_site<'r, 'i>(
 // What the members of a schema tell.
 #[cycle(read)]
 fn read_members<'r, 'i>(
-    reading: &Reading<'i>,
+    reading: &Reading<'_, 'i>,
     site: &Site<'r>,
     members: &'r Map<String, Value>,
     value: &'i Value,
@@ -91,9 +88,9 @@ fn read_members<'r, 'i>(
     observer: &mut Observer<'i>,
 ) -> Result<(), AllocError>
     requires shallow { depth (view site.now.contents.now) ≤ deepest (documents_at site.now) }
-    requires within { Within (view value.now) (instance_in roads) (view reading.now.whole.now) }
+    requires within { Within (view value.now) (instance_in roads) (spots_of reading.now) }
     requires members { view site.now.contents.now ≡ object (members_view members.now.entries) }
-    ensures { OnOk result (TellsShapes site.now (view reading.now.whole.now) (view value.now) roads.entry (keys_in progress.now) no_leads (shapes_among (members_view members.now.entries) (members_view members.now.entries)) observer.old observer.new) }
+    ensures { OnOk result (TellsShapes site.now (spots_of reading.now) (view value.now) roads.entry (keys_in progress.now) no_leads (shapes_among (members_view members.now.entries) (members_view members.now.entries)) observer.old observer.new) }
 {
     for (name, part) in members.iter() {
         if observer.is_settled() {
@@ -117,7 +114,7 @@ fn read_members<'r, 'i>(
 // What a member of a schema tells.
 #[cycle(read)]
 fn read_member<'r, 'i>(
-    reading: &Reading<'i>,
+    reading: &Reading<'_, 'i>,
     site: &Site<'r>,
     members: &'r Map<String, Value>,
     name: &str,
@@ -128,10 +125,10 @@ fn read_member<'r, 'i>(
     observer: &mut Observer<'i>,
 ) -> Result<(), AllocError>
     requires shallow { depth (view site.now.contents.now) ≤ deepest (documents_at site.now) }
-    requires within { Within (view value.now) (instance_in roads) (view reading.now.whole.now) }
+    requires within { Within (view value.now) (instance_in roads) (spots_of reading.now) }
     requires members { view site.now.contents.now ≡ object (members_view members.now.entries) }
     requires listed { In (name.now, view part.now) (listed_members (members_view members.now.entries)) }
-    ensures { OnOk result (TellsShapes site.now (view reading.now.whole.now) (view value.now) roads.entry (keys_in progress.now) no_leads (shapes_at (members_view members.now.entries) name.now (view part.now)) observer.old observer.new) }
+    ensures { OnOk result (TellsShapes site.now (spots_of reading.now) (view value.now) roads.entry (keys_in progress.now) no_leads (shapes_at (members_view members.now.entries) name.now (view part.now)) observer.old observer.new) }
 {
     match keyword(reading.alloc, site, members, name, part) {
         Ok(keyword) => read_keyword(
@@ -147,7 +144,7 @@ fn read_member<'r, 'i>(
 // What a keyword tells.
 #[cycle(read)]
 fn read_keyword<'r, 'i>(
-    reading: &Reading<'i>,
+    reading: &Reading<'_, 'i>,
     site: &Site<'r>,
     part: &'r Value,
     keyword: Keyword<'r>,
@@ -157,16 +154,19 @@ fn read_keyword<'r, 'i>(
     observer: &mut Observer<'i>,
 ) -> Result<(), AllocError>
     requires shallow { depth (view site.now.contents.now) ≤ deepest (documents_at site.now) }
-    requires within { Within (view value.now) (instance_in roads) (view reading.now.whole.now) }
+    requires within { Within (view value.now) (instance_in roads) (spots_of reading.now) }
     requires inside { depth (view part.now) < depth (view site.now.contents.now) }
     requires found { Finds site.now (view part.now) keyword }
     requires asks { AsksInside site.now keyword }
-    ensures { OnOk result (TellsShapes site.now (view reading.now.whole.now) (view value.now) roads.entry (keys_in progress.now) (keyword_leads keyword.entry) (keyword_shapes keyword.entry) observer.old observer.new) }
+    ensures { OnOk result (TellsShapes site.now (spots_of reading.now) (view value.now) roads.entry (keys_in progress.now) (keyword_leads keyword.entry) (keyword_shapes keyword.entry) observer.old observer.new) }
 {
     match keyword {
         Keyword::Nothing => Ok(()),
         Keyword::Assertion(assertion) => {
             tell_assertion(reading.alloc, &assertion, value, roads, observer)
+        }
+        Keyword::Pattern(pattern) => {
+            tell_pattern(reading.alloc, site.matches, pattern, value, roads, observer)
         }
         Keyword::Items { start, schema } => {
             read_items(
@@ -212,7 +212,7 @@ fn read_keyword<'r, 'i>(
 // What `items` tells: each item from the first that it applies to on.
 #[cycle(read)]
 fn read_items<'r, 'i>(
-    reading: &Reading<'i>,
+    reading: &Reading<'_, 'i>,
     site: &Site<'r>,
     start: usize,
     schema: &'r Value,
@@ -222,9 +222,9 @@ fn read_items<'r, 'i>(
     observer: &mut Observer<'i>,
 ) -> Result<(), AllocError>
     requires shallow { depth (view site.now.contents.now) ≤ deepest (documents_at site.now) }
-    requires within { Within (view value.now) (instance_in roads) (view reading.now.whole.now) }
+    requires within { Within (view value.now) (instance_in roads) (spots_of reading.now) }
     requires inside { depth (view schema.now) < depth (view site.now.contents.now) }
-    ensures { OnOk result (TellsQuestions site.now (view reading.now.whole.now) (view value.now) roads.entry (keys_in progress.now) (items_leads (view schema.now)) (items_questions start (view schema.now) (view value.now)) observer.old observer.new) }
+    ensures { OnOk result (TellsQuestions site.now (spots_of reading.now) (view value.now) roads.entry (keys_in progress.now) (items_leads (view schema.now)) (items_questions start (view schema.now) (view value.now)) observer.old observer.new) }
 {
     let Value::Array(items) = value else {
         return Ok(());
@@ -251,7 +251,7 @@ fn read_items<'r, 'i>(
 // What `properties` tells: each member that it declares.
 #[cycle(read)]
 fn read_properties<'r, 'i>(
-    reading: &Reading<'i>,
+    reading: &Reading<'_, 'i>,
     site: &Site<'r>,
     schemas: &'r Map<String, Value>,
     value: &'i Value,
@@ -260,9 +260,9 @@ fn read_properties<'r, 'i>(
     observer: &mut Observer<'i>,
 ) -> Result<(), AllocError>
     requires shallow { depth (view site.now.contents.now) ≤ deepest (documents_at site.now) }
-    requires within { Within (view value.now) (instance_in roads) (view reading.now.whole.now) }
+    requires within { Within (view value.now) (instance_in roads) (spots_of reading.now) }
     requires inside { depth (object (members_view schemas.now.entries)) < depth (view site.now.contents.now) }
-    ensures { OnOk result (TellsQuestions site.now (view reading.now.whole.now) (view value.now) roads.entry (keys_in progress.now) (properties_leads (members_view schemas.now.entries)) (properties_questions (members_view schemas.now.entries) (view value.now)) observer.old observer.new) }
+    ensures { OnOk result (TellsQuestions site.now (spots_of reading.now) (view value.now) roads.entry (keys_in progress.now) (properties_leads (members_view schemas.now.entries)) (properties_questions (members_view schemas.now.entries) (view value.now)) observer.old observer.new) }
 {
     let Value::Object(members) = value else {
         return Ok(());
@@ -285,7 +285,7 @@ fn read_properties<'r, 'i>(
 // What one entry of `properties` tells of a member.
 #[cycle(read)]
 fn read_property<'a, 'r, 'i>(
-    reading: &Reading<'i>,
+    reading: &Reading<'_, 'i>,
     site: &Site<'r>,
     name: &'a str,
     schema: &'r Value,
@@ -296,10 +296,10 @@ fn read_property<'a, 'r, 'i>(
     observer: &mut Observer<'i>,
 ) -> Result<(), AllocError>
     requires shallow { depth (view site.now.contents.now) ≤ deepest (documents_at site.now) }
-    requires within { Within (view value.now) (instance_in roads) (view reading.now.whole.now) }
+    requires within { Within (view value.now) (instance_in roads) (spots_of reading.now) }
     requires inside { depth (view schema.now) < depth (view site.now.contents.now) }
     requires member { get name.now (view value.now) ≡ Some (view member.now) }
-    ensures { OnOk result (TellsQuestions site.now (view reading.now.whole.now) (view value.now) roads.entry (keys_in progress.now) (property_leads name.now (view schema.now)) (property_questions name.now (view schema.now) (view member.now)) observer.old observer.new) }
+    ensures { OnOk result (TellsQuestions site.now (spots_of reading.now) (view value.now) roads.entry (keys_in progress.now) (property_leads name.now (view schema.now)) (property_questions name.now (view schema.now) (view member.now)) observer.old observer.new) }
 {
     let inner = site.below(reading.alloc, schema)?;
     let schema_above = roads.schema.push_name("properties");
@@ -319,7 +319,7 @@ fn read_property<'a, 'r, 'i>(
 // What `if` tells: what `then` does where its schema accepts, and what `else` does where it does not.
 #[cycle(read)]
 fn read_condition<'r, 'i>(
-    reading: &Reading<'i>,
+    reading: &Reading<'_, 'i>,
     site: &Site<'r>,
     condition: &'r Value,
     then_schema: Option<&'r Value>,
@@ -330,10 +330,10 @@ fn read_condition<'r, 'i>(
     observer: &mut Observer<'i>,
 ) -> Result<(), AllocError>
     requires shallow { depth (view site.now.contents.now) ≤ deepest (documents_at site.now) }
-    requires within { Within (view value.now) (instance_in roads) (view reading.now.whole.now) }
+    requires within { Within (view value.now) (instance_in roads) (spots_of reading.now) }
     requires inside { IsInside site.now condition }
     requires beside { AreInside site.now then_schema else_schema }
-    ensures { OnOk result (TellsShapes site.now (view reading.now.whole.now) (view value.now) roads.entry (keys_in progress.now) (choice_leads condition.entry then_schema.entry else_schema.entry) (choice_shapes condition.entry then_schema.entry else_schema.entry) observer.old observer.new) }
+    ensures { OnOk result (TellsShapes site.now (spots_of reading.now) (view value.now) roads.entry (keys_in progress.now) (choice_leads condition.entry then_schema.entry else_schema.entry) (choice_shapes condition.entry then_schema.entry else_schema.entry) observer.old observer.new) }
 {
     let mut answer = Observer::Verdict(Verdict::new());
     let question = of_value("if", condition);
@@ -367,7 +367,7 @@ fn read_condition<'r, 'i>(
 // What the schema at a keyword tells, if one stands there.
 #[cycle(read)]
 fn read_beside<'r, 'i>(
-    reading: &Reading<'i>,
+    reading: &Reading<'_, 'i>,
     site: &Site<'r>,
     keyword: &'static str,
     schema: Option<&'r Value>,
@@ -377,9 +377,9 @@ fn read_beside<'r, 'i>(
     observer: &mut Observer<'i>,
 ) -> Result<(), AllocError>
     requires shallow { depth (view site.now.contents.now) ≤ deepest (documents_at site.now) }
-    requires within { Within (view value.now) (instance_in roads) (view reading.now.whole.now) }
+    requires within { Within (view value.now) (instance_in roads) (spots_of reading.now) }
     requires inside { IfSome schema (IsInside site.now) }
-    ensures { OnOk result (TellsQuestions site.now (view reading.now.whole.now) (view value.now) roads.entry (keys_in progress.now) (beside_leads keyword.now schema.entry) (beside_questions keyword.now schema.entry) observer.old observer.new) }
+    ensures { OnOk result (TellsQuestions site.now (spots_of reading.now) (view value.now) roads.entry (keys_in progress.now) (beside_leads keyword.now schema.entry) (beside_questions keyword.now schema.entry) observer.old observer.new) }
 {
     match schema {
         Some(schema) => {
@@ -393,7 +393,7 @@ fn read_beside<'r, 'i>(
 // What an applicator tells.
 #[cycle(read)]
 fn read_applicator<'r, 'i>(
-    reading: &Reading<'i>,
+    reading: &Reading<'_, 'i>,
     site: &Site<'r>,
     applicator: Applicator<'r>,
     value: &'i Value,
@@ -402,16 +402,20 @@ fn read_applicator<'r, 'i>(
     observer: &mut Observer<'i>,
 ) -> Result<(), AllocError>
     requires shallow { depth (view site.now.contents.now) ≤ deepest (documents_at site.now) }
-    requires within { Within (view value.now) (instance_in roads) (view reading.now.whole.now) }
-    requires values { asks_values applicator ≡ true }
+    requires within { Within (view value.now) (instance_in roads) (spots_of reading.now) }
+    requires answers { is_by_answers applicator ≡ true }
     requires inside { EachInside site.now applicator }
-    ensures { OnOk result (TellsShapes site.now (view reading.now.whole.now) (view value.now) roads.entry (keys_in progress.now) (applied_leads applicator.entry) (applied_shapes applicator.entry) observer.old observer.new) }
+    ensures { OnOk result (TellsShapes site.now (spots_of reading.now) (view value.now) roads.entry (keys_in progress.now) (applied_leads applicator.entry) (applied_shapes applicator.entry) observer.old observer.new) }
 {
-    let asked = questions(reading.alloc, &applicator, value)?;
+    let asked = questions(reading.alloc, site.matches, &applicator, value)?;
     let asked = asked.as_slice();
     if applicator.is_every() {
         tell_notes(reading.alloc, &applicator, value, roads, observer)?;
         read_questions(
+            reading, site, applicator, asked, value, roads, progress, observer,
+        )
+    } else if applicator.is_each_named() {
+        read_named(
             reading, site, applicator, asked, value, roads, progress, observer,
         )
     } else {
@@ -424,7 +428,7 @@ fn read_applicator<'r, 'i>(
 // What the questions of an applicator tell.
 #[cycle(read)]
 fn read_questions<'r, 'i>(
-    reading: &Reading<'i>,
+    reading: &Reading<'_, 'i>,
     site: &Site<'r>,
     applicator: Applicator<'r>,
     asked: &[Question<'r, 'i>],
@@ -434,11 +438,11 @@ fn read_questions<'r, 'i>(
     observer: &mut Observer<'i>,
 ) -> Result<(), AllocError>
     requires shallow { depth (view site.now.contents.now) ≤ deepest (documents_at site.now) }
-    requires within { Within (view value.now) (instance_in roads) (view reading.now.whole.now) }
-    requires values { asks_values applicator ≡ true }
+    requires within { Within (view value.now) (instance_in roads) (spots_of reading.now) }
+    requires answers { is_by_answers applicator ≡ true }
     requires inside { EachInside site.now applicator }
-    requires asked { AreAsked applicator (view value.now) asked.now }
-    ensures { OnOk result (TellsQuestions site.now (view reading.now.whole.now) (view value.now) roads.entry (keys_in progress.now) (applied_leads applicator.entry) (applied_questions applicator.entry (view value.now)) observer.old observer.new) }
+    requires asked { AreAsked (reads site.now.matches.now) applicator (view value.now) asked.now }
+    ensures { OnOk result (TellsQuestions site.now (spots_of reading.now) (view value.now) roads.entry (keys_in progress.now) (applied_leads applicator.entry) (applied_questions applicator.entry (view value.now)) observer.old observer.new) }
 {
     for question in asked {
         if observer.is_settled() {
@@ -452,7 +456,7 @@ fn read_questions<'r, 'i>(
 // What an applicator tells whose verdict the answers to its questions make together: one fault at most.
 #[cycle(read)]
 fn read_combined<'r, 'i>(
-    reading: &Reading<'i>,
+    reading: &Reading<'_, 'i>,
     site: &Site<'r>,
     applicator: Applicator<'r>,
     asked: &[Question<'r, 'i>],
@@ -462,12 +466,13 @@ fn read_combined<'r, 'i>(
     observer: &mut Observer<'i>,
 ) -> Result<(), AllocError>
     requires shallow { depth (view site.now.contents.now) ≤ deepest (documents_at site.now) }
-    requires within { Within (view value.now) (instance_in roads) (view reading.now.whole.now) }
-    requires values { asks_values applicator ≡ true }
+    requires within { Within (view value.now) (instance_in roads) (spots_of reading.now) }
+    requires answers { is_by_answers applicator ≡ true }
     requires once { is_every applicator ≡ false }
+    requires together { is_each_named applicator ≡ false }
     requires inside { EachInside site.now applicator }
-    requires asked { AreAsked applicator (view value.now) asked.now }
-    ensures { OnOk result (TellsShapes site.now (view reading.now.whole.now) (view value.now) roads.entry (keys_in progress.now) (applied_leads applicator.entry) (applied_shapes applicator.entry) observer.old observer.new) }
+    requires asked { AreAsked (reads site.now.matches.now) applicator (view value.now) asked.now }
+    ensures { OnOk result (TellsShapes site.now (spots_of reading.now) (view value.now) roads.entry (keys_in progress.now) (applied_leads applicator.entry) (applied_shapes applicator.entry) observer.old observer.new) }
 {
     let accepted = count_accepted(reading, site, applicator, asked, value, roads, progress)?;
     if applicator.accepts(value, asked.len(), accepted) {
@@ -483,6 +488,7 @@ fn read_combined<'r, 'i>(
     };
     tell_refusal(
         reading.alloc,
+        site.matches,
         applicator,
         accepted,
         context,
@@ -495,7 +501,7 @@ fn read_combined<'r, 'i>(
 // How many of the answers to an applicator's questions are yes.
 #[cycle(read)]
 fn count_accepted<'r, 'i>(
-    reading: &Reading<'i>,
+    reading: &Reading<'_, 'i>,
     site: &Site<'r>,
     applicator: Applicator<'r>,
     asked: &[Question<'r, 'i>],
@@ -504,11 +510,11 @@ fn count_accepted<'r, 'i>(
     progress: &Progress<'_>,
 ) -> Result<usize, AllocError>
     requires shallow { depth (view site.now.contents.now) ≤ deepest (documents_at site.now) }
-    requires within { Within (view value.now) (instance_in roads) (view reading.now.whole.now) }
-    requires values { asks_values applicator ≡ true }
+    requires within { Within (view value.now) (instance_in roads) (spots_of reading.now) }
+    requires answers { is_by_answers applicator ≡ true }
     requires inside { EachInside site.now applicator }
-    requires asked { AreAsked applicator (view value.now) asked.now }
-    ensures { IfOk result (λ n. Counts site.now (view reading.now.whole.now) (view value.now) roads.entry (keys_in progress.now) applicator.entry n) }
+    requires asked { AreAsked (reads site.now.matches.now) applicator (view value.now) asked.now }
+    ensures { IfOk result (λ n. Counts site.now (spots_of reading.now) (view value.now) roads.entry (keys_in progress.now) applicator.entry n) }
 {
     let mut accepted = 0;
     for question in asked {
@@ -532,7 +538,7 @@ fn count_accepted<'r, 'i>(
 // The errors of each of an applicator's questions.
 #[cycle(read)]
 fn read_branches<'r, 'i>(
-    reading: &Reading<'i>,
+    reading: &Reading<'_, 'i>,
     site: &Site<'r>,
     applicator: Applicator<'r>,
     asked: &[Question<'r, 'i>],
@@ -541,11 +547,11 @@ fn read_branches<'r, 'i>(
     progress: &Progress<'_>,
 ) -> Result<Vec<Vec<ValidationError<'i>>>, AllocError>
     requires shallow { depth (view site.now.contents.now) ≤ deepest (documents_at site.now) }
-    requires within { Within (view value.now) (instance_in roads) (view reading.now.whole.now) }
-    requires values { asks_values applicator ≡ true }
+    requires within { Within (view value.now) (instance_in roads) (spots_of reading.now) }
+    requires answers { is_by_answers applicator ≡ true }
     requires inside { EachInside site.now applicator }
-    requires asked { AreAsked applicator (view value.now) asked.now }
-    ensures { IfOk result (λ context. HasBranches site.now (view reading.now.whole.now) (view value.now) roads.entry (keys_in progress.now) applicator.entry context.items) }
+    requires asked { AreAsked (reads site.now.matches.now) applicator (view value.now) asked.now }
+    ensures { IfOk result (λ context. HasBranches site.now (spots_of reading.now) (view value.now) roads.entry (keys_in progress.now) applicator.entry context.items) }
 {
     let mut context = Vec::new(reading.alloc);
     for question in asked {
@@ -566,8 +572,8 @@ fn read_branches<'r, 'i>(
 
 // What a question tells: what its subschema does of what it asks of.
 #[cycle(read)]
-fn read_question<'a, 'r, 'i>(
-    reading: &Reading<'i>,
+pub(crate) fn read_question<'a, 'r, 'i>(
+    reading: &Reading<'_, 'i>,
     site: &Site<'r>,
     question: Question<'r, 'i>,
     value: &'i Value,
@@ -576,10 +582,10 @@ fn read_question<'a, 'r, 'i>(
     observer: &mut Observer<'i>,
 ) -> Result<(), AllocError>
     requires shallow { depth (view site.now.contents.now) ≤ deepest (documents_at site.now) }
-    requires within { Within (view value.now) (instance_in roads) (view reading.now.whole.now) }
+    requires within { Within (view value.now) (instance_in roads) (spots_of reading.now) }
     requires inside { depth (view question.subschema.schema.now) < depth (view site.now.contents.now) }
     requires part { IsPart (view value.now) question.asked }
-    ensures { OnOk result (TellsQuestions site.now (view reading.now.whole.now) (view value.now) roads.entry (keys_in progress.now) (question_leads question.entry) (one_question question.entry) observer.old observer.new) }
+    ensures { OnOk result (TellsQuestions site.now (spots_of reading.now) (view value.now) roads.entry (keys_in progress.now) (question_leads question.entry) (one_question question.entry) observer.old observer.new) }
 {
     let inner = site.below(reading.alloc, question.subschema.schema)?;
     let schema = roads.schema.push_name(question.subschema.keyword);
@@ -596,7 +602,7 @@ fn read_question<'a, 'r, 'i>(
 // What the entry of a keyword tells that a question asks.
 #[cycle(read)]
 fn read_entry<'a, 'r, 'i>(
-    reading: &Reading<'i>,
+    reading: &Reading<'_, 'i>,
     inner: &Site<'r>,
     question: Question<'r, 'i>,
     value: &'i Value,
@@ -605,9 +611,9 @@ fn read_entry<'a, 'r, 'i>(
     observer: &mut Observer<'i>,
 ) -> Result<(), AllocError>
     requires shallow { depth (view inner.now.contents.now) ≤ deepest (documents_at inner.now) }
-    requires within { Within (view value.now) (instance_in roads) (view reading.now.whole.now) }
+    requires within { Within (view value.now) (instance_in roads) (spots_of reading.now) }
     requires part { IsPart (view value.now) question.asked }
-    ensures { OnOk result (TellsAsked inner.now (view reading.now.whole.now) (view value.now) roads.entry (keys_in progress.now) question.entry.asked (entry_parts question.entry.subschema.entry) observer.old observer.new) }
+    ensures { OnOk result (TellsAsked inner.now (spots_of reading.now) (view value.now) roads.entry (keys_in progress.now) question.entry.asked (entry_parts question.entry.subschema.entry) observer.old observer.new) }
 {
     match question.subschema.entry {
         Entry::Whole => {
@@ -665,7 +671,7 @@ fn read_entry<'a, 'r, 'i>(
 // What a subschema tells of what is asked of.
 #[cycle(read)]
 fn read_asked<'a, 'r, 'i>(
-    reading: &Reading<'i>,
+    reading: &Reading<'_, 'i>,
     inner: &Site<'r>,
     asked: Asked<'i>,
     value: &'i Value,
@@ -674,9 +680,9 @@ fn read_asked<'a, 'r, 'i>(
     observer: &mut Observer<'i>,
 ) -> Result<(), AllocError>
     requires shallow { depth (view inner.now.contents.now) ≤ deepest (documents_at inner.now) }
-    requires within { Within (view value.now) (instance_in roads) (view reading.now.whole.now) }
+    requires within { Within (view value.now) (instance_in roads) (spots_of reading.now) }
     requires part { IsPart (view value.now) asked }
-    ensures { OnOk result (TellsAsked inner.now (view reading.now.whole.now) (view value.now) roads.entry (keys_in progress.now) asked.entry [] observer.old observer.new) }
+    ensures { OnOk result (TellsAsked inner.now (spots_of reading.now) (view value.now) roads.entry (keys_in progress.now) asked.entry [] observer.old observer.new) }
 {
     match asked {
         Asked::Value => read_site(reading, inner, value, roads, progress, observer),
@@ -700,14 +706,14 @@ fn read_asked<'a, 'r, 'i>(
             };
             read_site(reading, inner, member, at, progress, observer)
         }
-        Asked::Name(_) => Ok(()),
+        Asked::Name(name) => read_name(reading, inner, name, roads, progress, observer),
     }
 }
 
 // What a reference tells: what its target does, unless it is in progress.
 #[cycle(read)]
 fn read_target<'a, 'r, 'i>(
-    reading: &Reading<'i>,
+    reading: &Reading<'_, 'i>,
     site: &Site<'r>,
     keyword: ReferenceKeyword,
     text: &'a str,
@@ -718,9 +724,9 @@ fn read_target<'a, 'r, 'i>(
     observer: &mut Observer<'i>,
 ) -> Result<(), AllocError>
     requires shallow { depth (view site.now.contents.now) ≤ deepest (documents_at site.now) }
-    requires within { Within (view value.now) (instance_in roads) (view reading.now.whole.now) }
+    requires within { Within (view value.now) (instance_in roads) (spots_of reading.now) }
     requires found { FindsTarget site.now keyword text.now target }
-    ensures { OnOk result (TellsQuestions site.now (view reading.now.whole.now) (view value.now) roads.entry (keys_in progress.now) (reference_leads text.now (target_in target.entry)) (reference_questions (name_of keyword) text.now (target_in target.entry)) observer.old observer.new) }
+    ensures { OnOk result (TellsQuestions site.now (spots_of reading.now) (view value.now) roads.entry (keys_in progress.now) (reference_leads text.now (target_in target.entry)) (reference_questions (name_of keyword) text.now (target_in target.entry)) observer.old observer.new) }
 {
     if is_in_progress(progress, target.document(), target.path(), roads.instance) {
         return Ok(());

@@ -4,10 +4,12 @@ ghost use Rattle.serde_json.specs.View.{view};
 ghost use Rattle.schema_meaning.specs.Questions.{members_of};
 ghost use Rattle.schema_meaning.specs.Keywords.{first_value};
 ghost use Rattle.applied_laws.specs.Notes.{value_by};
+ghost use Rattle.schema_matches.specs.Read.{reads};
 ghost use Rattle.plain_reader.specs.Refusals.{carries_branches as is_carrier, IsRefusal, TellsRefusal};
 
 use applicators::applicator::Applicator;
 use applicators::declared::undeclared_names;
+use schema_matches::matches::Matches;
 use schema_reports::{Observer, Roads, ValidationError, ValidationErrorKind};
 use serde_json::Value;
 use std::alloc::{AllocError, Global};
@@ -22,18 +24,19 @@ pub(crate) const fn carries_branches(applicator: &Applicator<'_>) -> bool
 // Its kind, where so many answers are yes.
 fn refusal<'i>(
     alloc: Global,
+    matches: &Matches,
     applicator: Applicator<'_>,
     accepted: usize,
     context: Vec<Vec<ValidationError<'i>>>,
     value: &Value,
 ) -> Result<ValidationErrorKind<'i>, AllocError>
-    ensures { IfOk result (λ kind. IsRefusal (view value.now) applicator.entry accepted context.entry.items kind) }
+    ensures { IfOk result (λ kind. IsRefusal (reads matches.now) (view value.now) applicator.entry accepted context.entry.items kind) }
 {
     Ok(match applicator {
         Applicator::NoAdditionalItems { .. } => ValidationErrorKind::AdditionalItems,
         Applicator::NoAdditionalProperties { declared, .. } => {
             ValidationErrorKind::AdditionalProperties {
-                unexpected: undeclared_names(alloc, declared, value)?,
+                unexpected: undeclared_names(alloc, matches, declared, value)?,
             }
         }
         Applicator::Contains { .. } => ValidationErrorKind::Contains,
@@ -78,6 +81,7 @@ fn value_at_fault<'i>(applicator: &Applicator<'_>, value: &'i Value) -> &'i Valu
 // Tells an observer of it.
 pub(crate) fn tell_refusal<'i>(
     alloc: Global,
+    matches: &Matches,
     applicator: Applicator<'_>,
     accepted: usize,
     context: Vec<Vec<ValidationError<'i>>>,
@@ -85,7 +89,7 @@ pub(crate) fn tell_refusal<'i>(
     roads: Roads<'_>,
     observer: &mut Observer<'i>,
 ) -> Result<(), AllocError>
-    ensures { OnOk result (TellsRefusal (view value.now) roads.entry applicator.entry accepted context.entry.items observer.old observer.new) }
+    ensures { OnOk result (TellsRefusal (reads matches.now) (view value.now) roads.entry applicator.entry accepted context.entry.items observer.old observer.new) }
 {
     let keyword = applicator.refused_name(accepted);
     let schema = roads.schema.push_name(keyword);
@@ -95,6 +99,6 @@ pub(crate) fn tell_refusal<'i>(
         evaluation: &evaluation,
         ..roads
     };
-    let kind = refusal(alloc, applicator, accepted, context, value)?;
+    let kind = refusal(alloc, matches, applicator, accepted, context, value)?;
     observer.tell(alloc, kind, value_at_fault(&applicator, value), at)
 }

@@ -6,8 +6,7 @@ ghost use Rattle.schema_reading.specs.Plain.{deepest};
 ghost use Rattle.schema_sites.specs.Passed.{documents_in, target_in};
 ghost use Rattle.plain_reader.specs.Roots.{TellsRoot};
 
-use crate::progress::Progress;
-use crate::read::{Reading, read_site};
+use crate::whole::read_alone;
 use schema_matches::matches::Matches;
 use schema_reports::{LazyLocation, Observer, Reference, Roads};
 use schema_sites::Resolved;
@@ -19,7 +18,7 @@ use std::alloc::{AllocError, Global};
 /// its target at one place of the instance is taken as accepting there. The matches of patterns are those that were read of the instance.
 ///
 /// Each keyword that asks walks the part of the instance that it applies to once, and each reference is looked up once for each value
-/// that it is asked of, and compared with those in progress. Nothing is copied before a fault is told.
+/// that it is asked of, and compared with those in progress. Before a fault is told nothing is copied but the names that are asked.
 ///
 /// # Errors
 ///
@@ -44,9 +43,5 @@ pub fn tell_root<'r, 'i>(
         reference: Reference::none(),
         evaluation: &evaluation,
     };
-    let reading = Reading {
-        alloc,
-        whole: value,
-    };
-    read_site(&reading, &site, value, roads, &Progress::Nothing, observer)
+    read_alone(alloc, &site, value, roads, observer)
 }

@@ -9,8 +9,7 @@ ghost use Rattle.schema_reports.specs.Locations.{location_of};
 ghost use Rattle.schema_reports.specs.References.{text_of};
 ghost use Rattle.plain_reader.specs.Sites.{TellsSite};
 
-use crate::progress::Progress;
-use crate::read::{Reading, read_site};
+use crate::whole::read_alone;
 use schema_reports::{LazyLocation, Observer, Reference, Roads};
 use schema_sites::site::Site;
 use serde_json::Value;
@@ -43,9 +42,5 @@ pub fn tell_site<'a, 'r, 'i>(
         reference,
         evaluation: &evaluation,
     };
-    let reading = Reading {
-        alloc,
-        whole: value,
-    };
-    read_site(&reading, site, value, roads, &Progress::Nothing, observer)
+    read_alone(alloc, site, value, roads, observer)
 }

@@ -1,5 +1,5 @@
 -- The questions of applicators, one by one.
-use Rattle.std.proofs.Common.{◌≡◌, ◌∙◌, ◌+◌, ◌<◌, ℕ, zero, suc, List, [], ◌∷◌, Option, Some, None, length, Bool, true, false, cond, refl, sym, ap, arith, add-zero, codes}
+use Rattle.std.proofs.Common.{◌≡◌, ◌∙◌, ◌+◌, ◌<◌, ℕ, zero, suc, List, [], ◌∷◌, map, Option, Some, None, length, Bool, true, false, cond, refl, sym, ap, arith, add-zero, codes}
 use Rattle.std.specs.List.{filter}
 use Rattle.serde_json.specs.Data.{Data, null, boolean, number, string, array, object, Items, no_items, item, Members, no_members, member}
 use Rattle.serde_json.specs.Find.{get, get_item, get_member}
@@ -7,11 +7,12 @@ use Rattle.serde_json.specs.View.{items_view}
 use Rattle.serde_json.specs.declared.value.Value.{Value}
 use Rattle.json_paths.specs.Parts.{Part}
 use Rattle.schema_values.specs.Equality.{rises_from}
+use Rattle.schema_values.specs.Patterns.{matched}
 use Rattle.schema_values.proofs.Names.{get_same, get_other}
 use Rattle.schema_values.proofs.Kept.{first_rise, behind_none}
 use Rattle.schema_meaning.specs.Members.{In, first, later}
 use Rattle.schema_meaning.specs.Places.{stay, to_item, to_member}
-use Rattle.schema_meaning.specs.Questions.{Question, question, at, at_name, at_index, each_branch, item_by_item, listed_members, members_of, if_member, each_member, each_triggered}
+use Rattle.schema_meaning.specs.Questions.{Question, question, at, at_name, at_index, each_branch, item_by_item, listed_members, members_of, if_member, each_matching, each_member, each_triggered}
 use Rattle.schema_reading.specs.Sites.{Site}
 use Rattle.place_laws.specs.Rising.{are_rising}
 use Rattle.walk_laws.proofs.Listed.{in_some, in_mapped}
@@ -137,6 +138,22 @@ among_kept test (y ∷ ys) x h = kept_or (test y) y (filter test ys) ys x h (amo
 pub member_question : {S : Type 0} (k : List ℕ) (s : S) (ms : List (List ℕ × Data)) (q : Question S) → In q (each_member k s ms)
     → (m : List ℕ × Data) × In m ms × (q ≡ question s (to_member m.0 m.1) (at k))
 member_question k s ms q i = let w = in_mapped (λ m. question s (to_member m.0 m.1) (at k)) ms i in (w.0, w.1, sym w.2)
+
+-- ---- members whose names patterns match
+
+module _ {S : Type 0} (matches : List ℕ → List ℕ → Bool) (k : List ℕ) (d : Data) where
+  abbrev by_pattern : List ℕ × S → List ℕ × Data → Question S
+  by_pattern p m = question p.1 (to_member m.0 m.1) (at_name k p.0)
+
+  abbrev matching : List ℕ × S → List (List ℕ × Data)
+  matching p = filter (λ m. matched matches p.0 m.0) (members_of d)
+
+  pub matching_question : (ps : List (List ℕ × S)) (q : Question S) → In q (each_matching matches k d ps)
+      → (p : List ℕ × S) × (m : List ℕ × Data) × In p ps × In m (members_of d) × (q ≡ question p.1 (to_member m.0 m.1) (at_name k p.0))
+  matching_question ps q i =
+      let w = in_some (λ p. map (by_pattern p) (matching p)) ps i in
+      let v = in_mapped (by_pattern w.0) (matching w.0) w.2 in
+      (w.0, v.0, w.1, among_kept (λ m. matched matches w.0.0 m.0) (members_of d) v.0 v.1, sym v.2)
 
 -- an entry of `dependencies` is that which its name finds
 pub entry_found : (site : List Part → Data → Site) (ms : Members) (p : List ℕ × Dependency Site) → are_rising ms ≡ true → In p (dependencies_in site ms)

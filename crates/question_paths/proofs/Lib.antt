@@ -4,3 +4,4 @@ pub mod AddedFacts
 pub mod AskedFacts
 pub mod AlikeFacts
 pub mod OnceFacts
+pub mod UnnamedFacts

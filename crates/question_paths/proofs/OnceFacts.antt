@@ -1,5 +1,5 @@
 -- Of the questions of an applicator, texts lead to one at most.
-use Rattle.std.proofs.Common.{◌≡◌, ◌∙◌, ◌+◌, ◌<◌, ◌^◌, ◌∷◌, ℕ, List, [], Some, Option, Bor, length, Bool, true, false, not, codes, refl, sym, ap, subst, arith}
+use Rattle.std.proofs.Common.{◌≡◌, ◌∙◌, ◌+◌, ◌<◌, ◌^◌, ◌∷◌, ℕ, List, [], Some, Option, length, Bool, true, not, codes, refl, sym, ap, subst, arith}
 use Rattle.serde_json.specs.Data.{Data, Members, null, boolean, number, string, array, object, no_items, item}
 use Rattle.serde_json.specs.Find.{get, get_item, get_member}
 use Rattle.serde_json.specs.Find as finding
@@ -7,7 +7,7 @@ use Rattle.serde_json.specs.View.{view, items_view, members_view}
 use Rattle.json_paths.specs.Parts.{Part}
 use Rattle.schema_meaning.specs.Members.{In, first, later}
 use Rattle.schema_meaning.specs.Places.{stay, to_item, to_member}
-use Rattle.schema_meaning.specs.Questions.{Question, question, at, at_name, at_index, items_of, items_from, each_branch, each_item, item_by_item, each_declared, is_declared, members_of, each_member, each_triggered}
+use Rattle.schema_meaning.specs.Questions.{Question, question, at, at_name, at_index, items_of, items_from, each_branch, each_item, item_by_item, each_declared, each_matching, Declared, is_declared, members_of, other_members, each_member, each_triggered}
 use Rattle.schema_meaning.specs.Rules.{asks}
 use Rattle.schema_meaning.specs.Keywords.{counting, rule, Dependency, applies}
 use Rattle.schema_reading.specs.Sites.{Site}
@@ -15,12 +15,12 @@ use Rattle.place_laws.specs.Rising.{are_rising}
 use Rattle.walk_laws.proofs.Listed.{item_question, item_further, declared_question}
 use Rattle.path_parts.specs.Found.{IsIndexed}
 use Rattle.path_parts.proofs.ItemFacts.{at_items, some_one}
-use Rattle.applicators.specs.Shapes.{shape_of, site_of, sites_of_list, sites_of_map, Schemas, declared_by, undeclared, dependency_at, dependencies_in}
+use Rattle.applicators.specs.Shapes.{shape_of, site_of, sites_of_list, sites_of_map, declared_by, dependency_at, dependencies_in}
 use Rattle.applicators.specs.Combined.{asks_values}
 use Rattle.applicators.specs.declared.applicator.Applicator.{Applicator}
 use Rattle.applicators.specs.declared.applicator.Applicator.TheVariants as code
 use Rattle.question_paths.specs.Laws.{NamesRise, BranchesFit, MembersRise, OneAhead}
-use Rattle.question_paths.proofs.AskedFacts.{nth, nth_short, sites_counted, branch_question, listed_question, triggered_question, site_found, found_member, among_kept, member_question, dependency_question, entry_found}
+use Rattle.question_paths.proofs.AskedFacts.{nth, nth_short, sites_counted, branch_question, listed_question, triggered_question, site_found, found_member, among_kept, member_question, matching_question, dependency_question, entry_found}
 use Rattle.applicators.specs.Questions.{each_dependency}
 use Rattle.question_paths.proofs.AlikeFacts.{AreAlike, same_items, same_members, same_indexes, same_names}
 
@@ -55,7 +55,7 @@ module _ {S : Type 0} (k : List ℕ) (d : Data) (indexed : IsIndexed d) (q p : Q
       ∙ ap (λ (e : Data). question v.1 (to_item (0 + v.0) e) (at_index k (0 + v.0))) alike ∙ sym v.5
 
 -- `contains` asks items alone
-counted_asked : {S : Type 0} (s : S) (least most : Option ℕ) (d : Data) (q : Question S) → In q (asks (counting d least most (each_item (codes "contains") s 0 (items_of d))))
+pub counted_asked : {S : Type 0} (s : S) (least most : Option ℕ) (d : Data) (q : Question S) → In q (asks (counting d least most (each_item (codes "contains") s 0 (items_of d))))
     → In q (each_item (codes "contains") s 0 (items_from 0 (items_of d)))
 counted_asked s least most null q i = elim i [ ]
 counted_asked s least most (boolean b) q i = elim i [ ]
@@ -80,6 +80,13 @@ module _ {S : Type 0} (k : List ℕ) (q p : Question S) (h : AreAlike q p) where
       let schemas : w.1 ≡ v.1 = some_one (nth v.0 ss) w.1 v.1 (subst (λ (n : ℕ). nth n ss ≡ Some w.1) same w.2) v.2 in
       w.3 ∙ ap (λ (n : ℕ). question w.1 stay (at_index k (0 + n))) same ∙ ap (λ (s : S). question s stay (at_index k (0 + v.0))) schemas ∙ sym v.3
 
+-- ---- the members of one name
+
+same_value : (d : Data) (m n : List ℕ × Data) → MembersRise d → In m (members_of d) → In n (members_of d) → m.0 ≡ n.0 → m.1 ≡ n.1
+same_value d m n rising i j same =
+    let here : get m.0 d ≡ Some m.1 = found_member d m rising i in
+    some_one (get n.0 d) m.1 n.1 (subst (λ (k : List ℕ). get k d ≡ Some m.1) same here) (found_member d n rising j)
+
 module _ (site : List Part → Data → Site) (k : List ℕ) (d : Data) (ms : Members) (rising : are_rising ms ≡ true) (q p : Question Site) (h : AreAlike q p) where
   -- the schemas of one name
   same_named : (x y : List ℕ × Site) → In x (sites_of_map site k ms) → In y (sites_of_map site k ms) → x.0 ≡ y.0 → x ≡ y
@@ -100,6 +107,19 @@ module _ (site : List Part → Data → Site) (k : List ℕ) (d : Data) (ms : Me
       let alike : w.1 ≡ v.1 = some_one (get v.0.0 d) w.1 v.1 (subst (λ (n : List ℕ). get n d ≡ Some w.1) named w.3) v.3 in
       w.4 ∙ ap (λ (x : List ℕ × Site). question x.1 (to_member x.0 w.1) (at_name k x.0)) same ∙ ap (λ (e : Data). question v.0.1 (to_member v.0.0 e) (at_name k v.0.0)) alike ∙ sym v.4
 
+  -- ---- each member whose name a pattern matches
+
+  pub matching_once : (matches : List ℕ → List ℕ → Bool) → MembersRise d → In q (each_matching matches k d (sites_of_map site k ms)) → In p (each_matching matches k d (sites_of_map site k ms)) → q ≡ p
+  matching_once matches risen i j =
+      let w = matching_question matches k d (sites_of_map site k ms) q i in
+      let v = matching_question matches k d (sites_of_map site k ms) p j in
+      let patterned : w.0.0 ≡ v.0.0 = same_names q p h k w.0.0 v.0.0 (ap (λ (x : Question Site). x.added) w.4) (ap (λ (x : Question Site). x.added) v.4) in
+      let same : w.0 ≡ v.0 = same_named w.0 v.0 w.2 v.2 patterned in
+      let named : w.1.0 ≡ v.1.0 = same_members q p h w.1.0 v.1.0 w.1.1 v.1.1 (ap (λ (x : Question Site). x.step) w.4) (ap (λ (x : Question Site). x.step) v.4) in
+      let alike : w.1.1 ≡ v.1.1 = same_value d w.1 v.1 risen w.3 v.3 named in
+      w.4 ∙ ap (λ (x : List ℕ × Site). question x.1 (to_member w.1.0 w.1.1) (at_name k x.0)) same ∙ ap (λ (n : List ℕ). question v.0.1 (to_member n w.1.1) (at_name k v.0.0)) named
+      ∙ ap (λ (e : Data). question v.0.1 (to_member v.1.0 e) (at_name k v.0.0)) alike ∙ sym v.4
+
   -- ---- the value by the schema of each name that is a member
 
   pub triggered_once : In q (each_triggered k d (sites_of_map site k ms)) → In p (each_triggered k d (sites_of_map site k ms)) → q ≡ p
@@ -118,14 +138,12 @@ module _ {S : Type 0} (k : List ℕ) (s : S) (d : Data) (rising : MembersRise d)
       let w = member_question k s ms q i in
       let v = member_question k s ms p j in
       let named : w.0.0 ≡ v.0.0 = same_members q p h w.0.0 v.0.0 w.0.1 v.0.1 (ap (λ (x : Question S). x.step) w.2) (ap (λ (x : Question S). x.step) v.2) in
-      let here : get w.0.0 d ≡ Some w.0.1 = found_member d w.0 rising (among w.0 w.1) in
-      let there : get v.0.0 d ≡ Some v.0.1 = found_member d v.0 rising (among v.0 v.1) in
-      let alike : w.0.1 ≡ v.0.1 = some_one (get v.0.0 d) w.0.1 v.0.1 (subst (λ (n : List ℕ). get n d ≡ Some w.0.1) named here) there in
+      let alike : w.0.1 ≡ v.0.1 = same_value d w.0 v.0 rising (among w.0 w.1) (among v.0 v.1) named in
       w.2 ∙ ap (λ (n : List ℕ). question s (to_member n w.0.1) (at k)) named ∙ ap (λ (e : Data). question s (to_member v.0.0 e) (at k)) alike ∙ sym v.2
 
-  pub undeclared_once : (declared : Option (Bor Schemas)) → In q (each_member k s (undeclared declared d)) → In p (each_member k s (undeclared declared d)) → q ≡ p
-  undeclared_once declared i j =
-      members_once (undeclared declared d) (λ m h. among_kept (λ n. not (is_declared (λ p k. false) (declared_by declared) n.0)) (members_of d) m h) i j
+  pub others_once : (matches : List ℕ → List ℕ → Bool) (declared : Declared) → In q (each_member k s (other_members matches declared d)) → In p (each_member k s (other_members matches declared d)) → q ≡ p
+  others_once matches declared i j =
+      members_once (other_members matches declared d) (λ m h. among_kept (λ n. not (is_declared matches declared n.0)) (members_of d) m h) i j
 
 module _ (site : List Part → Data → Site) (d : Data) (ms : Members) (rising : are_rising ms ≡ true) (q p : Question Site) (h : AreAlike q p) where
   -- ---- the value by each entry of `dependencies`
@@ -174,10 +192,11 @@ module _ (site : List Part → Data → Site) (matches : List ℕ → List ℕ �
       let s = site_of site (codes "contains") (view schema.now) in
       items_once (codes "contains") d indexed q p h s 0 (counted_asked s least most d q i) (counted_asked s least most d p j)
   asked_once (code.Properties schemas) r f e i j = declared_once site (codes "properties") d (members_view schemas.now.entries) r q p h i j
+  asked_once (code.PatternProperties schemas) r f e i j = matching_once site (codes "patternProperties") d (members_view schemas.now.entries) r q p h matches rising i j
   asked_once (code.AdditionalProperties declared schema) r f e i j =
-      undeclared_once (codes "additionalProperties") (site_of site (codes "additionalProperties") (view schema.now)) d rising q p h declared i j
+      others_once (codes "additionalProperties") (site_of site (codes "additionalProperties") (view schema.now)) d rising q p h matches (declared_by declared) i j
   asked_once (code.NoAdditionalProperties declared schema) r f e i j =
-      undeclared_once (codes "additionalProperties") (site_of site (codes "additionalProperties") (view schema.now)) d rising q p h declared i j
+      others_once (codes "additionalProperties") (site_of site (codes "additionalProperties") (view schema.now)) d rising q p h matches (declared_by declared) i j
   asked_once (code.NoProperties schema) r f e i j =
       members_once (codes "additionalProperties") (site_of site (codes "additionalProperties") (view schema.now)) d rising q p h (members_of d) (λ m h. h) i j
   asked_once (code.PropertyNames schema) r f e i j = cc

@@ -27,6 +27,7 @@ fn schemas_stand(applicator: &Applicator<'_>)
 {
     match *applicator {
         Applicator::Properties(schemas) => names_rise(schemas),
+        Applicator::PatternProperties(schemas) => names_rise(schemas),
         Applicator::DependentSchemas(schemas) => names_rise(schemas),
         Applicator::Dependencies(entries) => names_rise(entries),
         Applicator::AllOf(schemas) => list_fits(schemas),

@@ -1,18 +1,19 @@
 -- What a schema that was read leads to.
-use Rattle.std.proofs.Common.{◌≡◌, ◌∙◌, ℕ, List, [], ◌∷◌, Bool, true, false, Option, Some, None, option_map, is_some, refl, sym, ap, subst}
+use Rattle.std.proofs.Common.{◌≡◌, ◌∙◌, ℕ, List, [], ◌∷◌, Bool, true, false, Option, Some, None, option_map, is_some, refl, sym, ap, ap₂, subst}
 use Rattle.std.specs.Prelude.{codes}
 use Rattle.serde_json.specs.Data.{Data, null, boolean, number, string, array, object, Members}
 use Rattle.serde_json.specs.Find.{as_object, as_bool}
 use Rattle.serde_json.specs.View.{view}
 use Rattle.schema_meaning.specs.Members.{In, first}
 use Rattle.schema_documents.specs.Bearers.{Document}
-use Rattle.schema_reading.specs.BuildCauses.{at_root}
+use Rattle.schema_reading.specs.BuildCauses.{at_root, IsCauseOf}
 use Rattle.schema_reading.specs.Sites.{Site}
-use Rattle.schema_reading.specs.Rows.{Row, keyword_value, rows_at, rows_in, no_schema}
-use Rattle.unread_keywords.specs.NotYet.{wrong, place_of, unread_in, IsBuildCause, is_wrong}
+use Rattle.schema_reading.specs.Rows.{Place, Row, keyword_value, rows_at, rows_in, no_schema}
 use Rattle.schema_sites.specs.Seen.{documents_at}
 use Rattle.reached_sites.specs.Led.{Leads, leads_in, causes_in}
 use Rattle.reached_sites.specs.Members.{Rest}
+use Rattle.site_laws.specs.Laws.{AreAlike}
+use Rattle.reached_sites.specs.Patterns.{written, written_in, written_members}
 use Rattle.reached_sites.specs.Places.{place_in}
 use Rattle.reached_sites.specs.Visits.{site_of, Met, Matches, none}
 use Rattle.reached_sites.specs.declared.visit.Visit.{Visit}
@@ -25,7 +26,6 @@ module _ (v : Visit) (makes : List ℕ → Bool) (leads : List Visit) where
       let s = site_of v in
       let rows = rows-of-object (own_of v ∷ []) makes s ms e in
       record {
-        read = ap (unread_in s) e ∙ rest.read;
         right = ap causes_in rows ∙ rest.right;
         met = subst (λ (vs : List Visit). Matches (own_of v) vs (leads_in (rows_at (own_of v ∷ []) makes s))) (sym rest.met.grown)
             (subst (λ (rs : List Row). Matches (own_of v) rest.met.added (leads_in rs)) (sym rows) rest.met.met);
@@ -46,7 +46,6 @@ leads-boolean v makes s b leads m e n =
     let is = m.alike.contents ∙ e in
     let rows = rows-of-boolean (own_of v) makes s b is in
     record {
-      read = ap (unread_in s) is;
       right = rows.0;
       met = subst (λ (vs : List Visit). Matches (own_of v) vs (leads_in (rows_at (own_of v ∷ []) makes s))) (sym n)
           (subst (λ (ss : List Site). Matches (own_of v) [] ss) (sym rows.1) none);
@@ -54,7 +53,11 @@ leads-boolean v makes s b leads m e n =
 
 -- ---- refused
 
-pub same-place : (v : Visit) (s : Site) → Met v s → place_of s [] ≡ place_in v.point.place
+-- where a site is
+abbrev pub place_of : Site → Place
+place_of s = record { document = s.document; path = s.path }
+
+pub same-place : (v : Visit) (s : Site) → Met v s → place_of s ≡ place_in v.point.place
 same-place v s m = rw (m.alike.document, m.alike.path) refl
 
 -- neither a boolean nor an object
@@ -76,15 +79,16 @@ other-rows docs makes s (array ds) e o = ap (rows_in s (contexts docs makes s)) 
 other-rows docs makes s (object ms) e o = absurd o
 
 pub no-schema : (v : Visit) (s : Site) (makes : List ℕ → Bool) (d : Data) → s.contents ≡ d → IsOther d
-    → IsBuildCause (documents_at v.site) makes s (wrong (keyword_value (place_of s []) (codes "schema")))
+    → IsCauseOf (documents_at v.site) makes s (keyword_value (place_of s) (codes "schema"))
 no-schema v s makes d e o =
-    is_wrong (record {
+    let row : Row = record { causes = keyword_value (place_of s) (codes "schema") ∷ []; leads = []; shapes = [] } in
+    record {
       site = s;
       reached = at_root;
-      row = record { causes = keyword_value (place_of s []) (codes "schema") ∷ []; leads = []; shapes = [] };
-      stands = subst (λ (rows : List Row). In (record { causes = keyword_value (place_of s []) (codes "schema") ∷ []; leads = []; shapes = [] }) rows) (sym (other-rows (documents_at v.site) makes s d e o)) first;
+      row = row;
+      stands = subst (λ (rows : List Row). In row rows) (sym (other-rows (documents_at v.site) makes s d e o)) first;
       wrong = first;
-    })
+    }
 
 -- ---- by what the code asks of a value
 
@@ -115,3 +119,14 @@ other-of (number n) e f = tt
 other-of (string t) e f = tt
 other-of (array ds) e f = tt
 other-of (object ms) e f = absurd (cc (e))
+
+-- ---- the patterns that are written
+
+pub written-alike : (docs : List (List Document)) (s t : Site) → AreAlike docs s t → written s ≡ written t
+written-alike docs s t a = ap₂ written_in a.dialect a.contents
+
+pub written-object : (v : Visit) (s : Site) (ms : Members) → Met v s → view v.site.contents.now ≡ object ms → written s ≡ written_members (site_of v).dialect ms ms
+written-object v s ms m e = written-alike (documents_at v.site) s (site_of v) m.alike ∙ ap (written_in (site_of v).dialect) e
+
+pub written-boolean : (v : Visit) (s : Site) (b : Bool) → Met v s → view v.site.contents.now ≡ boolean b → written s ≡ []
+written-boolean v s b m e = written-alike (documents_at v.site) s (site_of v) m.alike ∙ ap (written_in (site_of v).dialect) e

@@ -1,4 +1,7 @@
 pub mod Listing
+pub mod Writing
+pub mod Putting
+pub mod Filling
 pub mod Matching
 pub mod Filing
 pub mod Growth

@@ -8,7 +8,7 @@ use Rattle.site_laws.proofs.Reaching.{alike_have_causes}
 use Rattle.site_laws.proofs.Reading.{read_alike}
 use Rattle.site_laws.proofs.Results.{zip_append}
 use Rattle.site_laws.specs.Laws.{AreAlike, RowsAgree}
-use Rattle.reached_sites.specs.Causes.{RefusesAt}
+use Rattle.reached_sites.specs.Causes.{RefusesRoot}
 use Rattle.reached_sites.specs.Led.{leads_in, causes_in, Leads}
 use Rattle.reached_sites.specs.Visits.{Belongs, Met, Matches, both}
 use Rattle.reached_sites.specs.declared.cause.BuildCause.{BuildCause}
@@ -43,11 +43,10 @@ module _ (own : List Document) where
       let rs = rows_at (own ∷ []) makes s in
       let qs = rows_at (own ∷ []) makes t in
       record {
-        read = h.unread ∙ l.read;
         right = one-causes (own ∷ []) rs qs h.rows ∙ l.right;
         met = matches-alike (leads_in rs) (leads_in qs) leads (alike-leads (own ∷ []) rs qs h.rows) l.met;
       }
 
-pub refuses-alike : (docs : Documents) (makes : List ℕ → Bool) (s t : Site) (e : BuildCause) → AreAlike docs t s → RefusesAt docs makes t e → RefusesAt docs makes s e
+pub refuses-alike : (docs : Documents) (makes : List ℕ → Bool) (s t : Site) (e : BuildCause) → AreAlike docs t s → RefusesRoot docs makes t e → RefusesRoot docs makes s e
 refuses-alike docs makes s t e a (inl m) = inl m
 refuses-alike docs makes s t e a (inr h) = inr (h.0, h.1, alike_have_causes docs makes t s a h.0 h.2)

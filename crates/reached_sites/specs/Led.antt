@@ -4,7 +4,6 @@ use Rattle.std.specs.List.{flat_map}
 use Rattle.schema_documents.specs.Bearers.{Document}
 use Rattle.schema_reading.specs.Sites.{Site}
 use Rattle.schema_reading.specs.Rows.{Row, BuildCause, rows_at}
-use Rattle.unread_keywords.specs.NotYet.{unread}
 use Rattle.reached_sites.specs.Visits.{Matches}
 use Rattle.reached_sites.specs.declared.visit.Visit.{Visit}
 
@@ -16,6 +15,5 @@ causes_in rows = flat_map (λ r. r.causes) rows
 
 -- nothing is wrong at a site, and visits stand for the sites that its keywords lead to
 pub record Leads (own : List Document) (makes : List ℕ → Bool) (s : Site) (visits : List Visit) : Type 0 where
-  pub read : unread s ≡ []
   pub right : causes_in (rows_at (own ∷ []) makes s) ≡ []
   pub met : Matches own visits (leads_in (rows_at (own ∷ []) makes s))

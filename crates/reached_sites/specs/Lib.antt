@@ -6,4 +6,5 @@ pub mod Led
 pub mod Filed
 pub mod Growing
 pub mod Members
+pub mod Patterns
 pub mod Passed

@@ -14,6 +14,11 @@ pub enum BuildCause {
         place: SchemaPlace,
         expected: &'static str,
     },
+    /// A pattern that the maker of patterns refuses.
+    #[error("Pattern at '{place}' is refused")]
+    BadPattern {
+        place: SchemaPlace,
+    },
     /// A keyword that is left out.
     #[error("Keyword at '{place}' is left out")]
     Unevaluated {
@@ -24,11 +29,6 @@ pub enum BuildCause {
     Reference {
         place: SchemaPlace,
         error: ReferenceError,
-    },
-    /// A keyword that is not read yet.
-    #[error("Keyword at '{place}' is not there yet")]
-    NotYet {
-        place: SchemaPlace,
     },
     /// More schemas are reached than are allowed, each counted once for each base, dialect, scope key and schema path.
     #[error("More than {limit} schema nodes")]

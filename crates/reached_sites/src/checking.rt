@@ -1,33 +1,42 @@
 //! What is reached from a root, before any instance is seen.
 
-ghost use Rattle.std.specs.Prelude.{◌≡◌, ◌∷◌, [], List, ℕ, Bool, OnOk, IfErr};
+ghost use Rattle.std.specs.Prelude.{◌∷◌, [], IfOk, IfErr};
 ghost use Rattle.key_laws.specs.Keys.{AreWithin};
 ghost use Rattle.referencing.specs.Resolved.{documents_in, target_in};
-ghost use Rattle.unread_keywords.specs.NotYet.{Cause, IsBuildCause};
+ghost use Rattle.schema_reading.specs.BuildCauses.{IsCauseOf};
+ghost use Rattle.schema_reading.specs.Rows as rows;
 ghost use Rattle.schema_reading.specs.Sites.{root_site};
-ghost use Rattle.reached_sites.specs.Causes.{RefusesRoot, RefusesWithin};
+ghost use Rattle.schema_patterns.specs.Tables.{texts_of_table, AreMadeBy};
+ghost use Rattle.asked_matches.specs.Asked.{AreAmong};
+ghost use Rattle.reached_sites.specs.Causes.{RefusesWithin};
 ghost use Rattle.reached_sites.specs.Roots.{IsPlaced};
 
 use crate::cause::BuildCause;
 use crate::leads::leads_of;
+use crate::making::add_patterns;
 use crate::reaching::add_new;
 use crate::visit::Visit;
 use crate::visited::Visited;
 use referencing::Resolved;
 use schema_matches::matches::Matches;
+use schema_patterns::{PatternMaker, PatternTable};
 use std::alloc::Global;
 
 // The walk from a root, with the matches that its visits carry.
-fn walk<'r>(
+fn walk<'r, P: PatternMaker>(
     alloc: Global,
     root: &Resolved<'r>,
     matches: &'r Matches,
+    maker: &P,
     limit: usize,
-) -> Result<(), BuildCause>
-    ensures accepted { OnOk result (IsPlaced (documents_in root.now.resolver) (target_in root.now) → (makes : List ℕ → Bool) (c : Cause) → IsBuildCause (documents_in root.now.resolver ∷ []) makes (root_site (target_in root.now)) c → ⊥) }
-    ensures within { OnOk result (IsPlaced (documents_in root.now.resolver) (target_in root.now) → (makes : List ℕ → Bool) → AreWithin (documents_in root.now.resolver ∷ []) makes (root_site (target_in root.now) ∷ []) limit) }
-    ensures refused { IfErr result (RefusesWithin (documents_in root.now.resolver ∷ []) (root_site (target_in root.now)) limit) }
+) -> Result<PatternTable<P::Matcher>, BuildCause>
+    ensures accepted { IfOk result (λ t. IsPlaced (documents_in root.now.resolver) (target_in root.now) → (c : rows.BuildCause) → IsCauseOf (documents_in root.now.resolver ∷ []) (P.makes maker.now) (root_site (target_in root.now)) c → ⊥) }
+    ensures within { IfOk result (λ t. IsPlaced (documents_in root.now.resolver) (target_in root.now) → AreWithin (documents_in root.now.resolver ∷ []) (P.makes maker.now) (root_site (target_in root.now) ∷ []) limit) }
+    ensures patterns { IfOk result (λ t. IsPlaced (documents_in root.now.resolver) (target_in root.now) → AreAmong (documents_in root.now.resolver ∷ []) (P.makes maker.now) (root_site (target_in root.now)) (texts_of_table t)) }
+    ensures made { IfOk result (λ t. AreMadeBy P.Matcher.finds (P.finished maker.now) t) }
+    ensures refused { IfErr result (RefusesWithin (documents_in root.now.resolver ∷ []) (P.makes maker.now) (root_site (target_in root.now)) limit) }
 {
+    let mut table = PatternTable::new(alloc);
     let mut visits: Vec<Visit<'r>> = Vec::new(alloc);
     let mut visited = Visited::new(alloc);
     add_new(
@@ -41,26 +50,36 @@ fn walk<'r>(
         if visits.len() > limit {
             return Err(BuildCause::NodeLimit { limit });
         }
-        let leads = leads_of(alloc, &visits[next])?;
-        add_new(alloc, &mut visits, &mut visited, leads)?;
+        let found = leads_of(alloc, &visits[next])?;
+        add_patterns(alloc, maker, found.patterns.as_slice(), &mut table)?;
+        add_new(alloc, &mut visits, &mut visited, found.leads)?;
         next += 1;
     }
-    Ok(())
+    Ok(table)
 }
 
-/// Walks the places reached from a root, and answers the first cause that it meets: those next to the root come first.
+/// Walks the places reached from a root, and answers the first cause that it meets: those next to the root come first, and of one schema
+/// those of its members before the patterns that the maker refuses. It hands out each pattern that is reached.
 ///
 /// A schema is walked once for each compile key with which it is reached: each base, dialect, scope key and schema path. It is found again
-/// by the text of its place. A scope key is made for each reference and where a subschema has a base of its own.
+/// by the text of its place. A scope key is made for each reference and where a subschema has a base of its own. The maker is asked once
+/// for each text, and for none of the literal forms.
 ///
 /// # Errors
 ///
 /// A cause that stands at a place reached from the root, more compile keys than the limit, or want of memory.
-pub fn check_reached(alloc: Global, root: &Resolved<'_>, limit: usize) -> Result<(), BuildCause>
-    ensures accepted { OnOk result (IsPlaced (documents_in root.now.resolver) (target_in root.now) → (makes : List ℕ → Bool) (c : Cause) → IsBuildCause (documents_in root.now.resolver ∷ []) makes (root_site (target_in root.now)) c → ⊥) }
-    ensures within { OnOk result (IsPlaced (documents_in root.now.resolver) (target_in root.now) → (makes : List ℕ → Bool) → AreWithin (documents_in root.now.resolver ∷ []) makes (root_site (target_in root.now) ∷ []) limit) }
-    ensures refused { IfErr result (RefusesWithin (documents_in root.now.resolver ∷ []) (root_site (target_in root.now)) limit) }
+pub fn check_reached<P: PatternMaker>(
+    alloc: Global,
+    root: &Resolved<'_>,
+    maker: &P,
+    limit: usize,
+) -> Result<PatternTable<P::Matcher>, BuildCause>
+    ensures accepted { IfOk result (λ t. IsPlaced (documents_in root.now.resolver) (target_in root.now) → (c : rows.BuildCause) → IsCauseOf (documents_in root.now.resolver ∷ []) (P.makes maker.now) (root_site (target_in root.now)) c → ⊥) }
+    ensures within { IfOk result (λ t. IsPlaced (documents_in root.now.resolver) (target_in root.now) → AreWithin (documents_in root.now.resolver ∷ []) (P.makes maker.now) (root_site (target_in root.now) ∷ []) limit) }
+    ensures patterns { IfOk result (λ t. IsPlaced (documents_in root.now.resolver) (target_in root.now) → AreAmong (documents_in root.now.resolver ∷ []) (P.makes maker.now) (root_site (target_in root.now)) (texts_of_table t)) }
+    ensures made { IfOk result (λ t. AreMadeBy P.Matcher.finds (P.finished maker.now) t) }
+    ensures refused { IfErr result (RefusesWithin (documents_in root.now.resolver ∷ []) (P.makes maker.now) (root_site (target_in root.now)) limit) }
 {
     let matches = Matches::none(alloc);
-    walk(alloc, &*root, &matches, limit)
+    walk(alloc, &*root, &matches, maker, limit)
 }

@@ -1,21 +1,29 @@
 //! Where the keywords of a schema lead.
 
-ghost use Rattle.std.specs.Prelude.{◌≡◌, ◌∷◌, ◌++◌, [], List, map, ℕ, Bool, IfOk, IfErr, OnOk};
+ghost use Rattle.std.specs.Prelude.{◌≡◌, ◌∷◌, ◌++◌, [], List, map, ℕ, Bool, false, IfOk, IfErr, OnOk};
 ghost use Rattle.serde_json.specs.Data.{Data, object};
 ghost use Rattle.serde_json.specs.View.{view, members_view};
 ghost use Rattle.referencing.specs.Resolved.{documents_in, target_in};
+ghost use Rattle.schema_meaning.specs.Members.{In};
+ghost use Rattle.schema_reading.specs.BuildCauses.{IsCauseOf};
+ghost use Rattle.schema_reading.specs.Rows.{bad_pattern};
 ghost use Rattle.schema_reading.specs.Sites as sites;
+ghost use Rattle.applicators.specs.Made.{is_made_by, AreMade};
 ghost use Rattle.applicators.specs.Shapes as applied;
 ghost use Rattle.schema_sites.specs.Read as read;
 ghost use Rattle.schema_sites.specs.Seen.{documents_at};
 ghost use Rattle.schema_sites.specs.declared.reference_keyword.ReferenceKeyword.{ReferenceKeyword};
 ghost use Rattle.site_laws.specs.Spelled.{spelled};
-ghost use Rattle.reached_sites.specs.Causes.{RefusesAt};
+ghost use Rattle.reached_sites.specs.Causes.{RefusesRoot};
 ghost use Rattle.reached_sites.specs.Led.{Leads};
 ghost use Rattle.reached_sites.specs.Members.{Rest};
+ghost use Rattle.reached_sites.specs.Patterns.{text_of, texts_of, written, written_members};
+ghost use Rattle.reached_sites.specs.Places.{place_in};
 ghost use Rattle.reached_sites.specs.Visits.{site_of, Met, Adds};
+ghost use Rattle.reached_sites.specs.declared.pattern.Pattern.{Pattern};
 
 use crate::cause::BuildCause;
+use crate::pattern::{Pattern, push_patterns};
 use crate::refusing::refused;
 use crate::visit::Visit;
 use crate::waypoint::Waypoint;
@@ -27,6 +35,25 @@ use schema_sites::keyword::Keyword;
 use schema_sites::reading::keyword;
 use serde_json::{Map, Value};
 use std::alloc::{AllocError, Global};
+
+/// What the keywords of a schema lead to, and its patterns.
+#[derive(Drop)]
+pub(crate) struct Found<'r> {
+    pub(crate) leads: Vec<Visit<'r>>,
+    pub(crate) patterns: Vec<Pattern<'r>>,
+}
+
+impl<'r> Found<'r> {
+    fn nothing(alloc: Global) -> Found<'r>
+        ensures leads { result.leads.items ≡ [] }
+        ensures patterns { result.patterns.items ≡ [] }
+    {
+        Found {
+            leads: Vec::new(alloc),
+            patterns: Vec::new(alloc),
+        }
+    }
+}
 
 // The schema that stands at a keyword.
 fn push_at<'r>(
@@ -130,6 +157,7 @@ fn push_leads<'r>(
     match keyword {
         Keyword::Nothing => Ok(()),
         Keyword::Assertion(_) => Ok(()),
+        Keyword::Pattern(_) => Ok(()),
         Keyword::Items { schema, .. } => push_at(alloc, visit, "items", schema, leads),
         Keyword::Properties(map) => push_properties(alloc, visit, map, leads),
         Keyword::If { condition, .. } => push_at(alloc, visit, "if", condition, leads),
@@ -143,38 +171,46 @@ fn leads_of_members<'r>(
     alloc: Global,
     visit: &Visit<'r>,
     members: &'r Map<String, Value>,
-) -> Result<Vec<Visit<'r>>, BuildCause>
-    ensures accepted { IfOk result (λ leads. (makes : List ℕ → Bool) → Rest (documents_in visit.now.site.resolver) makes (site_of visit.now) (members_view members.now.entries) (members_view members.now.entries) [] leads.items) }
-    ensures refused { IfErr result (λ e. (makes : List ℕ → Bool) → view visit.now.site.contents.now ≡ object (members_view members.now.entries) → RefusesAt (documents_at visit.now.site) makes (site_of visit.now) e) }
+) -> Result<Found<'r>, BuildCause>
+    ensures accepted { IfOk result (λ f. (makes : List ℕ → Bool) → AreMade makes (texts_of f.patterns.items) → Rest (documents_in visit.now.site.resolver) makes (site_of visit.now) (members_view members.now.entries) (members_view members.now.entries) [] f.leads.items) }
+    ensures written { IfOk result (λ f. (p : List ℕ) → In p (written_members (site_of visit.now).dialect (members_view members.now.entries) (members_view members.now.entries)) → In p (texts_of f.patterns.items)) }
+    ensures bad { IfOk result (λ f. (makes : List ℕ → Bool) → view visit.now.site.contents.now ≡ object (members_view members.now.entries) → (q : Pattern) → In q f.patterns.items → is_made_by makes (text_of q) ≡ false → IsCauseOf (documents_at visit.now.site) makes (site_of visit.now) (bad_pattern (place_in q.place))) }
+    ensures refused { IfErr result (λ e. (makes : List ℕ → Bool) → view visit.now.site.contents.now ≡ object (members_view members.now.entries) → RefusesRoot (documents_at visit.now.site) makes (site_of visit.now) e) }
 {
     let mut leads = Vec::new(alloc);
+    let mut patterns = Vec::new(alloc);
     for (name, value) in members.iter() {
         let name = name.as_str();
         match keyword(alloc, &visit.site, members, name, value) {
-            Ok(keyword) => push_leads(alloc, visit, keyword, &mut leads)?,
+            Ok(keyword) => {
+                push_patterns(alloc, &visit.point.place, name, &keyword, &mut patterns)?;
+                push_leads(alloc, visit, keyword, &mut leads)?;
+            }
             Err(refusal) => return Err(refused(alloc, &visit.point.place, name, refusal)?),
         }
     }
-    Ok(leads)
+    Ok(Found { leads, patterns })
 }
 
-/// The visits that the keywords of a schema lead to, in the order of its members.
+/// The visits that the keywords of a schema lead to and its patterns, in the order of its members.
 ///
-/// It reads each member once, and looks its references up.
+/// It reads each member once, and looks its references up. The patterns have to be made before the visits are.
 ///
 /// # Errors
 ///
 /// The first cause that a member is, in their order, or want of memory.
-pub(crate) fn leads_of<'r>(alloc: Global, visit: &Visit<'r>) -> Result<Vec<Visit<'r>>, BuildCause>
-    ensures accepted { IfOk result (λ leads. (makes : List ℕ → Bool) (s : sites.Site) → Met visit.now s → Leads (documents_in visit.now.site.resolver) makes s leads.items) }
-    ensures refused { IfErr result (λ e. (makes : List ℕ → Bool) (s : sites.Site) → Met visit.now s → RefusesAt (documents_at visit.now.site) makes s e) }
+pub(crate) fn leads_of<'r>(alloc: Global, visit: &Visit<'r>) -> Result<Found<'r>, BuildCause>
+    ensures accepted { IfOk result (λ f. (makes : List ℕ → Bool) (s : sites.Site) → Met visit.now s → AreMade makes (texts_of f.patterns.items) → Leads (documents_in visit.now.site.resolver) makes s f.leads.items) }
+    ensures written { IfOk result (λ f. (s : sites.Site) → Met visit.now s → (p : List ℕ) → In p (written s) → In p (texts_of f.patterns.items)) }
+    ensures bad { IfOk result (λ f. (makes : List ℕ → Bool) (s : sites.Site) → Met visit.now s → (q : Pattern) → In q f.patterns.items → is_made_by makes (text_of q) ≡ false → IsCauseOf (documents_at visit.now.site) makes s (bad_pattern (place_in q.place))) }
+    ensures refused { IfErr result (λ e. (makes : List ℕ → Bool) (s : sites.Site) → Met visit.now s → RefusesRoot (documents_at visit.now.site) makes s e) }
 {
     let contents = visit.site.contents;
     if let Some(members) = contents.as_object() {
         return leads_of_members(alloc, visit, members);
     }
     if contents.is_boolean() {
-        return Ok(Vec::new(alloc));
+        return Ok(Found::nothing(alloc));
     }
     Err(BuildCause::KeywordValue {
         place: visit.point.place.shared()?,

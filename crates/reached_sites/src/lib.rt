@@ -4,6 +4,8 @@
 pub mod cause;
 pub mod checking;
 mod leads;
+mod making;
+mod pattern;
 pub mod place;
 mod reaching;
 mod refusing;

@@ -2,12 +2,11 @@
 
 ghost use Rattle.std.specs.Prelude.{◌≡◌, [], IfOk};
 ghost use Rattle.serde_json.specs.Data.{Data};
-ghost use Rattle.unread_keywords.specs.NotYet.{Cause, place_of};
+ghost use Rattle.schema_meaning.specs.Members.{In};
 ghost use Rattle.schema_reading.specs.Rows as rows;
 ghost use Rattle.schema_sites.specs.Refused.{Refuses};
 ghost use Rattle.reached_sites.specs.Causes.{NamesCause};
 ghost use Rattle.reached_sites.specs.Places.{place_in};
-ghost use Rattle.reached_sites.specs.Members.{IsCauseHere};
 
 use crate::cause::BuildCause;
 use crate::place::SchemaPlace;
@@ -25,7 +24,7 @@ pub(crate) fn refused(
     name: &str,
     refusal: Refusal<'_>,
 ) -> Result<BuildCause, AllocError>
-    ensures { IfOk result (λ e. (x : rows.Context) (d : Data) (row : rows.Row) → place_of x.site [] ≡ place_in place.now → Refuses x name.now d row refusal.entry → (cause : Cause) × NamesCause cause e × IsCauseHere x name.now d row cause) }
+    ensures { IfOk result (λ e. (x : rows.Context) (d : Data) (row : rows.Row) → rows.place_at x [] ≡ place_in place.now → Refuses x name.now d row refusal.entry → (cause : rows.BuildCause) × NamesCause cause e × In cause row.causes) }
 {
     let here = place.member(alloc, name)?;
     match refusal {
@@ -47,7 +46,6 @@ pub(crate) fn refused(
         }),
         Refusal::Reference(error) => Ok(BuildCause::Reference { place: here, error }),
         Refusal::LeftOut => Ok(BuildCause::Unevaluated { place: here }),
-        Refusal::NotYet => Ok(BuildCause::NotYet { place: here }),
         Refusal::Memory => Err(AllocError),
     }
 }

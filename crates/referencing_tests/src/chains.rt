@@ -1,8 +1,9 @@
 // Chains of references, by the dynamic scope too: where the last one leads, and the base URI there.
-use crate::own_meta_schemas::prepared;
+use crate::prepared::{prepared, reached, refusal};
 use referencing::following::{Step, follow};
 use referencing::registry::Registry;
 use referencing::resolver::Resolved;
+use referencing::scope_key::ScopeKey;
 use referencing_errors::error::Error;
 use schema_drafts::draft::Draft;
 use schema_drafts::resource::ResourceRef;
@@ -29,24 +30,20 @@ const PLAIN: &str =
 const STRICT: &str =
     "{\"$schema\":\"https://json-schema.org/draft/2019-09/schema\",\"$id\":\"http://a.test/strict\",\"$recursiveAnchor\":true,\"$ref\":\"tree\"}";
 
-fn shown(alloc: Global, found: Option<Resolved<'_>>) -> Result<String, Fail> {
-    match found {
-        Some(resolved) => {
-            let path = resolved.path().to_pointer(alloc)?;
-            let base = resolved.resolver().base_uri()?;
-            let document = resolved.document().as_str();
-            Ok(format!(in alloc; "{document}#{path} {}", base.as_str())?)
-        }
-        None => Ok(String::from_str(alloc, "nothing looked up")?),
-    }
+fn shown(alloc: Global, resolved: &Resolved<'_>) -> Result<String, Fail> {
+    let path = resolved.path().to_pointer(alloc)?;
+    let base = resolved.resolver().base_uri()?;
+    let document = resolved.document().as_str();
+    Ok(format!(in alloc; "{document}#{path} {}", base.as_str())?)
 }
 
 // Where a chain leads from a base, or why it leads nowhere.
 fn led(registry: &Registry<'_>, base: &str, steps: &[Step<'_>]) -> Result<String, Fail> {
     let alloc = registry.allocator();
     match follow(registry, from_str(alloc, base)?, steps) {
-        Ok(found) => shown(alloc, found),
-        Err(error) => Ok(format!(in alloc; "{error}")?),
+        Ok(Some(resolved)) => shown(alloc, &resolved),
+        Ok(None) => Ok(String::from_str(alloc, "nothing looked up")?),
+        Err(error) => refusal(alloc, Some(error)),
     }
 }
 
@@ -67,11 +64,10 @@ fn led_by_items(
     first: &'static str,
     last: Step<'static>,
 ) -> Result<String, Fail> {
-    let registry = lists(alloc)?;
     let list = Value::from_str(alloc, LIST)?;
     let items = ResourceRef::new(list.get("items").ok_or("items")?, Draft::Draft202012);
     led(
-        &registry,
+        &lists(alloc)?,
         base,
         &[Step::Lookup(first), Step::Enter(items), last],
     )
@@ -133,14 +129,18 @@ fn dynamic_references(rt: HostRuntime) -> Result<(), Fail> {
     )
 }
 
+fn led_to_item(registry: &Registry<'_>) -> Result<String, Fail> {
+    let there = reached(registry, "http://a.test/strings", "list")?;
+    shown(
+        registry.allocator(),
+        &there.resolver().lookup_dynamic_ref("#item")?,
+    )
+}
+
 #[test]
 fn dynamic_references_of_resolvers(rt: HostRuntime) -> Result<(), Fail> {
-    let registry = lists(rt.alloc())?;
-    let resolver = registry.resolver(from_str(rt.alloc(), "http://a.test/strings")?)?;
-    let there = resolver.lookup("list")?;
-    let item = there.resolver().lookup_dynamic_ref("#item")?;
     assert_eq!(rt;
-        shown(rt.alloc(), Some(item))?.as_str(),
+        led_to_item(&lists(rt.alloc())?)?.as_str(),
         "http://a.test/strings#/$defs/s http://a.test/strings"
     );
     Ok(())
@@ -159,13 +159,12 @@ fn trees<'a>(alloc: Global) -> Result<Registry<'a>, Error> {
 
 // Where a chain of plain references leads that ends in `$recursiveRef`.
 fn led_recursively(alloc: Global, base: &str, references: &[&str]) -> Result<String, Fail> {
-    let registry = trees(alloc)?;
     let mut steps = Vec::new(alloc);
     for reference in references {
         steps.push(Step::Lookup(*reference))?;
     }
     steps.push(Step::Recursive)?;
-    led(&registry, base, steps.as_slice())
+    led(&trees(alloc)?, base, steps.as_slice())
 }
 
 fn assert_recursive(
@@ -219,27 +218,35 @@ fn recursive_references(rt: HostRuntime) -> Result<(), Fail> {
     )
 }
 
+fn led_to_end(registry: &Registry<'_>) -> Result<String, Fail> {
+    let there = reached(registry, "http://a.test/strict", "tree")?;
+    shown(
+        registry.allocator(),
+        &there.resolver().lookup_recursive_ref()?,
+    )
+}
+
 #[test]
 fn recursive_references_of_resolvers(rt: HostRuntime) -> Result<(), Fail> {
-    let registry = trees(rt.alloc())?;
-    let resolver = registry.resolver(from_str(rt.alloc(), "http://a.test/strict")?)?;
-    let there = resolver.lookup("tree")?;
-    let end = there.resolver().lookup_recursive_ref()?;
     assert_eq!(rt;
-        shown(rt.alloc(), Some(end))?.as_str(),
+        led_to_end(&trees(rt.alloc())?)?.as_str(),
         "http://a.test/strict# http://a.test/strict"
     );
     Ok(())
 }
 
-// Where a reference leads in a document that stands alone, where no reference leads nowhere.
-fn led_alone(alloc: Global, uri: &str, text: &str, reference: &str) -> Result<String, Fail> {
-    let registry = prepared(alloc, &[(uri, text)])?;
-    let nowhere = led(&registry, uri, &[])?;
-    if nowhere.as_str() != "nothing looked up" {
-        return Ok(nowhere);
-    }
-    led(&registry, uri, &[Step::Lookup(reference)])
+// Where a reference leads in a document that stands alone, and that no reference leads nowhere.
+fn assert_led_alone(
+    rt: &impl Abort,
+    registry: &Registry<'_>,
+    uri: &str,
+    reference: &str,
+    want: &str,
+) -> Result<(), Fail> {
+    assert_eq!(rt; led(registry, uri, &[])?.as_str(), "nothing looked up");
+    let there = led(registry, uri, &[Step::Lookup(reference)])?;
+    assert_eq!(rt; there.as_str(), want);
+    Ok(())
 }
 
 fn assert_led(
@@ -248,7 +255,8 @@ fn assert_led(
     rows: &[(&str, &str, &str, &str)],
 ) -> Result<(), Fail> {
     for (uri, text, reference, want) in rows {
-        assert_eq!(rt; led_alone(alloc, uri, text, reference)?.as_str(), *want);
+        let registry = prepared(alloc, &[(*uri, *text)])?;
+        assert_led_alone(rt, &registry, uri, reference, want)?;
     }
     Ok(())
 }
@@ -293,18 +301,15 @@ fn chains_of_plain_references(rt: HostRuntime) -> Result<(), Fail> {
     )
 }
 
-fn reached<'r>(
-    registry: &'r Registry<'_>,
-    base: &str,
-    references: &[&str; 3],
-) -> Result<Resolved<'r>, Fail> {
+// The key of the scope that three references lead to from a base.
+fn key(registry: &Registry<'_>, base: &str, references: &[&str; 3]) -> Result<ScopeKey, Fail> {
     let steps = [
         Step::Lookup(references[0]),
         Step::Lookup(references[1]),
         Step::Lookup(references[2]),
     ];
     let found = follow(registry, from_str(registry.allocator(), base)?, &steps)?;
-    Ok(found.ok_or("nothing looked up")?)
+    Ok(found.ok_or("nothing looked up")?.resolver().scope_key()?)
 }
 
 // Whether the scopes of what is reached from two bases have one key.
@@ -313,9 +318,36 @@ fn have_one_key(
     left: (&str, &[&str; 3]),
     right: (&str, &[&str; 3]),
 ) -> Result<bool, Fail> {
-    let mine = reached(registry, left.0, left.1)?;
-    let theirs = reached(registry, right.0, right.1)?;
-    Ok(mine.resolver().scope_key()? == theirs.resolver().scope_key()?)
+    let mine = key(registry, left.0, left.1)?;
+    Ok(mine == key(registry, right.0, right.1)?)
+}
+
+fn assert_keys(rt: &impl Abort, registry: &Registry<'_>) -> Result<(), Fail> {
+    // the same resources, one of them entered twice
+    assert!(rt;
+        have_one_key(
+            registry,
+            ("http://a.test/strings", &["list", "", ""]),
+            ("http://a.test/strings", &["list", "strings", "list"])
+        )?
+    );
+    // one innermost resource, other outer ones
+    assert!(rt;
+        !have_one_key(
+            registry,
+            ("http://a.test/strings", &["list", "", ""]),
+            ("http://a.test/list", &["", "", ""])
+        )?
+    );
+    // the same resources in another order
+    assert!(rt;
+        !have_one_key(
+            registry,
+            ("http://a.test/strings", &["list", "tree", ""]),
+            ("http://a.test/list", &["strings", "tree", ""])
+        )?
+    );
+    Ok(())
 }
 
 #[test]
@@ -328,39 +360,18 @@ fn scope_keys(rt: HostRuntime) -> Result<(), Fail> {
             ("http://a.test/strings", STRINGS),
         ],
     )?;
-    // the same resources, one of them entered twice
-    assert!(rt;
-        have_one_key(
-            &registry,
-            ("http://a.test/strings", &["list", "", ""]),
-            ("http://a.test/strings", &["list", "strings", "list"])
-        )?
-    );
-    // one innermost resource, other outer ones
-    assert!(rt;
-        !have_one_key(
-            &registry,
-            ("http://a.test/strings", &["list", "", ""]),
-            ("http://a.test/list", &["", "", ""])
-        )?
-    );
-    // the same resources in another order
-    assert!(rt;
-        !have_one_key(
-            &registry,
-            ("http://a.test/strings", &["list", "tree", ""]),
-            ("http://a.test/list", &["strings", "tree", ""])
-        )?
-    );
+    assert_keys(&rt, &registry)
+}
+
+fn assert_runs_told(rt: &impl Abort, registry: &Registry<'_>) -> Result<(), Fail> {
+    let run = ("http://a.test/plain", &["tree", "strict", ""]);
+    let broken = ("http://a.test/plain", &["tree", "plain", "strict"]);
+    assert!(rt; !have_one_key(registry, run, broken)?);
+    assert!(rt; have_one_key(registry, run, run)?);
     Ok(())
 }
 
 #[test]
 fn scope_keys_tell_the_end_of_a_run(rt: HostRuntime) -> Result<(), Fail> {
-    let registry = trees(rt.alloc())?;
-    let run = ("http://a.test/plain", &["tree", "strict", ""]);
-    let broken = ("http://a.test/plain", &["tree", "plain", "strict"]);
-    assert!(rt; !have_one_key(&registry, run, broken)?);
-    assert!(rt; have_one_key(&registry, run, run)?);
-    Ok(())
+    assert_runs_told(&rt, &trees(rt.alloc())?)
 }

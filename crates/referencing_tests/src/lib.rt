@@ -14,6 +14,8 @@ mod lookups;
 #[cfg(test)]
 mod own_meta_schemas;
 #[cfg(test)]
+mod prepared;
+#[cfg(test)]
 mod refusals;
 #[cfg(test)]
 mod retrieving;

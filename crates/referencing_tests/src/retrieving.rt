@@ -1,25 +1,19 @@
 // Documents that are retrieved, and registries that begin with the documents of another.
 
-use document_retrievers::{MapRetriever, Retrieve};
+use crate::prepared::{reached, refusal, retriever_of};
+use document_retrievers::Retrieve;
 use referencing::registry::Registry;
 use referencing_errors::error::{Error, RetrieveError};
 use schema_drafts::draft::Draft;
 use serde_json::Value;
 use std::alloc::Global;
 use std::cell::Cell;
+use std::process::Abort;
 use std::test::Fail;
-use uri_references::uri::{Uri, from_str};
+use uri_references::uri::Uri;
 
 const TWO_REFERENCES: &str =
     "{\"properties\":{\"x\":{\"$ref\":\"http://a.test/x\"},\"y\":{\"$ref\":\"http://a.test/y\"}}}";
-
-fn retriever_of(alloc: Global, pairs: &[(&str, &str)]) -> Result<MapRetriever, Fail> {
-    let mut retriever = MapRetriever::new(alloc);
-    for (uri, text) in pairs {
-        retriever.add(alloc, *uri, Value::from_str(alloc, *text)?)?;
-    }
-    Ok(retriever)
-}
 
 fn prepared<'a, R: Retrieve + Drop>(
     alloc: Global,
@@ -34,6 +28,15 @@ fn prepared<'a, R: Retrieve + Drop>(
     builder.prepare()
 }
 
+fn uris(alloc: Global, registry: &Registry<'_>) -> Result<String, Fail> {
+    let mut text = String::new(alloc);
+    for uri in registry.retrieved() {
+        text.push_str(uri.as_str())?;
+        text.push(' ')?;
+    }
+    Ok(text)
+}
+
 // The URIs that were answered, or the error.
 fn retrieved(
     alloc: Global,
@@ -43,113 +46,155 @@ fn retrieved(
 ) -> Result<String, Fail> {
     let document = Value::from_str(alloc, text)?;
     match prepared(alloc, document, retriever_of(alloc, pairs)?, limit) {
-        Ok(registry) => {
-            let mut text = String::new(alloc);
-            for uri in registry.retrieved() {
-                text.push_str(uri.as_str())?;
-                text.push(' ')?;
-            }
-            Ok(text)
-        }
-        Err(error) => Ok(format!(in alloc; "{error}")?),
+        Ok(registry) => uris(alloc, &registry),
+        Err(error) => refusal(alloc, Some(error)),
     }
+}
+
+fn assert_retrieved(
+    rt: &impl Abort,
+    alloc: Global,
+    pairs: &[(&str, &str)],
+    rows: &[(&str, u64, &str)],
+) -> Result<(), Fail> {
+    for (text, limit, want) in rows {
+        assert_eq!(rt; retrieved(alloc, text, pairs, *limit)?.as_str(), *want);
+    }
+    Ok(())
 }
 
 #[test]
 fn limits_of_retrieval(rt: HostRuntime) -> Result<(), Fail> {
-    let alloc = rt.alloc();
-    let pairs = [("http://a.test/x", "true"), ("http://a.test/y", "true")];
-    let few = retrieved(alloc, TWO_REFERENCES, &pairs, 1)?;
-    assert_eq!(rt; few.as_str(), "More than 1 documents wanted");
-    let enough = retrieved(alloc, TWO_REFERENCES, &pairs, 2)?;
-    assert_eq!(rt; enough.as_str(), "http://a.test/x http://a.test/y ");
-    let nothing = retrieved(alloc, "{\"$ref\": \"#/a\"}", &pairs, 0)?;
-    assert_eq!(rt; nothing.as_str(), "");
-    Ok(())
+    assert_retrieved(
+        &rt,
+        rt.alloc(),
+        &[("http://a.test/x", "true"), ("http://a.test/y", "true")],
+        &[
+            (TWO_REFERENCES, 1, "More than 1 documents wanted"),
+            (TWO_REFERENCES, 2, "http://a.test/x http://a.test/y "),
+            ("{\"$ref\": \"#/a\"}", 0, ""),
+        ],
+    )
 }
 
 #[test]
 fn asked_in_one_round(rt: HostRuntime) -> Result<(), Fail> {
-    let alloc = rt.alloc();
-    let pairs = [(
-        "http://a.test/x",
-        "{\"$defs\":{\"y\":{\"$id\":\"http://a.test/y\"}}}",
-    )];
-    let refused = retrieved(alloc, TWO_REFERENCES, &pairs, 256)?;
-    assert_eq!(rt;
-        refused.as_str(),
-        "Resource 'http://a.test/y' is not present and retrieving it failed"
-    );
-    Ok(())
+    assert_retrieved(
+        &rt,
+        rt.alloc(),
+        &[(
+            "http://a.test/x",
+            "{\"$defs\":{\"y\":{\"$id\":\"http://a.test/y\"}}}",
+        )],
+        &[(
+            TWO_REFERENCES,
+            256,
+            "Resource 'http://a.test/y' is not present and retrieving it failed",
+        )],
+    )
 }
 
 #[test]
 fn causes_of_answers(rt: HostRuntime) -> Result<(), Fail> {
-    let alloc = rt.alloc();
-    let pairs = [("http://a.test/x", "{\"$id\":\"a b\"}")];
-    let refused = retrieved(alloc, "{\"$ref\":\"x\"}", &pairs, 256)?;
-    assert_eq!(rt; refused.as_str(), "Invalid URI 'a b'");
-    Ok(())
+    assert_retrieved(
+        &rt,
+        rt.alloc(),
+        &[("http://a.test/x", "{\"$id\":\"a b\"}")],
+        &[("{\"$ref\":\"x\"}", 256, "Invalid URI 'a b'")],
+    )
+}
+
+fn answered<'a>(alloc: Global, text: &str, pairs: &[(&str, &str)]) -> Result<Registry<'a>, Fail> {
+    let document = Value::from_str(alloc, text)?;
+    let retriever = retriever_of(alloc, pairs)?;
+    Ok(prepared(alloc, document, retriever, 256)?)
 }
 
 #[test]
 fn meta_schema_retrieved(rt: HostRuntime) -> Result<(), Fail> {
-    let alloc = rt.alloc();
-    let pairs = [(
-        "http://a.test/m",
-        "{\"$schema\":\"http://json-schema.org/draft-07/schema#\"}",
-    )];
-    let document = Value::from_str(alloc, "{\"$schema\":\"http://a.test/m\"}")?;
-    let registry = prepared(alloc, document, retriever_of(alloc, &pairs)?, 256)?;
-    let resolver = registry.resolver(from_str(alloc, "http://a.test/r")?)?;
-    let resolved = resolver.lookup("")?;
-    assert!(rt; resolved.draft() == Draft::Draft7);
+    let registry = answered(
+        rt.alloc(),
+        "{\"$schema\":\"http://a.test/m\"}",
+        &[(
+            "http://a.test/m",
+            "{\"$schema\":\"http://json-schema.org/draft-07/schema#\"}",
+        )],
+    )?;
+    let there = reached(&registry, "http://a.test/r", "").expect(&rt, "a document");
+    assert!(rt; there.draft() == Draft::Draft7);
     Ok(())
 }
 
 // The contents of the document of a URI.
-fn document(alloc: Global, registry: &Registry<'_>, uri: &str) -> Result<String, Fail> {
-    let resolver = registry.resolver(from_str(alloc, uri)?)?;
-    let resolved = resolver.lookup("")?;
-    Ok(resolved.contents().to_string(alloc)?)
+fn document(registry: &Registry<'_>, uri: &str) -> Result<String, Fail> {
+    let contents = reached(registry, uri, "")?.contents();
+    Ok(contents.to_string(registry.allocator())?)
 }
 
-#[test]
-fn children_of_registries(rt: HostRuntime) -> Result<(), Fail> {
-    let alloc = rt.alloc();
-    let pairs = [("http://a.test/x", "[1]")];
-    let root = Value::from_str(alloc, "{\"$ref\":\"x\"}")?;
-    let parent = prepared(alloc, root, retriever_of(alloc, &pairs)?, 256)?;
-    let more = parent.add("http://a.test/z", Value::Null)?.prepare()?;
-    assert_eq!(rt; more.retrieved().len(), 0);
-    assert_eq!(rt;
-        document(alloc, &more, "http://a.test/r")?.as_str(),
-        "{\"$ref\":\"x\"}"
-    );
-    assert_eq!(rt; document(alloc, &more, "http://a.test/x")?.as_str(), "[1]");
-    assert_eq!(rt; document(alloc, &more, "http://a.test/z")?.as_str(), "null");
+fn assert_documents(
+    rt: &impl Abort,
+    registry: &Registry<'_>,
+    rows: &[(&str, &str)],
+) -> Result<(), Fail> {
+    for (uri, want) in rows {
+        assert_eq!(rt; document(registry, uri)?.as_str(), *want);
+    }
+    Ok(())
+}
+
+fn with_null<'a>(parent: &Registry<'a>) -> Result<Registry<'a>, Error> {
+    parent.add("http://a.test/z", Value::Null)?.prepare()
+}
+
+// A child with a document of the parent's again.
+fn added_again<'a>(alloc: Global, parent: &Registry<'a>) -> Result<Registry<'a>, Fail> {
     let pairs = vec![in alloc;
         ("http://a.test/x", Value::Bool(true)),
         ("http://a.test/w", Value::Bool(false)),
     ]?;
-    let other = more.extend(pairs)?.prepare()?;
-    assert_eq!(rt;
-        document(alloc, &other, "http://a.test/x")?.as_str(),
-        "true"
-    );
-    assert_eq!(rt;
-        document(alloc, &other, "http://a.test/w")?.as_str(),
-        "false"
-    );
-    assert_eq!(rt;
-        document(alloc, &other, "http://a.test/z")?.as_str(),
-        "null"
-    );
-    assert_eq!(rt;
-        document(alloc, &parent, "http://a.test/x")?.as_str(),
-        "[1]"
-    );
-    Ok(())
+    Ok(parent.extend(pairs)?.prepare()?)
+}
+
+fn assert_grandchild(rt: &impl Abort, registry: &Registry<'_>) -> Result<(), Fail> {
+    assert_documents(
+        rt,
+        registry,
+        &[
+            ("http://a.test/x", "true"),
+            ("http://a.test/w", "false"),
+            ("http://a.test/z", "null"),
+        ],
+    )
+}
+
+fn assert_child(rt: &impl Abort, parent: &Registry<'_>, child: &Registry<'_>) -> Result<(), Fail> {
+    assert_eq!(rt; child.retrieved().len(), 0);
+    assert_documents(
+        rt,
+        child,
+        &[
+            ("http://a.test/r", "{\"$ref\":\"x\"}"),
+            ("http://a.test/x", "[1]"),
+            ("http://a.test/z", "null"),
+        ],
+    )?;
+    assert_grandchild(rt, &added_again(child.allocator(), child)?)?;
+    assert_documents(rt, parent, &[("http://a.test/x", "[1]")])
+}
+
+fn assert_children(rt: &impl Abort, parent: &Registry<'_>) -> Result<(), Fail> {
+    let child = with_null(parent).expect(rt, "a registry");
+    assert_child(rt, parent, &child)
+}
+
+#[test]
+fn children_of_registries(rt: HostRuntime) -> Result<(), Fail> {
+    let parent = answered(
+        rt.alloc(),
+        "{\"$ref\":\"x\"}",
+        &[("http://a.test/x", "[1]")],
+    )?;
+    assert_children(&rt, &parent)
 }
 
 // Answers each URI with a document that refers to a further one.
@@ -176,15 +221,11 @@ impl Retrieve for Web {
 fn web_beyond_the_limit(rt: HostRuntime) -> Result<(), Fail> {
     let alloc = rt.alloc();
     let document = Value::from_str(alloc, "{\"$ref\":\"x\"}")?;
-    match prepared(alloc, document, Web, 3) {
-        Ok(_) => assert!(rt; false),
-        Err(error) => {
-            assert_eq!(rt;
-                format!(in alloc; "{error}")?.as_str(),
-                "More than 3 documents wanted"
-            )
-        }
-    }
+    let error = prepared(alloc, document, Web, 3).err();
+    assert_eq!(rt;
+        refusal(alloc, error)?.as_str(),
+        "More than 3 documents wanted"
+    );
     Ok(())
 }
 
@@ -208,19 +249,14 @@ impl Retrieve for Changing {
 
 #[test]
 fn asked_once_for_a_uri(rt: HostRuntime) -> Result<(), Fail> {
-    let alloc = rt.alloc();
     let root = Value::from_str(
-        alloc,
+        rt.alloc(),
         "{\"properties\":{\"x\":{\"$ref\":\"x\"},\"y\":{\"$ref\":\"http://A.test/x#\"}}}",
     )?;
     let retriever = Changing {
         asked: Cell::new(false),
     };
-    let registry = prepared(alloc, root, retriever, 256)?;
+    let registry = prepared(rt.alloc(), root, retriever, 256)?;
     assert_eq!(rt; registry.retrieved().len(), 1);
-    assert_eq!(rt;
-        document(alloc, &registry, "http://a.test/x")?.as_str(),
-        "true"
-    );
-    Ok(())
+    assert_documents(&rt, &registry, &[("http://a.test/x", "true")])
 }

@@ -1,11 +1,13 @@
 // Documents, what they want, and who answers.
 
+use crate::prepared::{refusal, retriever_of};
 use document_index::document::{Contents, Document};
-use document_retrieval::rounds::retrieve_wanted;
-use document_retrievers::{DefaultRetriever, MapRetriever, Retrieve};
+use document_retrieval::rounds::{Retrieved, retrieve_wanted};
+use document_retrievers::{DefaultRetriever, Retrieve};
 use schema_drafts::draft::Draft;
 use serde_json::Value;
 use std::alloc::Global;
+use std::process::Abort;
 use std::rc::Rc;
 use std::test::Fail;
 use uri_references::uri::from_str;
@@ -14,6 +16,25 @@ const TWO_REFERENCES: &str =
     "{\"properties\": {\"x\": {\"$ref\": \"http://a.test/x\"}, \"y\": {\"$ref\": \"http://a.test/y\"},
     \"z\": {\"$ref\": \"HTTP://a.test/x#/a\"}}}";
 
+fn root<'a>(alloc: Global, text: &str) -> Result<Vec<Document<'a>>, Fail> {
+    let contents = Value::from_str(alloc, text)?;
+    let document = Document {
+        uri: Rc::new(alloc, from_str(alloc, "http://a.test/r")?)?,
+        contents: Contents::Owned(contents),
+        default: Draft::Draft202012,
+    };
+    Ok(vec![in alloc; document]?)
+}
+
+fn uris(alloc: Global, retrieved: &Retrieved<'_>) -> Result<String, Fail> {
+    let mut text = String::new(alloc);
+    for uri in &retrieved.uris {
+        text.push_str(uri.as_str())?;
+        text.push(' ')?;
+    }
+    Ok(text)
+}
+
 // The URIs that were answered, or the error.
 fn shown<R: Retrieve>(
     alloc: Global,
@@ -21,45 +42,39 @@ fn shown<R: Retrieve>(
     retriever: &R,
     limit: u64,
 ) -> Result<String, Fail> {
-    let documents = vec![in alloc;
-        Document {
-            uri: Rc::new(alloc, from_str(alloc, "http://a.test/r")?)?,
-            contents: Contents::Owned(Value::from_str(alloc, text)?),
-            default: Draft::Draft202012,
-        },
-    ]?;
+    let documents = root(alloc, text)?;
     match retrieve_wanted(alloc, documents, Draft::Draft202012, retriever, limit) {
-        Ok(retrieved) => {
-            let mut text = String::new(alloc);
-            for uri in &retrieved.uris {
-                text.push_str(uri.as_str())?;
-                text.push(' ')?;
-            }
-            Ok(text)
-        }
-        Err(error) => Ok(format!(in alloc; "{error}")?),
+        Ok(retrieved) => uris(alloc, &retrieved),
+        Err(error) => refusal(alloc, Some(error)),
     }
 }
 
-fn retriever_of(alloc: Global, pairs: &[(&str, &str)]) -> Result<MapRetriever, Fail> {
-    let mut retriever = MapRetriever::new(alloc);
-    for (uri, text) in pairs {
-        retriever.add(alloc, *uri, Value::from_str(alloc, *text)?)?;
+// What is answered by pairs of URIs and documents.
+fn assert_answered(
+    rt: &impl Abort,
+    alloc: Global,
+    pairs: &[(&str, &str)],
+    rows: &[(&str, u64, &str)],
+) -> Result<(), Fail> {
+    let retriever = retriever_of(alloc, pairs)?;
+    for (text, limit, want) in rows {
+        assert_eq!(rt; shown(alloc, text, &retriever, *limit)?.as_str(), *want);
     }
-    Ok(retriever)
+    Ok(())
 }
 
 #[test]
 fn limits(rt: HostRuntime) -> Result<(), Fail> {
     let alloc = rt.alloc();
-    let retriever = retriever_of(
+    assert_answered(
+        &rt,
         alloc,
         &[("http://a.test/x", "true"), ("http://a.test/y", "true")],
+        &[
+            (TWO_REFERENCES, 1, "More than 1 documents wanted"),
+            (TWO_REFERENCES, 2, "http://a.test/x http://a.test/y "),
+        ],
     )?;
-    let few = shown(alloc, TWO_REFERENCES, &retriever, 1)?;
-    assert_eq!(rt; few.as_str(), "More than 1 documents wanted");
-    let enough = shown(alloc, TWO_REFERENCES, &retriever, 2)?;
-    assert_eq!(rt; enough.as_str(), "http://a.test/x http://a.test/y ");
     let nothing = shown(alloc, "{\"$ref\": \"#/a\"}", &DefaultRetriever, 0)?;
     assert_eq!(rt; nothing.as_str(), "");
     Ok(())
@@ -67,21 +82,22 @@ fn limits(rt: HostRuntime) -> Result<(), Fail> {
 
 #[test]
 fn rounds(rt: HostRuntime) -> Result<(), Fail> {
-    let alloc = rt.alloc();
-    let one = retriever_of(
-        alloc,
+    assert_answered(
+        &rt,
+        rt.alloc(),
         &[(
             "http://a.test/x",
             "{\"$defs\": {\"y\": {\"$id\": \"http://a.test/y\"}}}",
         )],
+        &[(
+            TWO_REFERENCES,
+            256,
+            "Resource 'http://a.test/y' is not present and retrieving it failed",
+        )],
     )?;
-    let refused = shown(alloc, TWO_REFERENCES, &one, 256)?;
-    assert_eq!(rt;
-        refused.as_str(),
-        "Resource 'http://a.test/y' is not present and retrieving it failed"
-    );
-    let chain = retriever_of(
-        alloc,
+    assert_answered(
+        &rt,
+        rt.alloc(),
         &[
             ("http://a.test/b", "{\"$ref\": \"c\"}"),
             (
@@ -89,10 +105,8 @@ fn rounds(rt: HostRuntime) -> Result<(), Fail> {
                 "{\"items\": {\"$ref\": \"b\"}, \"not\": {\"$ref\": \"r\"}}",
             ),
         ],
-    )?;
-    let answered = shown(alloc, "{\"$ref\": \"b\"}", &chain, 256)?;
-    assert_eq!(rt; answered.as_str(), "http://a.test/b http://a.test/c ");
-    Ok(())
+        &[("{\"$ref\": \"b\"}", 256, "http://a.test/b http://a.test/c ")],
+    )
 }
 
 #[test]
@@ -105,7 +119,8 @@ fn meta_schemas(rt: HostRuntime) -> Result<(), Fail> {
         256,
     )?;
     assert_eq!(rt; unknown.as_str(), "Unknown meta-schema 'http://a.test/m'");
-    let known = retriever_of(
+    assert_answered(
+        &rt,
         alloc,
         &[
             (
@@ -114,25 +129,21 @@ fn meta_schemas(rt: HostRuntime) -> Result<(), Fail> {
             ),
             ("http://a.test/x", "true"),
         ],
+        &[(
+            "{\"$schema\": \"http://a.test/m\", \"definitions\": {\"a\": {\"$ref\": \"http://a.test/x\"}},
+            \"$defs\": {\"b\": {\"$ref\": \"http://a.test/y\"}}}",
+            256,
+            "http://a.test/m http://a.test/x ",
+        )],
     )?;
-    let answered = shown(
-        alloc,
-        "{\"$schema\": \"http://a.test/m\", \"definitions\": {\"a\": {\"$ref\": \"http://a.test/x\"}},
-        \"$defs\": {\"b\": {\"$ref\": \"http://a.test/y\"}}}",
-        &known,
-        256,
-    )?;
-    assert_eq!(rt; answered.as_str(), "http://a.test/m http://a.test/x ");
-    let above = retriever_of(
+    assert_answered(
+        &rt,
         alloc,
         &[("http://a.test/m", "{\"$schema\": \"http://a.test/n\"}")],
-    )?;
-    let refused = shown(
-        alloc,
-        "{\"$schema\": \"http://a.test/m\", \"$ref\": \"x\"}",
-        &above,
-        256,
-    )?;
-    assert_eq!(rt; refused.as_str(), "Unknown meta-schema 'http://a.test/n'");
-    Ok(())
+        &[(
+            "{\"$schema\": \"http://a.test/m\", \"$ref\": \"x\"}",
+            256,
+            "Unknown meta-schema 'http://a.test/n'",
+        )],
+    )
 }

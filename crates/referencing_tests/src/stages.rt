@@ -1,6 +1,6 @@
 // Documents whose schemas name meta-schemas that other documents bear.
 use document_index::document::{Contents, Document};
-use document_index::standing::standings;
+use document_index::standing::{Standing, standings};
 use meta_schemas::causes::awaited_cause;
 use meta_schemas::counting::how_many;
 use meta_schemas::told::{Told, meta_schemas, told_after};
@@ -8,6 +8,7 @@ use schema_drafts::draft::Draft;
 use schema_vocabularies::{KnownVocabularies, MetaSchemas};
 use serde_json::Value;
 use std::alloc::Global;
+use std::process::Abort;
 use std::rc::Rc;
 use std::test::Fail;
 use uri_references::uri::Uri;
@@ -41,13 +42,13 @@ fn written(alloc: Global, known: &MetaSchemas, uri: &str) -> Result<String, Fail
             validation,
             ..
         } = required;
-        for (is_required, name) in [
+        for (is_required, name) in &[
             (core, " core"),
             (applicator, " applicator"),
             (validation, " validation"),
         ] {
-            if is_required {
-                line.push_str(name)?;
+            if *is_required {
+                line.push_str(*name)?;
             }
         }
     }
@@ -61,18 +62,66 @@ fn written_anew(alloc: Global, told: &Told) -> Result<String, Fail> {
     }
 }
 
-// What the places await under all that documents tell, and why, a line each.
-fn written_causes(alloc: Global, documents: &[Document<'_>]) -> Result<String, Fail> {
-    let told = meta_schemas(alloc, documents)?;
-    let places = standings(alloc, &told.meta_schemas, documents)?;
+fn written_cause(alloc: Global, places: &[Standing<'_>], uri: &Uri) -> Result<String, Fail> {
+    let cause = awaited_cause(alloc, places, uri.clone()?)?;
+    Ok(format!(in alloc; "{cause:?}\n")?)
+}
+
+// What places await, and why, a line each.
+fn written_causes(alloc: Global, places: &[Standing<'_>]) -> Result<String, Fail> {
     let mut lines = String::new(alloc);
-    for standing in &places {
+    for standing in places {
         if let Some(uri) = &standing.place.awaits {
-            let cause = awaited_cause(alloc, &places, uri.clone()?)?;
-            lines.push_str(&format!(in alloc; "{cause:?}\n")?)?;
+            lines.push_str(&written_cause(alloc, places, uri)?)?;
         }
     }
     Ok(lines)
+}
+
+// What the places await under all that documents tell.
+fn causes(alloc: Global, documents: &[Document<'_>]) -> Result<String, Fail> {
+    let told = meta_schemas(alloc, documents)?;
+    written_causes(alloc, &standings(alloc, &told.meta_schemas, documents)?)
+}
+
+fn assert_written(
+    rt: &impl Abort,
+    alloc: Global,
+    told: &Told,
+    rows: &[(&str, &str)],
+) -> Result<(), Fail> {
+    for (uri, want) in rows {
+        assert_eq!(rt; written(alloc, &told.meta_schemas, uri)?.as_str(), *want);
+    }
+    Ok(())
+}
+
+// What documents tell after some stages: of URIs, and anew.
+fn assert_told_after(
+    rt: &impl Abort,
+    alloc: Global,
+    documents: &[Document<'_>],
+    stages: usize,
+    rows: &[(&str, &str)],
+    anew: &str,
+) -> Result<(), Fail> {
+    let told = told_after(alloc, documents, stages)?;
+    assert_written(rt, alloc, &told, rows)?;
+    assert_eq!(rt; written_anew(alloc, &told)?.as_str(), anew);
+    Ok(())
+}
+
+fn assert_told(
+    rt: &impl Abort,
+    alloc: Global,
+    documents: &[Document<'_>],
+    rows: &[(&str, &str)],
+    anew: &str,
+) -> Result<(), Fail> {
+    let told = meta_schemas(alloc, documents)?;
+    assert_written(rt, alloc, &told, rows)?;
+    assert_eq!(rt; written_anew(alloc, &told)?.as_str(), anew);
+    Ok(())
 }
 
 #[test]
@@ -89,40 +138,68 @@ fn draft_and_vocabularies_of_a_meta_schema(rt: HostRuntime) -> Result<(), Fail> 
         ],
     )?;
     assert_eq!(rt; how_many(&documents), Some(2));
-    let told = meta_schemas(alloc, &documents)?;
-    let meta = written(alloc, &told.meta_schemas, "http://a.test/m")?;
-    assert_eq!(rt; meta.as_str(), "Draft202012 core validation");
-    let outer = written(alloc, &told.meta_schemas, "http://a.test/s")?;
-    assert_eq!(rt; outer.as_str(), "Draft202012");
-    let inner = written(alloc, &told.meta_schemas, "http://a.test/inner")?;
-    assert_eq!(rt; inner.as_str(), "Draft202012");
-    assert_eq!(rt;
-        written(alloc, &told.meta_schemas, "http://a.test/t")?.as_str(),
-        "none"
-    );
-    assert_eq!(rt; written_anew(alloc, &told)?.as_str(), "at rest");
-    assert_eq!(rt; written_causes(alloc, &documents)?.as_str(), "");
-    Ok(())
+    assert_eq!(rt; causes(alloc, &documents)?.as_str(), "");
+    assert_told(
+        &rt,
+        alloc,
+        &documents,
+        &[
+            ("http://a.test/m", "Draft202012 core validation"),
+            ("http://a.test/s", "Draft202012"),
+            ("http://a.test/inner", "Draft202012"),
+            ("http://a.test/t", "none"),
+        ],
+        "at rest",
+    )
 }
 
 #[test]
 fn one_stage_where_nothing_is_named(rt: HostRuntime) -> Result<(), Fail> {
     let alloc = rt.alloc();
-    let documents = documents(alloc, &[("http://a.test/m", META)])?;
-    let told = told_after(alloc, &documents, 0)?;
-    assert_eq!(rt;
-        written(alloc, &told.meta_schemas, "http://a.test/m")?.as_str(),
-        "Draft202012 core validation"
-    );
-    assert_eq!(rt; written_anew(alloc, &told)?.as_str(), "at rest");
-    Ok(())
+    assert_told_after(
+        &rt,
+        alloc,
+        &documents(alloc, &[("http://a.test/m", META)])?,
+        0,
+        &[("http://a.test/m", "Draft202012 core validation")],
+        "at rest",
+    )
+}
+
+fn assert_two_told(rt: &impl Abort, alloc: Global, documents: &[Document<'_>]) -> Result<(), Fail> {
+    assert_told(
+        rt,
+        alloc,
+        documents,
+        &[
+            ("http://a.test/m", "Draft4"),
+            ("http://b.test/m", "Draft4"),
+            ("http://a.test/s", "Draft4"),
+        ],
+        "at rest",
+    )?;
+    assert_told_after(
+        rt,
+        alloc,
+        documents,
+        0,
+        &[("http://a.test/m", "none")],
+        "http://a.test/n",
+    )?;
+    assert_told_after(
+        rt,
+        alloc,
+        documents,
+        9,
+        &[("http://a.test/s", "Draft4")],
+        "at rest",
+    )
 }
 
 #[test]
 fn a_chain_of_two(rt: HostRuntime) -> Result<(), Fail> {
-    let alloc = rt.alloc();
     let documents = documents(
-        alloc,
+        rt.alloc(),
         &[
             ("http://a.test/s", "{\"$schema\": \"http://a.test/m\"}"),
             (
@@ -135,58 +212,39 @@ fn a_chain_of_two(rt: HostRuntime) -> Result<(), Fail> {
             ),
         ],
     )?;
-    let told = meta_schemas(alloc, &documents)?;
-    assert_eq!(rt;
-        written(alloc, &told.meta_schemas, "http://a.test/m")?.as_str(),
-        "Draft4"
-    );
-    assert_eq!(rt;
-        written(alloc, &told.meta_schemas, "http://b.test/m")?.as_str(),
-        "Draft4"
-    );
-    assert_eq!(rt;
-        written(alloc, &told.meta_schemas, "http://a.test/s")?.as_str(),
-        "Draft4"
-    );
-    assert_eq!(rt; written_anew(alloc, &told)?.as_str(), "at rest");
-    let early = told_after(alloc, &documents, 0)?;
-    assert_eq!(rt;
-        written(alloc, &early.meta_schemas, "http://a.test/m")?.as_str(),
-        "none"
-    );
-    assert_eq!(rt; written_anew(alloc, &early)?.as_str(), "http://a.test/n");
-    let late = told_after(alloc, &documents, 9)?;
-    assert_eq!(rt; written_anew(alloc, &late)?.as_str(), "at rest");
-    assert_eq!(rt;
-        written(alloc, &late.meta_schemas, "http://a.test/s")?.as_str(),
-        "Draft4"
-    );
+    assert_two_told(&rt, rt.alloc(), &documents)
+}
+
+fn assert_causes(
+    rt: &impl Abort,
+    alloc: Global,
+    texts: &[(&str, &str)],
+    want: &str,
+) -> Result<(), Fail> {
+    assert_eq!(rt; causes(alloc, &documents(alloc, texts)?)?.as_str(), want);
     Ok(())
 }
 
 #[test]
 fn unknown_and_circular(rt: HostRuntime) -> Result<(), Fail> {
     let alloc = rt.alloc();
-    let unknown = documents(
+    assert_causes(
+        &rt,
         alloc,
         &[("http://a.test/s", "{\"$schema\": \"http://a.test/m\"}")],
+        "Unknown(\"http://a.test/m\")\n",
     )?;
-    assert_eq!(rt;
-        written_causes(alloc, &unknown)?.as_str(),
-        "Unknown(\"http://a.test/m\")\n"
-    );
-    let circular = documents(
+    assert_causes(
+        &rt,
         alloc,
         &[
             ("http://a.test/a", "{\"$schema\": \"http://a.test/b\"}"),
             ("http://a.test/b", "{\"$schema\": \"http://a.test/a\"}"),
         ],
+        "Circular(\"http://a.test/a\")\nCircular(\"http://a.test/b\")\n",
     )?;
-    assert_eq!(rt;
-        written_causes(alloc, &circular)?.as_str(),
-        "Circular(\"http://a.test/a\")\nCircular(\"http://a.test/b\")\n"
-    );
-    let upward = documents(
+    assert_causes(
+        &rt,
         alloc,
         &[
             ("http://a.test/s", "{\"$schema\": \"http://a.test/own\"}"),
@@ -195,12 +253,8 @@ fn unknown_and_circular(rt: HostRuntime) -> Result<(), Fail> {
                 "{\"$schema\": \"http://a.test/n\", \"$id\": \"own\"}",
             ),
         ],
-    )?;
-    assert_eq!(rt;
-        written_causes(alloc, &upward)?.as_str(),
-        "Unknown(\"http://a.test/n\")\nUnknown(\"http://a.test/n\")\n"
-    );
-    Ok(())
+        "Unknown(\"http://a.test/n\")\nUnknown(\"http://a.test/n\")\n",
+    )
 }
 
 #[test]
@@ -220,23 +274,35 @@ fn a_meta_schema_inside_a_document(rt: HostRuntime) -> Result<(), Fail> {
             ),
         ],
     )?;
-    let told = meta_schemas(alloc, &documents)?;
-    assert_eq!(rt;
-        written(alloc, &told.meta_schemas, "http://m.test/m")?.as_str(),
-        "Draft201909 applicator"
-    );
-    assert_eq!(rt;
-        written(alloc, &told.meta_schemas, "http://a.test/inner")?.as_str(),
-        "Draft201909"
-    );
-    Ok(())
+    assert_written(
+        &rt,
+        alloc,
+        &meta_schemas(alloc, &documents)?,
+        &[
+            ("http://m.test/m", "Draft201909 applicator"),
+            ("http://a.test/inner", "Draft201909"),
+        ],
+    )
+}
+
+// What two documents tell of a URI in turn, which is told anew at each stage and in the end.
+fn assert_told_in_turn(
+    rt: &impl Abort,
+    alloc: Global,
+    documents: &[Document<'_>],
+    uri: &str,
+    rows: &[(usize, &str)],
+) -> Result<(), Fail> {
+    for (stages, want) in rows {
+        assert_told_after(rt, alloc, documents, *stages, &[(uri, *want)], uri)?;
+    }
+    assert_told(rt, alloc, documents, &[], uri)
 }
 
 #[test]
 fn stages_that_never_rest(rt: HostRuntime) -> Result<(), Fail> {
-    let alloc = rt.alloc();
     let documents = documents(
-        alloc,
+        rt.alloc(),
         &[
             (
                 "http://a.test/m",
@@ -249,20 +315,16 @@ fn stages_that_never_rest(rt: HostRuntime) -> Result<(), Fail> {
             ),
         ],
     )?;
-    for (stages, want) in [
-        (0, "Draft202012"),
-        (1, "Draft4"),
-        (2, "Draft202012"),
-        (7, "Draft4"),
-    ] {
-        let told: Told = told_after(alloc, &documents, stages)?;
-        assert_eq!(rt;
-            written(alloc, &told.meta_schemas, "http://a.test/m")?.as_str(),
-            want
-        );
-        assert_eq!(rt; written_anew(alloc, &told)?.as_str(), "http://a.test/m");
-    }
-    let all = meta_schemas(alloc, &documents)?;
-    assert_eq!(rt; written_anew(alloc, &all)?.as_str(), "http://a.test/m");
-    Ok(())
+    assert_told_in_turn(
+        &rt,
+        rt.alloc(),
+        &documents,
+        "http://a.test/m",
+        &[
+            (0, "Draft202012"),
+            (1, "Draft4"),
+            (2, "Draft202012"),
+            (7, "Draft4"),
+        ],
+    )
 }

@@ -4,8 +4,8 @@ ghost use Rattle.std.specs.Prelude.{◌≡◌, ◌∷◌, ◌++◌, []};
 use line_cuts::{LineAnswers, answer_lines, first_line};
 use line_devices::{MemorySink, MemorySource};
 use std::alloc::{AllocError, Global};
+use std::process::Abort;
 use std::str;
-use std::test::Fail;
 
 // Answers a text with itself; it fails where the line is no text.
 struct Echo;
@@ -25,19 +25,22 @@ impl LineAnswers for Echo {
 
 // What is written, and the report or the error.
 fn outcome(
+    rt: &impl Abort,
     alloc: Global,
     mut source: MemorySource<'_>,
     mut sink: MemorySink,
-) -> Result<String, Fail> {
+) -> String {
     let end = match answer_lines(alloc, &mut source, &mut sink, &Echo) {
-        Ok(report) => format!(in alloc; "{} {}", report.lines, report.any_refused)?,
-        Err(error) => format!(in alloc; "{error}")?,
-    };
-    Ok(format!(in alloc; "{}/ {end}", str::from_utf8(sink.as_slice())?)?)
+        Ok(report) => format!(in alloc; "{} {}", report.lines, report.any_refused),
+        Err(error) => format!(in alloc; "{error}"),
+    }
+    .expect(rt, "memory");
+    let written = str::from_utf8(sink.as_slice()).expect(rt, "UTF-8");
+    format!(in alloc; "{written}/ {end}").expect(rt, "memory")
 }
 
 #[test]
-fn lines_in_pieces(rt: HostRuntime) -> Result<(), Fail> {
+fn lines_in_pieces(rt: HostRuntime) {
     let alloc = rt.alloc();
     for (input, want) in [
         ("", "/ 0 false"),
@@ -51,17 +54,16 @@ fn lines_in_pieces(rt: HostRuntime) -> Result<(), Fail> {
             let source = MemorySource::new(input.as_bytes(), piece, None);
             let sink = MemorySink::new(alloc, piece, None);
             assert_eq!(rt;
-                outcome(alloc, source, sink)?.as_str(),
+                outcome(&rt, alloc, source, sink).as_str(),
                 want,
                 "at a piece of {piece}"
             );
         }
     }
-    Ok(())
 }
 
 #[test]
-fn failures(rt: HostRuntime) -> Result<(), Fail> {
+fn failures(rt: HostRuntime) {
     let alloc = rt.alloc();
     for (reads, writes, want) in [
         (Some(0), None, "/ Reading failed"),
@@ -78,7 +80,7 @@ fn failures(rt: HostRuntime) -> Result<(), Fail> {
             let source = MemorySource::new(b"ab\ncd\ne", piece, reads);
             let sink = MemorySink::new(alloc, piece, writes);
             assert_eq!(rt;
-                outcome(alloc, source, sink)?.as_str(),
+                outcome(&rt, alloc, source, sink).as_str(),
                 want,
                 "at a piece of {piece}"
             );
@@ -86,32 +88,32 @@ fn failures(rt: HostRuntime) -> Result<(), Fail> {
     }
     let source = MemorySource::new(b"ab\n\xff\n", 3, None);
     let sink = MemorySink::new(alloc, 9, None);
-    assert_eq!(rt; outcome(alloc, source, sink)?.as_str(), "ab\n/ No memory");
-    Ok(())
+    assert_eq!(rt;
+        outcome(&rt, alloc, source, sink).as_str(),
+        "ab\n/ No memory"
+    );
 }
 
 #[test]
-fn more_than_one_read(rt: HostRuntime) -> Result<(), Fail> {
+fn more_than_one_read(rt: HostRuntime) {
     let alloc = rt.alloc();
     let mut input = Vec::new(alloc);
     for length in [0, 7, 65536, 200000, 1, 65535] {
         for _ in 0..length {
-            input.push(b'x')?;
+            input.push(b'x').expect(&rt, "memory");
         }
-        input.push(b'\n')?;
+        input.push(b'\n').expect(&rt, "memory");
     }
     let mut source = MemorySource::new(&input, usize::MAX, None);
     let mut sink = MemorySink::new(alloc, 60000, None);
-    let report = answer_lines(alloc, &mut source, &mut sink, &Echo)?;
+    let report = answer_lines(alloc, &mut source, &mut sink, &Echo).expect(&rt, "a run");
     assert_eq!(rt; report.lines, 6);
     assert!(rt; sink.as_slice() == input.as_slice());
-    Ok(())
 }
 
 #[test]
-fn a_first_line(rt: HostRuntime) -> Result<(), Fail> {
+fn a_first_line(rt: HostRuntime) {
     let cut = first_line(b"ab\n\nc");
     assert!(rt; cut == Some((b"ab".as_slice(), b"\nc".as_slice())));
     assert!(rt; first_line(b"ab").is_none());
-    Ok(())
 }

@@ -6,19 +6,19 @@ use line_devices::{ByteSink, ByteSource, MemorySink, MemorySource, OverRead, Ove
 use std::alloc::Global;
 use std::io;
 use std::io::{Cursor, ErrorKind, Read, Write};
-use std::test::Fail;
+use std::process::Abort;
 
 // Each answer of a device: how many bytes it passed, or a dash where it failed.
-fn told(text: &mut String, answer: io::Result<usize>) -> Result<(), Fail> {
+fn told(rt: &impl Abort, text: &mut String, answer: io::Result<usize>) {
     match answer {
-        Ok(count) => write!(text, "{count}")?,
-        Err(_) => write!(text, "-")?,
+        Ok(count) => write!(text, "{count}"),
+        Err(_) => write!(text, "-"),
     }
-    Ok(())
+    .expect(rt, "memory");
 }
 
 // What ten reads answer, then the bytes they gave.
-fn ten_reads<S: ByteSource>(alloc: Global, source: &mut S, room: usize) -> Result<String, Fail> {
+fn ten_reads<S: ByteSource>(rt: &impl Abort, alloc: Global, source: &mut S, room: usize) -> String {
     let mut text = String::new(alloc);
     let mut bytes = Vec::new(alloc);
     let mut buf = [0; 4];
@@ -26,16 +26,17 @@ fn ten_reads<S: ByteSource>(alloc: Global, source: &mut S, room: usize) -> Resul
     for _ in 0..10 {
         let result = source.read(&mut buf[..room]);
         if let Ok(count) = &result {
-            bytes.extend_from_slice(&buf[..*count])?;
+            bytes.extend_from_slice(&buf[..*count]).expect(rt, "memory");
         }
-        told(&mut text, result)?;
+        told(rt, &mut text, result);
     }
-    write!(text, " {}", String::from_utf8(bytes)?)?;
-    Ok(text)
+    let bytes = String::from_utf8(bytes).expect(rt, "UTF-8");
+    write!(text, " {bytes}").expect(rt, "memory");
+    text
 }
 
 // What five writes answer, each of what is not yet taken.
-fn five_writes<S: ByteSink>(alloc: Global, sink: &mut S, bytes: &[u8]) -> Result<String, Fail> {
+fn five_writes<S: ByteSink>(rt: &impl Abort, alloc: Global, sink: &mut S, bytes: &[u8]) -> String {
     let mut text = String::new(alloc);
     let mut rest = bytes;
     for _ in 0..5 {
@@ -43,9 +44,9 @@ fn five_writes<S: ByteSink>(alloc: Global, sink: &mut S, bytes: &[u8]) -> Result
         if let Ok(count) = &result {
             rest = &rest[*count..];
         }
-        told(&mut text, result)?;
+        told(rt, &mut text, result);
     }
-    Ok(text)
+    text
 }
 
 // What it makes, as a caller of the trait sees it.
@@ -58,10 +59,10 @@ fn made(bytes: &[u8]) -> MemorySource<'_>
 }
 
 #[test]
-fn sources_in_memory(rt: HostRuntime) -> Result<(), Fail> {
+fn sources_in_memory(rt: HostRuntime) {
     let alloc = rt.alloc();
     assert_eq!(rt;
-        ten_reads(alloc, &mut made(b"hello"), 4)?.as_str(),
+        ten_reads(&rt, alloc, &mut made(b"hello"), 4).as_str(),
         "1111100000 hello"
     );
     for (piece, fails_at, room, want, failures) in [
@@ -76,14 +77,13 @@ fn sources_in_memory(rt: HostRuntime) -> Result<(), Fail> {
         (2, Some(3), 0, "0000000000 ", 0),
     ] {
         let mut source = MemorySource::new(b"hello", piece, fails_at);
-        assert_eq!(rt; ten_reads(alloc, &mut source, room)?.as_str(), want);
+        assert_eq!(rt; ten_reads(&rt, alloc, &mut source, room).as_str(), want);
         assert_eq!(rt; source.failures(), failures, "at a piece of {piece}");
     }
-    Ok(())
 }
 
 #[test]
-fn sinks_in_memory(rt: HostRuntime) -> Result<(), Fail> {
+fn sinks_in_memory(rt: HostRuntime) {
     let alloc = rt.alloc();
     for (piece, fails_at, want, taken, failures) in [
         (1, None, "11111", "hello", 0),
@@ -95,12 +95,11 @@ fn sinks_in_memory(rt: HostRuntime) -> Result<(), Fail> {
         (9, Some(0), "-----", "", 5),
     ] {
         let mut sink = MemorySink::new(alloc, piece, fails_at);
-        assert_eq!(rt; five_writes(alloc, &mut sink, b"hello")?.as_str(), want);
+        assert_eq!(rt; five_writes(&rt, alloc, &mut sink, b"hello").as_str(), want);
         assert_eq!(rt; sink.failures(), failures, "at a piece of {piece}");
         assert_eq!(rt; sink.as_slice(), taken.as_bytes());
         assert_eq!(rt; sink.into_bytes().as_slice(), taken.as_bytes());
     }
-    Ok(())
 }
 
 // A device that fails with each kind in turn, and then passes what is asked to the one inside.
@@ -146,52 +145,59 @@ const FAULTS: [ErrorKind; 4] = [
 ];
 
 #[test]
-fn over_readers(rt: HostRuntime) -> Result<(), Fail> {
+fn over_readers(rt: HostRuntime) {
     let alloc = rt.alloc();
     let text: &[u8] = b"hello";
     let mut plain = OverRead::new(text);
     assert_eq!(rt;
-        ten_reads(alloc, &mut plain, 4)?.as_str(),
+        ten_reads(&rt, alloc, &mut plain, 4).as_str(),
         "4100000000 hello"
     );
     assert_eq!(rt; plain.failures(), 0);
     let mut cursor = Cursor::new(text);
     cursor.set_position(3);
     let mut moved = OverRead::new(cursor);
-    assert_eq!(rt; ten_reads(alloc, &mut moved, 1)?.as_str(), "1100000000 lo");
+    assert_eq!(rt;
+        ten_reads(&rt, alloc, &mut moved, 1).as_str(),
+        "1100000000 lo"
+    );
     assert_eq!(rt; moved.into_inner().position(), 5);
     let mut faulty = OverRead::new(Faulty {
         faults: &FAULTS,
         device: text,
     });
     assert_eq!(rt;
-        ten_reads(alloc, &mut faulty, 2)?.as_str(),
+        ten_reads(&rt, alloc, &mut faulty, 2).as_str(),
         "-221000000 hello"
     );
     assert_eq!(rt; faulty.failures(), 1);
-    Ok(())
 }
 
 #[test]
-fn over_writers(rt: HostRuntime) -> Result<(), Fail> {
+fn over_writers(rt: HostRuntime) {
     let alloc = rt.alloc();
     let mut plain = OverWrite::new(Vec::new(alloc));
-    assert_eq!(rt; five_writes(alloc, &mut plain, b"hello")?.as_str(), "50000");
+    assert_eq!(rt;
+        five_writes(&rt, alloc, &mut plain, b"hello").as_str(),
+        "50000"
+    );
     assert_eq!(rt; plain.failures(), 0);
     assert_eq!(rt; plain.into_inner().as_slice(), b"hello".as_slice());
     let mut room = [0; 3];
     let mut full = OverWrite::new(&mut room[..]);
-    assert_eq!(rt; five_writes(alloc, &mut full, b"hello")?.as_str(), "30000");
+    assert_eq!(rt;
+        five_writes(&rt, alloc, &mut full, b"hello").as_str(),
+        "30000"
+    );
     assert_eq!(rt; full.failures(), 4);
     let mut faulty = OverWrite::new(Faulty {
         faults: &FAULTS,
         device: Vec::new(alloc),
     });
     assert_eq!(rt;
-        five_writes(alloc, &mut faulty, b"hello")?.as_str(),
+        five_writes(&rt, alloc, &mut faulty, b"hello").as_str(),
         "-5000"
     );
     assert_eq!(rt; faulty.failures(), 1);
     assert_eq!(rt; faulty.into_inner().device.as_slice(), b"hello".as_slice());
-    Ok(())
 }

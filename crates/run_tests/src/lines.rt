@@ -1,35 +1,41 @@
 // Runs over bytes in memory.
 use line_devices::{MemorySink, MemorySource};
 use std::alloc::Global;
+use std::process::Abort;
 use std::str;
-use std::test::Fail;
 use validator_program::{Documents, Validator, run};
 
-fn built(alloc: Global, text: &str) -> Result<Validator, Fail> {
+fn built(rt: &impl Abort, alloc: Global, text: &str) -> Validator {
     let mut documents = Documents::new(alloc);
-    documents.add_text("", text.as_bytes())?;
-    Ok(Validator::options(alloc)?.build(&documents, "")?)
+    documents
+        .add_text("", text.as_bytes())
+        .expect(rt, "a document");
+    let options = Validator::options(alloc).expect(rt, "memory");
+    options.build(&documents, "").expect(rt, "a validator")
 }
 
 // What is written, and the report or the error.
 fn outcome(
+    rt: &impl Abort,
     alloc: Global,
     schema: &str,
     mut source: MemorySource<'_>,
     mut sink: MemorySink,
-) -> Result<String, Fail> {
-    let validator = built(alloc, schema)?;
+) -> String {
+    let validator = built(rt, alloc, schema);
     let end = match run(alloc, &mut source, &mut sink, &validator) {
-        Ok(report) => format!(in alloc; "{} {}", report.lines, report.any_refused)?,
-        Err(error) => format!(in alloc; "{error}")?,
-    };
-    Ok(format!(in alloc; "{}/ {end}", str::from_utf8(sink.as_slice())?)?)
+        Ok(report) => format!(in alloc; "{} {}", report.lines, report.any_refused),
+        Err(error) => format!(in alloc; "{error}"),
+    }
+    .expect(rt, "memory");
+    let written = str::from_utf8(sink.as_slice()).expect(rt, "UTF-8");
+    format!(in alloc; "{written}/ {end}").expect(rt, "memory")
 }
 
 const STRINGS: &str = "{\"type\":\"string\"}";
 
 #[test]
-fn kinds_of_lines(rt: HostRuntime) -> Result<(), Fail> {
+fn kinds_of_lines(rt: HostRuntime) {
     let alloc = rt.alloc();
     for (line, want) in [
         (b"\"a\"\n".as_slice(), "[]\n/ 1 false"),
@@ -49,43 +55,61 @@ fn kinds_of_lines(rt: HostRuntime) -> Result<(), Fail> {
         for piece in [1, 100] {
             let source = MemorySource::new(line, piece, None);
             let sink = MemorySink::new(alloc, piece, None);
-            assert_eq!(rt; outcome(alloc, STRINGS, source, sink)?.as_str(), want);
+            assert_eq!(rt; outcome(&rt, alloc, STRINGS, source, sink).as_str(), want);
         }
     }
-    Ok(())
 }
 
 #[test]
-fn by_nesting(rt: HostRuntime) -> Result<(), Fail> {
+fn by_nesting(rt: HostRuntime) {
     let alloc = rt.alloc();
     for (depth, want) in [(127, "[]\n/ 1 false"), (128, "null\n/ 1 true")] {
         let mut line = Vec::new(alloc);
         for _ in 0..depth {
-            line.push(b'[')?;
+            line.push(b'[').expect(&rt, "memory");
         }
         for _ in 0..depth {
-            line.push(b']')?;
+            line.push(b']').expect(&rt, "memory");
         }
         let source = MemorySource::new(&line, 100, None);
         let sink = MemorySink::new(alloc, 100, None);
-        assert_eq!(rt; outcome(alloc, "{}", source, sink)?.as_str(), want);
+        assert_eq!(rt; outcome(&rt, alloc, "{}", source, sink).as_str(), want);
     }
-    Ok(())
 }
 
 #[test]
-fn paths_of_faults(rt: HostRuntime) -> Result<(), Fail> {
+fn paths_of_faults(rt: HostRuntime) {
     let alloc = rt.alloc();
     let schema = "{\"properties\":{\"b\":{\"type\":\"null\"},\"a\":{\"type\":\"null\"}}}";
     let source = MemorySource::new(b"{\"b\":1,\"a\":2}\n{}\n", 100, None);
     let sink = MemorySink::new(alloc, 100, None);
     let want = "[[\"/a\",\"/properties/a/type\"],[\"/b\",\"/properties/b/type\"]]\n[]\n/ 2 true";
-    assert_eq!(rt; outcome(alloc, schema, source, sink)?.as_str(), want);
-    Ok(())
+    assert_eq!(rt; outcome(&rt, alloc, schema, source, sink).as_str(), want);
 }
 
 #[test]
-fn failures(rt: HostRuntime) -> Result<(), Fail> {
+fn members_by_patterns(rt: HostRuntime) {
+    let alloc = rt.alloc();
+    let schema =
+        "{\"additionalProperties\":false,\"properties\":{\"foo\":{\"type\":\"string\"}},\"patternProperties\":{\"^bar\":{\"minimum\":5},\"spam$\":{\"maximum\":10}}}";
+    let source = MemorySource::new(b"{\"bar\":4,\"spam\":11,\"foo\":3,\"faz\":1}\n", 100, None);
+    let sink = MemorySink::new(alloc, 100, None);
+    let want =
+        "[[\"\",\"/additionalProperties\"],[\"/bar\",\"/patternProperties/^bar/minimum\"],[\"/foo\",\"/properties/foo/type\"],[\"/spam\",\"/patternProperties/spam$/maximum\"]]\n/ 1 true";
+    assert_eq!(rt; outcome(&rt, alloc, schema, source, sink).as_str(), want);
+}
+
+#[test]
+fn texts_by_patterns(rt: HostRuntime) {
+    let alloc = rt.alloc();
+    let source = MemorySource::new(b"\"a\\ufeffb\"\n\"a\\u0085b\"\n", 100, None);
+    let sink = MemorySink::new(alloc, 100, None);
+    let found = outcome(&rt, alloc, "{\"pattern\":\"^\\\\S*$\"}", source, sink);
+    assert_eq!(rt; found.as_str(), "[[\"\",\"/pattern\"]]\n[]\n/ 2 true");
+}
+
+#[test]
+fn failures(rt: HostRuntime) {
     let alloc = rt.alloc();
     for (reads, writes, want) in [
         (Some(4), None, "[]\n/ Reading failed"),
@@ -95,7 +119,6 @@ fn failures(rt: HostRuntime) -> Result<(), Fail> {
     ] {
         let source = MemorySource::new(b"\"a\"\n1.5\n\"bb\"\n", 1, reads);
         let sink = MemorySink::new(alloc, 2, writes);
-        assert_eq!(rt; outcome(alloc, STRINGS, source, sink)?.as_str(), want);
+        assert_eq!(rt; outcome(&rt, alloc, STRINGS, source, sink).as_str(), want);
     }
-    Ok(())
 }

@@ -4,17 +4,17 @@ use schema_reports::{ErrorIterator, ValidationError, ValidationErrorKind};
 use schema_steps::Path;
 use serde_json::Value;
 use std::alloc::Global;
-use std::test::Fail;
+use std::process::Abort;
 
-fn shown(alloc: Global, line: &[u8]) -> Result<String, Fail> {
-    match line_value(alloc, line)? {
-        Some(value) => Ok(value.to_string(alloc)?),
-        None => Ok(String::from_str(alloc, "none")?),
+fn shown(rt: &impl Abort, alloc: Global, line: &[u8]) -> String {
+    match line_value(alloc, line).expect(rt, "memory") {
+        Some(value) => value.to_string(alloc).expect(rt, "memory"),
+        None => String::from_str(alloc, "none").expect(rt, "memory"),
     }
 }
 
 #[test]
-fn values(rt: HostRuntime) -> Result<(), Fail> {
+fn values(rt: HostRuntime) {
     let alloc = rt.alloc();
     for (line, want) in [
         ("{\"a\": [1, -2]}", "{\"a\":[1,-2]}"),
@@ -23,49 +23,52 @@ fn values(rt: HostRuntime) -> Result<(), Fail> {
         ("", "none"),
         ("[1] 2", "none"),
     ] {
-        assert_eq!(rt; shown(alloc, line.as_bytes())?.as_str(), want);
+        assert_eq!(rt; shown(&rt, alloc, line.as_bytes()).as_str(), want);
     }
-    assert_eq!(rt; shown(alloc, b"\"\xff\"")?.as_str(), "none");
-    Ok(())
+    assert_eq!(rt; shown(&rt, alloc, b"\"\xff\"").as_str(), "none");
 }
 
 // An error at a member of the instance, told by an item of a list of schemas.
 fn error_at<'i>(
+    rt: &impl Abort,
     alloc: Global,
     instance: &'i Value,
     name: &str,
     index: usize,
-) -> Result<ValidationError<'i>, Fail> {
-    Ok(ValidationError::new(
+) -> ValidationError<'i> {
+    let instance_path = Path::root().push_name(alloc, name).expect(rt, "memory");
+    let evaluation_path = Path::root().push_item(alloc, index).expect(rt, "memory");
+    ValidationError::new(
+        alloc,
         ValidationErrorKind::FalseSchema,
         instance,
-        Path::root().push_name(alloc, name)?,
+        instance_path,
         Path::root(),
-        Path::root().push_item(alloc, index)?,
-    ))
+        evaluation_path,
+    )
+    .expect(rt, "memory")
 }
 
 #[test]
-fn texts(rt: HostRuntime) -> Result<(), Fail> {
+fn texts(rt: HostRuntime) {
     let alloc = rt.alloc();
     let instance = Value::Null;
     let mut errors = Vec::new(alloc);
     for (name, index) in [("b", 9), ("b", 10), ("a\"/", 2), ("", 3), ("b", 9)] {
-        errors.push(error_at(alloc, &instance, name, index)?)?;
+        let error = error_at(&rt, alloc, &instance, name, index);
+        errors.push(error).expect(&rt, "memory");
     }
-    let mut text = String::from_str(alloc, "> ")?;
-    write_faults(alloc, ErrorIterator::of(errors), &mut text)?;
+    let mut text = String::from_str(alloc, "> ").expect(&rt, "memory");
+    write_faults(alloc, ErrorIterator::of(errors), &mut text).expect(&rt, "memory");
     let want =
         "> [[\"/\",\"/3\"],[\"/a\\\"~1\",\"/2\"],[\"/b\",\"/10\"],[\"/b\",\"/9\"],[\"/b\",\"/9\"]]";
     assert_eq!(rt; text.as_str(), want);
-    Ok(())
 }
 
 #[test]
-fn no_errors(rt: HostRuntime) -> Result<(), Fail> {
+fn no_errors(rt: HostRuntime) {
     let alloc = rt.alloc();
     let mut text = String::new(alloc);
-    write_faults(alloc, ErrorIterator::of(Vec::new(alloc)), &mut text)?;
+    write_faults(alloc, ErrorIterator::of(Vec::new(alloc)), &mut text).expect(&rt, "memory");
     assert_eq!(rt; text.as_str(), "[]");
-    Ok(())
 }

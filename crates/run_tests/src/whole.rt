@@ -2,8 +2,8 @@
 use line_devices::{MemorySink, MemorySource};
 use program_files::MapFiles;
 use std::alloc::Global;
+use std::process::Abort;
 use std::str;
-use std::test::Fail;
 use validator_program::program;
 
 const ROOT: &str =
@@ -17,45 +17,49 @@ const BESIDE: &str =
 const META: &str =
     "[{\"$schema\":\"https://json-schema.org/draft/2020-12/schema\",\"$id\":\"http://a.test/m2\",\"properties\":{\"type\":{\"type\":\"string\"}}},{\"$schema\":\"http://json-schema.org/draft-04/schema#\",\"id\":\"http://a.test/m4\",\"type\":\"object\"}]";
 
-fn files(alloc: Global) -> Result<MapFiles, Fail> {
-    let mut files = MapFiles::new(alloc);
-    files.add(alloc, "root.json", ROOT.as_bytes())?;
-    files.add(alloc, "leaf.json", LEAF.as_bytes())?;
-    files.add(alloc, "plain.json", b"{\"type\":\"string\"}")?;
-    files.add(alloc, "byte", b"\"\xff\"")?;
-    files.add(alloc, "none", b"{")?;
-    files.add(alloc, "half", b"1.5")?;
-    files.add(alloc, "wrong.json", b"{\"type\":5}")?;
-    files.add(alloc, "beside.json", BESIDE.as_bytes())?;
-    files.add(alloc, "meta.json", META.as_bytes())?;
-    files.add(alloc, "nameless.json", b"[{\"type\":\"object\"}]")?;
-    files.add(
-        alloc,
+const FILES: [(&str, &str); 11] = [
+    ("root.json", ROOT),
+    ("leaf.json", LEAF),
+    ("plain.json", "{\"type\":\"string\"}"),
+    ("none", "{"),
+    ("half", "1.5"),
+    ("wrong.json", "{\"type\":5}"),
+    ("beside.json", BESIDE),
+    ("meta.json", META),
+    ("nameless.json", "[{\"type\":\"object\"}]"),
+    (
         "own.json",
-        b"{\"$schema\":\"http://a.test/m2\",\"type\":\"string\"}",
-    )?;
-    files.add(
-        alloc,
+        "{\"$schema\":\"http://a.test/m2\",\"type\":\"string\"}",
+    ),
+    (
         "refused.json",
-        b"{\"$schema\":\"http://a.test/m2\",\"type\":[\"string\"]}",
-    )?;
-    Ok(files)
+        "{\"$schema\":\"http://a.test/m2\",\"type\":[\"string\"]}",
+    ),
+];
+
+fn files(rt: &impl Abort, alloc: Global) -> MapFiles {
+    let mut files = MapFiles::new(alloc);
+    for (name, text) in FILES {
+        files.add(alloc, name, text.as_bytes()).expect(rt, "memory");
+    }
+    files.add(alloc, "byte", b"\"\xff\"").expect(rt, "memory");
+    files
 }
 
 // The status, what was written, and the fault that was told, each behind a space but the first.
-fn outcome(alloc: Global, words: &[&str], input: &str) -> Result<String, Fail> {
-    let files = files(alloc)?;
+fn outcome(rt: &impl Abort, alloc: Global, words: &[&str], input: &str) -> String {
+    let files = files(rt, alloc);
     let mut reader = MemorySource::new(input.as_bytes(), 2, None);
     let mut writer = MemorySink::new(alloc, 3, None);
     let mut faults = MemorySink::new(alloc, 5, None);
     let status = program(alloc, words, &files, &mut reader, &mut writer, &mut faults);
-    let written = str::from_utf8(writer.as_slice())?;
-    let fault = str::from_utf8(faults.as_slice())?;
-    Ok(format!(in alloc; "{status} {written} {fault}")?)
+    let written = str::from_utf8(writer.as_slice()).expect(rt, "UTF-8");
+    let fault = str::from_utf8(faults.as_slice()).expect(rt, "UTF-8");
+    format!(in alloc; "{status} {written} {fault}").expect(rt, "memory")
 }
 
 #[test]
-fn a_whole_run(rt: HostRuntime) -> Result<(), Fail> {
+fn a_whole_run(rt: HostRuntime) {
     let alloc = rt.alloc();
     let words = [
         "root.json",
@@ -64,23 +68,22 @@ fn a_whole_run(rt: HostRuntime) -> Result<(), Fail> {
         "http://a.test/root.json",
     ];
     assert_eq!(rt;
-        outcome(alloc, &words, "[1]\n")?.as_str(),
+        outcome(&rt, alloc, &words, "[1]\n").as_str(),
         "1 [[\"\",\"/minItems\"],[\"/0\",\"/items/$ref/type\"]]\n "
     );
     assert_eq!(rt;
-        outcome(alloc, &words, "[\"a\",\"b\"]")?.as_str(),
+        outcome(&rt, alloc, &words, "[\"a\",\"b\"]").as_str(),
         "0 []\n "
     );
     assert_eq!(rt;
-        outcome(alloc, &["plain.json"], "\"a\"\n\n")?.as_str(),
+        outcome(&rt, alloc, &["plain.json"], "\"a\"\n\n").as_str(),
         "1 []\nnull\n "
     );
-    assert_eq!(rt; outcome(alloc, &["plain.json"], "")?.as_str(), "0  ");
-    Ok(())
+    assert_eq!(rt; outcome(&rt, alloc, &["plain.json"], "").as_str(), "0  ");
 }
 
 #[test]
-fn by_draft(rt: HostRuntime) -> Result<(), Fail> {
+fn by_draft(rt: HostRuntime) {
     let alloc = rt.alloc();
     let cases: [(&[&str], &str); 5] = [
         (&["beside.json", "--draft", "7"], "0 []\n "),
@@ -99,13 +102,12 @@ fn by_draft(rt: HostRuntime) -> Result<(), Fail> {
         ),
     ];
     for (words, want) in cases {
-        assert_eq!(rt; outcome(alloc, words, "{\"x\":[]}\n")?.as_str(), want);
+        assert_eq!(rt; outcome(&rt, alloc, words, "{\"x\":[]}\n").as_str(), want);
     }
-    Ok(())
 }
 
 #[test]
-fn by_meta_schemas(rt: HostRuntime) -> Result<(), Fail> {
+fn by_meta_schemas(rt: HostRuntime) {
     let alloc = rt.alloc();
     let cases: [(&[&str], &str); 7] = [
         (&["own.json", "--meta", "meta.json"], "0 []\n "),
@@ -132,13 +134,12 @@ fn by_meta_schemas(rt: HostRuntime) -> Result<(), Fail> {
         ),
     ];
     for (words, want) in cases {
-        assert_eq!(rt; outcome(alloc, words, "\"a\"\n")?.as_str(), want);
+        assert_eq!(rt; outcome(&rt, alloc, words, "\"a\"\n").as_str(), want);
     }
-    Ok(())
 }
 
 #[test]
-fn refusals(rt: HostRuntime) -> Result<(), Fail> {
+fn refusals(rt: HostRuntime) {
     let alloc = rt.alloc();
     let cases: [(&[&str], &str); 12] = [
         (&["absent", "u:x", "--base", "%"], "2  words refused: u:x\n"),
@@ -185,13 +186,12 @@ fn refusals(rt: HostRuntime) -> Result<(), Fail> {
         ),
     ];
     for (words, want) in cases {
-        assert_eq!(rt; outcome(alloc, words, "1\n")?.as_str(), want);
+        assert_eq!(rt; outcome(&rt, alloc, words, "1\n").as_str(), want);
     }
-    Ok(())
 }
 
 #[test]
-fn words_by_clap(rt: HostRuntime) -> Result<(), Fail> {
+fn words_by_clap(rt: HostRuntime) {
     let alloc = rt.alloc();
     let cases: [(&[&str], &str); 3] = [
         (&[], "2  error: "),
@@ -202,17 +202,16 @@ fn words_by_clap(rt: HostRuntime) -> Result<(), Fail> {
         ),
     ];
     for (words, want) in cases {
-        let text = outcome(alloc, words, "1\n")?;
+        let text = outcome(&rt, alloc, words, "1\n");
         assert!(rt; text.as_str().starts_with(want), "{text}");
     }
-    Ok(())
 }
 
 // The status and the fault where the reader fails after two bytes, or the writer after one; then with faults that are not taken.
 #[test]
-fn failures(rt: HostRuntime) -> Result<(), Fail> {
+fn failures(rt: HostRuntime) {
     let alloc = rt.alloc();
-    let files = files(alloc)?;
+    let files = files(&rt, alloc);
     for (fails_to_read, fails_to_write, told, want) in [
         (Some(2), None, None, "3 Reading failed\n"),
         (None, Some(1), None, "3 Writing failed\n"),
@@ -229,8 +228,8 @@ fn failures(rt: HostRuntime) -> Result<(), Fail> {
             &mut writer,
             &mut faults,
         );
-        let fault = str::from_utf8(faults.as_slice())?;
-        assert_eq!(rt; format!(in alloc; "{status} {fault}")?.as_str(), want);
+        let fault = str::from_utf8(faults.as_slice()).expect(&rt, "UTF-8");
+        let found = format!(in alloc; "{status} {fault}").expect(&rt, "memory");
+        assert_eq!(rt; found.as_str(), want);
     }
-    Ok(())
 }

@@ -1,51 +1,48 @@
 // The words of command lines, and the refusals of clap.
 use clap::error::ErrorKind;
 use program_words::ProgramWords;
-use std::test::Fail;
 
 #[test]
-fn a_whole_line(rt: HostRuntime) -> Result<(), Fail> {
+fn a_whole_line(rt: HostRuntime) {
     let words = [
         "root.json",
         "http://a.test/leaf.json=leaf.json",
         "--base",
         "http://a.test/root.json",
     ];
-    let read = ProgramWords::read(rt.alloc(), &words)?;
+    let read = ProgramWords::read(rt.alloc(), &words).expect(&rt, "words");
     assert_eq!(rt; read.schema, "root.json");
     assert_eq!(rt;
         read.files.as_slice(),
         ["http://a.test/leaf.json=leaf.json"].as_slice()
     );
     assert_eq!(rt; read.base, Some("http://a.test/root.json"));
-    Ok(())
 }
 
 #[test]
-fn in_any_order(rt: HostRuntime) -> Result<(), Fail> {
+fn in_any_order(rt: HostRuntime) {
     let words = ["--base=u:/", "a", "b=c", "--", "--d"];
-    let read = ProgramWords::read(rt.alloc(), &words)?;
+    let read = ProgramWords::read(rt.alloc(), &words).expect(&rt, "words");
     assert_eq!(rt; read.schema, "a");
     assert_eq!(rt; read.files.as_slice(), ["b=c", "--d"].as_slice());
     assert_eq!(rt; read.base, Some("u:/"));
     let words = [
         "a", "b=c", "--base", "u:/", "--meta", "m", "d=e", "--draft", "none",
     ];
-    let read = ProgramWords::read(rt.alloc(), &words)?;
+    let read = ProgramWords::read(rt.alloc(), &words).expect(&rt, "words");
     assert_eq!(rt; read.files.as_slice(), ["b=c", "d=e"].as_slice());
     assert_eq!(rt; read.draft, Some("none"));
     assert_eq!(rt; read.meta, Some("m"));
     let words = ["a"];
-    let read = ProgramWords::read(rt.alloc(), &words)?;
+    let read = ProgramWords::read(rt.alloc(), &words).expect(&rt, "words");
     assert!(rt; read.files.is_empty());
     assert!(rt; read.base.is_none());
     assert!(rt; read.draft.is_none());
     assert!(rt; read.meta.is_none());
-    Ok(())
 }
 
 #[test]
-fn refused(rt: HostRuntime) -> Result<(), Fail> {
+fn refused(rt: HostRuntime) {
     let cases: [(&[&str], ErrorKind); 8] = [
         (&[], ErrorKind::MissingRequiredArgument),
         (&["--base", "u:/"], ErrorKind::MissingRequiredArgument),
@@ -60,21 +57,16 @@ fn refused(rt: HostRuntime) -> Result<(), Fail> {
         (&["a", "--version"], ErrorKind::DisplayVersion),
     ];
     for (words, kind) in cases {
-        match ProgramWords::read(rt.alloc(), words) {
-            Ok(_) => return Err("words were read".into()),
-            Err(error) => assert_eq!(rt; error.kind(), kind),
-        }
+        let error = ProgramWords::read(rt.alloc(), words).expect_err(&rt, "words were read");
+        assert_eq!(rt; error.kind(), kind);
     }
-    Ok(())
 }
 
 #[test]
-fn help(rt: HostRuntime) -> Result<(), Fail> {
+fn help(rt: HostRuntime) {
     let alloc = rt.alloc();
-    let Err(error) = ProgramWords::read(alloc, &["--help"]) else {
-        return Err("words were read".into());
-    };
-    let text = error.to_string(alloc)?;
+    let error = ProgramWords::read(alloc, &["--help"]).expect_err(&rt, "words were read");
+    let text = error.to_string(alloc).expect(&rt, "memory");
     for part in [
         "Usage: cribhemlock [OPTIONS] <SCHEMA> [URI=FILE]...",
         "--base <URI>",
@@ -83,5 +75,4 @@ fn help(rt: HostRuntime) -> Result<(), Fail> {
     ] {
         assert!(rt; text.contains(part), "{text}");
     }
-    Ok(())
 }

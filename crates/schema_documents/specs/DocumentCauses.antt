@@ -1,9 +1,7 @@
 -- What makes documents no registry: a bad URI at a schema place, a document that is wanted and not there, a meta-schema that is not known or is circular.
 use Rattle.std.specs.Prelude.{ℕ, zero, suc, ◌+◌, length, map, List, [], ◌∷◌, ◌++◌, Bool, true, false, ◌&&◌, ◌||◌, codes, bytes_eq, nat_eq, if◌then◌else◌, Option, Some, None, option_and_then, is_some}
 use Rattle.std.specs.List.{filter, flat_map}
-use Rattle.uri_grammar.specs.Texts.{cut_at}
-use Rattle.uri_grammar.specs.Parts.{split}
-use Rattle.uri_grammar.specs.Grammar.{is_reference}
+use Rattle.uri_references.specs.Passed.{cut_at, split, is_reference}
 use Rattle.schema_drafts.specs.Vocabularies.{Vocabulary, Vocabularies, all_of_draft, only, is_same}
 use Rattle.schema_drafts.specs.declared.draft.Draft.{Draft}
 use Rattle.schema_drafts.specs.declared.draft.Draft.TheVariants.{Draft4, Draft6, Draft7, Draft201909, Draft202012, Unknown}

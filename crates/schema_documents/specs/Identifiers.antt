@@ -3,9 +3,7 @@ use Rattle.std.specs.Prelude.{ℕ, List, [], ◌∷◌, ◌++◌, ◌==◌, Bool
 use Rattle.std.specs.List.{flat_map}
 use Rattle.serde_json.specs.Data.{Data}
 use Rattle.serde_json.specs.Find.{get}
-use Rattle.uri_grammar.specs.Texts.{cut_at, is_empty, has}
-use Rattle.uri_grammar.specs.Parts.{split}
-use Rattle.uri_grammar.specs.Grammar.{is_reference}
+use Rattle.uri_references.specs.Passed.{cut_at, is_empty, has, split, is_reference}
 use Rattle.uri_references.specs.Identity.{identity_against}
 pub use Rattle.schema_drafts.specs.Identifiers.{is_hidden, identifier_text, begins_with_hash, without_fragment, identifier}
 use Rattle.schema_drafts.specs.declared.draft.Draft.{Draft}

@@ -4,7 +4,7 @@ use Rattle.std.specs.Str.{is_utf8}
 use Rattle.serde_json.specs.Data.{Data, null, boolean, number, string, array, object}
 use Rattle.serde_json.specs.Find.{get_member, get_item, unescape}
 use Rattle.percent_encoding.specs.Percent.{percent_decode}
-use Rattle.uri_grammar.specs.Texts.{cut_at, has, pieces}
+use Rattle.uri_references.specs.Passed.{cut_at, has, pieces}
 use Rattle.json_paths.specs.Parts.{Part, name, index}
 use Rattle.json_paths.specs.Pointers.{index_of}
 use Rattle.schema_drafts.specs.Subschemas.{Holds, nothing, one, several, one_or_several, by_name, held_by}

@@ -1,7 +1,7 @@
 -- Schema places: the parts of a document that are schemas, each with its base URI, its draft and its vocabularies.
 use Rattle.std.specs.Prelude.{ℕ, suc, List, [], ◌∷◌, ◌++◌, Bool, true, false, ◌||◌, codes, if◌then◌else◌, Option, Some, None, option_and_then, is_some}
 use Rattle.serde_json.specs.Data.{Data, null, boolean, number, string, array, object, Items, no_items, item, Members, no_members, member, depth}
-use Rattle.uri_grammar.specs.Texts.{cut_at}
+use Rattle.uri_references.specs.Passed.{cut_at}
 use Rattle.json_paths.specs.Parts.{Part, name, index}
 use Rattle.schema_drafts.specs.Drafts.{draft_named}
 use Rattle.schema_drafts.specs.Vocabularies.{Vocabularies, all_of_draft}

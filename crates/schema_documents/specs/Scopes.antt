@@ -1,7 +1,7 @@
 -- The dynamic scope: the resources entered, the innermost first (Core 7.1, 8.2.3.2; 2019-09, Core 8.2.4.2).
 use Rattle.std.specs.Prelude.{ℕ, List, [], ◌∷◌, Bool, false, ◌&&◌, codes, bytes_eq, if◌then◌else◌, option_and_then, is_some, Result, Ok}
 use Rattle.serde_json.specs.Find.{get, as_bool}
-use Rattle.uri_grammar.specs.Texts.{cut_at}
+use Rattle.uri_references.specs.Passed.{cut_at}
 use Rattle.schema_documents.specs.Words.{or, last_that, has_text, result_map, ok_or, and_then}
 use Rattle.schema_documents.specs.Identifiers.{is_name, dynamic_anchors}
 use Rattle.schema_documents.specs.Bearers.{Documents, bearer, dynamically_anchored}

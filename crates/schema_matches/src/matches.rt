@@ -108,7 +108,7 @@ impl Matches {
 
     /// The matches of a table's patterns in the texts of a value and the names of its members.
     ///
-    /// Each matcher is asked once of each text.
+    /// Each matcher is asked once of each text. Without patterns the value is not looked at.
     ///
     /// # Errors
     ///
@@ -120,6 +120,9 @@ impl Matches {
     ) -> Result<Matches, AllocError>
         ensures { IfOk result (λ m. (finished : List ℕ → List ℕ → Option Bool) → AreMadeBy M.finds finished table.now → IsReadBy finished (texts_of_table table.now) (texts_in (view value.now)) m) }
     {
+        if table.len() == 0 {
+            return Ok(Matches::none(alloc));
+        }
         let texts = texts_of(alloc, value)?;
         let mut by_pattern = HashMap::new(alloc);
         for number in 0..table.len() {

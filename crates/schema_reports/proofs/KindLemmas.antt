@@ -2,8 +2,8 @@
 use Rattle.std.proofs.Common.{◌≡◌, refl, sym, ap, ◌∙◌}
 use Rattle.std.specs.declared.alloc.Global.{Global}
 use Rattle.std.specs.declared.vec.Vec.{Vec}
-use Rattle.serde_json.specs.View.{view}
 use Rattle.schema_meaning.specs.Faults as told
+use Rattle.schema_reports.specs.Instances.{value_in}
 use Rattle.schema_reports.specs.Kinds.{kind_of, row_faults, row_branches}
 use Rattle.schema_reports.specs.Told.{faults_of, branches_in}
 use Rattle.schema_reports.specs.declared.error.ValidationError.{ValidationError}
@@ -13,7 +13,7 @@ use Rattle.schema_reports.specs.declared.kind.ValidationErrorKind.TheVariants as
 
 faults-row : {n : _} (k : Row_of-ValidationError n) → row_faults k ≡ faults_of (items-the_row-ValidationError n k)
 faults-row end_of-ValidationError = refl
-faults-row (more_of-ValidationError k v i s e rest) = ap (told.also (told.fault (kind_of k) (view v.now) i s e)) (faults-row rest)
+faults-row (more_of-ValidationError q k v i s e rest) = ap (told.also (told.fault (kind_of k) (value_in v) i s e)) (faults-row rest)
 
 branches-row : {n : _} (k : Row_of-ValidationErrorKind-AnyOf-0-1 n) → row_branches k ≡ branches_in (items-the_row-ValidationErrorKind-AnyOf-0-1 n k)
 branches-row end_of-ValidationErrorKind-AnyOf-0-1 = refl

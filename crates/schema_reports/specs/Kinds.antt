@@ -7,6 +7,7 @@ use Rattle.schema_meaning.specs.Faults as told
 use Rattle.schema_meaning.specs.Questions.{items_of}
 use Rattle.schema_documents.specs.Words.{or}
 use Rattle.schema_types.specs.Named.{names_in}
+use Rattle.schema_reports.specs.Instances.{value_in}
 use Rattle.schema_reports.specs.declared.kind.ValidationErrorKind.{ValidationErrorKind, Row_of-ValidationError, end_of-ValidationError, more_of-ValidationError, Row_of-ValidationErrorKind-AnyOf-0-1, end_of-ValidationErrorKind-AnyOf-0-1, more_of-ValidationErrorKind-AnyOf-0-1}
 use Rattle.schema_reports.specs.declared.kind.ValidationErrorKind.TheVariants as kind
 
@@ -38,14 +39,15 @@ abbrev mutual
   kind_of (kind.Not schema) = told.Not (view schema)
   kind_of (kind.OneOfMultipleValid' shape all) = told.OneOfMultipleValid (row_branches all)
   kind_of (kind.OneOfNotValid' shape all) = told.OneOfNotValid (row_branches all)
-  kind_of (kind.PropertyNames' p k v i s e) = told.PropertyNames (told.fault (kind_of k) (view v.now) i s e)
+  kind_of (kind.Pattern pattern) = told.Pattern (string_bytes pattern)
+  kind_of (kind.PropertyNames' p q k v i s e) = told.PropertyNames (told.fault (kind_of k) (value_in v) i s e)
   kind_of (kind.Required property) = told.Required (string_bytes property)
   kind_of (kind.Types names) = told.Types (names_in names)
   kind_of kind.UniqueItems = told.UniqueItems
 
   pub row_faults : {n : _} → Row_of-ValidationError n → told.Faults
   row_faults end_of-ValidationError = told.none
-  row_faults (more_of-ValidationError k v i s e rest) = told.also (told.fault (kind_of k) (view v.now) i s e) (row_faults rest)
+  row_faults (more_of-ValidationError q k v i s e rest) = told.also (told.fault (kind_of k) (value_in v) i s e) (row_faults rest)
 
   pub row_branches : {n : _} → Row_of-ValidationErrorKind-AnyOf-0-1 n → told.Branches
   row_branches end_of-ValidationErrorKind-AnyOf-0-1 = told.no_branch
@@ -74,7 +76,8 @@ kind_name (kind.MultipleOf multiple_of) = codes "MultipleOf"
 kind_name (kind.Not schema) = codes "Not"
 kind_name (kind.OneOfMultipleValid' shape all) = codes "OneOfMultipleValid"
 kind_name (kind.OneOfNotValid' shape all) = codes "OneOfNotValid"
-kind_name (kind.PropertyNames' p k v i s e) = codes "PropertyNames"
+kind_name (kind.Pattern pattern) = codes "Pattern"
+kind_name (kind.PropertyNames' p q k v i s e) = codes "PropertyNames"
 kind_name (kind.Required property) = codes "Required"
 kind_name (kind.Types names) = codes "Types"
 kind_name kind.UniqueItems = codes "UniqueItems"

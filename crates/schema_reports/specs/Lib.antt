@@ -1,3 +1,4 @@
+pub mod Instances
 pub mod Kinds
 pub mod Left
 pub mod Locations

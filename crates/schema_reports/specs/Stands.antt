@@ -1,5 +1,6 @@
 -- What each observer says of the faults told so far.
-use Rattle.std.specs.Prelude.{◌≡◌, Option, Some, None}
+use Rattle.std.specs.Prelude.{◌≡◌, Option, Some, None, Box, box_value}
+use Rattle.std.specs.declared.alloc.Global.{Global}
 use Rattle.schema_meaning.specs.Faults.{Faults, none, is_none, Told}
 use Rattle.schema_reports.specs.Told.{fault_of, faults_of}
 use Rattle.schema_reports.specs.declared.error.ValidationError.{ValidationError}
@@ -16,8 +17,13 @@ abbrev pub is_one_of : Option ValidationError → Faults → Type 0
 is_one_of None fs = fs ≡ none
 is_one_of (Some e) fs = Told (fault_of e) fs
 
+-- the same of an error in a box
+abbrev pub is_kept_of : Option (Box ValidationError Global) → Faults → Type 0
+is_kept_of None fs = fs ≡ none
+is_kept_of (Some b) fs = Told (fault_of (box_value b)) fs
+
 abbrev pub first_stands : FirstFault → Faults → Type 0
-first_stands f fs = is_one_of f.error fs
+first_stands f fs = is_kept_of f.error fs
 
 -- each of them, in order
 abbrev pub all_stand : AllFaults → Faults → Type 0

@@ -1,15 +1,17 @@
 -- What the errors of the code stand for.
-use Rattle.std.specs.Prelude.{List, [], ◌∷◌}
+use Rattle.std.specs.Prelude.{List, [], ◌∷◌, None, box_value}
 use Rattle.std.specs.declared.alloc.Global.{Global}
 use Rattle.std.specs.declared.vec.Vec.{Vec}
 use Rattle.serde_json.specs.Data.{Data}
-use Rattle.serde_json.specs.View.{view}
+use Rattle.json_paths.specs.Parts.{Part}
 use Rattle.schema_meaning.specs.Faults.{Fault, fault, Kind, Faults, none, also, Branches, no_branch, branch}
+use Rattle.schema_meaning.specs.Places.{Spot}
+use Rattle.schema_reports.specs.Instances.{value_in}
 use Rattle.schema_reports.specs.Kinds.{kind_of}
 use Rattle.schema_reports.specs.declared.error.ValidationError.{ValidationError}
 
 abbrev pub fault_of : ValidationError → Fault
-fault_of e = fault (kind_of e.kind) (view e.instance.now) e.instance_path e.schema_path e.evaluation_path
+fault_of e = fault (kind_of (box_value e.kind)) (value_in e.instance) e.instance_path e.schema_path e.evaluation_path
 
 abbrev pub faults_of : List ValidationError → Faults
 faults_of [] = none
@@ -25,3 +27,7 @@ fault_kind (fault k d i s e) = k
 
 abbrev pub fault_instance : Fault → Data
 fault_instance (fault k d i s e) = d
+
+-- where a value of the instance stands, no keyword read
+abbrev pub spot_of : Data → List Part → Spot
+spot_of d path = record { value = d; path = path; called = None; road = [] }

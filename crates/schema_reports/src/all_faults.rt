@@ -5,6 +5,7 @@ ghost use Rattle.schema_meaning.specs.Faults.{Faults, none, also, fault, joined}
 
 use crate::error::ValidationError;
 use crate::kind::ValidationErrorKind;
+use crate::location::LazyLocation;
 use crate::roads::Roads;
 use serde_json::Value;
 use std::alloc::{AllocError, Global};
@@ -17,7 +18,9 @@ pub struct AllFaults<'i> {
 
 impl<'i> AllFaults<'i> {
     ghost use Rattle.schema_reports.specs.Stands.{all_stand};
-    ghost use Rattle.schema_reports.specs.Told.{faults_of};
+    ghost use Rattle.schema_reports.specs.Told.{faults_of, spot_of};
+    ghost use Rattle.schema_meaning.specs.Rules.{each_of_object};
+    ghost use Rattle.schema_reports.specs.Locations.{location_of};
     ghost use Rattle.schema_reports.specs.Kinds.{kind_of};
     ghost use Rattle.schema_reports.specs.RoadPaths.{instance_in, schema_in, evaluation_in};
 
@@ -55,6 +58,37 @@ impl<'i> AllFaults<'i> {
             (joined fs (also (fault (kind_of kind.entry) (view instance.now) (instance_in roads.entry) (schema_in roads.entry) (evaluation_in roads.entry)) none))) }
     {
         self.errors.push(roads.error(alloc, kind, instance)?)?;
+        Ok(())
+    }
+
+    /// Hears all that another one heard, after what was told before.
+    pub(crate) fn absorb(
+        &mut self,
+        alloc: Global,
+        heard: Vec<ValidationError<'_>>,
+    ) -> Result<(), AllocError>
+        ensures { OnOk result ((fs : Faults) → all_stand self.old fs → all_stand self.new (joined fs (faults_of heard.entry.items))) }
+    {
+        for error in heard {
+            self.errors.push(error.into_owned(alloc)?)?;
+        }
+        Ok(())
+    }
+
+    /// Hears of an object all that another one heard of a name.
+    pub(crate) fn absorb_names(
+        &mut self,
+        alloc: Global,
+        heard: Vec<ValidationError<'i>>,
+        object: &'i Value,
+        at: &LazyLocation<'_, '_>,
+    ) -> Result<(), AllocError>
+        ensures { OnOk result ((fs : Faults) → all_stand self.old fs → all_stand self.new
+            (joined fs (each_of_object (spot_of (view object.now) (location_of at.now)) (faults_of heard.entry.items)))) }
+    {
+        for error in heard {
+            self.errors.push(error.told_of(alloc, object, at)?)?;
+        }
         Ok(())
     }
 }

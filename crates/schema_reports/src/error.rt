@@ -1,11 +1,15 @@
 //! Errors of validation.
-ghost use Rattle.std.specs.Prelude.{◌≡◌, Some};
+ghost use Rattle.std.specs.Prelude.{◌≡◌, Some, IfOk, box_value};
 ghost use Rattle.serde_json.specs.View.{view};
 ghost use Rattle.schema_meaning.specs.Faults as told;
 
+use crate::instance::Instance;
 use crate::kind::ValidationErrorKind;
+use crate::location::LazyLocation;
+use crate::paths::Paths;
 use schema_steps::Path;
 use serde_json::Value;
+use std::alloc::{AllocError, Global};
 use std::error::Error;
 use std::fmt;
 
@@ -14,48 +18,95 @@ use std::fmt;
 #[derive(Debug, Drop)]
 #[cycle(errors)]
 pub struct ValidationError<'i> {
-    kind: ValidationErrorKind<'i>,
-    instance: &'i Value,
-    instance_path: Path,
-    schema_path: Path,
-    evaluation_path: Path,
+    pub(crate) kind: Box<ValidationErrorKind<'i>>,
+    pub(crate) instance: Instance<'i>,
+    pub(crate) instance_path: Path,
+    pub(crate) schema_path: Path,
+    pub(crate) evaluation_path: Path,
 }
 
 impl<'i> ValidationError<'i> {
     ghost use Rattle.schema_reports.specs.Kinds.{kind_of};
-    ghost use Rattle.schema_reports.specs.Told.{fault_of, fault_kind, fault_instance};
+    ghost use Rattle.schema_meaning.specs.Rules.{of_object};
+    ghost use Rattle.schema_reports.specs.Locations.{location_of};
+    ghost use Rattle.schema_reports.specs.Told.{fault_of, fault_kind, fault_instance, spot_of};
 
     /// An error of these parts.
-    pub const fn new(
+    ///
+    /// The error comes where memory is out.
+    pub fn new(
+        alloc: Global,
         kind: ValidationErrorKind<'i>,
         instance: &'i Value,
         instance_path: Path,
         schema_path: Path,
         evaluation_path: Path,
-    ) -> Self
-        ensures { fault_of result ≡ told.fault (kind_of kind.entry) (view instance.now) instance_path schema_path evaluation_path }
+    ) -> Result<Self, AllocError>
+        ensures { IfOk result (λ e. fault_of e ≡ told.fault (kind_of kind.entry) (view instance.now) instance_path schema_path evaluation_path) }
+    {
+        let paths = Paths {
+            instance: instance_path,
+            schema: schema_path,
+            evaluation: evaluation_path,
+        };
+        Ok(ValidationError::of(Box::new(alloc, kind)?, instance, paths))
+    }
+
+    // An error of these parts, which takes no memory.
+    pub(crate) fn of(kind: Box<ValidationErrorKind<'i>>, instance: &'i Value, paths: Paths) -> Self
+        ensures { fault_of result ≡ told.fault (kind_of (box_value kind.entry)) (view instance.now) paths.instance paths.schema paths.evaluation }
     {
         ValidationError {
             kind,
-            instance,
-            instance_path,
-            schema_path,
-            evaluation_path,
+            instance: Instance::Lent(instance),
+            instance_path: paths.instance,
+            schema_path: paths.schema,
+            evaluation_path: paths.evaluation,
         }
     }
 
+    /// The error of an object that has a name with this error. It is told at the same paths of schema and evaluation.
+    ///
+    /// The error comes where memory is out or a count of owners is full.
+    pub(crate) fn told_of(
+        self,
+        alloc: Global,
+        object: &'i Value,
+        at: &LazyLocation<'_, '_>,
+    ) -> Result<Self, AllocError>
+        ensures { IfOk result (λ e. fault_of e ≡ of_object (spot_of (view object.now) (location_of at.now)) (fault_of self.entry)) }
+    {
+        let paths = self.paths_at(alloc, at)?;
+        let error = Box::new(alloc, self)?;
+        let kind = Box::new(alloc, ValidationErrorKind::PropertyNames { error })?;
+        Ok(ValidationError::of(kind, object, paths))
+    }
+
+    // The paths of the error, but for that of another value.
+    fn paths_at(&self, alloc: Global, at: &LazyLocation<'_, '_>) -> Result<Paths, AllocError>
+        ensures instance { IfOk result (λ p. p.instance ≡ location_of at.now) }
+        ensures schema { IfOk result (λ p. p.schema ≡ told.schema_path (fault_of self.now)) }
+        ensures evaluation { IfOk result (λ p. p.evaluation ≡ told.evaluation_path (fault_of self.now)) }
+    {
+        Ok(Paths {
+            instance: at.to_path(alloc)?,
+            schema: self.schema_path.clone()?,
+            evaluation: self.evaluation_path.clone()?,
+        })
+    }
+
     /// Why the value is refused.
-    pub const fn kind(&self) -> &ValidationErrorKind<'i>
+    pub fn kind(&self) -> &ValidationErrorKind<'i>
         ensures { kind_of result.now ≡ fault_kind (fault_of self.now) }
     {
         &self.kind
     }
 
     /// The value that is refused.
-    pub const fn instance(&self) -> &'i Value
+    pub const fn instance(&self) -> &Value
         ensures { view result.now ≡ fault_instance (fault_of self.now) }
     {
-        self.instance
+        self.instance.value()
     }
 
     /// The path of the value from the instance's root.
@@ -84,7 +135,7 @@ impl<'i> ValidationError<'i> {
 impl fmt::Display for ValidationError<'_> {
     ghost use Rattle.schema_reports.specs.Kinds.{kind_name};
 
-    ghost output = { λ error. Some (kind_name error.kind) };
+    ghost output = { λ error. Some (kind_name (box_value error.kind)) };
 
     fn fmt<W: fmt::Write>(&self, f: &mut fmt::Formatter<W>) -> fmt::Result {
         f.write_str(self.kind.as_str())

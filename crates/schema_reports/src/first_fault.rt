@@ -1,10 +1,11 @@
 //! The first thing that is wrong.
-ghost use Rattle.std.specs.Prelude.{◌≡◌, true, false, not, is_some, OnOk};
+ghost use Rattle.std.specs.Prelude.{◌≡◌, true, false, not, is_some, Some, OnOk};
 ghost use Rattle.serde_json.specs.View.{view};
-ghost use Rattle.schema_meaning.specs.Faults.{Faults, none, also, fault, joined};
+ghost use Rattle.schema_meaning.specs.Faults.{Faults, Told, none, also, fault, joined};
 
 use crate::error::ValidationError;
 use crate::kind::ValidationErrorKind;
+use crate::location::LazyLocation;
 use crate::roads::Roads;
 use serde_json::Value;
 use std::alloc::{AllocError, Global};
@@ -12,12 +13,15 @@ use std::alloc::{AllocError, Global};
 /// Keeps the fault that it is told first.
 #[derive(Drop)]
 pub struct FirstFault<'i> {
-    error: Option<ValidationError<'i>>,
+    error: Option<Box<ValidationError<'i>>>,
 }
 
 impl<'i> FirstFault<'i> {
-    ghost use Rattle.schema_reports.specs.Stands.{first_stands, is_one_of};
+    ghost use Rattle.schema_reports.specs.Stands.{first_stands, is_kept_of, is_one_of};
     ghost use Rattle.schema_reports.specs.Kinds.{kind_of};
+    ghost use Rattle.schema_meaning.specs.Rules.{each_of_object};
+    ghost use Rattle.schema_reports.specs.Locations.{location_of};
+    ghost use Rattle.schema_reports.specs.Told.{spot_of, fault_of};
     ghost use Rattle.schema_reports.specs.RoadPaths.{instance_in, schema_in, evaluation_in};
 
     /// No fault was told.
@@ -30,6 +34,16 @@ impl<'i> FirstFault<'i> {
     /// The fault that was told, if any was.
     pub fn into_error(self) -> Option<ValidationError<'i>>
         ensures { (fs : Faults) → first_stands self.entry fs → is_one_of result fs }
+    {
+        match self.error {
+            Some(error) => Some(Box::into_inner(error)),
+            None => None,
+        }
+    }
+
+    // The same, as it is kept.
+    pub(crate) fn into_kept(self) -> Option<Box<ValidationError<'i>>>
+        ensures { (fs : Faults) → first_stands self.entry fs → is_kept_of result fs }
     {
         self.error
     }
@@ -59,8 +73,52 @@ impl<'i> FirstFault<'i> {
             (joined fs (also (fault (kind_of kind.entry) (view instance.now) (instance_in roads.entry) (schema_in roads.entry) (evaluation_in roads.entry)) none))) }
     {
         if self.error.is_none() {
-            self.error = Some(roads.error(alloc, kind, instance)?);
+            self.keep(alloc, roads.error(alloc, kind, instance)?)?;
         }
+        Ok(())
+    }
+
+    /// Hears what another one heard: its error, where none was told before.
+    pub(crate) fn absorb(
+        &mut self,
+        alloc: Global,
+        heard: Option<Box<ValidationError<'_>>>,
+    ) -> Result<(), AllocError>
+        ensures { OnOk result ((fs gs : Faults) → first_stands self.old fs → is_kept_of heard.entry gs → first_stands self.new (joined fs gs)) }
+    {
+        if self.error.is_some() {
+            return Ok(());
+        }
+        if let Some(error) = heard {
+            self.keep(alloc, Box::into_inner(error).into_owned(alloc)?)?;
+        }
+        Ok(())
+    }
+
+    /// Hears of an object what another one heard of a name.
+    pub(crate) fn absorb_names(
+        &mut self,
+        alloc: Global,
+        heard: Option<Box<ValidationError<'i>>>,
+        object: &'i Value,
+        at: &LazyLocation<'_, '_>,
+    ) -> Result<(), AllocError>
+        ensures { OnOk result ((fs gs : Faults) → first_stands self.old fs → is_kept_of heard.entry gs → first_stands self.new
+            (joined fs (each_of_object (spot_of (view object.now) (location_of at.now)) gs))) }
+    {
+        if self.error.is_some() {
+            return Ok(());
+        }
+        if let Some(error) = heard {
+            self.keep(alloc, Box::into_inner(error).told_of(alloc, object, at)?)?;
+        }
+        Ok(())
+    }
+
+    fn keep(&mut self, alloc: Global, error: ValidationError<'i>) -> Result<(), AllocError>
+        ensures { OnOk result ((fs : Faults) → Told (fault_of error.entry) fs → first_stands self.new fs) }
+    {
+        self.error = Some(Box::new(alloc, error)?);
         Ok(())
     }
 }

@@ -88,6 +88,10 @@ pub enum ValidationErrorKind<'i> {
     OneOfNotValid {
         context: Vec<Vec<ValidationError<'i>>>,
     },
+    /// The text matches the pattern nowhere.
+    Pattern {
+        pattern: String,
+    },
     /// The name of a member is refused: its first error.
     PropertyNames {
         error: Box<ValidationError<'i>>,
@@ -133,6 +137,7 @@ impl ValidationErrorKind<'_> {
             ValidationErrorKind::Not { .. } => "Not",
             ValidationErrorKind::OneOfMultipleValid { .. } => "OneOfMultipleValid",
             ValidationErrorKind::OneOfNotValid { .. } => "OneOfNotValid",
+            ValidationErrorKind::Pattern { .. } => "Pattern",
             ValidationErrorKind::PropertyNames { .. } => "PropertyNames",
             ValidationErrorKind::Required { .. } => "Required",
             ValidationErrorKind::Types { .. } => "Types",

@@ -4,10 +4,13 @@
 mod all_faults;
 mod error;
 mod first_fault;
+mod instance;
 mod iter;
 mod kind;
 mod location;
 mod observer;
+mod owned;
+mod paths;
 mod pointer_path;
 mod reference;
 mod roads;

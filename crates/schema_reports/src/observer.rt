@@ -1,14 +1,20 @@
 //! Who hears of what is wrong.
 ghost use Rattle.std.specs.Prelude.{◌≡◌, true, false, OnOk};
 ghost use Rattle.serde_json.specs.View.{view};
-ghost use Rattle.schema_meaning.specs.Faults.{Fault, Faults, none, also, fault, joined};
+ghost use Rattle.schema_meaning.specs.Faults.{Fault, Faults, none, also, fault, joined, is_none};
+ghost use Rattle.schema_meaning.specs.Rules.{each_of_object};
 ghost use Rattle.schema_reports.specs.Kinds.{kind_of};
+ghost use Rattle.schema_reports.specs.Locations.{location_of};
 ghost use Rattle.schema_reports.specs.Observers.{Hears, is_for_all, wants};
 ghost use Rattle.schema_reports.specs.RoadPaths.{instance_in, schema_in, evaluation_in};
+ghost use Rattle.schema_reports.specs.Stands.{is_kept_of};
+ghost use Rattle.schema_reports.specs.Told.{faults_of, spot_of};
 
 use crate::all_faults::AllFaults;
+use crate::error::ValidationError;
 use crate::first_fault::FirstFault;
 use crate::kind::ValidationErrorKind;
+use crate::location::LazyLocation;
 use crate::roads::Roads;
 use crate::verdict::Verdict;
 use serde_json::Value;
@@ -91,6 +97,95 @@ impl<'i> Observer<'i> {
             }
             Observer::First(first) => first.tell(alloc, kind, instance, roads),
             Observer::All(all) => all.tell(alloc, kind, instance, roads),
+        }
+    }
+
+    /// One that keeps the same, and heard of nothing. It allocates nothing.
+    pub fn fresh<'o>(&self, alloc: Global) -> Observer<'o>
+        ensures { (kept : Observation) (fs : Faults) → Hears kept self.now fs → Hears kept result none }
+    {
+        match self {
+            Observer::Verdict(_) => Observer::Verdict(Verdict::new()),
+            Observer::First(_) => Observer::First(FirstFault::new()),
+            Observer::All(_) => Observer::All(AllFaults::new(alloc)),
+        }
+    }
+
+    /// Hears all that another one heard, which keeps the same. The errors become this one's own.
+    ///
+    /// # Errors
+    ///
+    /// Where memory was refused or a count of owners is full.
+    pub fn absorb(&mut self, alloc: Global, other: Observer<'_>) -> Result<(), AllocError>
+        ensures { OnOk result ((kept : Observation) (fs gs : Faults) → Hears kept self.old fs → Hears kept other.entry gs
+            → Hears kept self.new (joined fs gs)) }
+    {
+        match self {
+            Observer::Verdict(verdict) => {
+                verdict.absorb(other.into_verdict());
+                Ok(())
+            }
+            Observer::First(first) => first.absorb(alloc, other.into_first()),
+            Observer::All(all) => all.absorb(alloc, other.into_all(alloc)),
+        }
+    }
+
+    /// Hears of an object what another one, which keeps the same, heard of a name of its members: each error is told of the
+    /// object, and carries the name's.
+    ///
+    /// # Errors
+    ///
+    /// Where memory was refused or a count of owners is full.
+    pub fn absorb_names(
+        &mut self,
+        alloc: Global,
+        other: Observer<'i>,
+        object: &'i Value,
+        at: &LazyLocation<'_, '_>,
+    ) -> Result<(), AllocError>
+        ensures { OnOk result ((kept : Observation) (fs gs : Faults) → Hears kept self.old fs → Hears kept other.entry gs
+            → Hears kept self.new (joined fs (each_of_object (spot_of (view object.now) (location_of at.now)) gs))) }
+    {
+        match self {
+            Observer::Verdict(verdict) => {
+                verdict.absorb(other.into_verdict());
+                Ok(())
+            }
+            Observer::First(first) => first.absorb_names(alloc, other.into_first(), object, at),
+            Observer::All(all) => all.absorb_names(alloc, other.into_all(alloc), object, at),
+        }
+    }
+
+    // Whether one that keeps the verdict was told of no fault.
+    fn into_verdict(self) -> bool
+        ensures { (fs : Faults) → Hears Observation.Verdict self.entry fs → result ≡ is_none fs }
+    {
+        match self {
+            Observer::Verdict(verdict) => verdict.accepts(),
+            Observer::First(_) => true,
+            Observer::All(_) => true,
+        }
+    }
+
+    // The error of one that keeps the first, if it was told of any.
+    fn into_first(self) -> Option<Box<ValidationError<'i>>>
+        ensures { (fs : Faults) → Hears Observation.First self.entry fs → is_kept_of result fs }
+    {
+        match self {
+            Observer::Verdict(_) => None,
+            Observer::First(first) => first.into_kept(),
+            Observer::All(_) => None,
+        }
+    }
+
+    // The errors of one that keeps each.
+    fn into_all(self, alloc: Global) -> Vec<ValidationError<'i>>
+        ensures { (fs : Faults) → Hears Observation.All self.entry fs → faults_of result.items ≡ fs }
+    {
+        match self {
+            Observer::Verdict(_) => Vec::new(alloc),
+            Observer::First(_) => Vec::new(alloc),
+            Observer::All(all) => all.into_errors(),
         }
     }
 }

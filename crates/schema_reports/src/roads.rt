@@ -6,6 +6,7 @@ ghost use Rattle.schema_meaning.specs.Faults.{fault};
 use crate::error::ValidationError;
 use crate::kind::ValidationErrorKind;
 use crate::location::LazyLocation;
+use crate::paths::Paths;
 use crate::reference::Reference;
 use serde_json::Value;
 use std::alloc::{AllocError, Global};
@@ -40,13 +41,22 @@ impl Roads<'_> {
         ensures { IfOk result (λ error. fault_of error
             ≡ fault (kind_of kind.entry) (view instance.now) (instance_in self.entry) (schema_in self.entry) (evaluation_in self.entry)) }
     {
+        let kind = Box::new(alloc, kind)?;
+        let paths = self.paths(alloc)?;
+        Ok(ValidationError::of(kind, instance, paths))
+    }
+
+    // The three paths written out.
+    fn paths(self, alloc: Global) -> Result<Paths, AllocError>
+        ensures instance { IfOk result (λ p. p.instance ≡ instance_in self.entry) }
+        ensures schema { IfOk result (λ p. p.schema ≡ schema_in self.entry) }
+        ensures evaluation { IfOk result (λ p. p.evaluation ≡ evaluation_in self.entry) }
+    {
         let start = self.reference.path(alloc)?;
-        Ok(ValidationError::new(
-            kind,
-            instance,
-            self.instance.to_path(alloc)?,
-            self.schema.write_onto(alloc, start)?,
-            self.evaluation.to_path(alloc)?,
-        ))
+        Ok(Paths {
+            instance: self.instance.to_path(alloc)?,
+            schema: self.schema.write_onto(alloc, start)?,
+            evaluation: self.evaluation.to_path(alloc)?,
+        })
     }
 }

@@ -37,4 +37,11 @@ impl Verdict {
     {
         self.accepts = false;
     }
+
+    /// Hears what another one heard, which accepts or does not.
+    pub(crate) fn absorb(&mut self, accepts: bool)
+        ensures { (fs gs : Faults) → verdict_stands self.old fs → accepts ≡ is_none gs → verdict_stands self.new (joined fs gs) }
+    {
+        self.accepts = self.accepts && accepts;
+    }
 }

@@ -10,27 +10,32 @@ use Rattle.schema_documents.specs.Lookup.{Target}
 use Rattle.schema_reading.specs.Sites.{Site, root_site}
 use Rattle.schema_reading.specs.Plain.{plain}
 use Rattle.schema_reading.specs.AllKeys.{keys_of}
-use Rattle.schema_roots.specs.Roots.{Root, Finds}
+use Rattle.asked_matches.specs.Asked.{AreFinished}
+use Rattle.schema_roots.specs.Roots.{Root, Patterns, Finds}
 
--- what the cut reading tells, whatever patterns match
-abbrev pub cut_at : {A : Type 0} → Telling Site A → Root → (List ℕ → Bool) → (List ℕ → List ℕ → Bool) → Target → Data → A
-cut_at t r makes matches target d = cut t (plain r.documents makes matches) (keys_of r.documents d) [] (root_site target) (whole d)
+-- every match that a value asks for is finished, as `matches` says
+abbrev pub Finish : Patterns → Root → (List ℕ → List ℕ → Bool) → Target → Data → Type 0
+Finish p r matches target d = AreFinished r.documents p.makes (root_site target) p.finished matches d
+
+-- what the cut reading tells
+abbrev pub cut_at : {A : Type 0} → Telling Site A → Patterns → Root → (List ℕ → List ℕ → Bool) → Target → Data → A
+cut_at t p r matches target d = cut t (plain r.documents p.makes matches) (keys_of r.documents d) [] (root_site target) (whole d)
 
 -- a chain of references comes back to where it was
-abbrev pub ComesBack : Root → (List ℕ → Bool) → (List ℕ → List ℕ → Bool) → Target → Data → Type 0
-ComesBack r makes matches target d = IsCircular (plain r.documents makes matches) (root_site target) (whole d)
+abbrev pub ComesBack : Patterns → Root → (List ℕ → List ℕ → Bool) → Target → Data → Type 0
+ComesBack p r matches target d = IsCircular (plain r.documents p.makes matches) (root_site target) (whole d)
 
--- the answer is the cut reading's
-abbrev pub IsCut : {A : Type 0} → Telling Site A → Root → Data → A → Type 0
-IsCut t r d answer = (makes : List ℕ → Bool) (matches : List ℕ → List ℕ → Bool) (target : Target) → Finds r target → answer ≡ cut_at t r makes matches target d
+-- where the matches finish, the answer is the cut reading's
+abbrev pub IsCut : {A : Type 0} → Telling Site A → Patterns → Root → Data → A → Type 0
+IsCut t p r d answer = (matches : List ℕ → List ℕ → Bool) (target : Target) → Finds r target → Finish p r matches target d → answer ≡ cut_at t p r matches target d
 
--- where no references come back, the answer is the decided one
-abbrev pub IsAnswer : {A : Type 0} → Telling Site A → Root → Data → A → Type 0
-IsAnswer t r d answer = (makes : List ℕ → Bool) (matches : List ℕ → List ℕ → Bool) (target : Target) → Finds r target
-    → (ComesBack r makes matches target d → ⊥) → IsTold t (plain r.documents makes matches) (root_site target) (whole d) answer
+-- where they finish and no references come back, the answer is the decided one
+abbrev pub IsAnswer : {A : Type 0} → Telling Site A → Patterns → Root → Data → A → Type 0
+IsAnswer t p r d answer = (matches : List ℕ → List ℕ → Bool) (target : Target) → Finds r target → Finish p r matches target d
+    → (ComesBack p r matches target d → ⊥) → IsTold t (plain r.documents p.makes matches) (root_site target) (whole d) answer
 
 -- one of the faults
-pub record IsFault (r : Root) (d : Data) (f : Fault) : Type 0 where
-  pub cut : (makes : List ℕ → Bool) (matches : List ℕ → List ℕ → Bool) (target : Target) → Finds r target → Told f (cut_at bags r makes matches target d)
-  pub told : (makes : List ℕ → Bool) (matches : List ℕ → List ℕ → Bool) (target : Target) → Finds r target → (ComesBack r makes matches target d → ⊥)
-      → (fs : Faults) × IsTold bags (plain r.documents makes matches) (root_site target) (whole d) fs × Told f fs
+pub record IsFault (p : Patterns) (r : Root) (d : Data) (f : Fault) : Type 0 where
+  pub cut : (matches : List ℕ → List ℕ → Bool) (target : Target) → Finds r target → Finish p r matches target d → Told f (cut_at bags p r matches target d)
+  pub told : (matches : List ℕ → List ℕ → Bool) (target : Target) → Finds r target → Finish p r matches target d → (ComesBack p r matches target d → ⊥)
+      → (fs : Faults) × IsTold bags (plain r.documents p.makes matches) (root_site target) (whole d) fs × Told f fs

@@ -4,19 +4,19 @@ use Rattle.serde_json.specs.Data.{Data}
 use Rattle.schema_meaning.specs.Faults.{Fault, Faults, instance_path, evaluation_path, Told}
 use Rattle.schema_documents.specs.Lookup.{Target}
 use Rattle.schema_reading.specs.PathTexts.{path_text, AreCertificate}
-use Rattle.schema_roots.specs.Roots.{Root, Finds}
-use Rattle.schema_roots.specs.Answers.{ComesBack}
+use Rattle.schema_roots.specs.Roots.{Root, Patterns, Finds}
+use Rattle.schema_roots.specs.Answers.{ComesBack, Finish}
 
--- where no references come back, no two texts are a certificate unless the verdict is no
-abbrev pub IsCertified : Root → Data → Bool → Type 0
-IsCertified r d verdict = (makes : List ℕ → Bool) (matches : List ℕ → List ℕ → Bool) (target : Target) → Finds r target → (ComesBack r makes matches target d → ⊥)
-    → (instance evaluation : List ℕ) → AreCertificate r.documents makes matches target d instance evaluation → verdict ≡ false
+-- where the matches finish and no references come back, no two texts are a certificate unless the verdict is no
+abbrev pub IsCertified : Patterns → Root → Data → Bool → Type 0
+IsCertified p r d verdict = (matches : List ℕ → List ℕ → Bool) (target : Target) → Finds r target → Finish p r matches target d → (ComesBack p r matches target d → ⊥)
+    → (instance evaluation : List ℕ) → AreCertificate r.documents p.makes matches target d instance evaluation → verdict ≡ false
 
--- where no references come back, the two paths of the fault are a certificate
-abbrev pub HasCertificate : Root → Data → Fault → Type 0
-HasCertificate r d f = (makes : List ℕ → Bool) (matches : List ℕ → List ℕ → Bool) (target : Target) → Finds r target → (ComesBack r makes matches target d → ⊥)
-    → AreCertificate r.documents makes matches target d (path_text (instance_path f)) (path_text (evaluation_path f))
+-- where they finish and no references come back, the two paths of the fault are a certificate
+abbrev pub HasCertificate : Patterns → Root → Data → Fault → Type 0
+HasCertificate p r d f = (matches : List ℕ → List ℕ → Bool) (target : Target) → Finds r target → Finish p r matches target d → (ComesBack p r matches target d → ⊥)
+    → AreCertificate r.documents p.makes matches target d (path_text (instance_path f)) (path_text (evaluation_path f))
 
 -- those of each fault are
-abbrev pub HaveCertificates : Root → Data → Faults → Type 0
-HaveCertificates r d fs = (f : Fault) → Told f fs → HasCertificate r d f
+abbrev pub HaveCertificates : Patterns → Root → Data → Faults → Type 0
+HaveCertificates p r d fs = (f : Fault) → Told f fs → HasCertificate p r d f

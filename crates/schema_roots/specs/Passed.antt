@@ -1,8 +1,5 @@
 -- What crates above need of those below, passed on to them.
-pub use Rattle.retrieval_rounds.specs.Rounds.{Asking}
-pub use Rattle.document_retrieval.specs.Stages.{asking, IsGathered, AnswersNothing, Stops}
-pub use Rattle.referencing.specs.Prepared.{HasCause, RefusesRegistry}
-pub use Rattle.referencing.specs.Seen.{retrieved_by}
+pub use Rattle.schema_registries.specs.Passed.{Asking, asking, IsGathered, AnswersNothing, Stops, HasCause, RefusesRegistry, retrieved_by}
 pub use Rattle.schema_registries.specs.Seen.{given_under, documents_in_registry, documents_given, documents_shared, retrieved_shared}
 pub use Rattle.schema_registries.specs.Retrieval.{may_answer_whole, may_refuse_whole, IsPrepared, beside}
 pub use Rattle.schema_registries.specs.declared.registry.SharedRegistry.{SharedRegistry}

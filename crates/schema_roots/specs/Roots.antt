@@ -1,9 +1,10 @@
 -- Roots: where validation begins.
-use Rattle.std.specs.Prelude.{◌≡◌, ℕ, List, [], ◌∷◌, Bool, true, Ok, is_ok}
+use Rattle.std.specs.Prelude.{◌≡◌, ℕ, List, [], ◌∷◌, Bool, true, Option, Ok, is_ok}
 use Rattle.schema_documents.specs.Bearers.{Documents}
 use Rattle.schema_documents.specs.Lookup.{Target, lookup}
 use Rattle.schema_reading.specs.Sites.{root_site}
-use Rattle.unread_keywords.specs.NotYet.{Cause, IsBuildCause}
+use Rattle.schema_reading.specs.Rows.{BuildCause}
+use Rattle.schema_reading.specs.BuildCauses.{IsCauseOf}
 use Rattle.schema_registries.specs.Seen.{documents_in_registry}
 use Rattle.schema_registries.specs.declared.registry.SchemaRegistry.{SchemaRegistry}
 
@@ -17,10 +18,23 @@ pub record Root : Type 0 where
 abbrev pub Finds : Root → Target → Type 0
 Finds r target = lookup r.documents r.base r.reference ≡ Ok target
 
--- the reference leads somewhere, and nothing is wrong or unread at the schemas reached from there
-pub record IsSound (r : Root) : Type 0 where
+-- which texts are patterns, and what their matchers find in texts, none where they give up
+pub record Patterns : Type 0 where
+  pub makes : List ℕ → Bool
+  pub finished : List ℕ → List ℕ → Option Bool
+
+-- those of a maker
+abbrev pub patterns_by : {P : Type 0} → (P → List ℕ → Bool) → (P → List ℕ → List ℕ → Option Bool) → P → Patterns
+patterns_by makes finished maker = record { makes = makes maker; finished = finished maker }
+
+-- the reference leads somewhere, and nothing is wrong at the schemas reached from there
+pub record IsSound (p : Patterns) (r : Root) : Type 0 where
   pub found : is_ok (lookup r.documents r.base r.reference) ≡ true
-  pub right : (target : Target) → Finds r target → (makes : List ℕ → Bool) (cause : Cause) → IsBuildCause r.documents makes (root_site target) cause → ⊥
+  pub right : (target : Target) → Finds r target → (cause : BuildCause) → IsCauseOf r.documents p.makes (root_site target) cause → ⊥
+
+-- it is by some patterns: said by what would follow if it were by none, so that there is one proof of it at most
+abbrev pub IsSoundBySome : Root → Type 0
+IsSoundBySome r = ((p : Patterns) → IsSound p r → ⊥) → ⊥
 
 -- in the documents of a registry, from its base
 abbrev pub root_on : SchemaRegistry → List ℕ → Root

@@ -1,25 +1,23 @@
 -- The row of a member by its name.
-use Rattle.std.proofs.Common.{◌≡◌, ◌∙◌, refl, sym, ap, subst, ℕ, List, [], ◌∷◌, Bool, true, false, true≢false, not, ◌&&◌, ◌||◌, bytes_eq, codes, if◌then◌else◌, is_some, None, Result, Ok, Err, IfOk}
-use Rattle.serde_json.specs.Data.{Data, null, boolean, number, string, array, object, Items, Members}
-use Rattle.serde_json.specs.Find.{get_member, as_array}
+use Rattle.std.proofs.Common.{◌≡◌, ◌∙◌, refl, sym, ap, subst, ℕ, List, [], ◌∷◌, Bool, true, false, true≢false, codes, if◌then◌else◌, None}
+use Rattle.serde_json.specs.Data.{Data, Members}
+use Rattle.serde_json.specs.Find.{get_member}
 use Rattle.schema_drafts.specs.Counts.{counts}
-use Rattle.schema_documents.specs.Places.{Dialect, is_schema}
-use Rattle.schema_vocabularies.specs.Dialects.{dialect_of}
-use Rattle.schema_vocabularies.specs.declared.dialect.Dialect as vocabularies
-use Rattle.schema_meaning.specs.Keywords.{item_list}
-use Rattle.schema_meaning.specs.Members.{is_listed, first}
+use Rattle.schema_documents.specs.Places.{Dialect}
+use Rattle.schema_meaning.specs.Members.{first}
 use Rattle.referencing.specs.Resolved.{scope_of}
-use Rattle.unread_keywords.specs.NotYet.{is_unread, is_read_beside, has_patterns, read_now}
-use Rattle.schema_reading.specs.Rows.{Row, nothing_read, refused, keyword_value, left_out, place_at, at, bad_value, Context, counts_here, has_reference, beside, takes_list, in_list, schema_list, row_of as row_by, each_subschema, if_row, consequent_row, row_at}
+use Rattle.schema_reading.specs.Rows.{Row, nothing_read, refused, keyword_value, left_out, place_at, at, bad_value, Context, counts_here, has_reference, beside, if_row, consequent_row, row_at}
 use Rattle.schema_reading.specs.Sites.{Site}
-use Rattle.schema_sites.specs.Arms.{one_items_row, properties_row}
-use Rattle.schema_sites.specs.Read.{row_of, context_at, Surrounds}
+use Rattle.schema_sites.specs.Arms.{one_items_row, one_pattern_row, properties_row}
+use Rattle.schema_sites.specs.Read.{IsRowOf, context_at, Surrounds}
 use Rattle.assertions.specs.Reads.{IsCause}
 use Rattle.schema_sites.specs.Refused.{Refuses}
-use Rattle.schema_sites.specs.Seen.{documents_at, Stands, counts_at, beside_at}
+use Rattle.schema_sites.specs.Seen.{Stands, counts_at, beside_at}
 use Rattle.schema_sites.specs.declared.keyword.Keyword.{Keyword}
+use Rattle.schema_sites.specs.declared.keyword.Keyword.TheVariants.{Nothing}
 use Rattle.schema_sites.specs.declared.keyword.Refusal.{Refusal}
 use Rattle.schema_sites.specs.declared.site.Site as code
+use Rattle.schema_sites.proofs.MadeLemmas.{plain-row, same-row}
 
 pub row-if : (b : Bool) (r s : Row) → b ≡ true → (if b then r else s) ≡ r
 row-if true r s e = refl
@@ -46,6 +44,9 @@ neighbour c ms x s k =
 
 pub items-row : (x : Context) (d : Data) → counts_here x (codes "items") ≡ true → row_at x (codes "items") d ≡ one_items_row x d
 items-row x d e = row-if (counts_here x (codes "items")) (one_items_row x d) nothing_read e
+
+pub pattern-row : (x : Context) (d : Data) → counts_here x (codes "pattern") ≡ true → row_at x (codes "pattern") d ≡ one_pattern_row x d
+pattern-row x d e = row-if (counts_here x (codes "pattern")) (one_pattern_row x d) nothing_read e
 
 pub properties-row : (x : Context) (d : Data) → counts_here x (codes "properties") ≡ true → row_at x (codes "properties") d ≡ properties_row x d
 properties-row x d e = row-if (counts_here x (codes "properties")) (properties_row x d) nothing_read e
@@ -77,9 +78,9 @@ module _ (c : code.Site) (ms : Members) (k known : List ℕ) (d : Data) (row : C
   row-here : (x : Context) → counts_here x k ≡ true → row_at x k d ≡ row x d
   row-here x e = ap (λ (n : List ℕ). row_at x n d) is ∙ row-known x d (there x e)
 
-  pub read-here : (r : Keyword) → ((x : Context) → Surrounds c ms x → row x d ≡ row_of x.documents x.site r)
-      → (x : Context) → Surrounds c ms x → counts_here x k ≡ true → row_at x k d ≡ row_of x.documents x.site r
-  read-here r h x s e = row-here x e ∙ h x s
+  pub read-here : (r : Keyword) → ((x : Context) → Surrounds c ms x → IsRowOf x known (row x d) r)
+      → (x : Context) → Surrounds c ms x → counts_here x k ≡ true → IsRowOf x k (row_at x k d) r
+  read-here r h x s e = same-row x k (row_at x k d) (row x d) r (row-here x e) (subst (λ (n : List ℕ). IsRowOf x n (row x d) r) (sym is) (h x s))
 
   pub refused-here : (e : Refusal) → ((x : Context) → Surrounds c ms x → counts_here x known ≡ true → Refuses x known d (row x d) e)
       → (x : Context) → Surrounds c ms x → counts_here x k ≡ true → Refuses x k d (row_at x k d) e
@@ -91,56 +92,20 @@ module _ (c : code.Site) (ms : Members) (k : List ℕ) (d : Data) (counted : cou
   here : (makes : List ℕ → Bool) (s : Site) → Stands c s → counts_here (context_at c ms makes s) k ≡ true
   here makes s stands = counts-there c ms s stands k ∙ counted
 
-  pub reads-where : (r : Keyword) → ((x : Context) → Surrounds c ms x → counts_here x k ≡ true → row_at x k d ≡ row_of x.documents x.site r)
-      → (makes : List ℕ → Bool) (s : Site) → Stands c s → s.scope ≡ scope_of c.resolver → row_at (context_at c ms makes s) k d ≡ row_of (documents_at c) s r
+  pub reads-where : (r : Keyword) → ((x : Context) → Surrounds c ms x → counts_here x k ≡ true → IsRowOf x k (row_at x k d) r)
+      → (makes : List ℕ → Bool) (s : Site) → Stands c s → s.scope ≡ scope_of c.resolver → IsRowOf (context_at c ms makes s) k (row_at (context_at c ms makes s) k d) r
   reads-where r h makes s stands scope = h (context_at c ms makes s) (surrounding c ms makes s stands scope) (here makes s stands)
 
   pub refuses-where : (e : Refusal) → ((x : Context) → Surrounds c ms x → counts_here x k ≡ true → Refuses x k d (row_at x k d) e)
       → (makes : List ℕ → Bool) (s : Site) → Stands c s → s.scope ≡ scope_of c.resolver → Refuses (context_at c ms makes s) k d (row_at (context_at c ms makes s) k d) e
   refuses-where e h makes s stands scope = h (context_at c ms makes s) (surrounding c ms makes s stands scope) (here makes s stands)
 
--- ---- what is read, and what is not yet
+-- ---- a name that does not count
 
-pub never-unread : (a b : Bool) → b ≡ true → (a && not b) ≡ false
-never-unread true b e = ap not e
-never-unread false b e = refl
-
--- a name that is read
-pub is-read : (k known : List ℕ) (d : Data) → k ≡ known → is_listed known read_now ≡ true → (s : Site) (ms : Members) → is_unread s ms k d ≡ false
-is-read k known d is listed s ms =
-    never-unread (counts s.dialect.draft s.dialect.vocabularies (has_reference ms) k) (is_read_beside s ms k)
-    (ap (λ (b : Bool). b || (bytes_eq k (codes "additionalProperties") && not (has_patterns s ms))) (ap (λ (n : List ℕ). is_listed n read_now) is ∙ listed))
-
-pub if-read : {E : Type 0} (r : Result Keyword E) (k known : List ℕ) (d : Data) → k ≡ known → is_listed known read_now ≡ true
-    → (c : code.Site) (ms : Members) → IfOk r (λ (w : Keyword). (s : Site) → Stands c s → is_unread s ms k d ≡ false)
-if-read (Ok w) k known d is listed c ms = λ s stands. is-read k known d is listed s ms
-if-read (Err e) k known d is listed c ms = tt
-
--- a name that does not count
 pub nothing-there : (c : code.Site) (ms : Members) (k : List ℕ) (d : Data) → counts_at c (has_reference ms) k ≡ false → (makes : List ℕ → Bool) (s : Site) → Stands c s
-    → row_at (context_at c ms makes s) k d ≡ nothing_read
+    → IsRowOf (context_at c ms makes s) k (row_at (context_at c ms makes s) k d) Nothing
 nothing-there c ms k d none makes s stands =
-    let x = context_at c ms makes s in row-else (counts_here x k) _ nothing_read (counts-there c ms s stands k ∙ none)
-
-pub uncounted : (c : code.Site) (ms : Members) (k : List ℕ) (d : Data) → counts_at c (has_reference ms) k ≡ false → (s : Site) → Stands c s → is_unread s ms k d ≡ false
-uncounted c ms k d none s stands = ap (λ (b : Bool). b && not (is_read_beside s ms k)) (counts-there c ms s stands k ∙ none)
-
--- a keyword that is none of those that are read
-pub not-yet : (x : Context) (k : List ℕ) (d : Data) → counts_here x k ≡ true → is_listed k read_now ≡ false → bytes_eq k (codes "additionalProperties") ≡ false
-    → is_unread x.site x.members k d ≡ true
-not-yet x k d counted unlisted other =
-    let patterns = not (has_patterns x.site x.members) in
-    ap (λ (b : Bool). b && not (is_read_beside x.site x.members k)) counted
-    ∙ ap (λ (b : Bool). not (b || (bytes_eq k (codes "additionalProperties") && patterns))) unlisted ∙ ap (λ (b : Bool). not (b && patterns)) other
-
--- a name that is none of the list
-abbrev pub IsNone : List ℕ → List (List ℕ) → Type 0
-IsNone k [] = Unit {0}
-IsNone k (n ∷ ns) = (bytes_eq k n ≡ false) × IsNone k ns
-
-pub unlisted : (k : List ℕ) (names : List (List ℕ)) → IsNone k names → is_listed k names ≡ false
-unlisted k [] none = refl
-unlisted k (n ∷ ns) none = ap (λ (b : Bool). b || is_listed k ns) none.0 ∙ unlisted k ns none.1
+    let x = context_at c ms makes s in plain-row x k (row_at x k d) Nothing refl (row-else (counts_here x k) _ nothing_read (counts-there c ms s stands k ∙ none))
 
 -- ---- values that the keyword may not have
 

@@ -1,26 +1,23 @@
 -- Keywords that only assert, where their names count.
-use Rattle.std.proofs.Common.{◌≡◌, ◌∙◌, refl, sym, ap, subst, ℕ, List, [], ◌∷◌, ◌++◌, Bool, true, false, true≢false, not, ◌&&◌, ◌||◌, bytes_eq, codes, is_some, Option, Some, None, IfSome}
+use Rattle.std.proofs.Common.{◌≡◌, ◌∙◌, refl, sym, ap, subst, ℕ, List, [], ◌∷◌, ◌++◌, Bool, true, false, true≢false, ◌&&◌, ◌||◌, bytes_eq, codes, if◌then◌else◌, Option, Some, None, IfSome}
 use Rattle.std.proofs.lemmas.Slice.Eq.{bytes_eq-Decides}
 use Rattle.std.specs.List.{AllByRecursion}
 use Rattle.serde_json.specs.Data.{Data, Members}
-use Rattle.serde_json.specs.Find.{as_array}
 use Rattle.schema_documents.specs.Places.{Dialect}
 use Rattle.schema_meaning.specs.Members.{is_listed}
-use Rattle.unread_keywords.specs.NotYet.{is_unread, read_now}
-use Rattle.schema_reading.specs.Rows.{Row, Context, counts_here, nothing_read, takes_list, readers, read_among, row_at}
-use Rattle.schema_reading.specs.Sites.{Site}
+use Rattle.schema_reading.specs.Rows.{Row, Context, counts_here, nothing_read, Reader, readers, read_among, row_at}
 use Rattle.assertions.specs.Names.{assertion_names}
 use Rattle.assertions.specs.Reads.{ReadsAs}
 use Rattle.assertions.specs.Reads as asserting
 use Rattle.assertions.specs.declared.reading.Reading.{Reading}
-use Rattle.schema_sites.specs.Read.{row_of, Surrounds}
+use Rattle.schema_sites.specs.Read.{IsRowOf, Surrounds}
 use Rattle.schema_sites.specs.Refused.{Refuses}
 use Rattle.schema_sites.specs.Seen.{beside_at}
 use Rattle.schema_sites.specs.References.{named}
 use Rattle.schema_sites.specs.declared.keyword.Keyword.{Keyword}
 use Rattle.schema_sites.specs.declared.keyword.Refusal.{Refusal}
 use Rattle.schema_sites.specs.declared.site.Site as code
-use Rattle.schema_sites.proofs.ArmLemmas.{row-if, neighbour, is-read}
+use Rattle.schema_sites.proofs.ArmLemmas.{row-if, neighbour}
 use Rattle.schema_sites.proofs.NamedLemmas.{named-none}
 
 pub some-of : {A : Type 0} (P : A → Type 0) (o : Option A) (x : A) → o ≡ Some x → IfSome o P → P x
@@ -42,15 +39,15 @@ module _ (c : code.Site) (ms : Members) (k : List ℕ) (d : Data) (strict : Opti
   reads-here x s counted =
       subst (λ (row : Row). ReadsAs x k row r) (sym (row-if (counts_here x k) (read_among readers x k d) nothing_read counted)) (reads x (surrounded x s))
 
-  pub asserted-read : (w : Keyword) → ((x : Context) (n : List ℕ) (row : Row) → ReadsAs x n row r → row ≡ row_of x.documents x.site w)
-      → (x : Context) → Surrounds c ms x → counts_here x k ≡ true → row_at x k d ≡ row_of x.documents x.site w
+  pub asserted-read : (w : Keyword) → ((x : Context) (n : List ℕ) (row : Row) → ReadsAs x n row r → IsRowOf x n row w)
+      → (x : Context) → Surrounds c ms x → counts_here x k ≡ true → IsRowOf x k (row_at x k d) w
   asserted-read w h x s counted = h x k (row_at x k d) (reads-here x s counted)
 
   pub asserted-refused : (e : Refusal) → ((x : Context) (n : List ℕ) (d : Data) (row : Row) → ReadsAs x n row r → Refuses x n d row e)
       → (x : Context) → Surrounds c ms x → counts_here x k ≡ true → Refuses x k d (row_at x k d) e
   asserted-refused e h x s counted = h x k d (row_at x k d) (reads-here x s counted)
 
--- ---- its name is read
+-- ---- names that are among others
 
 abbrev pub every : (List ℕ → Bool) → List (List ℕ) → Bool
 every p [] = true
@@ -65,10 +62,7 @@ every-listed p k (n ∷ ns) all e = by (bytes_eq k n) (p n) refl refl all e (eve
     by false true is holds all e rest = rest all e
     by b false is holds all e rest = absurd (true≢false (sym all))
 
-pub assertion-read : (k : List ℕ) (d : Data) → is_listed k assertion_names ≡ true → (s : Site) (ms : Members) → is_unread s ms k d ≡ false
-assertion-read k d listed = is-read k k d refl (every-listed (λ n. is_listed n read_now) k assertion_names refl listed)
-
--- ---- a name that is not read
+-- ---- a name that is none of the readers'
 
 unlisted-both : (k : List ℕ) (xs ys : List (List ℕ)) → is_listed k xs ≡ false → is_listed k ys ≡ false → is_listed k (xs ++ ys) ≡ false
 unlisted-both k [] ys e f = f
@@ -77,13 +71,6 @@ unlisted-both k (n ∷ ns) ys e f = by (bytes_eq k n) e (λ g. unlisted-both k n
     by : (b : Bool) → (b || is_listed k ns) ≡ false → (is_listed k ns ≡ false → is_listed k (ns ++ ys) ≡ false) → (b || is_listed k (ns ++ ys)) ≡ false
     by true e rest = absurd (true≢false e)
     by false e rest = rest e
-
-pub unnamed : (k n : List ℕ) → (k ≡ n → ⊥) → bytes_eq k n ≡ false
-unnamed k n apart = by (bytes_eq k n) refl
-  where
-    by : (b : Bool) → bytes_eq k n ≡ b → b ≡ false
-    by true is = absurd (apart ((bytes_eq-Decides k n).0 is))
-    by false is = refl
 
 pub none-listed : (k : List ℕ) (names : List (List ℕ)) → AllByRecursion (λ (n : List ℕ). k ≡ n → ⊥) names → is_listed k names ≡ false
 none-listed k [] apart = refl
@@ -99,14 +86,30 @@ no-reference k e =
     ap (λ (b : Bool). b || (bytes_eq k (codes "$dynamicRef") || (bytes_eq k (codes "$recursiveRef") || false))) n.plain
     ∙ ap (λ (b : Bool). b || (bytes_eq k (codes "$recursiveRef") || false)) n.dynamic ∙ ap (λ (b : Bool). b || false) n.recursive
 
--- the names that are read and are neither a reference's nor an assertion's
+-- the names of readers that are neither a reference's nor an assertion's
 abbrev pub applied_names : List (List ℕ)
 applied_names =
     codes "items" ∷ codes "properties" ∷ codes "unevaluatedItems" ∷ codes "unevaluatedProperties" ∷ codes "prefixItems" ∷ codes "dependentSchemas" ∷ codes "allOf" ∷ codes "additionalItems"
     ∷ codes "anyOf" ∷ codes "oneOf" ∷ codes "not" ∷ codes "contains" ∷ codes "minContains" ∷ codes "maxContains" ∷ codes "dependencies"
-    ∷ codes "if" ∷ codes "then" ∷ codes "else" ∷ []
+    ∷ codes "if" ∷ codes "then" ∷ codes "else" ∷ codes "pattern" ∷ codes "patternProperties" ∷ codes "additionalProperties" ∷ codes "propertyNames" ∷ []
 
-pub none-read : (k : List ℕ) → named k ≡ None → is_listed k assertion_names ≡ false → is_listed k applied_names ≡ false → is_listed k read_now ≡ false
-none-read k reference assertion other =
-    unlisted-both k (codes "$ref" ∷ codes "$dynamicRef" ∷ codes "$recursiveRef" ∷ []) (assertion_names ++ applied_names) (no-reference k reference)
-    (unlisted-both k assertion_names applied_names assertion other)
+abbrev names_of : List (List ℕ × Reader) → List (List ℕ)
+names_of [] = []
+names_of (r ∷ rs) = r.0 ∷ names_of rs
+
+none-among : (known : List (List ℕ)) (x : Context) (k : List ℕ) (d : Data) → is_listed k known ≡ false → (rs : List (List ℕ × Reader)) → every (λ n. is_listed n known) (names_of rs) ≡ true
+    → read_among rs x k d ≡ nothing_read
+none-among known x k d none [] all = refl
+none-among known x k d none (r ∷ rs) all = by (bytes_eq r.0 k) (is_listed r.0 known) refl refl all (none-among known x k d none rs)
+  where
+    by : (b c : Bool) → bytes_eq r.0 k ≡ b → is_listed r.0 known ≡ c → (c && every (λ n. is_listed n known) (names_of rs)) ≡ true
+        → (every (λ n. is_listed n known) (names_of rs) ≡ true → read_among rs x k d ≡ nothing_read) → (if b then r.1 x k d else read_among rs x k d) ≡ nothing_read
+    by true true is listed all rest = absurd (true≢false (sym listed ∙ ap (λ n. is_listed n known) ((bytes_eq-Decides r.0 k).0 is) ∙ none))
+    by false true is listed all rest = rest all
+    by b false is listed all rest = absurd (true≢false (sym all))
+
+pub none-read : (x : Context) (k : List ℕ) (d : Data) → named k ≡ None → is_listed k assertion_names ≡ false → is_listed k applied_names ≡ false → read_among readers x k d ≡ nothing_read
+none-read x k d reference assertion other =
+    let references = codes "$ref" ∷ codes "$dynamicRef" ∷ codes "$recursiveRef" ∷ [] in
+    none-among (references ++ assertion_names ++ applied_names) x k d
+    (unlisted-both k references (assertion_names ++ applied_names) (no-reference k reference) (unlisted-both k assertion_names applied_names assertion other)) readers refl

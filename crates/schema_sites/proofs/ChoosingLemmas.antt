@@ -1,5 +1,5 @@
 -- What `if`, `then` and `else` are, by what is read of them.
-use Rattle.std.proofs.Common.{◌≡◌, ◌∙◌, refl, sym, ap, subst, ℕ, List, [], Bor, Option}
+use Rattle.std.proofs.Common.{◌≡◌, refl, sym, ap, subst, ℕ, List, Bor, Option}
 use Rattle.serde_json.specs.Data.{Data}
 use Rattle.serde_json.specs.View.{view}
 use Rattle.serde_json.specs.declared.value.Value.{Value}
@@ -7,26 +7,27 @@ use Rattle.schema_reading.specs.Rows.{Row, Context}
 use Rattle.applicators.specs.declared.applicator.Applicator.{Applicator}
 use Rattle.applicators.specs.declared.applicator.Applicator.TheVariants as applied
 use Rattle.applicator_reading.specs.Conditions.{IsIf, IsCondition, IsConsequent}
-use Rattle.applicator_reading.specs.Reads.{ReadsAs}
+use Rattle.applicator_reading.specs.Reads.{ReadsAs, AppliesAs}
 use Rattle.applicator_reading.specs.declared.reading.Reading.{Reading}
 use Rattle.applicator_reading.specs.declared.reading.Reading.TheVariants as reading
-use Rattle.schema_sites.specs.Read.{row_of, Finds}
+use Rattle.schema_sites.specs.Read.{IsRowOf, Finds}
 use Rattle.schema_sites.specs.Refused.{Refuses}
 use Rattle.schema_sites.specs.declared.keyword.Keyword.{Keyword}
 use Rattle.schema_sites.specs.declared.site.Site as code
 use Rattle.schema_sites.specs.declared.keyword.Keyword.TheVariants.{Nothing, If, Consequent}
 use Rattle.schema_sites.specs.declared.keyword.Refusal.TheVariants as refusal
 use Rattle.schema_sites.proofs.ApplyingLemmas.{same-cause}
+use Rattle.schema_sites.proofs.MadeLemmas.{plain-row, same-keyword}
 
 module _ (r : Reading) where
   -- ---- as it is read
 
   pub consequent-read : (x : Context) (k : Bor (List ℕ)) (row : Row) (schema : Bor Value) → r ≡ reading.Consequent schema → ReadsAs x k.now row r
-      → row ≡ row_of x.documents x.site (Consequent k schema)
-  consequent-read x k row schema is h = subst (ReadsAs x k.now row) is h
+      → IsRowOf x k.now row (Consequent k schema)
+  consequent-read x k row schema is h = plain-row x k.now row (Consequent k schema) refl (subst (ReadsAs x k.now row) is h)
 
-  pub nothing-read : (x : Context) (k : List ℕ) (row : Row) → r ≡ reading.Nothing → ReadsAs x k row r → row ≡ row_of x.documents x.site Nothing
-  nothing-read x k row is h = subst (ReadsAs x k row) is h
+  pub nothing-read : (x : Context) (k : List ℕ) (row : Row) → r ≡ reading.Nothing → ReadsAs x k row r → IsRowOf x k row Nothing
+  nothing-read x k row is h = plain-row x k row Nothing refl (subst (ReadsAs x k row) is h)
 
   pub value-read : (x : Context) (k : List ℕ) (d : Data) (row : Row) (expected : Bor (List ℕ)) → r ≡ reading.Value expected → ReadsAs x k row r → Refuses x k d row (refusal.Value expected)
   value-read x k d row expected is h = same-cause _ row (subst (ReadsAs x k row) is h)
@@ -47,11 +48,12 @@ module _ (r : Reading) (value : Bor Value) (a : Applicator) (k : Keyword) (is : 
   same : k ≡ If value its.then_schema its.else_schema
   same = found value its.then_schema its.else_schema its.is
 
-  pub if-read : (x : Context) (n : List ℕ) (row : Row) → ReadsAs x n row r → row ≡ row_of x.documents x.site k
+  pub if-read : (x : Context) (n : List ℕ) (row : Row) → ReadsAs x n row r → IsRowOf x n row k
   if-read x n row read =
-      let as_if : ReadsAs x n row (reading.Applied (applied.If value its.then_schema its.else_schema)) =
-      subst (λ (b : Applicator). ReadsAs x n row (reading.Applied b)) its.is (subst (ReadsAs x n row) is read) in
-      subst (λ (w : Keyword). row ≡ row_of x.documents x.site w) (sym same) as_if
+      let as_if : AppliesAs x n row (applied.If value its.then_schema its.else_schema) =
+      subst (λ (b : Applicator). AppliesAs x n row b) its.is (subst (ReadsAs x n row) is read) in
+      same-keyword x n row k (If value its.then_schema its.else_schema) same
+      (plain-row x n row (If value its.then_schema its.else_schema) refl (as_if.made (record { each = λ p i. elim i [ ] })))
 
   pub if-found : (c : code.Site) → Finds c (view value.now) k
   if-found c = subst (λ (w : Keyword). Finds c (view value.now) w) (sym same) refl

@@ -1,4 +1,5 @@
 pub mod Standing
+pub mod MadeLemmas
 pub mod ArmLemmas
 pub mod NamedLemmas
 pub mod AssertingLemmas

@@ -1,16 +1,12 @@
 -- The keywords of references by their names.
-use Rattle.std.proofs.Common.{◌≡◌, ◌∙◌, refl, ap, ℕ, List, Bool, true, false, ◌&&◌, bytes_eq, codes, if◌then◌else◌, is_some, Option, Some, None}
+use Rattle.std.proofs.Common.{◌≡◌, ◌∙◌, refl, ap, ℕ, List, Bool, true, false, bytes_eq, codes, if◌then◌else◌, Option, Some, None}
 use Rattle.std.proofs.lemmas.Slice.Eq.{bytes_eq-Decides}
-use Rattle.serde_json.specs.Data.{Data, Members}
-use Rattle.serde_json.specs.Find.{as_array}
-use Rattle.schema_meaning.specs.Members.{is_listed}
-use Rattle.unread_keywords.specs.NotYet.{is_unread, read_now}
-use Rattle.schema_reading.specs.Rows.{Context, counts_here, nothing_read, takes_list, row_at}
-use Rattle.schema_reading.specs.Sites.{Site}
+use Rattle.serde_json.specs.Data.{Data}
+use Rattle.schema_reading.specs.Rows.{Context, counts_here, nothing_read, row_at}
 use Rattle.schema_sites.specs.References.{name_of, named, reference_row}
 use Rattle.schema_sites.specs.declared.reference_keyword.ReferenceKeyword.{ReferenceKeyword}
 use Rattle.schema_sites.specs.declared.reference_keyword.ReferenceKeyword.TheVariants.{Ref, DynamicRef, RecursiveRef}
-use Rattle.schema_sites.proofs.ArmLemmas.{row-if, is-read}
+use Rattle.schema_sites.proofs.ArmLemmas.{row-if}
 
 some-or : (b : Bool) (k n : List ℕ) (w : ReferenceKeyword) (rest : Option ReferenceKeyword) → bytes_eq k n ≡ b → n ≡ name_of w
     → ((r : ReferenceKeyword) → rest ≡ Some r → k ≡ name_of r) → (r : ReferenceKeyword) → (if b then Some w else rest) ≡ Some r → k ≡ name_of r
@@ -50,11 +46,3 @@ pub reference-row : (r : ReferenceKeyword) (x : Context) (d : Data) → counts_h
 reference-row Ref x d e = row-if (counts_here x (codes "$ref")) (reference_row Ref x d) nothing_read e
 reference-row DynamicRef x d e = row-if (counts_here x (codes "$dynamicRef")) (reference_row DynamicRef x d) nothing_read e
 reference-row RecursiveRef x d e = row-if (counts_here x (codes "$recursiveRef")) (reference_row RecursiveRef x d) nothing_read e
-
-listed-reference : (r : ReferenceKeyword) → is_listed (name_of r) read_now ≡ true
-listed-reference Ref = refl
-listed-reference DynamicRef = refl
-listed-reference RecursiveRef = refl
-
-pub reference-read : (k : List ℕ) (r : ReferenceKeyword) (d : Data) → k ≡ name_of r → (s : Site) (ms : Members) → is_unread s ms k d ≡ false
-reference-read k r d is = is-read k (name_of r) d is (listed-reference r)

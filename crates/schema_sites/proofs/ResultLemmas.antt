@@ -18,8 +18,3 @@ kept (Err e) P Q is h = h e is
 pub if-err-both : {X E : Type 0} (P Q R : E → Type 0) (r : Result X E) → ((e : E) → P e → Q e → R e) → IfErr r P → IfErr r Q → IfErr r R
 if-err-both P Q R (Ok x) h p q = p
 if-err-both P Q R (Err e) h p q = h e p q
-
--- what holds of every value
-pub ok-always : {X E : Type 0} (P : X → Type 0) (r : Result X E) → ((x : X) → P x) → IfOk r P
-ok-always P (Ok x) h = h x
-ok-always P (Err e) h = tt

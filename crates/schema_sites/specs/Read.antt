@@ -1,24 +1,27 @@
 -- What the code's keywords stand for at a site.
-use Rattle.std.specs.Prelude.{◌≡◌, ℕ, List, [], ◌∷◌, Bool, true, codes, option_map, Ok}
+use Rattle.std.specs.Prelude.{◌≡◌, ℕ, List, [], ◌∷◌, Bool, true, false, codes, option_map, Ok}
 use Rattle.serde_json.specs.Data.{Data, object, Members, no_members, member}
 use Rattle.serde_json.specs.View.{view, members_view}
-use Rattle.json_paths.specs.Parts.{name}
+use Rattle.json_paths.specs.Parts.{Part, name}
 use Rattle.schema_documents.specs.Bearers.{Documents}
-use Rattle.schema_meaning.specs.Keywords.{Shape, items, properties, condition, reference}
+use Rattle.schema_meaning.specs.Keywords.{Shape, pattern, items, properties, condition, reference}
 use Rattle.schema_documents.specs.Scopes.{entered_scope}
 use Rattle.referencing.specs.Resolved.{base_of, scope_of, documents_in, target_in}
 use Rattle.referencing.specs.declared.resolver.Resolved.{Resolved}
 use Rattle.schema_reading.specs.Sites.{Site, below, target_site}
-use Rattle.schema_reading.specs.Rows.{Row, reads, at, assertion, sites_named, Context}
+use Rattle.schema_meaning.specs.Members.{In}
+use Rattle.schema_reading.specs.Rows.{Row, bad_pattern, reads, at, assertion, sites_named, Context, place_at}
 use Rattle.assertions.specs.Shapes.{assertion_of}
 use Rattle.applicators.specs.Shapes as applied
-use Rattle.applicators.specs.Combined.{asks_values}
+use Rattle.applicators.specs.Combined.{is_by_answers}
+use Rattle.applicators.specs.Made.{is_made_by, AreMade}
+use Rattle.applicators.specs.Made as making
 use Rattle.schema_sites.specs.Seen.{documents_at, Stands}
 use Rattle.schema_sites.specs.References.{kind_of, looked_up, MayBe}
 use Rattle.schema_sites.specs.declared.reference_keyword.ReferenceKeyword.{ReferenceKeyword}
 use Rattle.schema_sites.specs.declared.site.Site as code
 use Rattle.schema_sites.specs.declared.keyword.Keyword.{Keyword}
-use Rattle.schema_sites.specs.declared.keyword.Keyword.TheVariants.{Nothing, Assertion, Items, Properties, If, Consequent, Applicator, Reference}
+use Rattle.schema_sites.specs.declared.keyword.Keyword.TheVariants.{Nothing, Assertion, Pattern, Items, Properties, If, Consequent, Applicator, Reference}
 
 -- the sites of the members of a keyword's value, with their names
 abbrev pub each_below : Documents → Site → List ℕ → Members → List (List ℕ × Site)
@@ -32,6 +35,7 @@ site_at docs s k d = below docs s (at k) d
 abbrev pub shapes_of : Documents → Site → Keyword → List (Shape Site)
 shapes_of docs s Nothing = []
 shapes_of docs s (Assertion a) = assertion (assertion_of a)
+shapes_of docs s (Pattern p) = assertion (pattern p.now)
 shapes_of docs s (Items start schema) = items start (below docs s (at (codes "items")) (view schema.now)) ∷ []
 shapes_of docs s (Properties map) = properties (each_below docs s (codes "properties") (members_view map.now.entries)) ∷ []
 shapes_of docs s (If schema then_schema else_schema) =
@@ -45,6 +49,7 @@ shapes_of docs s (Reference keyword text target) = reference (kind_of keyword) (
 abbrev pub leads_of : Documents → Site → Keyword → List Site
 leads_of docs s Nothing = []
 leads_of docs s (Assertion a) = []
+leads_of docs s (Pattern p) = []
 leads_of docs s (Items start schema) = below docs s (at (codes "items")) (view schema.now) ∷ []
 leads_of docs s (Properties map) = sites_named (each_below docs s (codes "properties") (members_view map.now.entries))
 leads_of docs s (If schema then_schema else_schema) = site_at docs s (codes "if") (view schema.now) ∷ []
@@ -54,6 +59,36 @@ leads_of docs s (Reference keyword text target) = target_site s text.now (target
 
 abbrev pub row_of : Documents → Site → Keyword → Row
 row_of docs s k = reads (leads_of docs s k) (shapes_of docs s k)
+
+-- the patterns that have to be made for a keyword to be read
+abbrev pub patterns_in : Keyword → List (List ℕ)
+patterns_in Nothing = []
+patterns_in (Assertion a) = []
+patterns_in (Pattern p) = p.now ∷ []
+patterns_in (Items start schema) = []
+patterns_in (Properties map) = []
+patterns_in (If schema then_schema else_schema) = []
+patterns_in (Consequent k schema) = []
+patterns_in (Applicator a) = making.patterns_in a
+patterns_in (Reference keyword text target) = []
+
+-- where one of them stands, from the schema of the member on: at the keyword `pattern`, or at a name in the value
+abbrev pub pattern_parts : Keyword → List ℕ → List ℕ → List Part
+pattern_parts Nothing k p = name p ∷ name k ∷ []
+pattern_parts (Assertion a) k p = name p ∷ name k ∷ []
+pattern_parts (Pattern text) k p = name k ∷ []
+pattern_parts (Items start schema) k p = name p ∷ name k ∷ []
+pattern_parts (Properties map) k p = name p ∷ name k ∷ []
+pattern_parts (If schema then_schema else_schema) k p = name p ∷ name k ∷ []
+pattern_parts (Consequent n schema) k p = name p ∷ name k ∷ []
+pattern_parts (Applicator a) k p = name p ∷ name k ∷ []
+pattern_parts (Reference keyword text target) k p = name p ∷ name k ∷ []
+
+-- the row of a member of that name: the keyword's where its patterns are made; else each that is not is a cause
+pub record IsRowOf (x : Context) (n : List ℕ) (row : Row) (k : Keyword) : Type 0 where
+  pub made : AreMade x.makes (patterns_in k) → row ≡ row_of x.documents x.site k
+  pub right : row.causes ≡ [] → AreMade x.makes (patterns_in k)
+  pub bad : (p : List ℕ) → In p (patterns_in k) → is_made_by x.makes p ≡ false → In (bad_pattern (place_at x (pattern_parts k n p))) row.causes
 
 -- what a member of a site's schema is read in
 abbrev pub context_at : code.Site → Members → (List ℕ → Bool) → Site → Context
@@ -67,8 +102,8 @@ pub record Surrounds (c : code.Site) (ms : Members) (x : Context) : Type 0 where
   pub scope : x.site.scope ≡ scope_of c.resolver
 
 -- the row that a member has in each of these
-abbrev pub ReadAs : code.Site → Members → (Context → Row) → Keyword → Type 0
-ReadAs c ms row k = (x : Context) → Surrounds c ms x → row x ≡ row_of x.documents x.site k
+abbrev pub ReadAs : code.Site → Members → List ℕ → (Context → Row) → Keyword → Type 0
+ReadAs c ms n row k = (x : Context) → Surrounds c ms x → IsRowOf x n (row x) k
 
 -- what a reference at a site leads to
 pub record FindsTarget (c : code.Site) (keyword : ReferenceKeyword) (text : List ℕ) (target : Resolved) : Type 0 where
@@ -81,9 +116,10 @@ pub record FindsTarget (c : code.Site) (keyword : ReferenceKeyword) (text : List
 abbrev pub Finds : code.Site → Data → Keyword → Type 0
 Finds c d Nothing = Unit {0}
 Finds c d (Assertion a) = Unit {0}
+Finds c d (Pattern p) = Unit {0}
 Finds c d (Items start schema) = d ≡ view schema.now
 Finds c d (Properties map) = d ≡ object (members_view map.now.entries)
 Finds c d (If schema then_schema else_schema) = d ≡ view schema.now
 Finds c d (Consequent k schema) = d ≡ view schema.now
-Finds c d (Applicator a) = asks_values a ≡ true
+Finds c d (Applicator a) = is_by_answers a ≡ true
 Finds c d (Reference keyword text target) = FindsTarget c keyword text.now target

@@ -7,7 +7,6 @@ use Rattle.schema_documents.specs.Lookup.{LookupCause}
 use Rattle.referencing.specs.Resolved.{target_in}
 use Rattle.referencing_errors.specs.Causes.{NamesLookup}
 use Rattle.schema_reading.specs.Rows.{Row, keyword_value, left_out, bad_reference, Context, counts_here, place_at, at}
-use Rattle.unread_keywords.specs.NotYet.{is_unread}
 use Rattle.schema_sites.specs.Read.{Surrounds}
 use Rattle.schema_sites.specs.declared.site.Site as code
 use Rattle.schema_sites.specs.declared.keyword.Refusal.{Refusal}
@@ -21,7 +20,6 @@ Refuses x k d row (refusal.Element i expected) = IsCause (keyword_value (place_a
 Refuses x k d row (refusal.Target target) = IsCause (keyword_value (record { document = (target_in target).document; path = (target_in target).path }) (codes "schema")) row
 Refuses x k d row (refusal.Reference error) = (cause : LookupCause) × NamesLookup cause error × IsCause (bad_reference (place_at x (at k)) cause) row
 Refuses x k d row refusal.LeftOut = IsCause (left_out (place_at x (at k))) row
-Refuses x k d row refusal.NotYet = is_unread x.site x.members k d ≡ true
 Refuses x k d row refusal.Memory = Unit {0}
 
 -- the same in each context of a site where the keyword counts

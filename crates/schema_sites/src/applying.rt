@@ -1,10 +1,10 @@
 //! What a keyword that applies subschemas is.
 
-ghost use Rattle.std.specs.Prelude.{◌≡◌, ℕ, List, IfOk, IfErr};
+ghost use Rattle.std.specs.Prelude.{ℕ, List, IfOk, IfErr};
 ghost use Rattle.serde_json.specs.Data.{Data};
 ghost use Rattle.schema_reading.specs.Rows as rows;
-ghost use Rattle.applicator_reading.specs.Reads.{ReadsAs, AsksValues};
-ghost use Rattle.schema_sites.specs.Read.{row_of, Finds};
+ghost use Rattle.applicator_reading.specs.Reads.{ReadsAs, IsByAnswers};
+ghost use Rattle.schema_sites.specs.Read.{IsRowOf, Finds};
 ghost use Rattle.schema_sites.specs.Refused.{Refuses};
 ghost use Rattle.schema_sites.specs.declared.site.Site as code;
 
@@ -12,8 +12,8 @@ use crate::keyword::{Keyword, Refusal};
 use applicator_reading::reading::Reading;
 
 pub(crate) fn applying<'r>(reading: Reading<'r>) -> Result<Keyword<'r>, Refusal<'r>>
-    requires values { AsksValues reading }
-    ensures read { IfOk result (λ k. (x : rows.Context) (n : List ℕ) (row : rows.Row) → ReadsAs x n row reading.entry → row ≡ row_of x.documents x.site k) }
+    requires answers { IsByAnswers reading }
+    ensures read { IfOk result (λ k. (x : rows.Context) (n : List ℕ) (row : rows.Row) → ReadsAs x n row reading.entry → IsRowOf x n row k) }
     ensures found { IfOk result (λ k. (c : code.Site) (d : Data) → Finds c d k) }
     ensures refused { IfErr result (λ e. (x : rows.Context) (n : List ℕ) (d : Data) (row : rows.Row) → ReadsAs x n row reading.entry → Refuses x n d row e) }
 {

@@ -43,7 +43,7 @@ pub(crate) fn condition<'r>(
     members: &'r Map<String, Value>,
     value: &'r Value,
 ) -> Result<Keyword<'r>, Refusal<'r>>
-    ensures read { IfOk result (ReadAs site.now (members_view members.now.entries) (λ x. rows.if_row x (codes "if") (view value.now))) }
+    ensures read { IfOk result (ReadAs site.now (members_view members.now.entries) (codes "if") (λ x. rows.if_row x (codes "if") (view value.now))) }
     ensures found { IfOk result (λ k. Finds site.now (view value.now) k) }
     ensures refused { IfErr result (RefusedAs site.now (members_view members.now.entries) (codes "if") (view value.now) (λ x. rows.if_row x (codes "if") (view value.now))) }
 {
@@ -65,7 +65,7 @@ pub(crate) fn consequent<'r>(
     name: &'static str,
     value: &'r Value,
 ) -> Result<Keyword<'r>, Refusal<'r>>
-    ensures read { IfOk result (ReadAs site.now (members_view members.now.entries) (λ x. rows.consequent_row x name.now (view value.now))) }
+    ensures read { IfOk result (ReadAs site.now (members_view members.now.entries) name.now (λ x. rows.consequent_row x name.now (view value.now))) }
     ensures found { IfOk result (λ k. Finds site.now (view value.now) k) }
     ensures refused { IfErr result (RefusedAs site.now (members_view members.now.entries) name.now (view value.now) (λ x. rows.consequent_row x name.now (view value.now))) }
 {

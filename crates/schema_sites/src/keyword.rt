@@ -13,6 +13,8 @@ pub enum Keyword<'r> {
     Nothing,
     /// A keyword that only asserts.
     Assertion(Assertion<'r>),
+    /// `pattern`, whose text a maker has to make.
+    Pattern(&'r str),
     /// One schema for the items from `start` on, which is the length of the list at `prefixItems` beside.
     Items {
         start: usize,
@@ -65,8 +67,6 @@ pub enum Refusal<'r> {
     Reference(Error),
     /// The keyword is left out.
     LeftOut,
-    /// The keyword is not read yet.
-    NotYet,
     /// Memory was refused, or a count of owners is full.
     Memory,
 }

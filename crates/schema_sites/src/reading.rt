@@ -1,20 +1,19 @@
 //! What a member of a schema is, read from its value and its neighbours.
 
 ghost use Rattle.std.specs.Prelude.{◌≡◌, List, ℕ, Bool, IfOk, IfErr, codes, false, true, None, option_map};
-ghost use Rattle.serde_json.specs.Data.{Data, Members};
+ghost use Rattle.serde_json.specs.Data.{Members};
 ghost use Rattle.serde_json.specs.View.{view, members_view};
 ghost use Rattle.referencing.specs.Resolved.{scope_of};
 ghost use Rattle.schema_meaning.specs.Members.{is_listed};
 ghost use Rattle.applicator_reading.specs.Names.{valued_names};
 ghost use Rattle.assertions.specs.Names.{assertion_names};
-ghost use Rattle.unread_keywords.specs.NotYet.{is_unread};
 ghost use Rattle.schema_reading.specs.Rows as rows;
 ghost use Rattle.schema_reading.specs.Sites as sites;
 ghost use Rattle.schema_sites.specs.Arms as arms;
-ghost use Rattle.schema_sites.specs.Read.{row_of, context_at, ReadAs, Finds, Surrounds};
+ghost use Rattle.schema_sites.specs.Read.{IsRowOf, context_at, ReadAs, Finds, Surrounds};
 ghost use Rattle.schema_sites.specs.References as references;
 ghost use Rattle.schema_sites.specs.Refused.{Refuses, RefusedAs};
-ghost use Rattle.schema_sites.specs.Seen.{documents_at, Stands, beside_at};
+ghost use Rattle.schema_sites.specs.Seen.{Stands};
 ghost use Rattle.schema_sites.specs.declared.site.Site as code;
 
 use crate::applying::applying;
@@ -33,7 +32,7 @@ use schema_places::place::is_schema;
 use serde_json::{Map, Value};
 use std::alloc::Global;
 
-// What a member is whose keyword asks the schemas in its value.
+// What a member is whose keyword asks the schemas in its value, and whose verdict is by their answers.
 fn applying_values<'r>(
     site: &Site<'r>,
     members: &'r Map<String, Value>,
@@ -41,9 +40,8 @@ fn applying_values<'r>(
     value: &'r Value,
 ) -> Result<Keyword<'r>, Refusal<'r>>
     requires values { is_listed name.now valued_names ≡ true }
-    ensures read { IfOk result (λ k. (x : rows.Context) → Surrounds site.now (members_view members.now.entries) x → rows.read_among rows.readers x name.now (view value.now) ≡ row_of x.documents x.site k) }
+    ensures read { IfOk result (λ k. (x : rows.Context) → Surrounds site.now (members_view members.now.entries) x → IsRowOf x name.now (rows.read_among rows.readers x name.now (view value.now)) k) }
     ensures found { IfOk result (λ k. Finds site.now (view value.now) k) }
-    ensures counted { IfOk result (λ k. (s : sites.Site) → Stands site.now s → is_unread s (members_view members.now.entries) name.now (view value.now) ≡ false) }
     ensures refused { IfErr result (λ e. (x : rows.Context) → Surrounds site.now (members_view members.now.entries) x → rows.counts_here x name.now ≡ true → Refuses x name.now (view value.now) (rows.read_among rows.readers x name.now (view value.now)) e) }
 {
     let neighbours = Neighbours {
@@ -52,12 +50,23 @@ fn applying_values<'r>(
     };
     match read_applicator(neighbours, name, value) {
         Some(reading) => applying(reading),
-        None => Err(Refusal::NotYet),
+        None => unreachable!(),
+    }
+}
+
+fn pattern<'r>(value: &'r Value) -> Result<Keyword<'r>, Refusal<'r>>
+    ensures read { IfOk result (λ k. (x : rows.Context) → IsRowOf x (codes "pattern") (arms.one_pattern_row x (view value.now)) k) }
+    ensures found { IfOk result (λ k. (c : code.Site) → Finds c (view value.now) k) }
+    ensures refused { IfErr result (λ e. (x : rows.Context) → Refuses x (codes "pattern") (view value.now) (arms.one_pattern_row x (view value.now)) e) }
+{
+    match value.as_str() {
+        Some(text) => Ok(Keyword::Pattern(text)),
+        None => Err(Refusal::Value { expected: "text" }),
     }
 }
 
 fn dependencies<'r>(alloc: Global, value: &'r Value) -> Result<Keyword<'r>, Refusal<'r>>
-    ensures read { IfOk result (λ k. (x : rows.Context) → rows.read_among rows.readers x (codes "dependencies") (view value.now) ≡ row_of x.documents x.site k) }
+    ensures read { IfOk result (λ k. (x : rows.Context) → IsRowOf x (codes "dependencies") (rows.read_among rows.readers x (codes "dependencies") (view value.now)) k) }
     ensures found { IfOk result (λ k. (c : code.Site) → Finds c (view value.now) k) }
     ensures refused { IfErr result (λ e. (x : rows.Context) → Refuses x (codes "dependencies") (view value.now) (rows.read_among rows.readers x (codes "dependencies") (view value.now)) e) }
 {
@@ -70,7 +79,7 @@ fn items<'r>(
     members: &'r Map<String, Value>,
     value: &'r Value,
 ) -> Result<Keyword<'r>, Refusal<'r>>
-    ensures read { IfOk result (ReadAs site.now (members_view members.now.entries) (λ x. arms.one_items_row x (view value.now))) }
+    ensures read { IfOk result (ReadAs site.now (members_view members.now.entries) (codes "items") (λ x. arms.one_items_row x (view value.now))) }
     ensures found { IfOk result (λ k. Finds site.now (view value.now) k) }
     ensures refused { IfErr result (RefusedAs site.now (members_view members.now.entries) (codes "items") (view value.now) (λ x. arms.one_items_row x (view value.now))) }
 {
@@ -97,7 +106,7 @@ fn first_other<'m>(map: &'m Map<String, Value>) -> Option<&'m str>
 }
 
 fn properties<'r>(value: &'r Value) -> Result<Keyword<'r>, Refusal<'r>>
-    ensures read { IfOk result (λ k. (x : rows.Context) → arms.properties_row x (view value.now) ≡ row_of x.documents x.site k) }
+    ensures read { IfOk result (λ k. (x : rows.Context) → IsRowOf x (codes "properties") (arms.properties_row x (view value.now)) k) }
     ensures found { IfOk result (λ k. (c : code.Site) → Finds c (view value.now) k) }
     ensures refused { IfErr result (λ e. (x : rows.Context) → Refuses x (codes "properties") (view value.now) (arms.properties_row x (view value.now)) e) }
 {
@@ -143,7 +152,7 @@ fn reference<'r>(
     keyword: ReferenceKeyword,
     value: &'r Value,
 ) -> Result<Keyword<'r>, Refusal<'r>>
-    ensures read { IfOk result (λ k. (ms : Members) → ReadAs site.now ms (λ x. references.reference_row keyword x (view value.now)) k) }
+    ensures read { IfOk result (λ k. (ms : Members) → ReadAs site.now ms (references.name_of keyword) (λ x. references.reference_row keyword x (view value.now)) k) }
     ensures found { IfOk result (λ k. Finds site.now (view value.now) k) }
     ensures refused { IfErr result (λ e. (ms : Members) → RefusedAs site.now ms (references.name_of keyword) (view value.now) (λ x. references.reference_row keyword x (view value.now)) e) }
 {
@@ -166,21 +175,23 @@ fn applied<'r>(
 ) -> Result<Keyword<'r>, Refusal<'r>>
     requires reference { references.named name.now ≡ None }
     requires assertion { is_listed name.now assertion_names ≡ false }
-    ensures read { IfOk result (λ k. (x : rows.Context) → Surrounds site.now (members_view members.now.entries) x → rows.counts_here x name.now ≡ true → rows.row_at x name.now (view value.now) ≡ row_of x.documents x.site k) }
-    ensures counted { IfOk result (λ k. (s : sites.Site) → Stands site.now s → is_unread s (members_view members.now.entries) name.now (view value.now) ≡ false) }
+    ensures read { IfOk result (λ k. (x : rows.Context) → Surrounds site.now (members_view members.now.entries) x → rows.counts_here x name.now ≡ true → IsRowOf x name.now (rows.row_at x name.now (view value.now)) k) }
     ensures found { IfOk result (λ k. Finds site.now (view value.now) k) }
     ensures refused { IfErr result (λ e. (x : rows.Context) → Surrounds site.now (members_view members.now.entries) x → rows.counts_here x name.now ≡ true → Refuses x name.now (view value.now) (rows.row_at x name.now (view value.now)) e) }
 {
     match name {
         "items" => items(site, members, value),
+        "pattern" => pattern(value),
         "properties" => properties(value),
         "unevaluatedItems" => Err(Refusal::LeftOut),
         "unevaluatedProperties" => Err(Refusal::LeftOut),
         "prefixItems" => applying_values(site, members, name, value),
+        "patternProperties" => applying_values(site, members, name, value),
         "dependentSchemas" => applying_values(site, members, name, value),
         "allOf" => applying_values(site, members, name, value),
         "additionalItems" => applying_values(site, members, name, value),
         "additionalProperties" => applying_values(site, members, name, value),
+        "propertyNames" => applying_values(site, members, name, value),
         "anyOf" => applying_values(site, members, name, value),
         "oneOf" => applying_values(site, members, name, value),
         "not" => applying_values(site, members, name, value),
@@ -191,7 +202,7 @@ fn applied<'r>(
         "if" => condition(site, members, value),
         "then" => consequent(site, members, "then", value),
         "else" => consequent(site, members, "else", value),
-        _ => Err(Refusal::NotYet),
+        _ => Ok(Keyword::Nothing),
     }
 }
 
@@ -204,8 +215,7 @@ fn counted<'r>(
     value: &'r Value,
 ) -> Result<Keyword<'r>, Refusal<'r>>
     requires other { references.named name.now ≡ None }
-    ensures read { IfOk result (λ k. (x : rows.Context) → Surrounds site.now (members_view members.now.entries) x → rows.counts_here x name.now ≡ true → rows.row_at x name.now (view value.now) ≡ row_of x.documents x.site k) }
-    ensures counted { IfOk result (λ k. (s : sites.Site) → Stands site.now s → is_unread s (members_view members.now.entries) name.now (view value.now) ≡ false) }
+    ensures read { IfOk result (λ k. (x : rows.Context) → Surrounds site.now (members_view members.now.entries) x → rows.counts_here x name.now ≡ true → IsRowOf x name.now (rows.row_at x name.now (view value.now)) k) }
     ensures found { IfOk result (λ k. Finds site.now (view value.now) k) }
     ensures refused { IfErr result (λ e. (x : rows.Context) → Surrounds site.now (members_view members.now.entries) x → rows.counts_here x name.now ≡ true → Refuses x name.now (view value.now) (rows.row_at x name.now (view value.now)) e) }
 {
@@ -220,12 +230,12 @@ fn counted<'r>(
 ///
 /// It compares the name with those of the draft's keywords. It copies no part of the schema but the names of types; the values of
 /// `enum`, and names that have to differ, are sorted; a reference is looked up, and each member of `properties` is looked at once. Of a
-/// keyword that does not count the value is not looked at.
+/// keyword that does not count the value is not looked at. No pattern is made.
 ///
 /// # Errors
 ///
 /// Where the keyword's value, a schema in it or the target of a reference is none that the keyword may have, where a reference leads
-/// nowhere, where the keyword is left out or not read yet, and where memory was refused.
+/// nowhere, where the keyword is left out, and where memory was refused.
 pub fn keyword<'r>(
     alloc: Global,
     site: &Site<'r>,
@@ -233,8 +243,7 @@ pub fn keyword<'r>(
     name: &str,
     value: &'r Value,
 ) -> Result<Keyword<'r>, Refusal<'r>>
-    ensures read { IfOk result (λ k. (makes : List ℕ → Bool) (s : sites.Site) → Stands site.now s → s.scope ≡ scope_of site.now.resolver → rows.row_at (context_at site.now (members_view members.now.entries) makes s) name.now (view value.now) ≡ row_of (documents_at site.now) s k) }
-    ensures counted { IfOk result (λ k. (s : sites.Site) → Stands site.now s → is_unread s (members_view members.now.entries) name.now (view value.now) ≡ false) }
+    ensures read { IfOk result (λ k. (makes : List ℕ → Bool) (s : sites.Site) → Stands site.now s → s.scope ≡ scope_of site.now.resolver → IsRowOf (context_at site.now (members_view members.now.entries) makes s) name.now (rows.row_at (context_at site.now (members_view members.now.entries) makes s) name.now (view value.now)) k) }
     ensures found { IfOk result (λ k. Finds site.now (view value.now) k) }
     ensures refused { IfErr result (λ e. (makes : List ℕ → Bool) (s : sites.Site) → Stands site.now s → s.scope ≡ scope_of site.now.resolver → Refuses (context_at site.now (members_view members.now.entries) makes s) name.now (view value.now) (rows.row_at (context_at site.now (members_view members.now.entries) makes s) name.now (view value.now)) e) }
 {

@@ -7,7 +7,7 @@ ghost use Rattle.schema_documents.specs.Scopes.{entered_scope};
 ghost use Rattle.referencing.specs.Resolved.{target_in, base_of, scope_of, documents_in};
 ghost use Rattle.referencing_errors.specs.Causes.{IsMemory, NamesLookup, RefusesLookup};
 ghost use Rattle.schema_reading.specs.Rows as rows;
-ghost use Rattle.schema_sites.specs.Read.{row_of, Finds, FindsTarget};
+ghost use Rattle.schema_sites.specs.Read.{IsRowOf, Finds, FindsTarget};
 ghost use Rattle.schema_sites.specs.References as references;
 ghost use Rattle.schema_sites.specs.declared.site.Site as code;
 ghost use Rattle.schema_sites.specs.Refused.{Refuses};
@@ -63,7 +63,7 @@ pub(crate) fn led_to<'r>(
     text: &'r str,
     target: Resolved<'r>,
 ) -> Result<Keyword<'r>, Refusal<'r>>
-    ensures read { IfOk result (λ k. (x : rows.Context) → rows.led_to x (references.name_of keyword) (references.kind_of keyword) text.now (Ok (target_in target.entry)) ≡ row_of x.documents x.site k) }
+    ensures read { IfOk result (λ k. (x : rows.Context) → IsRowOf x (references.name_of keyword) (rows.led_to x (references.name_of keyword) (references.kind_of keyword) text.now (Ok (target_in target.entry))) k) }
     ensures found { IfOk result (λ k. (c : code.Site) (d : Data) → FindsTarget c keyword text.now target.entry → Finds c d k) }
     ensures refused { IfErr result (λ e. (x : rows.Context) (d : Data) → Refuses x (references.name_of keyword) d (rows.led_to x (references.name_of keyword) (references.kind_of keyword) text.now (Ok (target_in target.entry))) e) }
 {

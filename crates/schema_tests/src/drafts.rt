@@ -5,7 +5,6 @@ use schema_drafts::subschemas::{Subschemas, held_by};
 use serde_json::Value;
 use std::alloc::Global;
 use std::process::Abort;
-use std::test::Fail;
 
 #[test]
 fn drafts_are_named_by_their_meta_schemas(rt: HostRuntime) {
@@ -59,30 +58,26 @@ const WITH_MANY: &str = r#"{"type": "object", "not": false, "items": [{"a": 1}, 
     "definitions": {"g": {"h": 6}}, "prefixItems": [{"i": 7}], "if": {"j": 8}, "contains": {"k": 9},
     "unevaluatedItems": {"l": 10}, "const": {"m": 11}, "additionalProperties": null}"#;
 
-fn children(alloc: Global, draft: Draft, schema: &Value) -> Result<String, Fail> {
+fn children(rt: &impl Abort, alloc: Global, draft: Draft, schema: &Value) -> String {
     let mut found = String::new(alloc);
     for child in draft.subresources_of(schema) {
-        found.push_str(child.to_string(alloc)?.as_str())?;
-        found.push(' ')?;
+        found
+            .push_str(child.to_string(alloc).expect(rt, "memory").as_str())
+            .expect(rt, "memory");
+        found.push(' ').expect(rt, "memory");
     }
-    Ok(found)
+    found
 }
 
-fn assert_children(
-    rt: &impl Abort,
-    alloc: Global,
-    text: &str,
-    rows: &[(Draft, &str)],
-) -> Result<(), Fail> {
-    let schema = Value::from_str(alloc, text)?;
+fn assert_children(rt: &impl Abort, alloc: Global, text: &str, rows: &[(Draft, &str)]) {
+    let schema = Value::from_str(alloc, text).expect(rt, "JSON");
     for (draft, want) in rows {
-        assert_eq!(rt; children(alloc, *draft, &schema)?.as_str(), *want);
+        assert_eq!(rt; children(rt, alloc, *draft, &schema).as_str(), *want);
     }
-    Ok(())
 }
 
 #[test]
-fn children_go_by_draft(rt: HostRuntime) -> Result<(), Fail> {
+fn children_go_by_draft(rt: HostRuntime) {
     assert_children(
         &rt,
         rt.alloc(),
@@ -109,11 +104,11 @@ fn children_go_by_draft(rt: HostRuntime) -> Result<(), Fail> {
                 r#"{"f":5} {"d":4} {"k":9} {"h":6} {"j":8} false {"i":7} {"c":3} true {"l":10} "#,
             ),
         ],
-    )
+    );
 }
 
 #[test]
-fn references_hide_children(rt: HostRuntime) -> Result<(), Fail> {
+fn references_hide_children(rt: HostRuntime) {
     assert_children(
         &rt,
         rt.alloc(),
@@ -122,21 +117,20 @@ fn references_hide_children(rt: HostRuntime) -> Result<(), Fail> {
             (Draft::Draft7, r#"{"h":6} "#),
             (Draft::Draft201909, r#"{"h":6} {"a":1} "#),
         ],
-    )
+    );
 }
 
 #[test]
-fn others_have_no_children(rt: HostRuntime) -> Result<(), Fail> {
-    assert_children(&rt, rt.alloc(), r#"[{"a": 1}]"#, &[(Draft::Draft7, "")])?;
-    assert_children(&rt, rt.alloc(), "true", &[(Draft::Draft7, "")])
+fn others_have_no_children(rt: HostRuntime) {
+    assert_children(&rt, rt.alloc(), r#"[{"a": 1}]"#, &[(Draft::Draft7, "")]);
+    assert_children(&rt, rt.alloc(), "true", &[(Draft::Draft7, "")]);
 }
 
 #[test]
-fn no_child_is_behind_the_last(rt: HostRuntime) -> Result<(), Fail> {
-    let schema = Value::from_str(rt.alloc(), r#"{"not": {"a": 1}}"#)?;
+fn no_child_is_behind_the_last(rt: HostRuntime) {
+    let schema = Value::from_str(rt.alloc(), r#"{"not": {"a": 1}}"#).expect(&rt, "JSON");
     let mut children = Draft::Draft7.subresources_of(&schema);
     assert!(rt; children.next().is_some());
     assert!(rt; children.next().is_none());
     assert!(rt; children.next().is_none());
-    Ok(())
 }

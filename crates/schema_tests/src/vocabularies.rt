@@ -7,28 +7,23 @@ use schema_vocabularies::{
 use serde_json::Value;
 use std::alloc::Global;
 use std::process::Abort;
-use std::test::Fail;
 
-fn kind(alloc: Global, uri: &str) -> Result<String, Fail> {
-    let vocabulary = Vocabulary::parse(alloc, uri)?;
-    Ok(format!(in alloc; "{vocabulary:?}")?)
+fn kind(rt: &impl Abort, alloc: Global, uri: &str) -> String {
+    let vocabulary = Vocabulary::parse(alloc, uri).expect(rt, "a URI");
+    format!(in alloc; "{vocabulary:?}").expect(rt, "memory")
 }
 
-fn assert_kinds(
-    rt: &impl Abort,
-    alloc: Global,
-    release: &str,
-    rows: &[(&str, &str)],
-) -> Result<(), Fail> {
+fn assert_kinds(rt: &impl Abort, alloc: Global, release: &str, rows: &[(&str, &str)]) {
     for (name, want) in rows {
-        let uri = format!(in alloc; "https://json-schema.org/draft/{release}/vocab/{name}")?;
-        assert_eq!(rt; kind(alloc, uri.as_str())?.as_str(), *want);
+        let uri = format!(in alloc; "https://json-schema.org/draft/{release}/vocab/{name}").expect(
+            rt, "memory",
+        );
+        assert_eq!(rt; kind(rt, alloc, uri.as_str()).as_str(), *want);
     }
-    Ok(())
 }
 
 #[test]
-fn known_uris_of_2019(rt: HostRuntime) -> Result<(), Fail> {
+fn known_uris_of_2019(rt: HostRuntime) {
     assert_kinds(
         &rt,
         rt.alloc(),
@@ -41,11 +36,11 @@ fn known_uris_of_2019(rt: HostRuntime) -> Result<(), Fail> {
             ("format", "Format"),
             ("content", "Content"),
         ],
-    )
+    );
 }
 
 #[test]
-fn known_uris_of_2020(rt: HostRuntime) -> Result<(), Fail> {
+fn known_uris_of_2020(rt: HostRuntime) {
     assert_kinds(
         &rt,
         rt.alloc(),
@@ -60,46 +55,46 @@ fn known_uris_of_2020(rt: HostRuntime) -> Result<(), Fail> {
             ("format-assertion", "FormatAssertion"),
             ("content", "Content"),
         ],
-    )
+    );
 }
 
 #[test]
-fn other_uris(rt: HostRuntime) -> Result<(), Fail> {
+fn other_uris(rt: HostRuntime) {
     let alloc = rt.alloc();
-    let custom = Vocabulary::parse(alloc, "https://example.com/vocab#")?;
-    let want = Vocabulary::Custom(String::from_str(alloc, "https://example.com/vocab#")?);
+    let custom = Vocabulary::parse(alloc, "https://example.com/vocab#").expect(&rt, "a URI");
+    let want = Vocabulary::Custom(String::from_str(alloc, "https://example.com/vocab#").expect(
+        &rt, "memory",
+    ));
     assert!(rt; custom == want);
     assert!(rt; Vocabulary::Content < custom);
-    Ok(())
 }
 
 // What is said of a text that is no URI.
-fn refused(alloc: Global, text: &str) -> Result<String, Fail> {
+fn refused(rt: &impl Abort, alloc: Global, text: &str) -> String {
     match Vocabulary::parse(alloc, text) {
-        Ok(_) => Ok(String::from_str(alloc, "a vocabulary")?),
-        Err(error) => Ok(format!(in alloc; "{error}")?),
+        Ok(_) => String::from_str(alloc, "a vocabulary").expect(rt, "memory"),
+        Err(error) => format!(in alloc; "{error}").expect(rt, "memory"),
     }
 }
 
-fn assert_refused(rt: &impl Abort, alloc: Global, texts: &[&str]) -> Result<(), Fail> {
+fn assert_refused(rt: &impl Abort, alloc: Global, texts: &[&str]) {
     for text in texts {
-        let want = format!(in alloc; "Invalid URI '{text}'")?;
-        assert_eq!(rt; refused(alloc, text)?.as_str(), want.as_str());
+        let want = format!(in alloc; "Invalid URI '{text}'").expect(rt, "memory");
+        assert_eq!(rt; refused(rt, alloc, text).as_str(), want.as_str());
     }
-    Ok(())
 }
 
 #[test]
-fn other_texts(rt: HostRuntime) -> Result<(), Fail> {
+fn other_texts(rt: HostRuntime) {
     assert_refused(
         &rt,
         rt.alloc(),
         &["", "vocab/core", "//a.test/core", "http://a b"],
-    )
+    );
 }
 
-fn named(alloc: Global, text: &str) -> Result<Vocabulary, Fail> {
-    Ok(Vocabulary::named(alloc, text)?)
+fn named(rt: &impl Abort, alloc: Global, text: &str) -> Vocabulary {
+    Vocabulary::named(alloc, text).expect(rt, "memory")
 }
 
 // Each vocabulary, and whether it is in the set.
@@ -110,54 +105,46 @@ fn assert_known(rt: &impl Abort, set: &VocabularySet, rows: &[(Vocabulary, bool)
 }
 
 // Each name of a vocabulary, and whether it is in the set.
-fn assert_named(
-    rt: &impl Abort,
-    alloc: Global,
-    set: &VocabularySet,
-    rows: &[(&str, bool)],
-) -> Result<(), Fail> {
+fn assert_named(rt: &impl Abort, alloc: Global, set: &VocabularySet, rows: &[(&str, bool)]) {
     for (text, want) in rows {
-        assert_eq!(rt; set.contains(&named(alloc, text)?), *want, "{text}");
+        assert_eq!(rt; set.contains(&named(rt, alloc, text)), *want, "{text}");
     }
-    Ok(())
 }
 
-fn customs(alloc: Global, set: &VocabularySet) -> Result<String, Fail> {
+fn customs(rt: &impl Abort, alloc: Global, set: &VocabularySet) -> String {
     let mut text = String::new(alloc);
     for uri in set.custom() {
-        text.push_str(uri.as_str())?;
-        text.push(' ')?;
+        text.push_str(uri.as_str()).expect(rt, "memory");
+        text.push(' ').expect(rt, "memory");
     }
-    Ok(text)
+    text
 }
 
-fn set_of(alloc: Global, texts: &[&str]) -> Result<VocabularySet, Fail> {
+fn set_of(rt: &impl Abort, alloc: Global, texts: &[&str]) -> VocabularySet {
     let mut set = VocabularySet::new(alloc);
     for text in texts {
-        set.add(named(alloc, text)?)?;
+        set.add(named(rt, alloc, text)).expect(rt, "memory");
     }
-    Ok(set)
+    set
 }
 
 #[test]
-fn sets(rt: HostRuntime) -> Result<(), Fail> {
+fn sets(rt: HostRuntime) {
     let mut set = VocabularySet::new(rt.alloc());
     assert!(rt; !set.contains(&Vocabulary::Core));
-    set.add(Vocabulary::Core)?;
+    set.add(Vocabulary::Core).expect(&rt, "memory");
     assert!(rt; set.contains(&Vocabulary::Core));
     assert!(rt; !set.contains(&Vocabulary::Content));
-    Ok(())
 }
 
 #[test]
-fn sets_of_custom_ones(rt: HostRuntime) -> Result<(), Fail> {
+fn sets_of_custom_ones(rt: HostRuntime) {
     let alloc = rt.alloc();
-    let mut set = set_of(alloc, &["urn:b", "urn:a", "urn:b"])?;
-    set.add(Vocabulary::Core)?;
+    let mut set = set_of(&rt, alloc, &["urn:b", "urn:a", "urn:b"]);
+    set.add(Vocabulary::Core).expect(&rt, "memory");
     assert!(rt; set.contains(&Vocabulary::Core));
-    assert_named(&rt, alloc, &set, &[("urn:a", true), ("urn:c", false)])?;
-    assert_eq!(rt; customs(alloc, &set)?.as_str(), "urn:a urn:b ");
-    Ok(())
+    assert_named(&rt, alloc, &set, &[("urn:a", true), ("urn:c", false)]);
+    assert_eq!(rt; customs(&rt, alloc, &set).as_str(), "urn:a urn:b ");
 }
 
 #[test]
@@ -190,8 +177,8 @@ const ALIKE: &str = r#"{"$vocabulary": {
 
 const LISTED: &str = r#"{"$vocabulary": ["https://json-schema.org/draft/2020-12/vocab/core"]}"#;
 
-fn json(alloc: Global, text: &str) -> Result<Value, Fail> {
-    Ok(Value::from_str(alloc, text)?)
+fn json(rt: &impl Abort, alloc: Global, text: &str) -> Value {
+    Value::from_str(alloc, text).expect(rt, "JSON")
 }
 
 // Each draft and keyword, and whether it counts where no reference is beside it.
@@ -202,9 +189,11 @@ fn assert_counts(rt: &impl Abort, set: &VocabularySet, rows: &[(Draft, &str, boo
 }
 
 #[test]
-fn found(rt: HostRuntime) -> Result<(), Fail> {
+fn found(rt: HostRuntime) {
     let alloc = rt.alloc();
-    let set = find_vocabularies(alloc, Draft::Draft202012, &json(alloc, EXAMPLE)?)?;
+    let set = find_vocabularies(alloc, Draft::Draft202012, &json(&rt, alloc, EXAMPLE)).expect(
+        &rt, "memory",
+    );
     assert_known(
         &rt,
         &set,
@@ -223,13 +212,15 @@ fn found(rt: HostRuntime) -> Result<(), Fail> {
             ("https://example.com/vocab/other", false),
             ("no uri", true),
         ],
-    )
+    );
 }
 
 #[test]
-fn counting_by_what_is_found(rt: HostRuntime) -> Result<(), Fail> {
+fn counting_by_what_is_found(rt: HostRuntime) {
     let alloc = rt.alloc();
-    let set = find_vocabularies(alloc, Draft::Draft202012, &json(alloc, EXAMPLE)?)?;
+    let set = find_vocabularies(alloc, Draft::Draft202012, &json(&rt, alloc, EXAMPLE)).expect(
+        &rt, "memory",
+    );
     assert_counts(
         &rt,
         &set,
@@ -242,21 +233,19 @@ fn counting_by_what_is_found(rt: HostRuntime) -> Result<(), Fail> {
             (Draft::Draft7, "minimum", true),
         ],
     );
-    Ok(())
 }
 
 #[test]
-fn none_found(rt: HostRuntime) -> Result<(), Fail> {
+fn none_found(rt: HostRuntime) {
     let alloc = rt.alloc();
-    let absent = json(alloc, LISTED)?;
-    let whole = find_vocabularies(alloc, Draft::Draft202012, &absent)?;
+    let absent = json(&rt, alloc, LISTED);
+    let whole = find_vocabularies(alloc, Draft::Draft202012, &absent).expect(&rt, "memory");
     assert!(rt; whole.contains(&Vocabulary::Validation));
     assert!(rt; counts(Draft::Draft202012, &whole, false, "minimum"));
-    Ok(())
 }
 
 #[test]
-fn counting(rt: HostRuntime) -> Result<(), Fail> {
+fn counting(rt: HostRuntime) {
     let mut set = VocabularySet::new(rt.alloc());
     assert_counts(
         &rt,
@@ -268,69 +257,69 @@ fn counting(rt: HostRuntime) -> Result<(), Fail> {
             (Draft::Draft202012, "$dynamicRef", true),
         ],
     );
-    set.add(Vocabulary::Validation)?;
+    set.add(Vocabulary::Validation).expect(&rt, "memory");
     assert!(rt; counts(Draft::Draft202012, &set, false, "type"));
-    set.add(Vocabulary::Applicator)?;
+    set.add(Vocabulary::Applicator).expect(&rt, "memory");
     assert!(rt; counts(Draft::Draft202012, &set, false, "properties"));
-    set.add(Vocabulary::Unevaluated)?;
+    set.add(Vocabulary::Unevaluated).expect(&rt, "memory");
     assert!(rt; counts(Draft::Draft202012, &set, false, "unevaluatedProperties"));
     assert!(rt; !counts(Draft::Draft202012, &set, false, "title"));
-    Ok(())
 }
 
 #[test]
-fn counting_beside_a_reference(rt: HostRuntime) -> Result<(), Fail> {
+fn counting_beside_a_reference(rt: HostRuntime) {
     let mut set = VocabularySet::new(rt.alloc());
-    set.add(Vocabulary::Validation)?;
-    set.add(Vocabulary::Applicator)?;
-    set.add(Vocabulary::Unevaluated)?;
+    set.add(Vocabulary::Validation).expect(&rt, "memory");
+    set.add(Vocabulary::Applicator).expect(&rt, "memory");
+    set.add(Vocabulary::Unevaluated).expect(&rt, "memory");
     assert!(rt; counts(Draft::Draft202012, &set, true, "type"));
     assert!(rt; !counts(Draft::Draft7, &set, true, "type"));
     assert!(rt; counts(Draft::Draft7, &set, true, "$ref"));
-    Ok(())
 }
 
 #[test]
-fn dialects(rt: HostRuntime) -> Result<(), Fail> {
-    let dialect = Dialect::by_meta_schema(Draft::Draft202012, &json(rt.alloc(), EXAMPLE)?);
+fn dialects(rt: HostRuntime) {
+    let dialect = Dialect::by_meta_schema(Draft::Draft202012, &json(&rt, rt.alloc(), EXAMPLE));
     assert!(rt; dialect.counts(false, "items"));
     assert!(rt; dialect.counts(false, "$ref"));
     assert!(rt; !dialect.counts(false, "minimum"));
     assert!(rt; !dialect.counts(false, "unevaluatedItems"));
     assert!(rt; dialect != Dialect::standard(Draft::Draft202012));
-    Ok(())
 }
 
 #[test]
-fn dialects_that_are_alike(rt: HostRuntime) -> Result<(), Fail> {
+fn dialects_that_are_alike(rt: HostRuntime) {
     let alloc = rt.alloc();
-    let dialect = Dialect::by_meta_schema(Draft::Draft202012, &json(alloc, EXAMPLE)?);
-    let alike = json(alloc, ALIKE)?;
+    let dialect = Dialect::by_meta_schema(Draft::Draft202012, &json(&rt, alloc, EXAMPLE));
+    let alike = json(&rt, alloc, ALIKE);
     assert!(rt; dialect == Dialect::by_meta_schema(Draft::Draft202012, &alike));
     assert!(rt; dialect != Dialect::by_meta_schema(Draft::Draft201909, &alike));
-    Ok(())
 }
 
 #[test]
-fn dialects_of_a_draft(rt: HostRuntime) -> Result<(), Fail> {
-    let absent = json(rt.alloc(), r#"{"$vocabulary": true}"#)?;
+fn dialects_of_a_draft(rt: HostRuntime) {
+    let absent = json(&rt, rt.alloc(), r#"{"$vocabulary": true}"#);
     let whole = Dialect::by_meta_schema(Draft::Draft7, &absent);
     assert!(rt; whole == Dialect::standard(Draft::Draft7));
     assert!(rt; !whole.counts(true, "type"));
     assert!(rt; whole.counts(true, "$ref"));
-    Ok(())
 }
 
 #[test]
-fn meta_schemas_by_their_uris(rt: HostRuntime) -> Result<(), Fail> {
+fn meta_schemas_by_their_uris(rt: HostRuntime) {
     let alloc = rt.alloc();
     let mut known = MetaSchemas::none(alloc);
     assert!(rt; known.get("urn:a").is_none());
-    known.insert(alloc, "urn:a", Dialect::standard(Draft::Draft4))?;
-    known.insert(alloc, "urn:b", Dialect::standard(Draft::Draft6))?;
-    known.insert(alloc, "urn:a", Dialect::standard(Draft::Draft7))?;
+    known
+        .insert(alloc, "urn:a", Dialect::standard(Draft::Draft4))
+        .expect(&rt, "memory");
+    known
+        .insert(alloc, "urn:b", Dialect::standard(Draft::Draft6))
+        .expect(&rt, "memory");
+    known
+        .insert(alloc, "urn:a", Dialect::standard(Draft::Draft7))
+        .expect(&rt, "memory");
     assert!(rt; known.get("urn:a") == Some(Dialect::standard(Draft::Draft7)));
     assert!(rt; known.get("urn:b") == Some(Dialect::standard(Draft::Draft6)));
     assert!(rt; known.get("urn:c").is_none());
-    Ok(())
 }

@@ -3,9 +3,8 @@ use Rattle.std.proofs.Common.{ℕ, List, [], ◌∷◌, Bool, subst}
 use Rattle.std.specs.List.{AllZip}
 use Rattle.schema_meaning.specs.Members.{In, first, later}
 use Rattle.schema_documents.specs.Bearers.{Documents}
-use Rattle.schema_reading.specs.BuildCauses.{Reached, at_root, by_keyword}
-use Rattle.unread_keywords.specs.NotYet.{Cause, IsBuildCause, is_wrong, is_not_yet}
-use Rattle.schema_reading.specs.Rows.{Place, BuildCause, rows_at}
+use Rattle.schema_reading.specs.BuildCauses.{Reached, at_root, by_keyword, IsCauseOf}
+use Rattle.schema_reading.specs.Rows.{BuildCause, rows_at}
 use Rattle.schema_reading.specs.Sites.{Site}
 use Rattle.site_laws.specs.Laws.{AreAlike, RowsAgree, AlikeReachAlike, AlikeHaveCauses}
 use Rattle.site_laws.proofs.Reading.{read_alike}
@@ -29,14 +28,11 @@ module _ (docs : Documents) (makes : List ℕ → Bool) (s t : Site) (a : AreAli
       let x' = in_step (AreAlike docs) x row.leads row'.0.leads row'.2.leads j in
       (x'.0, by_keyword row'.0 x'.0 h.1 row'.1 x'.1, x'.2)
 
-  have_causes : (c : Cause) → IsBuildCause docs makes s c → IsBuildCause docs makes t c
-  have_causes _ (is_wrong {c = c} w) =
+  have_causes : (c : BuildCause) → IsCauseOf docs makes s c → IsCauseOf docs makes t c
+  have_causes c w =
       let h = reach_alike w.site w.reached in
       let row = in_step (RowsAgree docs) w.row (rows_at docs makes w.site) (rows_at docs makes h.0) (read_alike docs makes w.site h.0 h.2).rows w.stands in
-      is_wrong (record { site = h.0; reached = h.1; row = row.0; stands = row.1; wrong = subst (λ (cs : List BuildCause). In c cs) row.2.causes w.wrong })
-  have_causes _ (is_not_yet {p = p} u) =
-      let h = reach_alike u.site u.reached in
-      is_not_yet (record { site = h.0; reached = h.1; stands = subst (λ (ps : List Place). In p ps) (read_alike docs makes u.site h.0 h.2).unread u.stands })
+      record { site = h.0; reached = h.1; row = row.0; stands = row.1; wrong = subst (λ (cs : List BuildCause). In c cs) row.2.causes w.wrong }
 
 pub alike_reach_alike : AlikeReachAlike
 alike_reach_alike = reach_alike

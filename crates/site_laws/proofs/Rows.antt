@@ -11,7 +11,7 @@ use Rattle.schema_documents.specs.Places.{SchemaPlace, entered, is_schema}
 use Rattle.schema_documents.specs.Bearers.{Documents, meta}
 use Rattle.schema_documents.specs.Lookup.{LookupCause, Target, lookup}
 use Rattle.schema_documents.specs.Scopes.{dynamic_lookup, recursive_lookup}
-use Rattle.schema_meaning.specs.Keywords.{Assertion, maximum, exclusive_maximum, minimum, exclusive_minimum, maximum_of_draft_4, minimum_of_draft_4, max_length, min_length, max_items, min_items, max_properties, min_properties, Reference, static, dynamic, recursive, Dependency, needs, applies, Shape, items, item_list, prefix_items, contains, properties, pattern_properties, additional_properties, property_names, no_property_names, dependent_schemas, dependencies, all_of, any_of, one_of}
+use Rattle.schema_meaning.specs.Keywords.{Assertion, maximum, exclusive_maximum, minimum, exclusive_minimum, maximum_of_draft_4, minimum_of_draft_4, max_length, min_length, max_items, min_items, max_properties, min_properties, Reference, static, dynamic, recursive, Dependency, needs, applies, Shape, item_list, prefix_items, properties, pattern_properties, additional_properties, property_names, no_property_names, dependent_schemas, all_of, any_of, one_of}
 use Rattle.schema_reading.specs.Sites.{Site, within, below, target_site}
 use Rattle.schema_reading.specs.Values.{type_names, whole_number, count_of, positive_of, names_in, if_none_twice, unique_names}
 use Rattle.schema_reading.specs.Rows.{BuildCause, Row, nothing_read, Context, counts_here, beside, at, expected, subschema, each_subschema, named_result, each_named, row_of, one_schema, schema_list, sites_named, schema_map, asserted, assertion, counted, is_draft_4, limit, strict_limit, is_made, pattern_row, unique_row, takes_list, items_row, behind_items, bound_row, declared_beside, refuses_others, additional_properties_row, patterns_wrong, names_of_object, with_causes, pattern_properties_row, property_names_row, entry_names, required_entry, required_entries, dependent_required_row, dependency_entry, dependency_entries, sites_applied, dependencies_row, if_row, consequent_row, target_causes, no_schema_there, led_to, ref_row, dynamic_row, is_hash, recursive_row, Reader, readers, read_among, row_at, rows_of, no_schema, rows_in}

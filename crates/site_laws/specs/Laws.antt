@@ -3,9 +3,8 @@ use Rattle.std.specs.Prelude.{ℕ, ◌≡◌, List, Bool}
 use Rattle.std.specs.List.{AllZip}
 use Rattle.schema_documents.specs.Bearers.{Documents}
 use Rattle.schema_reading.specs.Sites.{Site}
-use Rattle.schema_reading.specs.Rows.{Row, rows_at}
-use Rattle.schema_reading.specs.BuildCauses.{Reached}
-use Rattle.unread_keywords.specs.NotYet.{Cause, unread, IsBuildCause}
+use Rattle.schema_reading.specs.Rows.{BuildCause, Row, rows_at}
+use Rattle.schema_reading.specs.BuildCauses.{Reached, IsCauseOf}
 use Rattle.schema_reading.specs.CompileKeys.{scope_key}
 use Rattle.scope_laws.specs.Laws.{IsPresent}
 use Rattle.site_laws.specs.Spelled.{spelled}
@@ -34,10 +33,9 @@ pub record RowsAgree (docs : Documents) (r q : Row) : Type 0 where
   pub causes : r.causes ≡ q.causes
   pub leads : AllZip (AreAlike docs) r.leads q.leads
 
--- what stands at two sites agrees row by row, and the same places are not read yet
+-- what stands at two sites agrees row by row
 pub record ReadAlike (docs : Documents) (makes : List ℕ → Bool) (s t : Site) : Type 0 where
   pub rows : AllZip (RowsAgree docs) (rows_at docs makes s) (rows_at docs makes t)
-  pub unread : unread s ≡ unread t
 
 abbrev pub AlikeReadAlike : Type 0
 AlikeReadAlike = (docs : Documents) (makes : List ℕ → Bool) (s t : Site) → AreAlike docs s t → ReadAlike docs makes s t
@@ -49,4 +47,4 @@ AlikeReachAlike = (docs : Documents) (makes : List ℕ → Bool) (s t : Site) �
 
 abbrev pub AlikeHaveCauses : Type 0
 AlikeHaveCauses = (docs : Documents) (makes : List ℕ → Bool) (s t : Site) → AreAlike docs s t
-    → (c : Cause) → IsBuildCause docs makes s c → IsBuildCause docs makes t c
+    → (c : BuildCause) → IsCauseOf docs makes s c → IsCauseOf docs makes t c

@@ -6,7 +6,7 @@ pub fn alike_is_equivalence()
     ensures { AlikeIsEquivalence }
 {}
 
-/// Sites that are alike have the same causes and lead to sites that are alike, row by row; and the same is not read at them.
+/// Sites that are alike have the same causes and lead to sites that are alike, row by row.
 pub fn alike_read_alike()
     ensures { AlikeReadAlike }
 {}

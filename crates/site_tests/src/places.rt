@@ -6,38 +6,39 @@ use schema_steps::Path;
 use schema_vocabularies::{Dialect, MetaSchemas};
 use serde_json::Value;
 use std::alloc::Global;
+use std::process::Abort;
 use std::rc::Rc;
-use std::test::Fail;
 use uri_references::uri::Uri;
 
-fn write_place(alloc: Global, lines: &mut String, place: &Place<'_>) -> Result<(), Fail> {
-    let pointer = place.path.to_pointer(alloc)?;
-    let line = format!(in alloc;
-        "#{pointer} {} {:?}\n",
-        place.base.as_str(),
-        place.dialect.draft
-    )?;
-    lines.push_str(&line)?;
+pub(crate) fn uri_of(rt: &impl Abort, alloc: Global, text: &str) -> Rc<Uri> {
+    let uri = Uri::parse(alloc, text).expect(rt, "a URI");
+    Rc::new(alloc, uri).expect(rt, "memory")
+}
+
+fn write_place(rt: &impl Abort, alloc: Global, lines: &mut String, place: &Place<'_>) {
+    let pointer = place.path.to_pointer(alloc).expect(rt, "memory");
+    let base = place.base.as_str();
+    let draft = place.dialect.draft;
+    writeln!(lines, "#{pointer} {base} {draft:?}").expect(rt, "memory");
     if let Some(uri) = &place.awaits {
-        lines.push_str(&format!(in alloc; "  awaits {}\n", uri.as_str())?)?;
+        writeln!(lines, "  awaits {}", uri.as_str()).expect(rt, "memory");
     }
-    Ok(())
 }
 
 // The places of a document under `http://a.test/root.json`, by 2020-12 where it names no draft, a line each.
-fn written_places(alloc: Global, text: &str) -> Result<String, Fail> {
-    let contents = Value::from_str(alloc, text)?;
-    let uri = Rc::new(alloc, Uri::parse(alloc, "http://a.test/root.json")?)?;
+fn written_places(rt: &impl Abort, alloc: Global, text: &str) -> String {
+    let contents = Value::from_str(alloc, text).expect(rt, "JSON");
+    let uri = uri_of(rt, alloc, "http://a.test/root.json");
     let known = MetaSchemas::none(alloc);
     let mut lines = String::new(alloc);
-    for place in &places(alloc, &known, &uri, Draft::Draft202012, &contents)? {
-        write_place(alloc, &mut lines, place)?;
+    for place in &places(alloc, &known, &uri, Draft::Draft202012, &contents).expect(rt, "memory") {
+        write_place(rt, alloc, &mut lines, place);
     }
-    Ok(lines)
+    lines
 }
 
 #[test]
-fn identifiers_give_bases_by_levels(rt: HostRuntime) -> Result<(), Fail> {
+fn identifiers_give_bases_by_levels(rt: HostRuntime) {
     let text =
         "{\"$defs\": {\"a/b\": {\"$id\": \"http://B.test/x/../y#\", \"not\": {\"$id\": \"z\"}}, \"n\": 1},
         \"items\": {\"$id\": \"sub/\", \"prefixItems\": [true, 5, {}]}, \"allOf\": {}, \"const\": {\"not\": {}}}";
@@ -48,12 +49,11 @@ fn identifiers_give_bases_by_levels(rt: HostRuntime) -> Result<(), Fail> {
 #/items/prefixItems/0 http://a.test/sub/ Draft202012
 #/items/prefixItems/2 http://a.test/sub/ Draft202012
 ";
-    assert_eq!(rt; written_places(rt.alloc(), text)?.as_str(), want);
-    Ok(())
+    assert_eq!(rt; written_places(&rt, rt.alloc(), text).as_str(), want);
 }
 
 #[test]
-fn a_reference_hides_all_but_definitions(rt: HostRuntime) -> Result<(), Fail> {
+fn a_reference_hides_all_but_definitions(rt: HostRuntime) {
     let text =
         "{\"$schema\": \"http://json-schema.org/draft-07/schema#\", \"$ref\": \"#\", \"$id\": \"http://c.test/\",
         \"not\": {}, \"definitions\": {\"a\": {\"$id\": \"a\", \"items\": [{}, false]}, \"b\": {\"$ref\": \"a\", \"$id\": \"b\", \"not\": {}}}}";
@@ -63,15 +63,14 @@ fn a_reference_hides_all_but_definitions(rt: HostRuntime) -> Result<(), Fail> {
 #/definitions/a/items/0 http://a.test/a Draft7
 #/definitions/a/items/1 http://a.test/a Draft7
 ";
-    assert_eq!(rt; written_places(rt.alloc(), text)?.as_str(), want);
+    assert_eq!(rt; written_places(&rt, rt.alloc(), text).as_str(), want);
     let text = "{\"$ref\": \"#\", \"$id\": \"http://c.test/\", \"not\": {}}";
     let want = "# http://c.test/ Draft202012\n#/not http://c.test/ Draft202012\n";
-    assert_eq!(rt; written_places(rt.alloc(), text)?.as_str(), want);
-    Ok(())
+    assert_eq!(rt; written_places(&rt, rt.alloc(), text).as_str(), want);
 }
 
 #[test]
-fn a_draft_counts_beside_an_identifier(rt: HostRuntime) -> Result<(), Fail> {
+fn a_draft_counts_beside_an_identifier(rt: HostRuntime) {
     let text = "{\"properties\": {
         \"new\": {\"$schema\": \"http://json-schema.org/draft-07/schema#\", \"items\": [{}]},
         \"old\": {\"$schema\": \"http://json-schema.org/draft-07/schema#\", \"$id\": \"old\", \"items\": [{}]},
@@ -83,30 +82,41 @@ fn a_draft_counts_beside_an_identifier(rt: HostRuntime) -> Result<(), Fail> {
   awaits http://m.test/own
 #/properties/old/items/0 http://a.test/old Draft7
 ";
-    assert_eq!(rt; written_places(rt.alloc(), text)?.as_str(), want);
-    Ok(())
+    assert_eq!(rt; written_places(&rt, rt.alloc(), text).as_str(), want);
+}
+
+const NESTED: &str = "{\"$id\": \"http://c.test/d\", \"not\": {\"$id\": \"e\"}}";
+
+#[test]
+fn roots_share_bases(rt: HostRuntime) {
+    let alloc = rt.alloc();
+    let contents = Value::from_str(alloc, NESTED).expect(&rt, "JSON");
+    let uri = uri_of(&rt, alloc, "http://a.test/");
+    let known = MetaSchemas::none(alloc);
+    let whole = root(alloc, &known, &uri, Draft::Draft4, &contents).expect(&rt, "memory");
+    assert!(rt; Rc::ptr_eq(&uri, &whole.base));
+    assert!(rt; whole.dialect.draft == Draft::Draft4);
+}
+
+// By draft 6, the subschema of `not` under `http://a.test/`.
+fn entered<'d>(rt: &impl Abort, alloc: Global, inner: &'d Value) -> Place<'d> {
+    let uri = uri_of(rt, alloc, "http://a.test/");
+    let known = MetaSchemas::none(alloc);
+    let path = Path::root().push_name(alloc, "not").expect(rt, "memory");
+    let dialect = Dialect::standard(Draft::Draft6);
+    enter(alloc, &known, &uri, dialect, path, inner).expect(rt, "memory")
 }
 
 #[test]
-fn places_share_bases(rt: HostRuntime) -> Result<(), Fail> {
-    let contents = Value::from_str(
-        rt.alloc(),
-        "{\"$id\": \"http://c.test/d\", \"not\": {\"$id\": \"e\"}}",
-    )?;
-    let uri = Rc::new(rt.alloc(), Uri::parse(rt.alloc(), "http://a.test/")?)?;
-    let known = MetaSchemas::none(rt.alloc());
-    let whole = root(rt.alloc(), &known, &uri, Draft::Draft4, &contents)?;
-    assert!(rt; Rc::ptr_eq(&uri, &whole.base));
-    assert!(rt; whole.dialect.draft == Draft::Draft4);
-    let inner = contents.get("not").ok_or("no member")?;
+fn copies_share_bases(rt: HostRuntime) {
+    let alloc = rt.alloc();
+    let contents = Value::from_str(alloc, NESTED).expect(&rt, "JSON");
+    let inner = contents.get("not").expect(&rt, "a member");
     assert!(rt; is_schema(inner));
-    assert!(rt; !is_schema(inner.get("$id").ok_or("no member")?));
-    let path = Path::root().push_name(rt.alloc(), "not")?;
-    let dialect = Dialect::standard(Draft::Draft6);
-    let place = enter(rt.alloc(), &known, &uri, dialect, path, inner)?;
-    let copy = place.clone()?;
+    assert!(rt; !is_schema(inner.get("$id").expect(&rt, "a member")));
+    let place = entered(&rt, alloc, inner);
+    let copy = place.clone().expect(&rt, "memory");
     assert_eq!(rt; copy.base.as_str(), "http://a.test/e");
     assert!(rt; Rc::ptr_eq(&place.base, &copy.base));
     assert!(rt; copy.path == place.path);
-    Ok(())
 }

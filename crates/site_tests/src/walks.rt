@@ -1,4 +1,5 @@
 // What pointers lead to from the root of a document: the pointer of the value, its base, its draft, and whether it is a schema place.
+use crate::places::uri_of;
 use reference_walks::reached::{Reached, follow_pointer};
 use schema_drafts::draft::Draft;
 use schema_places::place::{Place, enter, root};
@@ -8,52 +9,40 @@ use serde_json::Value;
 use std::alloc::Global;
 use std::process::Abort;
 use std::rc::Rc;
-use std::test::Fail;
-use uri_references::uri::Uri;
 
-fn written(alloc: Global, from: &Place<'_>, fragment: &str) -> Result<String, Fail> {
+fn shown(rt: &impl Abort, alloc: Global, reached: &Reached<'_>) -> String {
+    let pointer = reached.path.to_pointer(alloc).expect(rt, "memory");
+    let what = if reached.is_place { "place" } else { "part" };
+    let draft = reached.dialect.draft;
+    format!(in alloc; "{what} #{pointer} {} {draft:?}", reached.base.as_str()).expect(rt, "memory")
+}
+
+fn written(rt: &impl Abort, alloc: Global, from: &Place<'_>, fragment: &str) -> String {
     let known = MetaSchemas::none(alloc);
-    let reached = match follow_pointer(alloc, &known, from, fragment) {
-        Ok(reached) => reached,
-        Err(error) => return Ok(format!(in alloc; "{error}")?),
-    };
-    let Reached {
-        path,
-        base,
-        dialect,
-        is_place,
-        ..
-    } = reached;
-    let pointer = path.to_pointer(alloc)?;
-    let what = if is_place { "place" } else { "part" };
-    let draft = dialect.draft;
-    Ok(format!(in alloc; "{what} #{pointer} {} {draft:?}", base.as_str())?)
+    match follow_pointer(alloc, &known, from, fragment) {
+        Ok(reached) => shown(rt, alloc, &reached),
+        Err(error) => format!(in alloc; "{error}").expect(rt, "memory"),
+    }
 }
 
 // By 2020-12 where the document names no draft.
-fn root_of<'d>(alloc: Global, contents: &'d Value) -> Result<Place<'d>, Fail> {
-    let uri = Rc::new(alloc, Uri::parse(alloc, "http://a.test/root.json")?)?;
+fn root_of<'d>(rt: &impl Abort, alloc: Global, contents: &'d Value) -> Place<'d> {
+    let uri = uri_of(rt, alloc, "http://a.test/root.json");
     let known = MetaSchemas::none(alloc);
-    Ok(root(alloc, &known, &uri, Draft::Draft202012, contents)?)
+    root(alloc, &known, &uri, Draft::Draft202012, contents).expect(rt, "memory")
 }
 
-fn assert_leads(
-    rt: &impl Abort,
-    alloc: Global,
-    text: &str,
-    rows: &[(&str, &str)],
-) -> Result<(), Fail> {
-    let contents = Value::from_str(alloc, text)?;
-    let from = root_of(alloc, &contents)?;
+fn assert_leads(rt: &impl Abort, alloc: Global, text: &str, rows: &[(&str, &str)]) {
+    let contents = Value::from_str(alloc, text).expect(rt, "JSON");
+    let from = root_of(rt, alloc, &contents);
     for (fragment, want) in rows {
-        assert_eq!(rt; written(alloc, &from, fragment)?.as_str(), *want);
+        assert_eq!(rt; written(rt, alloc, &from, fragment).as_str(), *want);
     }
-    Ok(())
 }
 
 // JSON Schema 2020-12, Core, appendix A.
 #[test]
-fn embedded_resources_change_the_base(rt: HostRuntime) -> Result<(), Fail> {
+fn embedded_resources_change_the_base(rt: HostRuntime) {
     let text = "{\"$id\": \"https://example.com/root.json\", \"$defs\": {
         \"A\": {\"$anchor\": \"foo\"},
         \"B\": {\"$id\": \"other.json\", \"$defs\": {
@@ -94,12 +83,12 @@ fn embedded_resources_change_the_base(rt: HostRuntime) -> Result<(), Fail> {
                 "part #/$defs/C/$id urn:uuid:ee564b8a-7a87-4125-8c96-e9f123d6766f Draft202012",
             ),
         ],
-    )
+    );
 }
 
 // The percent-coded pointers are of RFC 6901, section 6.
 #[test]
-fn pointers_are_decoded_and_then_split(rt: HostRuntime) -> Result<(), Fail> {
+fn pointers_are_decoded_and_then_split(rt: HostRuntime) {
     let text =
         "{\"foo\": [\"bar\", \"baz\"], \"\": 0, \"a/b\": 1, \"c%d\": 2, \"k\\\"l\": 6, \" \": 7, \"m~n\": 8, \"oneOf\": [{}, {\"$id\": \"one\"}]}";
     assert_leads(
@@ -136,11 +125,11 @@ fn pointers_are_decoded_and_then_split(rt: HostRuntime) -> Result<(), Fail> {
                 "Invalid percent encoding in pointer '/%FF': the decoded bytes do not represent valid UTF-8",
             ),
         ],
-    )
+    );
 }
 
 #[test]
-fn a_reference_of_draft_7_hides_what_stands_beside_it(rt: HostRuntime) -> Result<(), Fail> {
+fn a_reference_of_draft_7_hides_what_stands_beside_it(rt: HostRuntime) {
     let text =
         "{\"$schema\": \"http://json-schema.org/draft-07/schema#\", \"$ref\": \"#/definitions/a\",
         \"not\": {\"$id\": \"hidden\"}, \"definitions\": {\"a\": {\"$id\": \"a\", \"items\": [{\"$id\": \"i\"}]}},
@@ -164,7 +153,7 @@ fn a_reference_of_draft_7_hides_what_stands_beside_it(rt: HostRuntime) -> Result
                 "part #/const/$id http://a.test/root.json Draft7",
             ),
         ],
-    )?;
+    );
     let text = "{\"$defs\": {
         \"old\": {\"$schema\": \"http://json-schema.org/draft-07/schema#\", \"$id\": \"old\", \"items\": [{}]},
         \"own\": {\"$schema\": \"http://m.test/own#\", \"$id\": \"own\", \"not\": {}}}}";
@@ -182,32 +171,33 @@ fn a_reference_of_draft_7_hides_what_stands_beside_it(rt: HostRuntime) -> Result
                 "place #/$defs/own/not http://a.test/root.json Draft202012",
             ),
         ],
-    )
+    );
+}
+
+// By draft 6, under the path `/$defs/s` of a document.
+fn entered<'d>(rt: &impl Abort, alloc: Global, contents: &'d Value) -> Place<'d> {
+    let uri = uri_of(rt, alloc, "http://a.test/");
+    let known = MetaSchemas::none(alloc);
+    let definitions = Path::root().push_name(alloc, "$defs").expect(rt, "memory");
+    let path = definitions.push_name(alloc, "s").expect(rt, "memory");
+    let dialect = Dialect::standard(Draft::Draft6);
+    enter(alloc, &known, &uri, dialect, path, contents).expect(rt, "memory")
 }
 
 #[test]
-fn paths_go_on_from_the_place(rt: HostRuntime) -> Result<(), Fail> {
-    let contents = Value::from_str(
-        rt.alloc(),
-        "{\"$id\": \"sub/\", \"not\": {\"type\": \"null\"}}",
-    )?;
-    let uri = Rc::new(rt.alloc(), Uri::parse(rt.alloc(), "http://a.test/")?)?;
-    let path = Path::root()
-        .push_name(rt.alloc(), "$defs")?
-        .push_name(rt.alloc(), "s")?;
-    let known = MetaSchemas::none(rt.alloc());
-    let dialect = Dialect::standard(Draft::Draft6);
-    let from = enter(rt.alloc(), &known, &uri, dialect, path, &contents)?;
+fn paths_go_on_from_the_place(rt: HostRuntime) {
+    let alloc = rt.alloc();
+    let text = "{\"$id\": \"sub/\", \"not\": {\"type\": \"null\"}}";
+    let contents = Value::from_str(alloc, text).expect(&rt, "JSON");
+    let from = entered(&rt, alloc, &contents);
     let fragment = "/not";
     assert_eq!(rt;
-        written(rt.alloc(), &from, fragment)?.as_str(),
+        written(&rt, alloc, &from, fragment).as_str(),
         "place #/$defs/s/not http://a.test/sub/ Draft6"
     );
-    let reached = follow_pointer(rt.alloc(), &known, &from, fragment)?;
+    let known = MetaSchemas::none(alloc);
+    let reached = follow_pointer(alloc, &known, &from, fragment).expect(&rt, "a value");
     assert!(rt; Rc::ptr_eq(&from.base, &reached.base));
-    assert_eq!(rt;
-        reached.contents.to_string(rt.alloc())?.as_str(),
-        "{\"type\":\"null\"}"
-    );
-    Ok(())
+    let found = reached.contents.to_string(alloc).expect(&rt, "memory");
+    assert_eq!(rt; found.as_str(), "{\"type\":\"null\"}");
 }

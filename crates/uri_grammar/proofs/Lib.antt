@@ -5,3 +5,4 @@ pub mod Lacks
 pub mod Back
 pub mod Authorities
 pub mod Examples
+pub mod Passed

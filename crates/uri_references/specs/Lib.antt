@@ -3,3 +3,4 @@ pub mod Identity
 pub mod Lent
 pub mod Refusals
 pub mod Owned
+pub mod Passed

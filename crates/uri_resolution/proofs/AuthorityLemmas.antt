@@ -5,7 +5,7 @@ use Rattle.std.specs.Char.{to_ascii_lowercase}
 use Rattle.uri_grammar.specs.Texts.{has, all_or_none}
 use Rattle.uri_grammar.specs.Addresses.{is_unreserved, is_sub_delim, is_ip_literal, is_ipv4_address}
 use Rattle.uri_grammar.specs.Grammar.{AuthorityParts, is_userinfo, is_reg_name, is_host, is_port, authority_parts, is_authority_of, is_authority, written_authority}
-use Rattle.ip_literals.proofs.Lacks.{literal_lacks, outside_percent}
+use Rattle.uri_grammar.proofs.Passed.{literal_lacks, outside_percent}
 use Rattle.uri_grammar.proofs.Authorities.{authority_back}
 use Rattle.uri_resolution.specs.NormalForm.{with_triplets, lowered, normal_host, normal_authority_parts, normal_authority}
 use Rattle.uri_resolution.proofs.Bools.{and_left, and_right, and_both, or_either, or_left, or_right}

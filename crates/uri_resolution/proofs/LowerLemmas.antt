@@ -4,10 +4,9 @@ use Rattle.std.proofs.lemmas.Grind.{common_steps}
 use Rattle.std.specs.Char.{to_ascii_lowercase}
 use Rattle.std.specs.List.{list_all, onto_first}
 use Rattle.uri_grammar.specs.Texts.{cut_at, pieces, is_empty, is_digit, is_hex, is_between}
-use Rattle.ip_literals.specs.Addresses.{is_dec_octet, is_ipv4_address, is_h16, is_ls32, with_ls32, up_to, with_first, cut_at_colons, is_ipv6_cut, is_ipv6_address, is_unreserved, is_sub_delim, is_future_byte, is_version, is_future_cut, is_ip_future, is_closed, is_ip_literal}
+use Rattle.uri_grammar.specs.Addresses.{is_dec_octet, is_ipv4_address, is_ipv6_address, is_unreserved, is_sub_delim, is_ip_future, is_closed, is_ip_literal}
 use Rattle.uri_grammar.specs.Grammar.{is_encoded, is_reg_name}
-use Rattle.ip_literals.proofs.Halves.{cut_here, cut_on}
-use Rattle.ip_literals.proofs.Groups.{pieces_filled}
+use Rattle.uri_grammar.proofs.Passed.{is_h16, is_ls32, with_ls32, up_to, with_first, cut_at_colons, is_ipv6_cut, is_future_byte, is_version, is_future_cut, cut_here, cut_on, pieces_filled}
 use Rattle.uri_resolution.proofs.DotLemmas.{from_test}
 use Rattle.uri_resolution.specs.NormalForm.{lowered}
 use Rattle.uri_resolution.proofs.Bools.{true_false, and_left, and_right, and_both, or_left}

@@ -1,6 +1,5 @@
 //! Examples of RFC 3986, and texts that its grammar refuses.
 
-use std::alloc::AllocError;
 use std::process::Abort;
 use uri_grammar::components::{split_reference, write_components};
 use uri_grammar::grammar::{is_uri, is_uri_reference, parse, split_authority_parts};
@@ -62,19 +61,18 @@ fn tells_references(rt: HostRuntime) {
 
 /// Components are parts of the text, and give it back.
 #[test]
-fn writes_what_it_split(rt: HostRuntime) -> Result<(), AllocError> {
+fn writes_what_it_split(rt: HostRuntime) {
     let parts = split_reference("foo://example.com:8042/over/there?name=ferret#nose");
     assert_eq!(rt; parts.scheme, Some("foo"));
     assert_eq!(rt; parts.authority, Some("example.com:8042"));
     assert_eq!(rt; parts.path, "/over/there");
     assert_eq!(rt; parts.query, Some("name=ferret"));
     assert_eq!(rt; parts.fragment, Some("nose"));
-    let text = write_components(rt.alloc(), &parts)?;
+    let text = write_components(rt.alloc(), &parts).expect(&rt, "memory");
     assert_eq!(rt;
         text.as_str(),
         "foo://example.com:8042/over/there?name=ferret#nose"
     );
-    Ok(())
 }
 
 #[test]

@@ -1,6 +1,6 @@
 //! The examples of RFC 3986.
 
-use std::alloc::{AllocError, Global};
+use std::alloc::Global;
 use std::process::Abort;
 use uri_grammar::components::{Components, split_reference};
 use uri_resolution::dots::remove_dot_segments;
@@ -11,32 +11,25 @@ use uri_resolution::writing::write_guarded;
 
 /// Section 5.2.4.
 #[test]
-fn removes_dot_segments(rt: HostRuntime) -> Result<(), AllocError> {
-    let path = remove_dot_segments(rt.alloc(), "/a/b/c/./../../g")?;
+fn removes_dot_segments(rt: HostRuntime) {
+    let path = remove_dot_segments(rt.alloc(), "/a/b/c/./../../g").expect(&rt, "memory");
     assert_eq!(rt; path.as_str(), "/a/g");
-    let path = remove_dot_segments(rt.alloc(), "mid/content=5/../6")?;
+    let path = remove_dot_segments(rt.alloc(), "mid/content=5/../6").expect(&rt, "memory");
     assert_eq!(rt; path.as_str(), "mid/6");
-    Ok(())
 }
 
-fn assert_resolved(
-    rt: &impl Abort,
-    alloc: Global,
-    base: &str,
-    rows: &[(&str, &str)],
-) -> Result<(), AllocError> {
+fn assert_resolved(rt: &impl Abort, alloc: Global, base: &str, rows: &[(&str, &str)]) {
     let base = split_reference(base);
     for (reference, want) in rows {
-        let target = resolve(alloc, &base, &split_reference(reference))?;
+        let target = resolve(alloc, &base, &split_reference(reference)).expect(rt, "memory");
         assert_eq!(rt; target.as_str(), *want, "{reference}");
     }
-    Ok(())
 }
 
 /// Sections 5.4.1 and 5.4.2, against `http://a/b/c/d;p?q`.
 #[test]
-fn resolves(rt: HostRuntime) -> Result<(), AllocError> {
-    assert_resolved(&rt, rt.alloc(), "http://a/b/c/d;p?q", &EXAMPLES)
+fn resolves(rt: HostRuntime) {
+    assert_resolved(&rt, rt.alloc(), "http://a/b/c/d;p?q", &EXAMPLES);
 }
 
 /// References against `http://a/b/c/d;p?q`, and what they lead to.
@@ -85,17 +78,16 @@ pub const EXAMPLES: [(&str, &str); 42] = [
     ("http:g", "http:g"),
 ];
 
-fn assert_normal(rt: &impl Abort, alloc: Global, rows: &[(&str, &str)]) -> Result<(), AllocError> {
+fn assert_normal(rt: &impl Abort, alloc: Global, rows: &[(&str, &str)]) {
     for (text, want) in rows {
-        let normal = normalize(alloc, &split_reference(text))?;
+        let normal = normalize(alloc, &split_reference(text)).expect(rt, "memory");
         assert_eq!(rt; normal.as_str(), *want, "{text}");
     }
-    Ok(())
 }
 
 /// Section 6.2.2.
 #[test]
-fn normalizes(rt: HostRuntime) -> Result<(), AllocError> {
+fn normalizes(rt: HostRuntime) {
     assert_normal(
         &rt,
         rt.alloc(),
@@ -108,19 +100,18 @@ fn normalizes(rt: HostRuntime) -> Result<(), AllocError> {
             ("HTTP://www.EXAMPLE.com/", "http://www.example.com/"),
             ("a://U%73er@H:80/%3a", "a://User@h:80/%3A"),
         ],
-    )
+    );
 }
 
 #[test]
-fn normalizes_triplets(rt: HostRuntime) -> Result<(), AllocError> {
-    let triplets = normalize_triplets(rt.alloc(), "%41%c3%bc%2E%")?;
+fn normalizes_triplets(rt: HostRuntime) {
+    let triplets = normalize_triplets(rt.alloc(), "%41%c3%bc%2E%").expect(&rt, "memory");
     assert_eq!(rt; triplets.as_str(), "A%C3%BC.%");
-    Ok(())
 }
 
 /// A path that would be read as an authority.
 #[test]
-fn guards(rt: HostRuntime) -> Result<(), AllocError> {
+fn guards(rt: HostRuntime) {
     let parts = Components {
         scheme: Some("a"),
         authority: None,
@@ -128,7 +119,6 @@ fn guards(rt: HostRuntime) -> Result<(), AllocError> {
         query: Some("c"),
         fragment: None,
     };
-    let text = write_guarded(rt.alloc(), &parts)?;
+    let text = write_guarded(rt.alloc(), &parts).expect(&rt, "memory");
     assert_eq!(rt; text.as_str(), "a:/.//b?c");
-    Ok(())
 }

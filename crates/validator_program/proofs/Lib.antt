@@ -2,3 +2,4 @@ mod Cut
 mod Added
 mod Small
 mod Alone
+mod Running

@@ -5,9 +5,14 @@ use Rattle.line_cuts.specs.Runs.{RunsThrough, Stops}
 use Rattle.line_cuts.specs.declared.report.RunReport.{RunReport}
 use Rattle.line_cuts.specs.declared.report.RunError.{RunError}
 use Rattle.line_runs.specs.Runs.{IsLineText}
-use Rattle.schema_roots.specs.Roots.{Root}
+use Rattle.regex_patterns.specs.Searches.{is_regex, searched}
+use Rattle.line_runs.specs.Passed.{Root, Patterns}
 use Rattle.program_files.specs.Held.{Held}
 use Rattle.validator_program.specs.Given.{IsBuiltOf}
+
+-- the patterns of schemas are those that `regex` reads
+abbrev pub patterns_of_regex : Patterns
+patterns_of_regex = record { makes = is_regex; finished = searched }
 
 -- the root is built of the files that the words name
 pub record IsNamed (rows : List Row) (held : List ℕ → Held) (root : Root) : Type 0 where
@@ -21,7 +26,7 @@ pub record AnswersAll (rows : List Row) (held : List ℕ → Held) (from to befo
   pub root : Root
   pub named : IsNamed rows held root
   pub report : RunReport
-  pub answered : RunsThrough (IsLineText root) from to before after report
+  pub answered : RunsThrough (IsLineText patterns_of_regex root) from to before after report
   pub is_status : status ≡ (if report.any_refused then 1 else 0)
 
 -- a run of the root that the words name ended with an error
@@ -29,4 +34,4 @@ pub record StopsEarly (rows : List Row) (held : List ℕ → Held) (from to befo
   pub root : Root
   pub named : IsNamed rows held root
   pub error : RunError
-  pub stopped : Stops (IsLineText root) error from to before after
+  pub stopped : Stops (IsLineText patterns_of_regex root) error from to before after

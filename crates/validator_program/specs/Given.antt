@@ -14,9 +14,9 @@ use Rattle.given_documents.specs.Given.{Given, with_given}
 use Rattle.schema_registries.specs.Refused.{text_value}
 use Rattle.schema_registries.specs.Seen.{AddsText, given_under}
 use Rattle.schema_registries.specs.Whole.{only_whole}
-use Rattle.schema_roots.specs.Roots.{Root}
-use Rattle.json_schema_validator.specs.Seen.{root_of}
-use Rattle.json_schema_validator.specs.Prepared.{documents_alone}
+use Rattle.line_runs.specs.Passed.{Root}
+use Rattle.line_runs.specs.Passed.{root_of}
+use Rattle.line_runs.specs.Passed.{documents_alone}
 use Rattle.program_files.specs.Held.{Held, Unknown, Missing, Holds}
 use Rattle.validator_program.specs.declared.documents.Further.{Further}
 

@@ -2,8 +2,10 @@
 
 ghost use Rattle.std.specs.Prelude.{◌≡◌, IfOk, Some, option_map};
 ghost use Rattle.clap.specs.Walk.{texts};
-ghost use Rattle.json_schema_validator.specs.Prepared.{meta_schemas_given};
-ghost use Rattle.line_runs.specs.Passed.{root_in};
+ghost use Rattle.line_runs.specs.Passed.{meta_schemas_given};
+ghost use Rattle.line_runs.specs.Passed.{root_in, IsMadeBy};
+ghost use Rattle.regex_patterns.specs.Matchers.{finds_by_regex};
+ghost use Rattle.validator_program.specs.Answered.{patterns_of_regex};
 ghost use Rattle.schema_drafts.specs.Drafts.{draft_among};
 ghost use Rattle.schema_registries.specs.Seen.{documents_given};
 ghost use Rattle.validator_program.specs.Given.{IsBuiltOf, MayBeMetaSchemas, base_of, draft_of, draft_words};
@@ -11,8 +13,7 @@ ghost use Rattle.validator_program.specs.Given.{IsBuiltOf, MayBeMetaSchemas, bas
 use crate::documents::{cut_words, read_documents};
 use crate::fault::ProgramFault;
 use crate::meta_files::read_meta_schemas;
-use json_schema_validator::ValidationOptions;
-use line_runs::{Documents, Draft, Validator};
+use line_runs::{Documents, Draft, ValidationOptions, Validator};
 use program_files::SchemaFiles;
 use program_words::ProgramWords;
 use std::alloc::{AllocError, Global};
@@ -98,7 +99,8 @@ pub(crate) fn prepare<'a, F: SchemaFiles>(
     words: &ProgramWords<'a>,
     files: &F,
 ) -> Result<Validator, ProgramFault<'a>>
-    ensures { IfOk result (λ v. IsBuiltOf (F.held files.now) words.now.schema.now (texts words.now.files.items) (option_map (λ s. s.now) words.now.base) (option_map (λ s. s.now) words.now.draft) (option_map (λ s. s.now) words.now.meta) (root_in v)) }
+    ensures made { IfOk result (IsMadeBy finds_by_regex patterns_of_regex) }
+    ensures built { IfOk result (λ v. IsBuiltOf (F.held files.now) words.now.schema.now (texts words.now.files.items) (option_map (λ s. s.now) words.now.base) (option_map (λ s. s.now) words.now.draft) (option_map (λ s. s.now) words.now.meta) (root_in v)) }
 {
     let further = cut_words(alloc, words.files.as_slice())?;
     let draft = read_draft(words.draft)?;

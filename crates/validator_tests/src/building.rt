@@ -1,24 +1,20 @@
 // What refuses a build, by the texts of the errors.
-use json_schema_validator::{Documents, Draft, Validator};
+use crate::subject::{documents_of, options_at, outcome_of, validator_or_why, verdict_of};
+use json_schema_validator::{Draft, RegexMaker, SchemaRegistry, ValidationOptions, Validator};
 use serde_json::Value;
 use std::alloc::Global;
-use std::test::Fail;
-use uri_references::uri::from_str;
+use std::process::Abort;
 
 // What comes of documents under `http://a.test/r` and `http://a.test/s`, with the first as the root.
-pub(crate) fn outcome(alloc: Global, root: &str, other: &str) -> Result<String, Fail> {
-    let mut documents = Documents::new(alloc);
-    documents.add_text("http://a.test/r", root.as_bytes())?;
-    documents.add_text("http://a.test/s", other.as_bytes())?;
-    let options = Validator::options(alloc)?.with_base(from_str(alloc, "http://a.test/r")?);
-    match options.build(&documents, "") {
-        Ok(_) => Ok(String::from_str(alloc, "built")?),
-        Err(error) => Ok(format!(in alloc; "{error}")?),
-    }
+pub(crate) fn outcome(rt: &impl Abort, alloc: Global, root: &str, other: &str) -> String {
+    let texts = [("http://a.test/r", root), ("http://a.test/s", other)];
+    let documents = documents_of(rt, alloc, &texts);
+    let options = options_at(rt, alloc, "http://a.test/r");
+    outcome_of(rt, alloc, options.build(&documents, ""))
 }
 
 #[test]
-fn by_what_is_reached(rt: HostRuntime) -> Result<(), Fail> {
+fn by_what_is_reached(rt: HostRuntime) {
     let alloc = rt.alloc();
     for (root, want) in [
         (
@@ -47,8 +43,8 @@ fn by_what_is_reached(rt: HostRuntime) -> Result<(), Fail> {
             "Keyword at 'http://a.test/r#/unevaluatedItems' is left out",
         ),
         (
-            "{\"items\":{\"pattern\":\"a\"}}",
-            "Keyword at 'http://a.test/r#/items/pattern' is not there yet",
+            "{\"items\":{\"propertyNames\":{\"items\":5}}}",
+            "Keyword value at 'http://a.test/r#/items/propertyNames/items': expected schema",
         ),
         (
             "{\"$dynamicRef\":5}",
@@ -60,13 +56,12 @@ fn by_what_is_reached(rt: HostRuntime) -> Result<(), Fail> {
         ),
         ("5", "Keyword value at 'http://a.test/r#': expected schema"),
     ] {
-        assert_eq!(rt; outcome(alloc, root, "{\"a\":5}")?.as_str(), want);
+        assert_eq!(rt; outcome(&rt, alloc, root, "{\"a\":5}").as_str(), want);
     }
-    Ok(())
 }
 
 #[test]
-fn by_what_documents_have(rt: HostRuntime) -> Result<(), Fail> {
+fn by_what_documents_have(rt: HostRuntime) {
     let alloc = rt.alloc();
     for (root, want) in [
         (
@@ -82,13 +77,12 @@ fn by_what_documents_have(rt: HostRuntime) -> Result<(), Fail> {
             "Unknown meta-schema 'http://a.test/m'",
         ),
     ] {
-        assert_eq!(rt; outcome(alloc, root, "true")?.as_str(), want);
+        assert_eq!(rt; outcome(&rt, alloc, root, "true").as_str(), want);
     }
-    Ok(())
 }
 
 #[test]
-fn by_meta_schemas(rt: HostRuntime) -> Result<(), Fail> {
+fn by_meta_schemas(rt: HostRuntime) {
     let alloc = rt.alloc();
     for (root, other, want) in [
         (
@@ -117,33 +111,41 @@ fn by_meta_schemas(rt: HostRuntime) -> Result<(), Fail> {
             "Keyword at 'http://a.test/r#/unevaluatedItems' is left out",
         ),
     ] {
-        assert_eq!(rt; outcome(alloc, root, other)?.as_str(), want);
+        assert_eq!(rt; outcome(&rt, alloc, root, other).as_str(), want);
     }
-    Ok(())
+}
+
+// Whether 1 is valid by the schema at a URI, which has the draft of the options.
+fn is_one_valid(
+    rt: &impl Abort,
+    alloc: Global,
+    options: &ValidationOptions,
+    registry: &SchemaRegistry,
+    uri: &str,
+) -> bool {
+    let validator = options.build_on(registry, uri).expect(rt, "a validator");
+    assert!(rt; validator.draft() == Draft::Draft202012);
+    let value = Value::from_str(alloc, "1").expect(rt, "JSON");
+    validator.is_valid(&value).expect(rt, "memory")
 }
 
 #[test]
-fn on_one_registry(rt: HostRuntime) -> Result<(), Fail> {
+fn on_one_registry(rt: HostRuntime) {
     let alloc = rt.alloc();
-    let mut documents = Documents::new(alloc);
-    documents.add_text(
-        "http://a.test/r",
-        b"{\"$defs\":{\"a\":{\"type\":\"null\"}}}",
-    )?;
-    let options = Validator::options(alloc)?.with_draft(Draft::Draft202012);
-    let registry = options.prepare(&documents)?;
-    let root = options.build_on(&registry, "http://a.test/r")?;
-    let inner = options.build_on(&registry, "http://a.test/r#/$defs/a")?;
-    let value = serde_json::Value::from_str(alloc, "1")?;
-    assert!(rt; root.is_valid(&value)?);
-    assert!(rt; !inner.is_valid(&value)?);
-    assert!(rt; inner.draft() == Draft::Draft202012);
-    assert!(rt; options.build_on(&registry, "").is_err());
-    Ok(())
+    let texts = [("http://a.test/r", "{\"$defs\":{\"a\":{\"type\":\"null\"}}}")];
+    let documents = documents_of(&rt, alloc, &texts);
+    let options = Validator::options(alloc)
+        .expect(&rt, "memory")
+        .with_draft(Draft::Draft202012);
+    let registry = options.prepare(&documents).expect(&rt, "a registry");
+    assert!(rt; is_one_valid(&rt, alloc, &options, &registry, "http://a.test/r"));
+    assert!(rt; !is_one_valid(&rt, alloc, &options, &registry, "http://a.test/r#/$defs/a"));
+    let elsewhere = validator_or_why(&rt, alloc, options.build_on(&registry, ""));
+    assert!(rt; elsewhere.is_err());
 }
 
 #[test]
-fn by_older_drafts(rt: HostRuntime) -> Result<(), Fail> {
+fn by_older_drafts(rt: HostRuntime) {
     let alloc = rt.alloc();
     for (root, want) in [
         (
@@ -171,37 +173,29 @@ fn by_older_drafts(rt: HostRuntime) -> Result<(), Fail> {
             "built",
         ),
     ] {
-        assert_eq!(rt; outcome(alloc, root, "true")?.as_str(), want);
+        assert_eq!(rt; outcome(&rt, alloc, root, "true").as_str(), want);
     }
-    Ok(())
 }
 
 #[test]
-fn by_the_draft_of_the_options(rt: HostRuntime) -> Result<(), Fail> {
+fn by_the_draft_of_the_options(rt: HostRuntime) {
     let alloc = rt.alloc();
-    let mut documents = Documents::new(alloc);
-    documents.add_text("", b"{\"$dynamicRef\":5}")?;
-    let old = Validator::options(alloc)?.with_draft(Draft::Draft7);
-    assert!(rt; old.build(&documents, "").is_ok());
-    assert!(rt; Validator::options(alloc)?.build(&documents, "").is_err());
-    Ok(())
+    let documents = documents_of(&rt, alloc, &[("", "{\"$dynamicRef\":5}")]);
+    let newest = Validator::options(alloc).expect(&rt, "memory");
+    assert!(rt; validator_or_why(&rt, alloc, newest.build(&documents, "")).is_err());
+    let old = newest.with_draft(Draft::Draft7);
+    assert!(rt; validator_or_why(&rt, alloc, old.build(&documents, "")).is_ok());
 }
 
 // The verdict of a schema alone, or why it is refused.
-fn by_schema(alloc: Global, schema: &str, instance: &str) -> Result<String, Fail> {
-    let schema = Value::from_str(alloc, schema)?;
-    let value = Value::from_str(alloc, instance)?;
-    match Validator::new(alloc, schema) {
-        Ok(validator) => {
-            let is_valid = validator.is_valid(&value)?;
-            Ok(format!(in alloc; "{is_valid}")?)
-        }
-        Err(error) => Ok(format!(in alloc; "{error}")?),
-    }
+fn by_schema(rt: &impl Abort, alloc: Global, schema: &str, instance: &str) -> String {
+    let schema = Value::from_str(alloc, schema).expect(rt, "JSON");
+    let built = Validator::new(alloc, schema, RegexMaker);
+    verdict_of(rt, alloc, built, instance)
 }
 
 #[test]
-fn by_one_schema(rt: HostRuntime) -> Result<(), Fail> {
+fn by_one_schema(rt: HostRuntime) {
     let alloc = rt.alloc();
     for (schema, value, want) in [
         ("{\"type\":\"integer\"}", "1", "true"),
@@ -217,12 +211,17 @@ fn by_one_schema(rt: HostRuntime) -> Result<(), Fail> {
             "Keyword value at 'json-schema:///#/type': expected type name",
         ),
         (
+            "{\"pattern\":\"a(\"}",
+            "1",
+            "Pattern at 'json-schema:///#/pattern' is refused",
+        ),
+        ("{\"pattern\":\"a.c\"}", "\"ac\"", "false"),
+        (
             "{\"minimum\":1.5}",
             "1",
             "Number at 'json-schema:///#/minimum' is no whole number of 64 bits",
         ),
     ] {
-        assert_eq!(rt; by_schema(alloc, schema, value)?.as_str(), want);
+        assert_eq!(rt; by_schema(&rt, alloc, schema, value).as_str(), want);
     }
-    Ok(())
 }

@@ -1,8 +1,8 @@
 // Meta-schemas of one's own: the draft and the vocabularies that they give (Core 8.1.1, 8.1.2).
-use crate::subject::{built_of, told};
+use crate::subject::{assert_told, built_of};
 use json_schema_validator::Draft;
 use std::alloc::Global;
-use std::test::Fail;
+use std::process::Abort;
 
 // One that requires what schemas hold, and nothing that asserts.
 const META: &str =
@@ -20,7 +20,7 @@ const OLD: &str =
     "{\"$schema\":\"http://json-schema.org/draft-07/schema#\",\"$id\":\"http://a.test/old\"}";
 
 // What is told of an instance by a schema beside these four.
-fn told_beside(alloc: Global, schema: &str, instance: &str) -> Result<String, Fail> {
+fn assert_told_beside(rt: &impl Abort, alloc: Global, schema: &str, instance: &str, want: &str) {
     let documents = [
         ("http://a.test/meta", META),
         ("http://a.test/above", ABOVE),
@@ -28,28 +28,22 @@ fn told_beside(alloc: Global, schema: &str, instance: &str) -> Result<String, Fa
         ("http://a.test/old", OLD),
         ("http://a.test/r", schema),
     ];
-    told(
-        alloc,
-        &built_of(alloc, &documents, "http://a.test/r")?,
-        instance,
-    )
+    let subject = built_of(rt, alloc, &documents, "http://a.test/r");
+    assert_told(rt, alloc, &subject, instance, want);
 }
 
 #[test]
-fn vocabularies_that_are_required(rt: HostRuntime) -> Result<(), Fail> {
+fn vocabularies_that_are_required(rt: HostRuntime) {
     let alloc = rt.alloc();
     let schema =
         "{\"$schema\":\"http://a.test/meta\",\"properties\":{\"a\":false},\"minItems\":3,\"type\":\"object\"}";
     for (instance, want) in [("{}", ""), ("[]", ""), ("{\"a\":1}", "/a /properties/a\n")] {
-        assert_eq!(rt; told_beside(alloc, schema, instance)?.as_str(), want);
+        assert_told_beside(&rt, alloc, schema, instance, want);
     }
     // where members are not declared, none is refused for that
     let closed =
         "{\"$schema\":\"http://a.test/bare\",\"properties\":{\"a\":false},\"additionalProperties\":false}";
-    assert_eq!(rt;
-        told_beside(alloc, closed, "{\"a\":1,\"b\":1}")?.as_str(),
-        ""
-    );
+    assert_told_beside(&rt, alloc, closed, "{\"a\":1,\"b\":1}", "");
     let asserting =
         "{\"$schema\":\"http://a.test/above\",\"properties\":{\"a\":false},\"minItems\":3,\"type\":\"array\"}";
     for (instance, want) in [
@@ -57,13 +51,12 @@ fn vocabularies_that_are_required(rt: HostRuntime) -> Result<(), Fail> {
         ("[]", " /minItems\n"),
         ("[1,2,3]", ""),
     ] {
-        assert_eq!(rt; told_beside(alloc, asserting, instance)?.as_str(), want);
+        assert_told_beside(&rt, alloc, asserting, instance, want);
     }
-    Ok(())
 }
 
 #[test]
-fn drafts_that_are_given(rt: HostRuntime) -> Result<(), Fail> {
+fn drafts_that_are_given(rt: HostRuntime) {
     let alloc = rt.alloc();
     let schema =
         "{\"$schema\":\"http://a.test/old\",\"properties\":{\"x\":{\"$ref\":\"#/definitions/s\",\"minItems\":3}},\"definitions\":{\"s\":{\"type\":\"array\"}}}";
@@ -71,16 +64,15 @@ fn drafts_that_are_given(rt: HostRuntime) -> Result<(), Fail> {
         ("{\"x\":[]}", ""),
         ("{\"x\":1}", "/x /properties/x/$ref/type\n"),
     ] {
-        assert_eq!(rt; told_beside(alloc, schema, instance)?.as_str(), want);
+        assert_told_beside(&rt, alloc, schema, instance, want);
     }
     let documents = [("http://a.test/old", OLD), ("http://a.test/r", schema)];
-    let subject = built_of(alloc, &documents, "http://a.test/r")?;
+    let subject = built_of(&rt, alloc, &documents, "http://a.test/r");
     assert!(rt; subject.validator.draft() == Draft::Draft7);
-    Ok(())
 }
 
 #[test]
-fn of_schemas_inside_others(rt: HostRuntime) -> Result<(), Fail> {
+fn of_schemas_inside_others(rt: HostRuntime) {
     let alloc = rt.alloc();
     for (schema, instance, want) in [
         // a subschema with an identifier has its own, and what is below it has that too
@@ -112,7 +104,6 @@ fn of_schemas_inside_others(rt: HostRuntime) -> Result<(), Fail> {
             "/x/y /properties/x/properties/y/$ref/type\n",
         ),
     ] {
-        assert_eq!(rt; told_beside(alloc, schema, instance)?.as_str(), want);
+        assert_told_beside(&rt, alloc, schema, instance, want);
     }
-    Ok(())
 }

@@ -6,8 +6,6 @@ mod applying;
 #[cfg(test)]
 mod building;
 #[cfg(test)]
-mod checks;
-#[cfg(test)]
 mod dialects;
 #[cfg(test)]
 mod drafts;
@@ -17,6 +15,8 @@ mod faults;
 mod limits;
 #[cfg(test)]
 mod options;
+#[cfg(test)]
+mod patterns;
 #[cfg(test)]
 mod references;
 #[cfg(test)]

@@ -1,46 +1,50 @@
 // How many compile keys schemas lead to: as many are allowed, and one fewer refuses the build.
+use crate::subject::{self, options_at, outcome_of};
 use json_schema_validator::{BuildCause, BuildError, Documents, ValidationOptions, Validator};
 use std::alloc::Global;
-use std::test::Fail;
-use uri_references::uri::from_str;
+use std::process::Abort;
 
 // Documents under `http://a.test/r`, which has the root, `http://a.test/s` and `http://a.test/t`.
-fn documents_of(alloc: Global, texts: [&str; 3]) -> Result<Documents, Fail> {
-    let mut documents = Documents::new(alloc);
-    documents.add_text("http://a.test/r", texts[0].as_bytes())?;
-    documents.add_text("http://a.test/s", texts[1].as_bytes())?;
-    documents.add_text("http://a.test/t", texts[2].as_bytes())?;
-    Ok(documents)
+fn documents_of(rt: &impl Abort, alloc: Global, texts: [&str; 3]) -> Documents {
+    let [root, second, third] = texts;
+    let texts = [
+        ("http://a.test/r", root),
+        ("http://a.test/s", second),
+        ("http://a.test/t", third),
+    ];
+    subject::documents_of(rt, alloc, &texts)
 }
 
 fn outcome(
+    rt: &impl Abort,
     alloc: Global,
     options: &ValidationOptions,
     documents: &Documents,
-) -> Result<String, Fail> {
-    match options.build(documents, "r") {
-        Ok(_) => Ok(String::from_str(alloc, "built")?),
-        Err(error) => Ok(format!(in alloc; "{error}")?),
-    }
+) -> String {
+    outcome_of(rt, alloc, options.build(documents, "r"))
 }
 
-fn outcome_by(alloc: Global, limit: usize, documents: &Documents) -> Result<String, Fail> {
-    let options = Validator::options(alloc)?
-        .with_base(from_str(alloc, "http://a.test/")?)
-        .with_node_limit(limit);
-    outcome(alloc, &options, documents)
+fn options_by(rt: &impl Abort, alloc: Global, limit: usize) -> ValidationOptions {
+    options_at(rt, alloc, "http://a.test/").with_node_limit(limit)
 }
 
 // What comes of limits of so many, and of one fewer.
-fn outcomes(alloc: Global, keys: usize, texts: [&str; 3]) -> Result<String, Fail> {
-    let documents = documents_of(alloc, texts)?;
-    let enough = outcome_by(alloc, keys, &documents)?;
-    let too_few = outcome_by(alloc, keys.saturating_sub(1), &documents)?;
-    Ok(format!(in alloc; "{enough}; {too_few}")?)
+fn outcomes(rt: &impl Abort, alloc: Global, keys: usize, texts: [&str; 3]) -> String {
+    let documents = documents_of(rt, alloc, texts);
+    let enough = outcome(rt, alloc, &options_by(rt, alloc, keys), &documents);
+    let fewer = keys.saturating_sub(1);
+    let too_few = outcome(rt, alloc, &options_by(rt, alloc, fewer), &documents);
+    format!(in alloc; "{enough}; {too_few}").expect(rt, "memory")
+}
+
+// What is to come of them where so many are led to.
+fn wanted(rt: &impl Abort, alloc: Global, keys: usize) -> String {
+    let fewer = keys.saturating_sub(1);
+    format!(in alloc; "built; More than {fewer} schema nodes").expect(rt, "memory")
 }
 
 #[test]
-fn in_one_document(rt: HostRuntime) -> Result<(), Fail> {
+fn in_one_document(rt: HostRuntime) {
     let alloc = rt.alloc();
     for (root, keys) in [
         ("true", 1),
@@ -83,13 +87,12 @@ fn in_one_document(rt: HostRuntime) -> Result<(), Fail> {
             2,
         ),
     ] {
-        let want = format!(in alloc; "built; More than {} schema nodes", keys - 1)?;
+        let want = wanted(&rt, alloc, keys);
         assert_eq!(rt;
-            outcomes(alloc, keys, [root, "true", "true"])?.as_str(),
+            outcomes(&rt, alloc, keys, [root, "true", "true"]).as_str(),
             want.as_str()
         );
     }
-    Ok(())
 }
 
 const LIST: &str =
@@ -98,7 +101,7 @@ const LIST: &str =
 const STRINGS: &str = "{\"$ref\":\"s\",\"$defs\":{\"s\":{\"$dynamicAnchor\":\"item\"}}}";
 
 #[test]
-fn in_several_documents(rt: HostRuntime) -> Result<(), Fail> {
+fn in_several_documents(rt: HostRuntime) {
     let alloc = rt.alloc();
     for (texts, keys) in [
         (
@@ -128,43 +131,43 @@ fn in_several_documents(rt: HostRuntime) -> Result<(), Fail> {
             10,
         ),
     ] {
-        let want = format!(in alloc; "built; More than {} schema nodes", keys - 1)?;
-        assert_eq!(rt; outcomes(alloc, keys, texts)?.as_str(), want.as_str());
+        let want = wanted(&rt, alloc, keys);
+        assert_eq!(rt; outcomes(&rt, alloc, keys, texts).as_str(), want.as_str());
     }
-    Ok(())
+}
+
+// The limit that was met.
+fn limit_of(built: Result<Validator, BuildError>) -> Option<usize> {
+    match built {
+        Err(BuildError::Schema(BuildCause::NodeLimit { limit })) => Some(limit),
+        _ => None,
+    }
 }
 
 #[test]
-fn by_name(rt: HostRuntime) -> Result<(), Fail> {
+fn by_name(rt: HostRuntime) {
     let alloc = rt.alloc();
-    let documents = documents_of(alloc, ["{\"items\":true}", "true", "true"])?;
-    let options = Validator::options(alloc)?
-        .with_base(from_str(alloc, "http://a.test/")?)
-        .with_node_limit(1);
-    match options.build(&documents, "r") {
-        Err(BuildError::Schema(BuildCause::NodeLimit { limit })) => assert_eq!(rt; limit, 1),
-        _ => assert!(rt; false),
-    }
-    Ok(())
+    let documents = documents_of(&rt, alloc, ["{\"items\":true}", "true", "true"]);
+    let options = options_by(&rt, alloc, 1);
+    assert_eq!(rt; limit_of(options.build(&documents, "r")), Some(1));
 }
 
 // The meta-schema has three, the root one.
 #[test]
-fn of_a_meta_schema(rt: HostRuntime) -> Result<(), Fail> {
+fn of_a_meta_schema(rt: HostRuntime) {
     let alloc = rt.alloc();
     let root = "{\"$schema\":\"http://a.test/m\"}";
     for (limit, want) in [(3, "built"), (2, "More than 2 schema nodes")] {
-        let mut metas = Documents::new(alloc);
-        metas.add_text(
-            "http://a.test/m",
-            b"{\"properties\":{\"a\":true,\"b\":true}}",
-        )?;
-        let options = Validator::options(alloc)?
-            .with_base(from_str(alloc, "http://a.test/")?)
-            .with_meta_schemas(metas)
-            .with_node_limit(limit);
-        let documents = documents_of(alloc, [root, "true", "true"])?;
-        assert_eq!(rt; outcome(alloc, &options, &documents)?.as_str(), want);
+        let metas = subject::documents_of(
+            &rt,
+            alloc,
+            &[(
+                "http://a.test/m",
+                "{\"properties\":{\"a\":true,\"b\":true}}",
+            )],
+        );
+        let options = options_by(&rt, alloc, limit).with_meta_schemas(metas);
+        let documents = documents_of(&rt, alloc, [root, "true", "true"]);
+        assert_eq!(rt; outcome(&rt, alloc, &options, &documents).as_str(), want);
     }
-    Ok(())
 }

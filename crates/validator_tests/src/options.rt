@@ -1,57 +1,49 @@
 // Validators built with a retriever, with a limit, and with meta-schemas handed in (Core 8.1.1, 9.1.2).
-use json_schema_validator::{Documents, MapRetriever, Retrieve, ValidationOptions, Validator};
+use crate::subject::{documents_of, verdict_of};
+use json_schema_validator::{MapRetriever, RegexMaker, Retrieve, ValidationOptions, Validator};
 use serde_json::Value;
 use std::alloc::Global;
-use std::test::Fail;
+use std::process::Abort;
 
 const META: &str =
     "{\"$schema\":\"https://json-schema.org/draft/2020-12/schema\",\"$id\":\"http://a.test/m2\",\"properties\":{\"type\":{\"type\":\"string\"}}}";
 
-fn retriever_of(alloc: Global, pairs: &[(&str, &str)]) -> Result<MapRetriever, Fail> {
+fn retriever_of(rt: &impl Abort, alloc: Global, pairs: &[(&str, &str)]) -> MapRetriever {
     let mut retriever = MapRetriever::new(alloc);
     for (uri, text) in pairs {
-        retriever.add(alloc, uri, Value::from_str(alloc, text)?)?;
+        retriever
+            .add(alloc, uri, Value::from_str(alloc, text).expect(rt, "JSON"))
+            .expect(rt, "a document");
     }
-    Ok(retriever)
-}
-
-fn documents_of(alloc: Global, pairs: &[(&str, &str)]) -> Result<Documents, Fail> {
-    let mut documents = Documents::new(alloc);
-    for (uri, text) in pairs {
-        documents.add_text(uri, text.as_bytes())?;
-    }
-    Ok(documents)
+    retriever
 }
 
 // Whether a value is valid by a schema, or why there is no validator.
 fn outcome<R: Retrieve + Drop>(
+    rt: &impl Abort,
     alloc: Global,
-    options: &ValidationOptions<R>,
+    options: &ValidationOptions<RegexMaker, R>,
     schema: &str,
     value: &str,
-) -> Result<String, Fail> {
-    let documents = documents_of(alloc, &[("", schema)])?;
-    match options.build(&documents, "") {
-        Ok(validator) => {
-            let is_valid = validator.is_valid(&Value::from_str(alloc, value)?)?;
-            Ok(format!(in alloc; "{is_valid}")?)
-        }
-        Err(error) => Ok(format!(in alloc; "{error}")?),
-    }
+) -> String {
+    let documents = documents_of(rt, alloc, &[("", schema)]);
+    verdict_of(rt, alloc, options.build(&documents, ""), value)
 }
 
 #[test]
-fn retrieved(rt: HostRuntime) -> Result<(), Fail> {
+fn retrieved(rt: HostRuntime) {
     let alloc = rt.alloc();
     let retriever = retriever_of(
+        &rt,
         alloc,
         &[
             ("http://a.test/x", "{\"$ref\":\"y\"}"),
             ("http://a.test/y", "{\"type\":\"string\"}"),
             ("http://a.test/half", "{\"minimum\":1.5}"),
         ],
-    )?;
-    let options = Validator::options(alloc)?
+    );
+    let options = Validator::options(alloc)
+        .expect(&rt, "memory")
         .with_retriever(retriever)
         .with_retrieval_limit(2);
     for (schema, value, want) in [
@@ -73,28 +65,30 @@ fn retrieved(rt: HostRuntime) -> Result<(), Fail> {
             "More than 2 documents wanted",
         ),
     ] {
-        assert_eq!(rt; outcome(alloc, &options, schema, value)?.as_str(), want);
+        assert_eq!(rt; outcome(&rt, alloc, &options, schema, value).as_str(), want);
     }
-    Ok(())
 }
 
 #[test]
-fn by_a_meta_schema(rt: HostRuntime) -> Result<(), Fail> {
+fn by_a_meta_schema(rt: HostRuntime) {
     let alloc = rt.alloc();
-    let options = Validator::options(alloc)?.with_meta_schemas(documents_of(
-        alloc,
-        &[
-            ("http://a.test/m2", META),
-            (
-                "http://a.test/bad",
-                "{\"properties\":{\"type\":{\"type\":5}}}",
-            ),
-            (
-                "https://json-schema.org/draft/2020-12/schema",
-                "{\"properties\":{\"minItems\":{\"maximum\":9}}}",
-            ),
-        ],
-    )?);
+    let options = Validator::options(alloc)
+        .expect(&rt, "memory")
+        .with_meta_schemas(documents_of(
+            &rt,
+            alloc,
+            &[
+                ("http://a.test/m2", META),
+                (
+                    "http://a.test/bad",
+                    "{\"properties\":{\"type\":{\"type\":5}}}",
+                ),
+                (
+                    "https://json-schema.org/draft/2020-12/schema",
+                    "{\"properties\":{\"minItems\":{\"maximum\":9}}}",
+                ),
+            ],
+        ));
     for (schema, want) in [
         (
             "{\"$schema\":\"http://a.test/m2\",\"type\":[\"integer\"]}",
@@ -118,21 +112,21 @@ fn by_a_meta_schema(rt: HostRuntime) -> Result<(), Fail> {
             "true",
         ),
     ] {
-        assert_eq!(rt; outcome(alloc, &options, schema, "1")?.as_str(), want);
+        assert_eq!(rt; outcome(&rt, alloc, &options, schema, "1").as_str(), want);
     }
-    Ok(())
 }
 
 #[test]
-fn by_no_retrieved_meta_schema(rt: HostRuntime) -> Result<(), Fail> {
+fn by_no_retrieved_meta_schema(rt: HostRuntime) {
     let alloc = rt.alloc();
-    let options = Validator::options(alloc)?
-        .with_retriever(retriever_of(alloc, &[("http://a.test/m2", META)])?)
+    let options = Validator::options(alloc)
+        .expect(&rt, "memory")
+        .with_retriever(retriever_of(&rt, alloc, &[("http://a.test/m2", META)]))
         .with_meta_schemas(documents_of(
+            &rt,
             alloc,
             &[("http://a.test/m", "{\"$schema\":\"http://a.test/m2\"}")],
-        )?);
+        ));
     let schema = "{\"$schema\":\"http://a.test/m2\",\"type\":[\"integer\"]}";
-    assert_eq!(rt; outcome(alloc, &options, schema, "1")?.as_str(), "true");
-    Ok(())
+    assert_eq!(rt; outcome(&rt, alloc, &options, schema, "1").as_str(), "true");
 }

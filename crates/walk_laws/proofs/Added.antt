@@ -1,12 +1,13 @@
 -- What questions add to the road begins by their keyword.
-use Rattle.std.proofs.Common.{◌≡◌, ◌++◌, ℕ, suc, List, [], ◌∷◌, Option, None, Some, refl, sym, ap, codes}
-use Rattle.std.specs.List.{flat_map}
+use Rattle.std.proofs.Common.{◌≡◌, ◌++◌, ℕ, suc, List, [], ◌∷◌, Bool, map, Option, None, Some, refl, sym, ap, codes}
+use Rattle.std.specs.List.{flat_map, filter}
+use Rattle.schema_values.specs.Patterns.{matched}
 use Rattle.serde_json.specs.Data.{Data, Items, no_items, item}
 use Rattle.serde_json.specs.Find.{get}
 use Rattle.json_paths.specs.Parts.{Part, name, index}
 use Rattle.schema_meaning.specs.Members.{In, first, later}
-use Rattle.schema_meaning.specs.Places.{stay, to_member}
-use Rattle.schema_meaning.specs.Questions.{Question, question, at, at_name, each_branch, item_by_item, if_member, each_member, each_triggered}
+use Rattle.schema_meaning.specs.Places.{stay, to_member, to_name}
+use Rattle.schema_meaning.specs.Questions.{Question, question, at, at_name, each_branch, item_by_item, if_member, each_member, each_name, each_matching, each_triggered, members_of}
 use Rattle.walk_laws.proofs.Listed.{in_some, in_mapped}
 use Rattle.schema_meaning.specs.Keywords.{Dependency, needs, applies, applied}
 
@@ -38,6 +39,19 @@ module _ {S : Type 0} (k : List ℕ) where
 
   pub member_added : (s : S) (ms : List (List ℕ × Data)) (q : Question S) → In q (each_member k s ms) → q.added ≡ at k
   member_added s ms q i = let w = in_mapped (λ m. question s (to_member m.0 m.1) (at k)) ms i in ap (λ (p : Question S). p.added) (sym w.2)
+
+  pub name_added : (s : S) (names : List (List ℕ)) (q : Question S) → In q (each_name (at k) s names) → q.added ≡ at k
+  name_added s names q i = let w = in_mapped (λ n. question s (to_name n) (at k)) names i in ap (λ (p : Question S). p.added) (sym w.2)
+
+-- the questions of the members that a pattern matches
+abbrev matching : {S : Type 0} → (List ℕ → List ℕ → Bool) → List ℕ → Data → List ℕ × S → List (Question S)
+matching matches k d p = map (λ m. question p.1 (to_member m.0 m.1) (at_name k p.0)) (filter (λ m. matched matches p.0 m.0) (members_of d))
+
+pub matching_added : {S : Type 0} (matches : List ℕ → List ℕ → Bool) (k : List ℕ) (d : Data) (ps : List (List ℕ × S)) (q : Question S) → In q (each_matching matches k d ps) → AddsTo k q
+matching_added matches k d ps q h =
+    let w = in_some (matching matches k d) ps h in
+    let m = in_mapped (λ m. question w.0.1 (to_member m.0 m.1) (at_name k w.0.0)) (filter (λ m. matched matches w.0.0 m.0) (members_of d)) w.2 in
+    (name w.0.0 ∷ [], ap (λ (p : Question _). p.added) (sym m.2))
 
 entry_added : {S : Type 0} (n : List ℕ) (x : Dependency S) (q : Question S) → In q (applied n x) → AddsTo (codes "dependencies") q
 entry_added n (needs names) q h = elim h [ ]

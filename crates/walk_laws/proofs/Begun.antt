@@ -7,7 +7,7 @@ use Rattle.json_paths.specs.Parts.{Part, name}
 use Rattle.json_paths.specs.Pointers.{escape}
 use Rattle.schema_meaning.specs.Members.{In, first, later, count_true}
 use Rattle.schema_meaning.specs.Places.{stay, whole}
-use Rattle.schema_meaning.specs.Questions.{Question, at, listed_members, members_of, other_members, items_from, items_of, each_branch, each_item}
+use Rattle.schema_meaning.specs.Questions.{Question, at, listed_members, members_of, names_of, other_members, items_from, items_of, each_branch, each_item}
 use Rattle.schema_meaning.specs.Rules.{Rule, refuses_at, obliged, lone, every, accepts, count_refused_at, chosen_name, chosen_steps}
 use Rattle.schema_meaning.specs.Keywords.{Shape, never, asserts, items, item_list, prefix_items, additional_items, no_additional_items, contains, properties, pattern_properties, additional_properties, no_additional_properties, no_properties, property_names, no_property_names, dependent_schemas, dependencies, all_of, any_of, one_of, negation, condition, reference, reference_name, rule, counting, consequent}
 use Rattle.schema_meaning.specs.Readings.{Reading, rules}
@@ -24,7 +24,7 @@ use Rattle.check_laws.proofs.Parts.{path_text-append}
 use Rattle.check_laws.proofs.Steps.{first_step, from_step}
 use Rattle.walk_laws.specs.Words.{IsRest, nothing, IsOf, Bears, count_names, choice_names}
 use Rattle.walk_laws.proofs.Cuts.{rest_of, rest_append}
-use Rattle.walk_laws.proofs.Added.{branch_added, by_item_added, member_added, triggered_added, dependency_added}
+use Rattle.walk_laws.proofs.Added.{branch_added, by_item_added, member_added, name_added, matching_added, triggered_added, dependency_added}
 use Rattle.walk_laws.proofs.Listed.{in_some, in_all, in_mapped, item_question, declared_question}
 
 -- ---- the rule of a keyword that is read
@@ -78,7 +78,10 @@ module _ {S : Type 0} (matches : List ℕ → List ℕ → Bool) (d : Data) (k :
         let w = declared_question (codes "properties") d ps q i in
         (name w.0.0 ∷ [], ap (λ (x : Question S). x.added) w.4 ∙ ap (λ n. name w.0.0 ∷ at n) h);
   }
-  shape_begins (pattern_properties ps) h = absurd h
+  shape_begins (pattern_properties ps) h = record {
+    own = λ bs. ap at h;
+    on = λ bs q i. let w = matching_added matches (codes "patternProperties") d ps q i in (w.0, w.1 ∙ ap (λ n. w.0 ++ at n) h);
+  }
   shape_begins (additional_properties declared s) h = record {
     own = λ bs. ap at h;
     on = λ bs q i. ([], member_added (codes "additionalProperties") s (other_members matches declared d) q i ∙ ap at h);
@@ -91,8 +94,14 @@ module _ {S : Type 0} (matches : List ℕ → List ℕ → Bool) (d : Data) (k :
     own = λ bs. ap at h;
     on = λ bs q i. ([], member_added (codes "additionalProperties") s (members_of d) q i ∙ ap at h);
   }
-  shape_begins (property_names s) h = absurd h
-  shape_begins (no_property_names s) h = absurd h
+  shape_begins (property_names s) h = record {
+    own = λ bs. ap at h;
+    on = λ bs q i. ([], name_added (codes "propertyNames") s (names_of d) q i ∙ ap at h);
+  }
+  shape_begins (no_property_names s) h = record {
+    own = λ bs. ap at h;
+    on = λ bs q i. ([], name_added (codes "propertyNames") s (names_of d) q i ∙ ap at h);
+  }
   shape_begins (dependent_schemas ps) h = record {
     own = λ bs. ap at h;
     on = λ bs q i. let w = triggered_added (codes "dependentSchemas") d ps q i in (w.0, w.1 ∙ ap (λ n. w.0 ++ at n) h);

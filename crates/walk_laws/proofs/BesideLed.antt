@@ -13,7 +13,6 @@ use Rattle.schema_meaning.specs.Questions.{listed_members}
 use Rattle.schema_meaning.specs.Keywords.{Shape, condition}
 use Rattle.schema_reading.specs.Sites.{Site}
 use Rattle.schema_reading.specs.Rows.{BuildCause, Row, nothing_read, reads, Context, counts_here, beside, at, subschema, row_of, one_schema, schema_beside, consequent_row, readers, read_among, row_at, is_draft_4}
-use Rattle.unread_keywords.specs.NotYet.{is_unread}
 use Rattle.walk_laws.specs.Words.{IsUnder}
 use Rattle.walk_laws.proofs.Named.{shapes_are_under}
 
@@ -57,12 +56,11 @@ stands_among k d (member l e ms) (later i) = by (slice_cmp nat_cmp k l) (stands_
 -- a member whose shape is a condition
 pub record IsChoice (x : Context) (k : List ℕ) (d : Data) (s : Site) (t e : Option Site) : Type 0 where
   pub listed : In (k, d) (listed_members x.members)
-  pub read : is_unread x.site x.members k d ≡ false
   pub row : row_at x k d ≡ reads (s ∷ []) (condition s t e ∷ [])
 
 pub choice_name : (x : Context) (k : List ℕ) (d : Data) (s : Site) (t e : Option Site) → IsChoice x k d s t e → codes "if" ≡ k
 choice_name x k d s t e c =
-    let under = subst (λ (r : Row). AllByRecursion (IsUnder (is_draft_4 x.site.dialect.draft) k) r.shapes) c.row (shapes_are_under x k d c.read) in
+    let under = subst (λ (r : Row). AllByRecursion (IsUnder (is_draft_4 x.site.dialect.draft) k) r.shapes) c.row (shapes_are_under x k d) in
     (under.0.back (codes "if") first).of_member
 
 -- what its row says of what stands beside

@@ -1,5 +1,5 @@
--- The shapes of the keywords that are read, by the names under which they refuse.
-use Rattle.std.proofs.Common.{◌≡◌, ◌++◌, ℕ, ℤ, List, [], ◌∷◌, Bool, true, false, not, ◌&&◌, ◌||◌, bytes_eq, codes, is_some, Option, Some, None, Result, Ok, Err, refl, sym, ◌∙◌, subst, true≢false}
+-- The shapes of the keywords, by the names under which they refuse.
+use Rattle.std.proofs.Common.{◌≡◌, ◌++◌, ℕ, ℤ, List, [], ◌∷◌, Bool, true, false, ◌||◌, bytes_eq, codes, is_some, Option, Some, None, Result, Ok, Err, refl, sym, ◌∙◌, subst, true≢false}
 use Rattle.std.specs.List.{AllByRecursion}
 use Rattle.std.specs.Prelude.{if◌then◌else◌, option_and_then}
 use Rattle.std.proofs.lemmas.Slice.Eq.{bytes_eq-Decides}
@@ -11,11 +11,10 @@ use Rattle.schema_values.specs.Texts.{count_items}
 use Rattle.schema_documents.specs.Lookup.{Target, LookupCause, lookup}
 use Rattle.schema_documents.specs.Scopes.{dynamic_lookup, recursive_lookup}
 use Rattle.schema_meaning.specs.Members.{In, first, later, is_listed}
-use Rattle.schema_meaning.specs.Keywords.{Assertion, named, types, constant, enumeration, multiple_of, maximum, exclusive_maximum, minimum, exclusive_minimum, maximum_of_draft_4, minimum_of_draft_4, max_length, min_length, max_items, min_items, max_properties, min_properties, dependent_required, Shape, asserts, items, item_list, prefix_items, properties, dependent_schemas, all_of, any_of, one_of, negation, additional_items, no_additional_items, additional_properties, no_additional_properties, no_properties, Reference, static, dynamic, recursive, reference_name, reference, never, contains, pattern_properties, property_names, no_property_names, dependencies, condition}
-use Rattle.unread_keywords.specs.NotYet.{is_unread, is_read_beside, has_patterns, read_now}
+use Rattle.schema_meaning.specs.Keywords.{Assertion, named, types, constant, enumeration, multiple_of, maximum, exclusive_maximum, minimum, exclusive_minimum, maximum_of_draft_4, minimum_of_draft_4, max_length, min_length, pattern, max_items, min_items, max_properties, min_properties, dependent_required, Shape, asserts, items, item_list, prefix_items, properties, dependent_schemas, all_of, any_of, one_of, negation, additional_items, no_additional_items, additional_properties, no_additional_properties, no_properties, Reference, static, dynamic, recursive, reference_name, reference, never, contains, pattern_properties, property_names, no_property_names, dependencies, condition}
 use Rattle.schema_reading.specs.Sites.{Site, target_site}
 use Rattle.schema_reading.specs.Values.{type_names, count_of, positive_of, whole_number, unique_names}
-use Rattle.schema_reading.specs.Rows.{BuildCause, behind_items, additional_items_row, is_false, declared_beside, is_alone, refuses_others, additional_properties_row, Row, nothing_read, reads, Context, counts_here, at, bad_value, subschema, each_subschema, each_named, row_of, one_schema, schema_list, sites_named, schema_map, asserted, assertion, length_of_list, beside, takes_list, items_row, with_causes, target_causes, no_schema_there, led_to, ref_row, dynamic_row, is_hash, recursive_row, is_draft_4, is_true, unique_row, unless_empty, required_entries, dependent_required_row, readers, read_among, row_at, contains_row, bound_row, sites_applied, dependency_entries, dependencies_row, schema_beside, if_row, consequent_row}
+use Rattle.schema_reading.specs.Rows.{BuildCause, bad_pattern, refused, place_at, is_made, pattern_row, patterns_wrong, names_of_object, pattern_properties_row, behind_items, additional_items_row, is_false, declared_beside, is_alone, refuses_others, additional_properties_row, property_names_row, Row, nothing_read, reads, Context, counts_here, at, bad_value, subschema, each_subschema, each_named, row_of, one_schema, schema_list, sites_named, schema_map, asserted, assertion, length_of_list, beside, takes_list, items_row, with_causes, target_causes, no_schema_there, led_to, ref_row, dynamic_row, is_hash, recursive_row, is_draft_4, is_true, unique_row, unless_empty, required_entries, dependent_required_row, Reader, readers, read_among, row_at, contains_row, bound_row, sites_applied, dependency_entries, dependencies_row, schema_beside, if_row, consequent_row}
 use Rattle.walk_laws.specs.Words.{IsOf, IsUnder, member_of, Bears, count_names, choice_names, LeadsBack}
 
 abbrev AreOf : List ℕ → Row → Type 0
@@ -102,7 +101,7 @@ of_map x k shape h (string s) = tt
 of_map x k shape h (array ds) = tt
 of_map x k shape h (object ms) = of_row k sites_named (λ ps. shape ps ∷ []) (λ ps. (h ps, tt)) (each_named x k ms)
 
--- ---- of a name that is read
+-- ---- of a name of a list
 
 pub listed_in : (k : List ℕ) (names : List (List ℕ)) → is_listed k names ≡ true → In k names
 listed_in k [] e = absurd (true≢false (sym e))
@@ -156,12 +155,12 @@ one_name (additional_items start s) k n h g = sym h ∙ g
 one_name (no_additional_items start s) k n h g = sym h ∙ g
 one_name (contains s least most) k n h g = absurd h
 one_name (properties ps) k n h g = sym h ∙ g
-one_name (pattern_properties ps) k n h g = absurd h
+one_name (pattern_properties ps) k n h g = sym h ∙ g
 one_name (additional_properties declared s) k n h g = sym h ∙ g
 one_name (no_additional_properties declared s) k n h g = sym h ∙ g
 one_name (no_properties s) k n h g = sym h ∙ g
-one_name (property_names s) k n h g = absurd h
-one_name (no_property_names s) k n h g = absurd h
+one_name (property_names s) k n h g = sym h ∙ g
+one_name (no_property_names s) k n h g = sym h ∙ g
 one_name (dependent_schemas ps) k n h g = sym h ∙ g
 one_name (dependencies ps) k n h g = sym h ∙ g
 one_name (all_of ss) k n h g = sym h ∙ g
@@ -300,49 +299,6 @@ of_consequent x k d = by (is_some (beside x (codes "if"))) (subschema x (at k) d
     by true (Err causes) = tt
     by false r = tt
 
--- a row for each name that is read
-of_read : (x : Context) (k : List ℕ) (d : Data) → In k read_now → AreUnder x k (read_among readers x k d)
-unfolding escape
-of_read x _ d first = own (is_draft_4 x.site.dialect.draft) (codes "$ref") refl refl _ (of_ref x (as_str d))
-of_read x _ d (later first) = own (is_draft_4 x.site.dialect.draft) (codes "$dynamicRef") refl refl _ (of_dynamic x (as_str d))
-of_read x _ d (later (later first)) = own (is_draft_4 x.site.dialect.draft) (codes "$recursiveRef") refl refl _ (of_recursive x d)
-of_read x _ d (later (later (later first))) = own (is_draft_4 x.site.dialect.draft) (codes "type") refl refl _ (of_asserted x (codes "type") (codes "type name") (λ ts. assertion (types ts)) (λ ts. (refl, tt)) (type_names d))
-of_read x _ d (later (later (later (later first)))) = own (is_draft_4 x.site.dialect.draft) (codes "enum") refl refl _ (of_asserted x (codes "enum") (codes "list") (λ ds. assertion (enumeration ds)) (λ ds. (refl, tt)) (as_array d))
-of_read x _ d (later (later (later (later (later first))))) = own (is_draft_4 x.site.dialect.draft) (codes "const") refl refl (assertion (constant d)) (refl, tt)
-of_read x _ d (later (later (later (later (later (later first)))))) = own (is_draft_4 x.site.dialect.draft) (codes "multipleOf") refl refl _ (of_asserted x (codes "multipleOf") (codes "positive number") (λ n. assertion (multiple_of n)) (λ n. (refl, tt)) (positive_of d))
-of_read x _ d (later (later (later (later (later (later (later first))))))) = of_maximum x (whole_number d)
-of_read x _ d (later (later (later (later (later (later (later (later first)))))))) = of_minimum x (whole_number d)
-of_read x _ d (later (later (later (later (later (later (later (later (later first))))))))) = of_strict x (codes "exclusiveMaximum") exclusive_maximum under_strict_maximum (whole_number d) (is_draft_4 x.site.dialect.draft)
-of_read x _ d (later (later (later (later (later (later (later (later (later (later first)))))))))) = of_strict x (codes "exclusiveMinimum") exclusive_minimum under_strict_minimum (whole_number d) (is_draft_4 x.site.dialect.draft)
-of_read x _ d (later (later (later (later (later (later (later (later (later (later (later first))))))))))) = own (is_draft_4 x.site.dialect.draft) (codes "maxLength") refl refl _ (of_count x (codes "maxLength") max_length (λ n. refl) (count_of d))
-of_read x _ d (later (later (later (later (later (later (later (later (later (later (later (later first)))))))))))) = own (is_draft_4 x.site.dialect.draft) (codes "minLength") refl refl _ (of_count x (codes "minLength") min_length (λ n. refl) (count_of d))
-of_read x _ d (later (later (later (later (later (later (later (later (later (later (later (later (later first))))))))))))) = own (is_draft_4 x.site.dialect.draft) (codes "maxItems") refl refl _ (of_count x (codes "maxItems") max_items (λ n. refl) (count_of d))
-of_read x _ d (later (later (later (later (later (later (later (later (later (later (later (later (later (later first)))))))))))))) = own (is_draft_4 x.site.dialect.draft) (codes "minItems") refl refl _ (of_count x (codes "minItems") min_items (λ n. refl) (count_of d))
-of_read x _ d (later (later (later (later (later (later (later (later (later (later (later (later (later (later (later first))))))))))))))) = own (is_draft_4 x.site.dialect.draft) (codes "maxProperties") refl refl _ (of_count x (codes "maxProperties") max_properties (λ n. refl) (count_of d))
-of_read x _ d (later (later (later (later (later (later (later (later (later (later (later (later (later (later (later (later first)))))))))))))))) = own (is_draft_4 x.site.dialect.draft) (codes "minProperties") refl refl _ (of_count x (codes "minProperties") min_properties (λ n. refl) (count_of d))
-of_read x _ d (later (later (later (later (later (later (later (later (later (later (later (later (later (later (later (later (later first))))))))))))))))) = own (is_draft_4 x.site.dialect.draft) (codes "uniqueItems") refl refl _ (of_unique x (as_bool d))
-of_read x _ d (later (later (later (later (later (later (later (later (later (later (later (later (later (later (later (later (later (later first)))))))))))))))))) = own (is_draft_4 x.site.dialect.draft) (codes "required") refl refl _ (of_required x (unique_names d))
-of_read x _ d (later (later (later (later (later (later (later (later (later (later (later (later (later (later (later (later (later (later (later first))))))))))))))))))) = own (is_draft_4 x.site.dialect.draft) (codes "dependentRequired") refl refl _ (of_dependent x d)
-of_read x _ d (later (later (later (later (later (later (later (later (later (later (later (later (later (later (later (later (later (later (later (later first)))))))))))))))))))) = own (is_draft_4 x.site.dialect.draft) (codes "items") refl refl _ (of_items x d)
-of_read x _ d (later (later (later (later (later (later (later (later (later (later (later (later (later (later (later (later (later (later (later (later (later first))))))))))))))))))))) = own (is_draft_4 x.site.dialect.draft) (codes "properties") refl refl _ (of_map x (codes "properties") properties (λ ps. refl) d)
-of_read x _ d (later (later (later (later (later (later (later (later (later (later (later (later (later (later (later (later (later (later (later (later (later (later first)))))))))))))))))))))) = tt
-of_read x _ d (later (later (later (later (later (later (later (later (later (later (later (later (later (later (later (later (later (later (later (later (later (later (later first))))))))))))))))))))))) = tt
-of_read x _ d (later (later (later (later (later (later (later (later (later (later (later (later (later (later (later (later (later (later (later (later (later (later (later (later first)))))))))))))))))))))))) = own (is_draft_4 x.site.dialect.draft) (codes "prefixItems") refl refl _ (of_list x (codes "prefixItems") (codes "list") prefix_items (λ ss. refl) d)
-of_read x _ d (later (later (later (later (later (later (later (later (later (later (later (later (later (later (later (later (later (later (later (later (later (later (later (later (later first))))))))))))))))))))))))) = own (is_draft_4 x.site.dialect.draft) (codes "dependentSchemas") refl refl _ (of_map x (codes "dependentSchemas") dependent_schemas (λ ps. refl) d)
-of_read x _ d (later (later (later (later (later (later (later (later (later (later (later (later (later (later (later (later (later (later (later (later (later (later (later (later (later (later first)))))))))))))))))))))))))) = own (is_draft_4 x.site.dialect.draft) (codes "allOf") refl refl _ (of_list x (codes "allOf") (codes "list") all_of (λ ss. refl) d)
-of_read x _ d (later (later (later (later (later (later (later (later (later (later (later (later (later (later (later (later (later (later (later (later (later (later (later (later (later (later (later first))))))))))))))))))))))))))) = own (is_draft_4 x.site.dialect.draft) (codes "additionalItems") refl refl _ (of_additional x d)
-of_read x _ d (later (later (later (later (later (later (later (later (later (later (later (later (later (later (later (later (later (later (later (later (later (later (later (later (later (later (later (later first)))))))))))))))))))))))))))) = own (is_draft_4 x.site.dialect.draft) (codes "anyOf") refl refl _ (of_list x (codes "anyOf") (codes "list") any_of (λ ss. refl) d)
-of_read x _ d (later (later (later (later (later (later (later (later (later (later (later (later (later (later (later (later (later (later (later (later (later (later (later (later (later (later (later (later (later first))))))))))))))))))))))))))))) = own (is_draft_4 x.site.dialect.draft) (codes "oneOf") refl refl _ (of_list x (codes "oneOf") (codes "list") one_of (λ ss. refl) d)
-of_read x _ d (later (later (later (later (later (later (later (later (later (later (later (later (later (later (later (later (later (later (later (later (later (later (later (later (later (later (later (later (later (later first)))))))))))))))))))))))))))))) = own (is_draft_4 x.site.dialect.draft) (codes "not") refl refl _ (of_row (codes "not") (λ s. s ∷ []) (λ s. negation d s ∷ []) (λ s. (refl, tt)) (subschema x (at (codes "not")) d))
-of_read x _ d (later (later (later (later (later (later (later (later (later (later (later (later (later (later (later (later (later (later (later (later (later (later (later (later (later (later (later (later (later (later (later first))))))))))))))))))))))))))))))) = of_contains x d
-of_read x _ d (later (later (later (later (later (later (later (later (later (later (later (later (later (later (later (later (later (later (later (later (later (later (later (later (later (later (later (later (later (later (later (later first)))))))))))))))))))))))))))))))) = of_bound x (codes "minContains") d
-of_read x _ d (later (later (later (later (later (later (later (later (later (later (later (later (later (later (later (later (later (later (later (later (later (later (later (later (later (later (later (later (later (later (later (later (later first))))))))))))))))))))))))))))))))) = of_bound x (codes "maxContains") d
-of_read x _ d (later (later (later (later (later (later (later (later (later (later (later (later (later (later (later (later (later (later (later (later (later (later (later (later (later (later (later (later (later (later (later (later (later (later first)))))))))))))))))))))))))))))))))) = own (is_draft_4 x.site.dialect.draft) (codes "dependencies") refl refl _ (of_dependencies x d)
-of_read x _ d (later (later (later (later (later (later (later (later (later (later (later (later (later (later (later (later (later (later (later (later (later (later (later (later (later (later (later (later (later (later (later (later (later (later (later first))))))))))))))))))))))))))))))))))) = of_if x d
-of_read x _ d (later (later (later (later (later (later (later (later (later (later (later (later (later (later (later (later (later (later (later (later (later (later (later (later (later (later (later (later (later (later (later (later (later (later (later (later first)))))))))))))))))))))))))))))))))))) = of_consequent x (codes "then") d
-of_read x _ d (later (later (later (later (later (later (later (later (later (later (later (later (later (later (later (later (later (later (later (later (later (later (later (later (later (later (later (later (later (later (later (later (later (later (later (later (later first))))))))))))))))))))))))))))))))))))) = of_consequent x (codes "else") d
-of_read x k d (later (later (later (later (later (later (later (later (later (later (later (later (later (later (later (later (later (later (later (later (later (later (later (later (later (later (later (later (later (later (later (later (later (later (later (later (later (later i)))))))))))))))))))))))))))))))))))))) = elim i [ ]
-
 -- `additionalProperties` is read by what stands beside
 of_others : (x : Context) (d : Data) → AreOf (codes "additionalProperties") (additional_properties_row x (codes "additionalProperties") d)
 of_others x null = tt
@@ -359,28 +315,96 @@ of_others x (array ds) = tt
 of_others x (object ms) =
     of_row (codes "additionalProperties") (λ s. s ∷ []) (λ s. additional_properties (declared_beside x) s ∷ []) (λ s. (refl, tt)) (subschema x (at (codes "additionalProperties")) (object ms))
 
-others_under : (x : Context) (d : Data) → AreUnder x (codes "additionalProperties") (read_among readers x (codes "additionalProperties") d)
-unfolding escape
-others_under x d = own (is_draft_4 x.site.dialect.draft) (codes "additionalProperties") refl refl _ (of_others x d)
-
-of_either : (x : Context) (k : List ℕ) (d : Data) (a b c : Bool) → is_listed k read_now ≡ a → bytes_eq k (codes "additionalProperties") ≡ b → (a || (b && c)) ≡ true
-    → AreUnder x k (read_among readers x k d)
-of_either x k d true b c listed other h = of_read x k d (listed_in k read_now listed)
-of_either x k d false true c listed other h =
-    subst (λ (n : List ℕ). AreUnder x n (read_among readers x n d)) (sym ((bytes_eq-Decides k (codes "additionalProperties")).0 other)) (others_under x d)
-of_either x k d false false c listed other h = absurd (true≢false (sym h))
-
-counted : (b c : Bool) → b ≡ true → (b && not c) ≡ false → c ≡ true
-counted true true h f = refl
-counted true false h f = absurd (true≢false f)
-counted false c h f = absurd (true≢false (sym h))
-
--- the shapes of a member that is read
-pub shapes_are_under : (x : Context) (k : List ℕ) (d : Data) → is_unread x.site x.members k d ≡ false → AreUnder x k (row_at x k d)
-shapes_are_under x k d read = by (counts_here x k) refl
+of_pattern : (x : Context) (o : Option (List ℕ)) → AreOf (codes "pattern") (pattern_row x (codes "pattern") o)
+of_pattern x None = tt
+of_pattern x (Some p) = by (is_made x p)
   where
-    by : (b : Bool) → counts_here x k ≡ b → AreUnder x k (if b then read_among readers x k d else nothing_read)
-    by true e =
-        of_either x k d (is_listed k read_now) (bytes_eq k (codes "additionalProperties")) (not (has_patterns x.site x.members)) refl refl
-        (counted (counts_here x k) (is_read_beside x.site x.members k) e read)
-    by false e = tt
+    by : (b : Bool) → AreOf (codes "pattern") (if b then reads [] (assertion (pattern p)) else refused (bad_pattern (place_at x (at (codes "pattern"))) ∷ []))
+    by true = (refl, tt)
+    by false = tt
+
+of_patterns : (x : Context) (d : Data) → AreOf (codes "patternProperties") (pattern_properties_row x (codes "patternProperties") d)
+of_patterns x d =
+    let k = codes "patternProperties" in
+    of_causes k (patterns_wrong x k (names_of_object (Some d))) (schema_map x k pattern_properties d) (of_map x k pattern_properties (λ ps. refl) d)
+
+of_names : (x : Context) (d : Data) → AreOf (codes "propertyNames") (property_names_row x (codes "propertyNames") d)
+of_names x null = tt
+of_names x (boolean true) = tt
+of_names x (boolean false) =
+    of_row (codes "propertyNames") (λ s. s ∷ []) (λ s. no_property_names s ∷ []) (λ s. (refl, tt)) (subschema x (at (codes "propertyNames")) (boolean false))
+of_names x (number n) = tt
+of_names x (string s) = tt
+of_names x (array ds) = tt
+of_names x (object ms) = of_row (codes "propertyNames") (λ s. s ∷ []) (λ s. property_names s ∷ []) (λ s. (refl, tt)) (subschema x (at (codes "propertyNames")) (object ms))
+
+infixr 5 ◌&◌
+-- a pair, that a fact of each reader be written in a row
+abbrev ◌&◌ : {A B : Type 0} → A → B → A × B
+h & hs = (h, hs)
+
+-- the row of each reader is under its name
+each_reader : (x : Context) (d : Data) → AllByRecursion (λ r. AreUnder x r.0 (r.1 x r.0 d)) readers
+unfolding escape
+each_reader x d =
+    let old = is_draft_4 x.site.dialect.draft in
+    own old (codes "$ref") refl refl _ (of_ref x (as_str d))
+    & own old (codes "$dynamicRef") refl refl _ (of_dynamic x (as_str d))
+    & own old (codes "$recursiveRef") refl refl _ (of_recursive x d)
+    & own old (codes "type") refl refl _ (of_asserted x (codes "type") (codes "type name") (λ ts. assertion (types ts)) (λ ts. (refl, tt)) (type_names d))
+    & own old (codes "enum") refl refl _ (of_asserted x (codes "enum") (codes "list") (λ ds. assertion (enumeration ds)) (λ ds. (refl, tt)) (as_array d))
+    & own old (codes "const") refl refl (assertion (constant d)) (refl, tt)
+    & own old (codes "multipleOf") refl refl _ (of_asserted x (codes "multipleOf") (codes "positive number") (λ n. assertion (multiple_of n)) (λ n. (refl, tt)) (positive_of d))
+    & of_maximum x (whole_number d)
+    & of_minimum x (whole_number d)
+    & of_strict x (codes "exclusiveMaximum") exclusive_maximum under_strict_maximum (whole_number d) old
+    & of_strict x (codes "exclusiveMinimum") exclusive_minimum under_strict_minimum (whole_number d) old
+    & own old (codes "maxLength") refl refl _ (of_count x (codes "maxLength") max_length (λ n. refl) (count_of d))
+    & own old (codes "minLength") refl refl _ (of_count x (codes "minLength") min_length (λ n. refl) (count_of d))
+    & own old (codes "pattern") refl refl _ (of_pattern x (as_str d))
+    & own old (codes "maxItems") refl refl _ (of_count x (codes "maxItems") max_items (λ n. refl) (count_of d))
+    & own old (codes "minItems") refl refl _ (of_count x (codes "minItems") min_items (λ n. refl) (count_of d))
+    & own old (codes "uniqueItems") refl refl _ (of_unique x (as_bool d))
+    & own old (codes "maxProperties") refl refl _ (of_count x (codes "maxProperties") max_properties (λ n. refl) (count_of d))
+    & own old (codes "minProperties") refl refl _ (of_count x (codes "minProperties") min_properties (λ n. refl) (count_of d))
+    & own old (codes "required") refl refl _ (of_required x (unique_names d))
+    & own old (codes "dependentRequired") refl refl _ (of_dependent x d)
+    & own old (codes "items") refl refl _ (of_items x d)
+    & own old (codes "prefixItems") refl refl _ (of_list x (codes "prefixItems") (codes "list") prefix_items (λ ss. refl) d)
+    & own old (codes "additionalItems") refl refl _ (of_additional x d)
+    & of_contains x d
+    & of_bound x (codes "minContains") d
+    & of_bound x (codes "maxContains") d
+    & own old (codes "properties") refl refl _ (of_map x (codes "properties") properties (λ ps. refl) d)
+    & own old (codes "patternProperties") refl refl _ (of_patterns x d)
+    & own old (codes "additionalProperties") refl refl _ (of_others x d)
+    & own old (codes "propertyNames") refl refl _ (of_names x d)
+    & own old (codes "dependentSchemas") refl refl _ (of_map x (codes "dependentSchemas") dependent_schemas (λ ps. refl) d)
+    & own old (codes "dependencies") refl refl _ (of_dependencies x d)
+    & own old (codes "allOf") refl refl _ (of_list x (codes "allOf") (codes "list") all_of (λ ss. refl) d)
+    & own old (codes "anyOf") refl refl _ (of_list x (codes "anyOf") (codes "list") any_of (λ ss. refl) d)
+    & own old (codes "oneOf") refl refl _ (of_list x (codes "oneOf") (codes "list") one_of (λ ss. refl) d)
+    & own old (codes "not") refl refl _ (of_row (codes "not") (λ s. s ∷ []) (λ s. negation d s ∷ []) (λ s. (refl, tt)) (subschema x (at (codes "not")) d))
+    & of_if x d
+    & of_consequent x (codes "then") d
+    & of_consequent x (codes "else") d
+    & tt
+    & tt
+    & tt
+
+-- what is none of their names has no row
+of_readers : (x : Context) (k : List ℕ) (d : Data) (rs : List (List ℕ × Reader)) → AllByRecursion (λ r. AreUnder x r.0 (r.1 x r.0 d)) rs → AreUnder x k (read_among rs x k d)
+of_readers x k d [] h = tt
+of_readers x k d (r ∷ rs) h = by (bytes_eq r.0 k) refl (of_readers x k d rs h.1)
+  where
+    by : (b : Bool) → bytes_eq r.0 k ≡ b → AreUnder x k (read_among rs x k d) → AreUnder x k (if b then r.1 x k d else read_among rs x k d)
+    by true e rest = subst (λ n. AreUnder x n (r.1 x n d)) ((bytes_eq-Decides r.0 k).0 e) h.0
+    by false e rest = rest
+
+-- the shapes of a member
+pub shapes_are_under : (x : Context) (k : List ℕ) (d : Data) → AreUnder x k (row_at x k d)
+shapes_are_under x k d = by (counts_here x k)
+  where
+    by : (b : Bool) → AreUnder x k (if b then read_among readers x k d else nothing_read)
+    by true = of_readers x k d readers (each_reader x d)
+    by false = tt

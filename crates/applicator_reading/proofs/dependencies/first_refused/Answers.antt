@@ -28,5 +28,5 @@ loop-name-preserved c =
     subst (λ (o : Option Reading). IfNone o ((x : Context) → dependency_entry x (codes "dependencies") c.as_str.result.now e ≡ Ok (c.as_str.result.now, dependency_at (site_in x) c.as_str.result.now e))) c.in_default.is c.in_ok-refused.ensures.right in
     left_step all _ e (members_view c.next.new.self) left (λ x. subst (λ (n : List ℕ). dependency_entry x (codes "dependencies") n e ≡ Ok (n, dependency_at (site_in x) n e)) c.as_str.ensures.value (right x))
 
-pub returns-in-Some-2-clause-values : goal.returns-in-Some-2-clause-values
-returns-in-Some-2-clause-values c = rw c.in-Some-2.is at c.in_ok-refused.ensures.values
+pub returns-in-Some-2-clause-answers : goal.returns-in-Some-2-clause-answers
+returns-in-Some-2-clause-answers c = rw c.in-Some-2.is at c.in_ok-refused.ensures.answers

@@ -1,4 +1,4 @@
-use Rattle.std.proofs.Common.{◌≡◌, [], ◌∷◌, ◌∙◌, ℕ, Option, Some, None, option_map, codes, sym, ap, subst}
+use Rattle.std.proofs.Common.{◌≡◌, [], ◌∷◌, ◌∙◌, ℕ, Option, Some, None, option_map, codes, refl, sym, ap, subst}
 use Rattle.std.specs.Prelude.{option_and_then}
 use Rattle.serde_json.specs.Find.{as_array}
 use Rattle.serde_json.specs.View.{view}
@@ -8,7 +8,7 @@ use Rattle.schema_reading.specs.Rows.{Row, Context, reads, at, beside, is_false}
 use Rattle.applicator_reading.specs.Beside.{Surrounds, list_in, beside_in}
 use Rattle.applicator_reading.specs.Reads.{ReadsAs, site_in}
 use Rattle.applicator_reading.specs.declared.neighbours.Neighbours.{Neighbours}
-use Rattle.applicator_reading.proofs.RowLemmas.{neighbour, if-true, if-false}
+use Rattle.applicator_reading.proofs.RowLemmas.{neighbour, plainly, if-true, if-false}
 use Rattle.applicator_reading.proofs.ArmLemmas.{behind-none, behind-some, behind_shape}
 use Rattle.applicator_reading.proofs.reading.additional_items.Goals as goal
 
@@ -28,7 +28,7 @@ returns-then-is_false-clause-read c = λ x s.
     let t = site_in x (at k) d in
     subst (λ (row : Row). ReadsAs x k row c.if_schema.result) (sym (behind-some x k d (option_and_then as_array (beside x (codes "items"))) start (list-there c.args.neighbours x (Some start) s c.in-Some.ensures)))
     (c.if_schema.ensures.read x k (behind_shape x k d start)
-    (ap (λ shape. reads (t ∷ []) (shape ∷ [])) (if-true (is_false d) (no_additional_items start t) (additional_items start t) (sym c.is_false.ensures ∙ c.if-is_false.true))))
+    (plainly x k _ _ refl (ap (λ shape. reads (t ∷ []) (shape ∷ [])) (if-true (is_false d) (no_additional_items start t) (additional_items start t) (sym c.is_false.ensures ∙ c.if-is_false.true)))))
 
 pub returns-else-is_false-clause-read : goal.returns-else-is_false-clause-read
 returns-else-is_false-clause-read c = λ x s.
@@ -38,4 +38,4 @@ returns-else-is_false-clause-read c = λ x s.
     let t = site_in x (at k) d in
     subst (λ (row : Row). ReadsAs x k row c.if_schema-else-is_false.result) (sym (behind-some x k d (option_and_then as_array (beside x (codes "items"))) start (list-there c.args.neighbours x (Some start) s c.in-Some.ensures)))
     (c.if_schema-else-is_false.ensures.read x k (behind_shape x k d start)
-    (ap (λ shape. reads (t ∷ []) (shape ∷ [])) (if-false (is_false d) (no_additional_items start t) (additional_items start t) (sym c.is_false.ensures ∙ c.if-is_false.false))))
+    (plainly x k _ _ refl (ap (λ shape. reads (t ∷ []) (shape ∷ [])) (if-false (is_false d) (no_additional_items start t) (additional_items start t) (sym c.is_false.ensures ∙ c.if-is_false.false)))))

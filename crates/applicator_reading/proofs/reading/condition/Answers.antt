@@ -6,7 +6,7 @@ use Rattle.schema_reading.specs.Rows.{Row, Context, reads, at, beside}
 use Rattle.applicator_reading.specs.Beside.{Surrounds, schema_in, beside_in}
 use Rattle.applicator_reading.specs.Reads.{ReadsAs, site_in}
 use Rattle.applicator_reading.specs.declared.neighbours.Neighbours.{Neighbours}
-use Rattle.applicator_reading.proofs.RowLemmas.{neighbour}
+use Rattle.applicator_reading.proofs.RowLemmas.{neighbour, plainly}
 use Rattle.applicator_reading.proofs.ArmLemmas.{condition-there, condition-alone, condition_shape, schema-there}
 use Rattle.applicator_reading.proofs.reading.condition.Goals as goal
 
@@ -21,9 +21,10 @@ returns-then-has_consequent-clause-read c = λ x s.
     let t = site_in x (at (codes "if")) d in
     subst (λ (row : Row). ReadsAs x (codes "if") row c.if_schema.result) (sym (condition-there x (codes "if") d (either-beside n x s ∙ sym c.has_consequent.ensures ∙ c.if-has_consequent.true)))
     (c.if_schema.ensures.read x (codes "if") (condition_shape x (codes "if") d)
+    (plainly x (codes "if") _ _ refl
     (ap₂ (λ a b. reads (t ∷ []) (condition t a b ∷ []))
     (schema-there x (codes "then") c.schema_beside-then_schema.result (c.schema_beside-then_schema.ensures ∙ sym (ap schema_in (neighbour n x s (codes "then")))))
-    (schema-there x (codes "else") c.schema_beside-else_schema.result (c.schema_beside-else_schema.ensures ∙ sym (ap schema_in (neighbour n x s (codes "else")))))))
+    (schema-there x (codes "else") c.schema_beside-else_schema.result (c.schema_beside-else_schema.ensures ∙ sym (ap schema_in (neighbour n x s (codes "else"))))))))
 
 pub returns-else-has_consequent-clause-read : goal.returns-else-has_consequent-clause-read
 returns-else-has_consequent-clause-read c = λ x s. condition-alone x (codes "if") (view c.args.value.now) (either-beside c.args.neighbours x s ∙ sym c.has_consequent.ensures ∙ c.if-has_consequent.false)

@@ -1,11 +1,11 @@
-use Rattle.std.proofs.Common.{◌≡◌, ◌∙◌, Bool, true, false, codes, sym, ap, subst}
+use Rattle.std.proofs.Common.{◌≡◌, ◌∙◌, Bool, true, false, codes, refl, sym, ap, subst}
 use Rattle.serde_json.specs.View.{view}
 use Rattle.schema_documents.specs.Places.{Dialect}
 use Rattle.schema_reading.specs.Rows.{Row, Context, length_of_list, takes_list}
 use Rattle.applicator_reading.specs.Beside.{Surrounds}
 use Rattle.applicator_reading.specs.Reads.{ReadsAs}
 use Rattle.applicator_reading.specs.declared.neighbours.Neighbours.{Neighbours}
-use Rattle.applicator_reading.proofs.RowLemmas.{neighbour}
+use Rattle.applicator_reading.proofs.RowLemmas.{neighbour, plainly}
 use Rattle.applicator_reading.proofs.ArmLemmas.{items-one, items-list, items-refused}
 use Rattle.applicator_reading.proofs.reading.items.Goals as goal
 
@@ -14,8 +14,9 @@ takes-there n x b s h = ap (λ (y : Dialect). takes_list y.draft) s.dialect ∙ 
 
 pub returns-then-is_schema-clause-read : goal.returns-then-is_schema-clause-read
 returns-then-is_schema-clause-read c = λ x s.
-    items-one x (codes "items") (view c.args.value.now) c.prefix_length.result (sym c.is_schema.ensures ∙ c.if-is_schema.true)
-    (c.prefix_length.ensures ∙ sym (ap length_of_list (neighbour c.args.neighbours x s (codes "prefixItems"))))
+    plainly x (codes "items") _ _ refl
+    (items-one x (codes "items") (view c.args.value.now) c.prefix_length.result (sym c.is_schema.ensures ∙ c.if-is_schema.true)
+    (c.prefix_length.ensures ∙ sym (ap length_of_list (neighbour c.args.neighbours x s (codes "prefixItems")))))
 
 pub returns-then-takes_list-clause-read : goal.returns-then-takes_list-clause-read
 returns-then-takes_list-clause-read c = λ x s.

@@ -2,6 +2,8 @@ use Rattle.std.proofs.Common.{◌∙◌, ◌≡◌, Some, ap}
 use Rattle.serde_json.specs.Find.{as_array}
 use Rattle.serde_json.specs.View.{view, items_view}
 use Rattle.applicator_reading.specs.Reads.{site_in}
+use Rattle.applicator_reading.specs.Arms.{list_name}
+use Rattle.applicator_reading.proofs.RowLemmas.{plainly}
 use Rattle.applicator_reading.proofs.ListLemmas.{list-right, list-wrong, list-other}
 use Rattle.applicator_reading.proofs.reading.list.Goals as goal
 
@@ -18,4 +20,5 @@ pub returns-in-None-clause-read : goal.returns-in-None-clause-read
 returns-in-None-clause-read c = λ x.
     let ds = items_view c.as_slice-schemas.result.now in
     let there : Some ds ≡ as_array (view c.args.value.now) = ap (λ vs. Some (items_view vs)) c.as_slice-schemas.ensures.value ∙ c.in-Some.ensures in
-    list-right c.args.keyword x (view c.args.value.now) ds c.applied.result there c.in-None.ensures (c.applied.ensures.shape (site_in x)) (c.applied.ensures.leads (site_in x))
+    plainly x (list_name c.args.keyword) _ c.applied.result c.applied.ensures.patterns
+    (list-right c.args.keyword x (view c.args.value.now) ds c.applied.result there c.in-None.ensures (c.applied.ensures.shape (site_in x)) (c.applied.ensures.leads (site_in x)))

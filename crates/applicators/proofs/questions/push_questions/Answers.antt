@@ -1,4 +1,4 @@
-use Rattle.std.proofs.Common.{◌≡◌, ◌++◌, ◌∙◌, ℕ, List, Bool, codes, sym, ap, subst}
+use Rattle.std.proofs.Common.{◌≡◌, ◌++◌, ◌∙◌, List, codes, sym, ap, subst}
 use Rattle.std.specs.Prelude.{OnOk}
 use Rattle.std.proofs.lemmas.Result.{on_ok_weaker}
 use Rattle.serde_json.specs.Data.{Data}
@@ -7,6 +7,7 @@ use Rattle.json_paths.specs.Parts.{Part}
 use Rattle.schema_reading.specs.Sites.{Site}
 use Rattle.schema_meaning.specs.Rules.{asks}
 use Rattle.schema_meaning.specs.Keywords.{rule}
+use Rattle.schema_matches.specs.Read.{reads}
 use Rattle.applicators.specs.Shapes.{site_of, shape_of}
 use Rattle.applicators.specs.Questions.{questions_of}
 use Rattle.applicators.specs.declared.applicator.Applicator.{Applicator}
@@ -19,8 +20,8 @@ returns-in-Contains c =
     let all = c.push_items-in-Contains.new.questions.items in
     let done = c.args.questions.now.items in
     let d = view c.args.value.now in
-    subst (λ (a : Applicator). OnOk r ((matches : List ℕ → List ℕ → Bool) (site : List Part → Data → Site) → questions_of site all ≡ questions_of site done ++ asks (rule matches d (shape_of site a))))
+    subst (λ (a : Applicator). OnOk r ((site : List Part → Data → Site) → questions_of site all ≡ questions_of site done ++ asks (rule (reads c.args.matches.now) d (shape_of site a))))
     (sym c.in-Contains.is)
     (on_ok_weaker r
-    (λ h matches site. h site ∙ ap (λ qs. questions_of site done ++ qs) (contains_asks d (site_of site (codes "contains") (view c.in-Contains.schema.now)) c.in-Contains.least c.in-Contains.most))
+    (λ h site. h site ∙ ap (λ qs. questions_of site done ++ qs) (contains_asks d (site_of site (codes "contains") (view c.in-Contains.schema.now)) c.in-Contains.least c.in-Contains.most))
     c.push_items-in-Contains.ensures)

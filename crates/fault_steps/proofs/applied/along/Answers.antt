@@ -2,15 +2,17 @@ use Rattle.std.proofs.Common.{Option, IfSome, subst}
 use Rattle.std.specs.Prelude.{MatchOption}
 use Rattle.std.proofs.lemmas.Result.{IfOk-weaker}
 use Rattle.serde_json.specs.View.{view}
+use Rattle.schema_matches.specs.Read.{reads}
 use Rattle.path_parts.specs.Texts.{text_left}
 use Rattle.question_paths.specs.Ahead.{NoneAhead, IsAhead, IsNoLonger}
 use Rattle.question_paths.specs.declared.ahead.Ahead.{Ahead}
-use Rattle.keyword_refusals.proofs.Passed.{question_inside, question_part}
+use Rattle.keyword_refusals.proofs.Passed.{question_inside}
 use Rattle.fault_steps.proofs.AppliedSteps.{applied_nowhere, applied_to, applied_shorter}
 use Rattle.fault_steps.proofs.applied.along.Goals as goal
 
 pub to_question-requires : goal.to_question-requires
 to_question-requires c =
+    let m = reads c.args.walk.site.matches.now in
     let a = c.args.applicator in
     let d = view c.args.walk.value.now in
     let qs = c.args.asked.now in
@@ -18,8 +20,7 @@ to_question-requires c =
     let e = text_left c.args.after in
     let found = subst (λ (o : Option Ahead). MatchOption o (NoneAhead qs i e) (IsAhead qs i e)) c.in-Some.is c.in_ok-question_ahead.ensures.ahead in
     record {
-      inside = question_inside a d qs c.requires.asked c.requires.applies.values c.in-Some.ahead.question found.among c.args.walk.site c.requires.applies.inside;
-      part = question_part a d qs c.requires.asked c.requires.applies.values c.in-Some.ahead.question found.among c.args.walk.site;
+      inside = question_inside m a d qs c.requires.asked c.requires.applies.by_answers c.in-Some.ahead.question found.among c.args.walk.site c.requires.applies.inside;
     }
 
 pub returns-in-None-clause-passes : goal.returns-in-None-clause-passes
@@ -28,7 +29,7 @@ returns-in-None-clause-passes c =
     let i = text_left c.args.walk.instance in
     let e = text_left c.args.after in
     let nowhere = subst (λ (o : Option Ahead). MatchOption o (NoneAhead qs i e) (IsAhead qs i e)) c.in-None.is c.in_ok-question_ahead.ensures.ahead in
-    applied_nowhere c.args.walk c.args.applicator c.args.after qs c.requires.asked c.requires.applies c.requires.more c.requires.obliging nowhere
+    applied_nowhere c.args.walk c.args.applicator c.args.after qs c.requires.asked c.requires.values c.requires.more c.requires.obliging nowhere
 
 pub returns-clause-passes : goal.returns-clause-passes
 returns-clause-passes c =
@@ -37,7 +38,7 @@ returns-clause-passes c =
     let e = text_left c.args.after in
     let found = subst (λ (o : Option Ahead). MatchOption o (NoneAhead qs i e) (IsAhead qs i e)) c.in-Some.is c.in_ok-question_ahead.ensures.ahead in
     IfOk-weaker c.to_question.result _ _
-    (λ st h. applied_to c.args.walk c.args.applicator c.args.after qs c.in-Some.ahead st c.requires.asked c.requires.applies c.requires.more c.requires.obliging c.requires.once found h) c.to_question.ensures
+    (λ st h. applied_to c.args.walk c.args.applicator c.args.after qs c.in-Some.ahead st c.requires.asked c.requires.applies c.requires.values c.requires.more c.requires.obliging c.requires.once found h) c.to_question.ensures
 
 pub returns-clause-shorter : goal.returns-clause-shorter
 returns-clause-shorter c =

@@ -1,4 +1,4 @@
-use Rattle.std.proofs.Common.{◌≡◌, ◌∙◌, ◌++◌, List, not, codes, sym, ap, ap₂, subst, refl}
+use Rattle.std.proofs.Common.{◌∙◌, ◌++◌, List, not, codes, sym, ap₂, subst}
 use Rattle.std.proofs.lemmas.Result.{IfOk-weaker}
 use Rattle.serde_json.specs.View.{view}
 use Rattle.json_paths.specs.Parts.{Part}
@@ -31,7 +31,6 @@ returns-in_default-clause-passes c =
 pub to_question-requires : goal.to_question-requires
 to_question-requires c = record {
   inside = chosen_inside c.args.walk.site c.args.then_schema c.args.else_schema c.requires.lies.beside (not c.in_ok-refused.refused) c.in-Some.schema (sym c.chosen.ensures.schema ∙ c.in-Some.is);
-  part = record { uncalled = refl; spots = λ path w i. i };
 }
 
 pub returns-clause-passes : goal.returns-clause-passes

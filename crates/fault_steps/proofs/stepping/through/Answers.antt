@@ -1,6 +1,7 @@
 use Rattle.std.proofs.Common.{ap, subst, sym}
 use Rattle.std.proofs.lemmas.Result.{IfOk-weaker}
 use Rattle.serde_json.specs.View.{view, members_view}
+use Rattle.schema_meaning.specs.Keywords.{pattern}
 use Rattle.keyword_refusals.specs.Passed.{assertion_of, target_in}
 use Rattle.keyword_refusals.specs.Passed.{row_of}
 use Rattle.keyword_refusals.specs.Rows.{items_row, properties_row, applied_row, reference_row}
@@ -57,6 +58,10 @@ returns-in-Reference-clause-passes c =
 
 pub returns-in-Nothing-clause-passes : goal.returns-in-Nothing-clause-passes
 returns-in-Nothing-clause-passes c = nothing_passes c.args.walk c.args.keyword c.args.name.now c.args.after (λ x s. ap (λ k. (row_of x.documents s k).shapes) c.in-Nothing.is)
+
+pub returns-in-Pattern-clause-passes : goal.returns-in-Pattern-clause-passes
+returns-in-Pattern-clause-passes c =
+    asserted_passes c.args.walk c.args.keyword (pattern c.in-Pattern.field-0.now) c.args.name.now c.args.after c.requires.more (λ x s. ap (λ k. (row_of x.documents s k).shapes) c.in-Pattern.is)
 
 pub returns-clause-passes : goal.returns-clause-passes
 returns-clause-passes c =

@@ -1,5 +1,5 @@
 use Rattle.std.proofs.Common.{◌≡◌, ◌∙◌, codes}
-use Rattle.reached_sites.specs.Passed.{documents_in, base_of, target_in}
+use Rattle.fault_checks.specs.Passed.{documents_in, base_of, target_in}
 use Rattle.schema_roots.specs.Passed.{documents_shared}
 use Rattle.schema_roots.specs.Roots.{Finds}
 use Rattle.json_schema_validator.specs.Asked.{meta_root}

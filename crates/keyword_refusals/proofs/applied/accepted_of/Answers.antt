@@ -2,11 +2,12 @@ use Rattle.std.proofs.Common.{◌≡◌, ◌∙◌, ◌++◌, ◌+◌, ◌∷◌
 use Rattle.std.proofs.lemmas.List.{drop_more, drop_all}
 use Rattle.serde_json.specs.View.{view}
 use Rattle.schema_meaning.specs.Members.{first}
+use Rattle.schema_matches.specs.Read.{reads}
 use Rattle.schema_reading.specs.Sites.{path_of_reference}
 use Rattle.schema_reports.specs.Locations.{location_of}
 use Rattle.schema_reports.specs.References.{text_of}
 use Rattle.applicators.specs.declared.question.Question.{Question}
-use Rattle.plain_reader.proofs.AppliedTelling.{question_inside, question_part}
+use Rattle.plain_reader.proofs.AppliedTelling.{question_inside}
 use Rattle.keyword_refusals.specs.Verdicts.{IsAnswered}
 use Rattle.keyword_refusals.proofs.Counted.{Tallied, tallied_first, tallied_yes, tallied_no, tallied}
 use Rattle.keyword_refusals.proofs.applied.accepted_of.Goals as goal
@@ -28,11 +29,11 @@ is_question_refused-requires c =
     let path = location_of c.args.schema.now ++ path_of_reference (text_of c.args.reference) in
     let left = subst (λ (xs : List Question). Tallied c.args.site.now path d qs xs c.loop-question.accepted) next c.loop-question.invariant.tallied in
     let a = c.args.applicator in
+    let m = reads c.args.site.now.matches.now in
     let among = left.among q first in
     record {
       shallow = c.requires.shallow;
-      inside = question_inside a d qs c.requires.asked c.requires.values q among c.args.site.now c.requires.inside;
-      part = question_part a d qs c.requires.asked c.requires.values q among c.args.site.now;
+      inside = question_inside m a d qs c.requires.asked c.requires.by_answers q among c.args.site.now c.requires.inside;
     }
 
 pub loop-question-preserved : goal.loop-question-preserved
@@ -66,4 +67,4 @@ returns c =
     let path = location_of c.args.schema.now ++ path_of_reference (text_of c.args.reference) in
     let nothing : drop c.loop-question.question-index qs ≡ [] = drop_all c.loop-question.question-index qs (omega (arith, c.loop-question-test.false)) in
     let left = subst (λ (xs : List Question). Tallied c.args.site.now path d qs xs c.loop-question.accepted) nothing c.loop-question.invariant.tallied in
-    tallied c.args.site.now path d c.args.applicator qs c.requires.asked c.requires.values c.loop-question.accepted c.requires.shallow left
+    tallied c.args.site.now path d c.args.applicator qs c.requires.asked c.requires.by_answers c.loop-question.accepted c.requires.shallow left

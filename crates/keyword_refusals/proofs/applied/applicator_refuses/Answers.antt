@@ -38,12 +38,12 @@ pub returns-then-ne : goal.returns-then-ne
 returns-then-ne c =
     let d = view c.args.value.now in
     let path = location_of c.args.schema.now ++ path_of_reference (text_of c.args.reference) in
-    by_other c.args.site.now path d c.args.applicator _ _ c.args.name.now c.requires.applies.values (once_plain c.args.applicator (sym c.is_every.ensures.every ∙ c.if-is_every.false)) c.in_ok-accepted.ensures
+    by_other c.args.site.now path d c.args.applicator _ _ c.args.name.now c.requires.applies.by_answers (once_plain c.args.applicator (sym c.is_every.ensures.every ∙ c.if-is_every.false)) c.in_ok-accepted.ensures
     (λ same. apart_by c.refused_name.result.now c.args.name.now c.ne.result c.ne.ensures c.if-ne.true (c.refused_name.ensures ∙ same))
 
 pub returns : goal.returns
 returns c =
     let d = view c.args.value.now in
     let path = location_of c.args.schema.now ++ path_of_reference (text_of c.args.reference) in
-    by_count c.args.site.now path d c.args.applicator _ _ c.args.name.now c.requires.applies.values (once_plain c.args.applicator (sym c.is_every.ensures.every ∙ c.if-is_every.false)) c.in_ok-accepted.ensures c.accepts.result c.accepts.ensures
+    by_count c.args.site.now path d c.args.applicator _ _ c.args.name.now c.requires.applies.by_answers (once_plain c.args.applicator (sym c.is_every.ensures.every ∙ c.if-is_every.false)) c.in_ok-accepted.ensures c.accepts.result c.accepts.ensures
     (sym c.refused_name.ensures ∙ same_by c.refused_name.result.now c.args.name.now c.ne.result c.ne.ensures c.if-ne.false)

@@ -1,4 +1,4 @@
-use Rattle.std.proofs.Common.{◌≡◌, ◌∙◌, Bool, true, false, not, sym, ap}
+use Rattle.std.proofs.Common.{◌∙◌, not, sym, ap}
 use Rattle.serde_json.specs.View.{view}
 use Rattle.schema_meaning.specs.Members.{is_empty}
 use Rattle.applicators.specs.Combined.{notes_by}

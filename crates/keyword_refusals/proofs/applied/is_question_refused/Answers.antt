@@ -21,7 +21,7 @@ is_asked_refused-requires c =
       stands = λ s added. c.in_ok-inner.ensures.stands s added;
       matches = c.in_ok-inner.ensures.matches;
     } in
-    record { shallow = child_shallow c.args.site.now _ _ child c.requires.inside c.requires.shallow; part = c.requires.part }
+    record { shallow = child_shallow c.args.site.now _ _ child c.requires.inside c.requires.shallow }
 
 pub is_asked_refused-requires-in-Name : goal.is_asked_refused-requires-in-Name
 is_asked_refused-requires-in-Name c =
@@ -33,7 +33,7 @@ is_asked_refused-requires-in-Name c =
       stands = λ s added. c.in_ok-inner.ensures.stands s added;
       matches = c.in_ok-inner.ensures.matches;
     } in
-    record { shallow = child_shallow c.args.site.now _ _ child c.requires.inside c.requires.shallow; part = c.requires.part }
+    record { shallow = child_shallow c.args.site.now _ _ child c.requires.inside c.requires.shallow }
 
 pub is_asked_refused-requires-in-Index : goal.is_asked_refused-requires-in-Index
 is_asked_refused-requires-in-Index c =
@@ -45,7 +45,7 @@ is_asked_refused-requires-in-Index c =
       stands = λ s added. c.in_ok-inner.ensures.stands s added;
       matches = c.in_ok-inner.ensures.matches;
     } in
-    record { shallow = child_shallow c.args.site.now _ _ child c.requires.inside c.requires.shallow; part = c.requires.part }
+    record { shallow = child_shallow c.args.site.now _ _ child c.requires.inside c.requires.shallow }
 
 pub returns-in-Whole : goal.returns-in-Whole
 returns-in-Whole c =

@@ -2,11 +2,12 @@ use Rattle.std.proofs.Common.{◌≡◌, ◌∙◌, ◌++◌, ◌+◌, ◌∷◌
 use Rattle.std.proofs.lemmas.List.{drop_more, drop_all}
 use Rattle.serde_json.specs.View.{view}
 use Rattle.schema_meaning.specs.Members.{first}
+use Rattle.schema_matches.specs.Read.{reads}
 use Rattle.schema_reading.specs.Sites.{path_of_reference}
 use Rattle.schema_reports.specs.Locations.{location_of}
 use Rattle.schema_reports.specs.References.{text_of}
 use Rattle.applicators.specs.declared.question.Question.{Question}
-use Rattle.plain_reader.proofs.AppliedTelling.{question_inside, question_part}
+use Rattle.plain_reader.proofs.AppliedTelling.{question_inside}
 use Rattle.keyword_refusals.specs.Verdicts.{IsAnswered}
 use Rattle.keyword_refusals.proofs.AppliedQuestions.{Accepts, accepts_first, accepts_more, accepts_all, one_refused, none_refused}
 use Rattle.keyword_refusals.proofs.applied.some_of_refused.Goals as goal
@@ -24,11 +25,11 @@ is_question_refused-requires c =
     let path = location_of c.args.schema.now ++ path_of_reference (text_of c.args.reference) in
     let left = subst (λ (xs : List Question). Accepts c.args.site.now path d qs xs) next c.loop-question.invariant in
     let a = c.args.applicator in
+    let m = reads c.args.site.now.matches.now in
     let among = left.among q first in
     record {
       shallow = c.requires.shallow;
-      inside = question_inside a d qs c.requires.asked c.requires.values q among c.args.site.now c.requires.inside;
-      part = question_part a d qs c.requires.asked c.requires.values q among c.args.site.now;
+      inside = question_inside m a d qs c.requires.asked c.requires.by_answers q among c.args.site.now c.requires.inside;
     }
 
 pub returns-then-branch : goal.returns-then-branch
@@ -41,7 +42,7 @@ returns-then-branch c =
     let path = location_of c.args.schema.now ++ path_of_reference (text_of c.args.reference) in
     let left = subst (λ (xs : List Question). Accepts c.args.site.now path d qs xs) next c.loop-question.invariant in
     let answer = subst (λ b. IsAnswered c.args.site.now path d q (not b)) c.if-branch.true c.in_ok-is_question_refused.ensures in
-    one_refused c.args.site.now path d c.args.applicator qs c.requires.asked c.requires.values q (left.among q first) answer
+    one_refused c.args.site.now path d c.args.applicator qs c.requires.asked c.requires.by_answers q (left.among q first) answer
 
 pub loop-question-preserved : goal.loop-question-preserved
 loop-question-preserved c =
@@ -62,4 +63,4 @@ returns c =
     let path = location_of c.args.schema.now ++ path_of_reference (text_of c.args.reference) in
     let nothing : drop c.loop-question.question-index qs ≡ [] = drop_all c.loop-question.question-index qs (omega (arith, c.loop-question-test.false)) in
     let left = subst (λ (xs : List Question). Accepts c.args.site.now path d qs xs) nothing c.loop-question.invariant in
-    none_refused c.args.site.now path d c.args.applicator qs c.requires.asked c.requires.values (accepts_all c.args.site.now path d qs left)
+    none_refused c.args.site.now path d c.args.applicator qs c.requires.asked c.requires.by_answers (accepts_all c.args.site.now path d qs left)

@@ -1,4 +1,4 @@
-use Rattle.std.proofs.Common.{◌∙◌, ◌++◌, not, sym, ap, subst}
+use Rattle.std.proofs.Common.{◌∙◌, ◌++◌, not, sym, subst}
 use Rattle.std.proofs.lemmas.Result.{IfOk-weaker}
 use Rattle.serde_json.specs.View.{view}
 use Rattle.schema_reading.specs.Sites.{path_of_reference}

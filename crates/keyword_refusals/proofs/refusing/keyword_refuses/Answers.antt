@@ -10,7 +10,7 @@ use Rattle.schema_reports.specs.Locations.{location_of}
 use Rattle.schema_reports.specs.References.{text_of}
 use Rattle.keyword_refusals.specs.Rows.{items_row, items_questions, properties_row, properties_questions, reference_row, reference_questions}
 use Rattle.keyword_refusals.specs.Verdicts.{rules_by, IsRefusalAt, LiesIn}
-use Rattle.keyword_refusals.proofs.Gathered.{by_questions, by_assertion, by_nothing}
+use Rattle.keyword_refusals.proofs.Gathered.{by_questions, by_assertion, by_pattern, by_nothing}
 use Rattle.keyword_refusals.proofs.NamedRefusals.{HasOneName, under_name}
 use Rattle.keyword_refusals.proofs.refusing.keyword_refuses.Goals as goal
 
@@ -28,6 +28,13 @@ returns-in_ok-accept-in-Assertion c =
     let path = location_of c.args.schema.now ++ path_of_reference (text_of c.args.reference) in
     under_name c.args.site.now path d c.args.keyword c.args.name.now (not c.in_ok-accept-in-Assertion.field-0) (subst HasOneName (sym c.in-Assertion.is) tt)
     (by_assertion c.args.site.now path d c.args.keyword a c.in_ok-accept-in-Assertion.field-0 c.in_ok-accept-in-Assertion.ensures (λ x s. ap (λ k. rules_by x s d k) c.in-Assertion.is))
+
+pub returns-in_ok-accepts_text-in-Pattern : goal.returns-in_ok-accepts_text-in-Pattern
+returns-in_ok-accepts_text-in-Pattern c =
+    let d = view c.args.value.now in
+    let path = location_of c.args.schema.now ++ path_of_reference (text_of c.args.reference) in
+    under_name c.args.site.now path d c.args.keyword c.args.name.now (not c.in_ok-accepts_text-in-Pattern.field-0) (subst HasOneName (sym c.in-Pattern.is) tt)
+    (by_pattern c.args.site.now path d c.args.keyword c.in-Pattern.pattern.now c.in_ok-accepts_text-in-Pattern.field-0 c.in_ok-accepts_text-in-Pattern.ensures (λ x s. ap (λ k. rules_by x s d k) c.in-Pattern.is))
 
 pub some_item_refused-requires : goal.some_item_refused-requires
 some_item_refused-requires c = record { shallow = c.requires.shallow; inside = subst (LiesIn c.args.site.now) c.in-Items.is c.requires.lies }

@@ -9,9 +9,9 @@ use Rattle.plain_reader.proofs.root.tell_root.Goals as goal
 
 pub returns : goal.returns
 returns c =
-    on_ok_weaker c.read_site.result
-    (λ told. root_told c.in_ok-site.site _ (target_in c.args.root.now) c.args.matches (view c.args.value.now) _ c.args.observer.now c.read_site.new.observer
+    on_ok_weaker c.read_alone.result
+    (λ told. root_told c.in_ok-site.site _ (target_in c.args.root.now) c.args.matches (view c.args.value.now) _ c.args.observer.now c.read_alone.new.observer
     c.in_ok-site.ensures.documents c.in_ok-site.ensures.matches c.in_ok-site.ensures.stands c.in_ok-site.ensures.scope c.in_ok-site.ensures.contents
     c.new-instance.ensures (ap₂ (λ (ps : List Part) (r : List ℕ). ps ++ path_of_reference r) c.new-schema.ensures c.none.ensures) c.new-evaluation.ensures
     c.requires.shallow told)
-    c.read_site.ensures
+    c.read_alone.ensures

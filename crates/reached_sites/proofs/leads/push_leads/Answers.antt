@@ -21,6 +21,9 @@ returns-in-Nothing c = as_keyword c.args.visit.now _ _ _ _ c.in-Nothing.is (adds
 pub returns-in-Assertion : goal.returns-in-Assertion
 returns-in-Assertion c = as_keyword c.args.visit.now _ _ _ _ c.in-Assertion.is (adds-none _ c.args.leads.now.items)
 
+pub returns-in-Pattern : goal.returns-in-Pattern
+returns-in-Pattern c = as_keyword c.args.visit.now _ _ _ _ c.in-Pattern.is (adds-none _ c.args.leads.now.items)
+
 pub returns-in-Items : goal.returns-in-Items
 returns-in-Items c = on_ok_weaker c.push_at.result (λ h. as_keyword c.args.visit.now _ _ _ _ c.in-Items.is h) c.push_at.ensures
 

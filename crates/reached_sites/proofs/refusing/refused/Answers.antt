@@ -1,11 +1,9 @@
 use Rattle.std.proofs.Common.{subst, ap, ◌∷◌, codes}
 use Rattle.json_paths.specs.Parts.{name, index}
 use Rattle.referencing.specs.Resolved.{target_in}
-use Rattle.unread_keywords.specs.NotYet.{wrong, not_yet}
 use Rattle.schema_reading.specs.Rows.{Place, keyword_value, bad_reference, left_out}
 use Rattle.schema_sites.specs.Refused.{Refuses}
 use Rattle.schema_sites.specs.declared.keyword.Refusal.{Refusal}
-use Rattle.reached_sites.specs.Members.{of_row, of_member}
 use Rattle.reached_sites.proofs.Placing.{placed, placed-in, member-in, item-in}
 use Rattle.reached_sites.proofs.refusing.refused.Goals as goal
 
@@ -14,7 +12,7 @@ returns-in-Value c = λ x d row at h.
     let k = c.args.name.now in
     let here = member-in x.site.document x.site.path k c.args.place.now c.in_ok-here.here at c.in_ok-here.ensures.document c.in_ok-here.ensures.path in
     let r = subst (λ (q : Refusal). Refuses x k d row q) c.in-Value.is h in
-    (wrong (keyword_value (placed x.site.document (name k ∷ x.site.path)) c.in-Value.expected.now), ap (λ (p : Place). wrong (keyword_value p c.in-Value.expected.now)) here, of_row r.stands)
+    (keyword_value (placed x.site.document (name k ∷ x.site.path)) c.in-Value.expected.now, ap (λ (p : Place). keyword_value p c.in-Value.expected.now) here, r.stands)
 
 pub returns-in_ok-member-in-Entry : goal.returns-in_ok-member-in-Entry
 returns-in_ok-member-in-Entry c = λ x d row at h.
@@ -24,7 +22,7 @@ returns-in_ok-member-in-Entry c = λ x d row at h.
     let here = member-in x.site.document x.site.path k c.args.place.now c.in_ok-here.here at c.in_ok-here.ensures.document c.in_ok-here.ensures.path in
     let there = member-in x.site.document (name k ∷ x.site.path) n c.in_ok-here.here c.in_ok-member-in-Entry.field-0 here c.in_ok-member-in-Entry.ensures.document c.in_ok-member-in-Entry.ensures.path in
     let r = subst (λ (q : Refusal). Refuses x k d row q) c.in-Entry.is h in
-    (wrong (keyword_value (placed x.site.document (name n ∷ name k ∷ x.site.path)) word), ap (λ (p : Place). wrong (keyword_value p word)) there, of_row r.stands)
+    (keyword_value (placed x.site.document (name n ∷ name k ∷ x.site.path)) word, ap (λ (p : Place). keyword_value p word) there, r.stands)
 
 pub returns-in_ok-item-in-Element : goal.returns-in_ok-item-in-Element
 returns-in_ok-item-in-Element c = λ x d row at h.
@@ -34,7 +32,7 @@ returns-in_ok-item-in-Element c = λ x d row at h.
     let here = member-in x.site.document x.site.path k c.args.place.now c.in_ok-here.here at c.in_ok-here.ensures.document c.in_ok-here.ensures.path in
     let there = item-in x.site.document (name k ∷ x.site.path) i c.in_ok-here.here c.in_ok-item-in-Element.field-0 here c.in_ok-item-in-Element.ensures.document c.in_ok-item-in-Element.ensures.path in
     let r = subst (λ (q : Refusal). Refuses x k d row q) c.in-Element.is h in
-    (wrong (keyword_value (placed x.site.document (index i ∷ name k ∷ x.site.path)) word), ap (λ (p : Place). wrong (keyword_value p word)) there, of_row r.stands)
+    (keyword_value (placed x.site.document (index i ∷ name k ∷ x.site.path)) word, ap (λ (p : Place). keyword_value p word) there, r.stands)
 
 pub returns-in_ok-of_target-in-Target : goal.returns-in_ok-of_target-in-Target
 returns-in_ok-of_target-in-Target c = λ x d row at h.
@@ -42,25 +40,18 @@ returns-in_ok-of_target-in-Target c = λ x d row at h.
     let t = target_in c.in-Target.target in
     let there = placed-in t.document t.path c.in_ok-of_target-in-Target.field-0 c.in_ok-of_target-in-Target.ensures.document c.in_ok-of_target-in-Target.ensures.path in
     let r = subst (λ (q : Refusal). Refuses x k d row q) c.in-Target.is h in
-    (wrong (keyword_value (placed t.document t.path) (codes "schema")), ap (λ (p : Place). wrong (keyword_value p (codes "schema"))) there, of_row r.stands)
+    (keyword_value (placed t.document t.path) (codes "schema"), ap (λ (p : Place). keyword_value p (codes "schema")) there, r.stands)
 
 pub returns-in-Reference : goal.returns-in-Reference
 returns-in-Reference c = λ x d row at h.
     let k = c.args.name.now in
     let here = member-in x.site.document x.site.path k c.args.place.now c.in_ok-here.here at c.in_ok-here.ensures.document c.in_ok-here.ensures.path in
     let r = subst (λ (q : Refusal). Refuses x k d row q) c.in-Reference.is h in
-    (wrong (bad_reference (placed x.site.document (name k ∷ x.site.path)) r.0), (r.0, r.1, ap (λ (p : Place). wrong (bad_reference p r.0)) here), of_row r.2.stands)
+    (bad_reference (placed x.site.document (name k ∷ x.site.path)) r.0, (r.0, r.1, ap (λ (p : Place). bad_reference p r.0) here), r.2.stands)
 
 pub returns-in-LeftOut : goal.returns-in-LeftOut
 returns-in-LeftOut c = λ x d row at h.
     let k = c.args.name.now in
     let here = member-in x.site.document x.site.path k c.args.place.now c.in_ok-here.here at c.in_ok-here.ensures.document c.in_ok-here.ensures.path in
     let r = subst (λ (q : Refusal). Refuses x k d row q) c.in-LeftOut.is h in
-    (wrong (left_out (placed x.site.document (name k ∷ x.site.path))), ap (λ (p : Place). wrong (left_out p)) here, of_row r.stands)
-
-pub returns-in-NotYet : goal.returns-in-NotYet
-returns-in-NotYet c = λ x d row at h.
-    let k = c.args.name.now in
-    let here = member-in x.site.document x.site.path k c.args.place.now c.in_ok-here.here at c.in_ok-here.ensures.document c.in_ok-here.ensures.path in
-    let r = subst (λ (q : Refusal). Refuses x k d row q) c.in-NotYet.is h in
-    (not_yet (placed x.site.document (name k ∷ x.site.path)), ap not_yet here, of_member r)
+    (left_out (placed x.site.document (name k ∷ x.site.path)), ap (λ (p : Place). left_out p) here, r.stands)

@@ -1,14 +1,16 @@
-use Rattle.std.proofs.Common.{◌≡◌, ◌∙◌, ℕ, List, refl, sym, subst, codes}
+use Rattle.std.proofs.Common.{ℕ, List, refl, sym, subst, codes}
 use Rattle.serde_json.specs.View.{view, members_view}
 use Rattle.schema_meaning.specs.Members.{first}
-use Rattle.schema_sites.specs.Arms.{one_items_row, properties_row}
+use Rattle.schema_sites.specs.Arms.{one_items_row, one_pattern_row, properties_row}
+use Rattle.schema_sites.specs.declared.keyword.Keyword.TheVariants.{Nothing}
 use Rattle.schema_sites.specs.declared.keyword.Refusal.TheVariants.{LeftOut}
-use Rattle.schema_sites.proofs.ArmLemmas.{items-row, properties-row, if-row, then-row, else-row, left_row, left-items-row, left-properties-row, read-here, refused-here, not-yet}
-use Rattle.schema_sites.proofs.AssertingLemmas.{applied_names, none-listed, none-read, unnamed}
-use Rattle.schema_sites.proofs.ApplyingLemmas.{refused-counted, row-counted}
+use Rattle.schema_sites.proofs.ArmLemmas.{items-row, pattern-row, properties-row, if-row, then-row, else-row, left_row, left-items-row, left-properties-row, read-here, refused-here}
+use Rattle.schema_sites.proofs.AssertingLemmas.{applied_names, none-listed, none-read}
+use Rattle.schema_sites.proofs.ApplyingLemmas.{refused-counted, read-counted}
+use Rattle.schema_sites.proofs.MadeLemmas.{plain-row}
 use Rattle.schema_sites.proofs.ResultLemmas.{if-err, if-ok}
 use Rattle.schema_reading.specs.Rows.{readers, read_among, if_row, consequent_row}
-use Rattle.schema_sites.specs.Read.{row_of}
+use Rattle.schema_sites.specs.Read.{IsRowOf}
 use Rattle.schema_sites.specs.Refused.{Refuses}
 use Rattle.schema_sites.proofs.reading.applied.Goals as goal
 
@@ -50,6 +52,10 @@ pub returns-in-additionalProperties-clause-refused : goal.returns-in-additionalP
 returns-in-additionalProperties-clause-refused c =
     if-err _ _ c.applying_values-in-additionalProperties.result (λ e h x s counted. refused-counted x c.args.name.now (view c.args.value.now) counted e (h x s counted)) c.applying_values-in-additionalProperties.ensures.refused
 
+pub returns-in-propertyNames-clause-refused : goal.returns-in-propertyNames-clause-refused
+returns-in-propertyNames-clause-refused c =
+    if-err _ _ c.applying_values-in-propertyNames.result (λ e h x s counted. refused-counted x c.args.name.now (view c.args.value.now) counted e (h x s counted)) c.applying_values-in-propertyNames.ensures.refused
+
 pub returns-in-anyOf-clause-refused : goal.returns-in-anyOf-clause-refused
 returns-in-anyOf-clause-refused c =
     if-err _ _ c.applying_values-in-anyOf.result (λ e h x s counted. refused-counted x c.args.name.now (view c.args.value.now) counted e (h x s counted)) c.applying_values-in-anyOf.ensures.refused
@@ -78,8 +84,7 @@ pub returns-in-dependencies-clause-read : goal.returns-in-dependencies-clause-re
 returns-in-dependencies-clause-read c =
     let d = view c.args.value.now in
     if-ok _ _ c.dependencies.result
-    (λ k h x s counted.
-    row-counted x c.args.name.now d counted ∙ subst (λ (n : List ℕ). read_among readers x n d ≡ row_of x.documents x.site k) (sym c.in-dependencies.is) (h x))
+    (λ k h x s counted. read-counted x c.args.name.now d counted k (subst (λ (n : List ℕ). IsRowOf x n (read_among readers x n d) k) (sym c.in-dependencies.is) (h x)))
     c.dependencies.ensures.read
 
 pub returns-in-dependencies-clause-refused : goal.returns-in-dependencies-clause-refused
@@ -125,10 +130,89 @@ returns-in-else-clause-refused c =
     (λ e h x s counted. refused-here c.args.site.now (members_view c.args.members.now.entries) c.args.name.now (codes "else") (view c.args.value.now) (λ x d. consequent_row x (codes "else") d) c.in-else.is else-row e h x s counted)
     c.consequent-in-else.ensures.refused
 
-pub returns-in_default-clause-refused : goal.returns-in_default-clause-refused
-returns-in_default-clause-refused c = λ x s counted.
+pub returns-in_default-clause-read : goal.returns-in_default-clause-read
+returns-in_default-clause-read c = λ x s counted.
     let k = c.args.name.now in
+    let d = view c.args.value.now in
     let n = c.in_default in
-    not-yet x k (view c.args.value.now) counted
-    (none-read k c.requires.reference c.requires.assertion (none-listed k applied_names (n.not-items, (n.not-properties, (n.not-unevaluatedItems, (n.not-unevaluatedProperties, (n.not-prefixItems, (n.not-dependentSchemas, (n.not-allOf, (n.not-additionalItems, (n.not-anyOf, (n.not-oneOf, (n.not-not, (n.not-contains, (n.not-minContains, (n.not-maxContains, (n.not-dependencies, (n.not-if, (n.not-then, (n.not-else, tt))))))))))))))))))))
-    (unnamed k (codes "additionalProperties") n.not-additionalProperties)
+    read-counted x k d counted Nothing
+    (plain-row x k (read_among readers x k d) Nothing refl
+    (none-read x k d c.requires.reference c.requires.assertion (none-listed k applied_names (n.not-items, (n.not-properties, (n.not-unevaluatedItems, (n.not-unevaluatedProperties, (n.not-prefixItems, (n.not-dependentSchemas, (n.not-allOf, (n.not-additionalItems, (n.not-anyOf, (n.not-oneOf, (n.not-not, (n.not-contains, (n.not-minContains, (n.not-maxContains, (n.not-dependencies, (n.not-if, (n.not-then, (n.not-else, (n.not-pattern, (n.not-patternProperties, (n.not-additionalProperties, (n.not-propertyNames, tt)))))))))))))))))))))))))
+
+pub returns-in-items-clause-read : goal.returns-in-items-clause-read
+returns-in-items-clause-read c =
+    if-ok _ _ c.items.result
+    (λ k h x s counted. read-here c.args.site.now (members_view c.args.members.now.entries) c.args.name.now (codes "items") (view c.args.value.now) one_items_row c.in-items.is items-row k h x s counted)
+    c.items.ensures.read
+
+pub returns-in-pattern-clause-read : goal.returns-in-pattern-clause-read
+returns-in-pattern-clause-read c =
+    if-ok _ _ c.pattern.result
+    (λ k h x s counted. read-here c.args.site.now (members_view c.args.members.now.entries) c.args.name.now (codes "pattern") (view c.args.value.now) one_pattern_row c.in-pattern.is pattern-row k (λ x s. h x) x s counted)
+    c.pattern.ensures.read
+
+pub returns-in-properties-clause-read : goal.returns-in-properties-clause-read
+returns-in-properties-clause-read c =
+    if-ok _ _ c.properties.result
+    (λ k h x s counted. read-here c.args.site.now (members_view c.args.members.now.entries) c.args.name.now (codes "properties") (view c.args.value.now) properties_row c.in-properties.is properties-row k (λ x s. h x) x s counted)
+    c.properties.ensures.read
+
+pub returns-in-pattern-clause-refused : goal.returns-in-pattern-clause-refused
+returns-in-pattern-clause-refused c =
+    if-err _ _ c.pattern.result (λ e h. refused-here c.args.site.now (members_view c.args.members.now.entries) c.args.name.now (codes "pattern") (view c.args.value.now) one_pattern_row c.in-pattern.is pattern-row e (λ x s there. h x)) c.pattern.ensures.refused
+
+pub returns-in-prefixItems-clause-read : goal.returns-in-prefixItems-clause-read
+returns-in-prefixItems-clause-read c =
+    if-ok _ _ c.applying_values.result (λ k h x s counted. read-counted x c.args.name.now (view c.args.value.now) counted k (h x s)) c.applying_values.ensures.read
+
+pub returns-in-patternProperties-clause-read : goal.returns-in-patternProperties-clause-read
+returns-in-patternProperties-clause-read c =
+    if-ok _ _ c.applying_values-in-patternProperties.result (λ k h x s counted. read-counted x c.args.name.now (view c.args.value.now) counted k (h x s)) c.applying_values-in-patternProperties.ensures.read
+
+pub returns-in-patternProperties-clause-refused : goal.returns-in-patternProperties-clause-refused
+returns-in-patternProperties-clause-refused c =
+    if-err _ _ c.applying_values-in-patternProperties.result (λ e h x s counted. refused-counted x c.args.name.now (view c.args.value.now) counted e (h x s counted)) c.applying_values-in-patternProperties.ensures.refused
+
+pub returns-in-dependentSchemas-clause-read : goal.returns-in-dependentSchemas-clause-read
+returns-in-dependentSchemas-clause-read c =
+    if-ok _ _ c.applying_values-in-dependentSchemas.result (λ k h x s counted. read-counted x c.args.name.now (view c.args.value.now) counted k (h x s)) c.applying_values-in-dependentSchemas.ensures.read
+
+pub returns-in-allOf-clause-read : goal.returns-in-allOf-clause-read
+returns-in-allOf-clause-read c =
+    if-ok _ _ c.applying_values-in-allOf.result (λ k h x s counted. read-counted x c.args.name.now (view c.args.value.now) counted k (h x s)) c.applying_values-in-allOf.ensures.read
+
+pub returns-in-additionalItems-clause-read : goal.returns-in-additionalItems-clause-read
+returns-in-additionalItems-clause-read c =
+    if-ok _ _ c.applying_values-in-additionalItems.result (λ k h x s counted. read-counted x c.args.name.now (view c.args.value.now) counted k (h x s)) c.applying_values-in-additionalItems.ensures.read
+
+pub returns-in-additionalProperties-clause-read : goal.returns-in-additionalProperties-clause-read
+returns-in-additionalProperties-clause-read c =
+    if-ok _ _ c.applying_values-in-additionalProperties.result (λ k h x s counted. read-counted x c.args.name.now (view c.args.value.now) counted k (h x s)) c.applying_values-in-additionalProperties.ensures.read
+
+pub returns-in-propertyNames-clause-read : goal.returns-in-propertyNames-clause-read
+returns-in-propertyNames-clause-read c =
+    if-ok _ _ c.applying_values-in-propertyNames.result (λ k h x s counted. read-counted x c.args.name.now (view c.args.value.now) counted k (h x s)) c.applying_values-in-propertyNames.ensures.read
+
+pub returns-in-anyOf-clause-read : goal.returns-in-anyOf-clause-read
+returns-in-anyOf-clause-read c =
+    if-ok _ _ c.applying_values-in-anyOf.result (λ k h x s counted. read-counted x c.args.name.now (view c.args.value.now) counted k (h x s)) c.applying_values-in-anyOf.ensures.read
+
+pub returns-in-oneOf-clause-read : goal.returns-in-oneOf-clause-read
+returns-in-oneOf-clause-read c =
+    if-ok _ _ c.applying_values-in-oneOf.result (λ k h x s counted. read-counted x c.args.name.now (view c.args.value.now) counted k (h x s)) c.applying_values-in-oneOf.ensures.read
+
+pub returns-in-not-clause-read : goal.returns-in-not-clause-read
+returns-in-not-clause-read c =
+    if-ok _ _ c.applying_values-in-not.result (λ k h x s counted. read-counted x c.args.name.now (view c.args.value.now) counted k (h x s)) c.applying_values-in-not.ensures.read
+
+pub returns-in-contains-clause-read : goal.returns-in-contains-clause-read
+returns-in-contains-clause-read c =
+    if-ok _ _ c.applying_values-in-contains.result (λ k h x s counted. read-counted x c.args.name.now (view c.args.value.now) counted k (h x s)) c.applying_values-in-contains.ensures.read
+
+pub returns-in-minContains-clause-read : goal.returns-in-minContains-clause-read
+returns-in-minContains-clause-read c =
+    if-ok _ _ c.applying_values-in-minContains.result (λ k h x s counted. read-counted x c.args.name.now (view c.args.value.now) counted k (h x s)) c.applying_values-in-minContains.ensures.read
+
+pub returns-in-maxContains-clause-read : goal.returns-in-maxContains-clause-read
+returns-in-maxContains-clause-read c =
+    if-ok _ _ c.applying_values-in-maxContains.result (λ k h x s counted. read-counted x c.args.name.now (view c.args.value.now) counted k (h x s)) c.applying_values-in-maxContains.ensures.read

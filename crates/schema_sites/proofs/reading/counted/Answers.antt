@@ -1,6 +1,6 @@
 use Rattle.serde_json.specs.View.{view, members_view}
-use Rattle.schema_sites.proofs.AssertingLemmas.{some-of, asserted-read, assertion-read}
-use Rattle.schema_sites.proofs.ResultLemmas.{if-ok, ok-always}
+use Rattle.schema_sites.proofs.AssertingLemmas.{some-of, asserted-read, asserted-refused}
+use Rattle.schema_sites.proofs.ResultLemmas.{if-ok, if-err}
 use Rattle.schema_sites.proofs.reading.counted.Goals as goal
 
 pub returns-in-Some-clause-read : goal.returns-in-Some-clause-read
@@ -12,7 +12,11 @@ returns-in-Some-clause-read c =
     (λ w h. asserted-read site ms c.args.name.now (view c.args.value.now) _ c.in-Some.reading c.strict_limit-strict.ensures.maximum c.strict_limit-strict.ensures.minimum reads w h)
     c.asserting.ensures.read
 
-pub returns-in-Some-clause-counted : goal.returns-in-Some-clause-counted
-returns-in-Some-clause-counted c =
-    let listed = some-of _ c.in_ok-reading.field-0 c.in-Some.reading c.in-Some.is c.in_ok-reading.ensures.named in
-    ok-always _ c.asserting.result (λ w s stands. assertion-read c.args.name.now (view c.args.value.now) listed s (members_view c.args.members.now.entries))
+pub returns-in-Some-clause-refused : goal.returns-in-Some-clause-refused
+returns-in-Some-clause-refused c =
+    let site = c.args.site.now in
+    let ms = members_view c.args.members.now.entries in
+    let reads = some-of _ c.in_ok-reading.field-0 c.in-Some.reading c.in-Some.is c.in_ok-reading.ensures.read in
+    if-err _ _ c.asserting.result
+    (λ e h. asserted-refused site ms c.args.name.now (view c.args.value.now) _ c.in-Some.reading c.strict_limit-strict.ensures.maximum c.strict_limit-strict.ensures.minimum reads e h)
+    c.asserting.ensures.refused

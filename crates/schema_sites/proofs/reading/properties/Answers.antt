@@ -1,7 +1,9 @@
-use Rattle.std.proofs.Common.{sym, codes}
+use Rattle.std.proofs.Common.{refl, sym, codes}
 use Rattle.serde_json.specs.View.{view, members_view}
 use Rattle.schema_sites.specs.Arms.{properties_row}
+use Rattle.schema_sites.specs.declared.keyword.Keyword.TheVariants.{Properties}
 use Rattle.schema_sites.proofs.ArmLemmas.{value-refused}
+use Rattle.schema_sites.proofs.MadeLemmas.{plain-row}
 use Rattle.schema_sites.proofs.MemberLemmas.{properties-read, member-refused, no-map}
 use Rattle.schema_sites.proofs.reading.properties.Goals as goal
 
@@ -16,4 +18,6 @@ returns-in-Some-first_other-clause-refused c = λ x.
 
 pub returns-in-None-clause-read : goal.returns-in-None-clause-read
 returns-in-None-clause-read c = λ x.
-    properties-read x (view c.args.value.now) (members_view c.in-Some.map.now.entries) (sym c.in-Some.ensures) (sym c.in-None.ensures)
+    let d = view c.args.value.now in
+    plain-row x (codes "properties") (properties_row x d) (Properties c.in-Some.map) refl
+    (properties-read x d (members_view c.in-Some.map.now.entries) (sym c.in-Some.ensures) (sym c.in-None.ensures))

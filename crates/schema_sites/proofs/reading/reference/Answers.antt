@@ -9,6 +9,7 @@ use Rattle.schema_sites.specs.Refused.{Refuses}
 use Rattle.schema_sites.specs.Seen.{documents_at}
 use Rattle.schema_sites.proofs.ArmLemmas.{value-refused}
 use Rattle.schema_sites.proofs.ReferredLemmas.{looked-up, lookup-refused}
+use Rattle.schema_sites.proofs.MadeLemmas.{same-row}
 use Rattle.schema_sites.proofs.ResultLemmas.{if-ok, if-err, kept}
 use Rattle.schema_sites.proofs.reading.reference.Goals as goal
 
@@ -33,9 +34,9 @@ returns-in_ok-target-in-Ok-clause-read c =
     let text = c.in-Ok.text.now in
     if-ok _ _ c.led_to.result
     (λ k h. λ ms x s.
-    looked-up site ms w x d text s c.in-Ok.ensures.said
-    ∙ ap (λ (a : Result Target LookupCause). led_to x (name_of w) (kind_of w) text a) c.in_ok-target-in-Ok.ensures.ok
-    ∙ h x)
+    let same = looked-up site ms w x d text s c.in-Ok.ensures.said in
+    let led = ap (λ (a : Result Target LookupCause). led_to x (name_of w) (kind_of w) text a) c.in_ok-target-in-Ok.ensures.ok in
+    same-row x (name_of w) (reference_row w x d) _ k (same ∙ led) (h x))
     c.led_to.ensures.read
 
 pub returns-in_ok-target-in-Ok-clause-refused : goal.returns-in_ok-target-in-Ok-clause-refused

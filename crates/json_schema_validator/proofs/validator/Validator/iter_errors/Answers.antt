@@ -5,33 +5,27 @@ use Rattle.schema_reports.specs.Left.{errors_left}
 use Rattle.schema_reports.specs.Told.{faults_of}
 use Rattle.schema_reports.specs.declared.observer.Observation.TheVariants.{All}
 use Rattle.schema_roots.specs.Answers.{IsCut}
-use Rattle.json_schema_validator.specs.Heard.{HearsCut}
+use Rattle.json_schema_validator.specs.Heard.{HearsCut, StillKeeps}
 use Rattle.json_schema_validator.specs.Seen.{root_in}
-use Rattle.json_schema_validator.proofs.Hearing.{still_keeps, all_heard, answered}
+use Rattle.json_schema_validator.proofs.Hearing.{all_heard, answered}
 use Rattle.json_schema_validator.proofs.Certifying.{faults_certified}
 use Rattle.json_schema_validator.proofs.validator.Validator.iter_errors.Goals as goal
 
 pub unreachable-requires : goal.unreachable-requires
-unreachable-requires c =
-    let v = c.args.self.now in
-    let told = subst (HearsCut (root_in v) (view c.args.value.now) _) c.in-Verdict.is c.in_ok-observer.ensures in
-    (still_keeps (root_in v) v.sound (view c.args.value.now) _ _ All c.new.ensures told).1
+unreachable-requires g c = (subst (StillKeeps _) c.in-Verdict.is c.in_ok-observer.ensures.kept).keeps All c.new.ensures (λ fs h. h)
 
 pub unreachable-requires-in-First : goal.unreachable-requires-in-First
-unreachable-requires-in-First c =
-    let v = c.args.self.now in
-    let told = subst (HearsCut (root_in v) (view c.args.value.now) _) c.in-First.is c.in_ok-observer.ensures in
-    (still_keeps (root_in v) v.sound (view c.args.value.now) _ _ All c.new.ensures told).1
+unreachable-requires-in-First g c = (subst (StillKeeps _) c.in-First.is c.in_ok-observer.ensures.kept).keeps All c.new.ensures (λ fs h. h)
 
 pub returns-clause-cut : goal.returns-clause-cut
-returns-clause-cut c =
+returns-clause-cut g c = λ p made.
     let r = root_in c.args.self.now in
     let d = view c.args.value.now in
-    let told = subst (HearsCut r d _) c.in-All.is c.in_ok-observer.ensures in
-    subst (λ es. IsCut bags r d (faults_of es)) (sym c.of.ensures) (all_heard r d c.new.result c.in-All.all c.new.ensures told c.into_errors.result.items c.into_errors.ensures)
+    let told = subst (HearsCut p r d _) c.in-All.is (c.in_ok-observer.ensures.heard p made) in
+    subst (λ es. IsCut bags p r d (faults_of es)) (sym c.of.ensures) (all_heard p r d c.new.result c.in-All.all c.new.ensures told c.into_errors.result.items c.into_errors.ensures)
 
 pub returns-clause-faults : goal.returns-clause-faults
-returns-clause-faults c = answered bags (root_in c.args.self.now) (view c.args.value.now) (faults_of (errors_left c.of.result)) (returns-clause-cut c)
+returns-clause-faults g c = λ p made. answered bags p (root_in c.args.self.now) (view c.args.value.now) (faults_of (errors_left c.of.result)) (returns-clause-cut g c p made)
 
 pub returns-clause-certified : goal.returns-clause-certified
-returns-clause-certified c = faults_certified (root_in c.args.self.now) (view c.args.value.now) (faults_of (errors_left c.of.result)) (returns-clause-faults c)
+returns-clause-certified g c = λ p made. faults_certified p (root_in c.args.self.now) (view c.args.value.now) (faults_of (errors_left c.of.result)) (returns-clause-faults g c p made)

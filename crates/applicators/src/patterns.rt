@@ -1,0 +1,82 @@
+//! The questions of `patternProperties`.
+
+ghost use Rattle.std.specs.Prelude.{◌≡◌, ◌++◌, List, OnOk, codes};
+ghost use Rattle.serde_json.specs.Data.{Data};
+ghost use Rattle.serde_json.specs.View.{view, members_view};
+ghost use Rattle.json_paths.specs.Parts.{Part};
+ghost use Rattle.schema_reading.specs.Sites.{Site};
+ghost use Rattle.schema_meaning.specs.Questions.{at_name, listed_members, members_of};
+ghost use Rattle.applicators.specs.Shapes.{sites_of_map};
+ghost use Rattle.applicators.specs.Questions.{questions_of};
+ghost use Rattle.schema_matches.specs.Read.{reads};
+ghost use Rattle.applicators.specs.Matching.{matching_members, by_patterns};
+
+use crate::question::{Asked, Question};
+use crate::subschema::{Entry, Subschema};
+use schema_matches::matches::Matches;
+use serde_json::{Map, Value};
+use std::alloc::{AllocError, Global};
+
+// Each member whose name the pattern matches, by the pattern's schema.
+fn push_matching<'r, 'i>(
+    alloc: Global,
+    matches: &Matches,
+    questions: &mut Vec<Question<'r, 'i>>,
+    pattern: &'r str,
+    schema: &'r Value,
+    members: &'i Map<String, Value>,
+) -> Result<(), AllocError>
+    ensures { OnOk result ((site : List Part → Data → Site) → questions_of site questions.new.items
+        ≡ questions_of site questions.old.items ++ matching_members (reads matches.now) (site (at_name (codes "patternProperties") pattern.now) (view schema.now)) pattern.now (listed_members (members_view members.now.entries))) }
+{
+    for (name, member) in members.iter() {
+        let name = name.as_str();
+        if matches.is_match(alloc, pattern, name)? {
+            questions.push(Question {
+                subschema: Subschema {
+                    keyword: "patternProperties",
+                    entry: Entry::Name(pattern),
+                    schema,
+                },
+                asked: Asked::Member { name, member },
+            })?;
+        }
+    }
+    Ok(())
+}
+
+// By pattern, and then by the member's name.
+fn push_by_patterns<'r, 'i>(
+    alloc: Global,
+    matches: &Matches,
+    questions: &mut Vec<Question<'r, 'i>>,
+    schemas: &'r Map<String, Value>,
+    value: &'i Map<String, Value>,
+) -> Result<(), AllocError>
+    ensures { OnOk result ((site : List Part → Data → Site) → questions_of site questions.new.items
+        ≡ questions_of site questions.old.items ++ by_patterns (reads matches.now) (listed_members (members_view value.now.entries)) (sites_of_map site (codes "patternProperties") (members_view schemas.now.entries))) }
+{
+    for (pattern, schema) in schemas.iter() {
+        push_matching(alloc, matches, questions, pattern.as_str(), schema, value)?;
+    }
+    Ok(())
+}
+
+// Each member whose name a pattern matches, by the schema of that pattern (Core 10.3.2.2). Each pair of a pattern and a name is looked at
+// once.
+#[tactic(auto, using(crate::proofs::MatchingLemmas::members_given))]
+pub(crate) fn push_patterns<'r, 'i>(
+    alloc: Global,
+    matches: &Matches,
+    questions: &mut Vec<Question<'r, 'i>>,
+    schemas: &'r Map<String, Value>,
+    value: &'i Value,
+) -> Result<(), AllocError>
+    ensures { OnOk result ((site : List Part → Data → Site) → questions_of site questions.new.items
+        ≡ questions_of site questions.old.items ++ by_patterns (reads matches.now) (members_of (view value.now)) (sites_of_map site (codes "patternProperties") (members_view schemas.now.entries))) }
+{
+    match value.as_object() {
+        Some(members) => push_by_patterns(alloc, matches, questions, schemas, members),
+        None => Ok(()),
+    }
+}

@@ -1,0 +1,22 @@
+-- Where every match that a value asks for finishes, none stays unfinished.
+use Rattle.std.proofs.Common.{◌≡◌, ℕ, List, Bool, Option, Some, None, refl}
+use Rattle.serde_json.specs.Data.{Data}
+use Rattle.schema_values.specs.Patterns.{known}
+use Rattle.schema_documents.specs.Lookup.{Target}
+use Rattle.schema_roots.specs.Roots.{Root, Patterns, Finds}
+use Rattle.schema_roots.specs.Answers.{Finish}
+use Rattle.fault_checks.specs.Checked.{AgreeWithKnown, IsChecked}
+use Rattle.fault_checks.specs.declared.checking.CheckAnswer.TheVariants.{Unfinished}
+
+one_known : (o : Option Bool) (a b : Bool) → o ≡ Some a → o ≡ Some b → a ≡ b
+one_known o a b e f = cc (e, f)
+
+none_known : (o : Option Bool) (a : Bool) → o ≡ Some a → o ≡ None → ⊥
+none_known o a e f = cc (e, f)
+
+pub none_unfinished : (p : Patterns) (r : Root) (d : Data) (instance evaluation : List ℕ) → IsChecked p r d instance evaluation Unfinished
+    → (matches : List ℕ → List ℕ → Bool) (target : Target) → Finds r target → Finish p r matches target d → ⊥
+none_unfinished p r d instance evaluation h matches target found finish =
+    let agree : AgreeWithKnown p r matches target d = record { agree = λ pattern text asked answer is. one_known (known p.finished pattern text) _ answer (finish.each pattern text asked) is } in
+    let stays = h.unfinished refl matches target found agree in
+    none_known (known p.finished stays.pattern stays.text) _ (finish.each stays.pattern stays.text stays.asked) stays.unfinished

@@ -1,0 +1,3 @@
+pub mod Rooms
+pub mod Stays
+pub mod Texts

@@ -1,0 +1,120 @@
+use Rattle.std.proofs.Common.{[], ◌≡◌, true, ◌≤◌, ◌+◌, ◌*◌, drop}
+use Rattle.serde_json.specs.View.{view, items_view, members_view}
+use Rattle.schema_sites.specs.Seen.{documents_at}
+use Rattle.plain_reader.specs.Spots.{spots_of}
+use Rattle.schema_reading.specs.AllKeys.{spots_in}
+use Rattle.schema_reports.specs.RoadPaths.{instance_in}
+use Rattle.plain_reader.specs.Keys.{keys_in}
+use Rattle.plain_reader.specs.Tellings.{room}
+use Rattle.plain_reader.proofs.Left.{MembersLeft, ItemsLeft, QuestionsLeft, NamedLeft, DeclaredLeft, CountLeft, BranchesLeft}
+use Rattle.place_laws.specs.Rising.{are_rising}
+use Rattle.member_walks.specs.Left.{left_in}
+use Rattle.member_walks.specs.Found.{AreFound}
+use Rattle.plain_reader.proofs.+read.Given as goal
+
+abbrev pub decreases-read::read_site : goal.decreases-read::read_site
+decreases-read::read_site l = 12 * room (documents_at l.site.now) (spots_of l.reading.now) (keys_in l.progress.now) (view l.site.now.contents.now) + 11
+
+abbrev pub decreases-read::read_members : goal.decreases-read::read_members
+decreases-read::read_members l = 12 * room (documents_at l.site.now) (spots_of l.reading.now) (keys_in l.progress.now) (view l.site.now.contents.now) + 10
+
+abbrev pub decreases-read::read_member : goal.decreases-read::read_member
+decreases-read::read_member l = 12 * room (documents_at l.site.now) (spots_of l.reading.now) (keys_in l.progress.now) (view l.site.now.contents.now) + 9
+
+abbrev pub decreases-read::read_keyword : goal.decreases-read::read_keyword
+decreases-read::read_keyword l = 12 * room (documents_at l.site.now) (spots_of l.reading.now) (keys_in l.progress.now) (view l.site.now.contents.now) + 8
+
+abbrev pub decreases-read::read_items : goal.decreases-read::read_items
+decreases-read::read_items l = 12 * room (documents_at l.site.now) (spots_of l.reading.now) (keys_in l.progress.now) (view l.site.now.contents.now) + 3
+
+abbrev pub decreases-read::read_properties : goal.decreases-read::read_properties
+decreases-read::read_properties l = 12 * room (documents_at l.site.now) (spots_of l.reading.now) (keys_in l.progress.now) (view l.site.now.contents.now) + 3
+
+abbrev pub decreases-read::read_property : goal.decreases-read::read_property
+decreases-read::read_property l = 12 * room (documents_at l.site.now) (spots_of l.reading.now) (keys_in l.progress.now) (view l.site.now.contents.now) + 2
+
+abbrev pub decreases-read::read_condition : goal.decreases-read::read_condition
+decreases-read::read_condition l = 12 * room (documents_at l.site.now) (spots_of l.reading.now) (keys_in l.progress.now) (view l.site.now.contents.now) + 7
+
+abbrev pub decreases-read::read_beside : goal.decreases-read::read_beside
+decreases-read::read_beside l = 12 * room (documents_at l.site.now) (spots_of l.reading.now) (keys_in l.progress.now) (view l.site.now.contents.now) + 6
+
+abbrev pub decreases-read::read_applicator : goal.decreases-read::read_applicator
+decreases-read::read_applicator l = 12 * room (documents_at l.site.now) (spots_of l.reading.now) (keys_in l.progress.now) (view l.site.now.contents.now) + 7
+
+abbrev pub decreases-read::read_combined : goal.decreases-read::read_combined
+decreases-read::read_combined l = 12 * room (documents_at l.site.now) (spots_of l.reading.now) (keys_in l.progress.now) (view l.site.now.contents.now) + 6
+
+abbrev pub decreases-read::count_accepted : goal.decreases-read::count_accepted
+decreases-read::count_accepted l = 12 * room (documents_at l.site.now) (spots_of l.reading.now) (keys_in l.progress.now) (view l.site.now.contents.now) + 5
+
+abbrev pub decreases-read::read_branches : goal.decreases-read::read_branches
+decreases-read::read_branches l = 12 * room (documents_at l.site.now) (spots_of l.reading.now) (keys_in l.progress.now) (view l.site.now.contents.now) + 5
+
+abbrev pub decreases-read::read_questions : goal.decreases-read::read_questions
+decreases-read::read_questions l = 12 * room (documents_at l.site.now) (spots_of l.reading.now) (keys_in l.progress.now) (view l.site.now.contents.now) + 5
+
+abbrev pub decreases-names::read_named : goal.decreases-names::read_named
+decreases-names::read_named l = 12 * room (documents_at l.site.now) (spots_of l.reading.now) (keys_in l.progress.now) (view l.site.now.contents.now) + 5
+
+abbrev pub decreases-read::read_question : goal.decreases-read::read_question
+decreases-read::read_question l = 12 * room (documents_at l.site.now) (spots_of l.reading.now) (keys_in l.progress.now) (view l.site.now.contents.now) + 4
+
+abbrev pub decreases-read::read_entry : goal.decreases-read::read_entry
+decreases-read::read_entry l = 12 * room (documents_at l.inner.now) (spots_of l.reading.now) (keys_in l.progress.now) (view l.inner.now.contents.now) + 15
+
+abbrev pub decreases-read::read_asked : goal.decreases-read::read_asked
+decreases-read::read_asked l = 12 * room (documents_at l.inner.now) (spots_of l.reading.now) (keys_in l.progress.now) (view l.inner.now.contents.now) + 14
+
+abbrev pub decreases-names::read_name : goal.decreases-names::read_name
+decreases-names::read_name l = 12 * room (documents_at l.inner.now) (spots_of l.reading.now) (keys_in l.progress.now) (view l.inner.now.contents.now) + 13
+
+abbrev pub decreases-whole::read_alone : goal.decreases-whole::read_alone
+decreases-whole::read_alone l = 12 * room (documents_at l.site.now) (spots_in (instance_in l.roads) (view l.value.now)) [] (view l.site.now.contents.now) + 12
+
+abbrev pub decreases-read::read_target : goal.decreases-read::read_target
+decreases-read::read_target l = 12 * room (documents_at l.site.now) (spots_of l.reading.now) (keys_in l.progress.now) (view l.site.now.contents.now) + 3
+
+abbrev pub invariant-read::read_members-loop-name : goal.invariant-read::read_members-loop-name
+invariant-read::read_members-loop-name l =
+    let all = members_view l.members.entries in
+    let rest = members_view l.name-iterator in
+    record {
+      whole : members_view l.initial.name-iterator ≡ all;
+      left : MembersLeft l.site (spots_of l.reading) (view l.value) l.roads (keys_in l.progress) all rest l.fn.observer l.observer;
+    }
+
+abbrev pub invariant-read::read_items-loop-index : goal.invariant-read::read_items-loop-index
+invariant-read::read_items-loop-index l =
+    ItemsLeft l.site (spots_of l.reading) (view l.value) l.roads (keys_in l.progress) (view l.schema) l.start l.index (items_view l.items.items) (items_view (drop l.index l.items.items)) l.fn.observer l.observer
+
+abbrev pub invariant-read::read_properties-loop-name : goal.invariant-read::read_properties-loop-name
+invariant-read::read_properties-loop-name l =
+    let all = members_view l.schemas.entries in
+    let rest = members_view l.name-iterator in
+    record {
+      whole : members_view l.initial.name-iterator ≡ all;
+      rising : are_rising rest ≡ true;
+      walked : are_rising (left_in l.walk) ≡ true;
+      found : AreFound rest (left_in l.walk) (view l.value);
+      left : DeclaredLeft l.site (spots_of l.reading) (view l.value) l.roads (keys_in l.progress) all rest l.fn.observer l.observer;
+    }
+
+abbrev pub invariant-read::read_questions-loop-question : goal.invariant-read::read_questions-loop-question
+invariant-read::read_questions-loop-question l =
+    QuestionsLeft l.site (spots_of l.reading) (view l.value) l.roads (keys_in l.progress) l.applicator l.asked (drop l.question-index l.asked) l.fn.observer l.observer
+
+abbrev pub invariant-names::read_named-loop-question : goal.invariant-names::read_named-loop-question
+invariant-names::read_named-loop-question l =
+    NamedLeft l.site (spots_of l.reading) (view l.value) l.roads (keys_in l.progress) l.applicator l.asked (drop l.question-index l.asked) l.fn.observer l.observer
+
+abbrev pub invariant-read::count_accepted-loop-question : goal.invariant-read::count_accepted-loop-question
+invariant-read::count_accepted-loop-question l =
+    record {
+      few : l.accepted ≤ l.question-index;
+      left : CountLeft l.site (spots_of l.reading) (view l.value) l.roads (keys_in l.progress) l.applicator l.asked (drop l.question-index l.asked) l.accepted;
+    }
+
+abbrev pub invariant-read::read_branches-loop-question : goal.invariant-read::read_branches-loop-question
+invariant-read::read_branches-loop-question l =
+    BranchesLeft l.site (spots_of l.reading) (view l.value) l.roads (keys_in l.progress) l.applicator l.asked (drop l.question-index l.asked) l.context.items

@@ -1,0 +1,15 @@
+use Rattle.std.proofs.Common.{take}
+use Rattle.schema_patterns.specs.Tables.{texts_of_table}
+use Rattle.reached_sites.specs.Patterns.{texts_of, Holds, IsFilled}
+use Rattle.reached_sites.proofs.making.add_patterns.Given as goal
+
+abbrev pub invariant-loop-pattern : goal.invariant-loop-pattern
+invariant-loop-pattern g l =
+    let finds = g.P.Matcher.PatternMatcher.finds in
+    let finished = g.P.PatternMaker.finished l.maker in
+    let makes = g.P.PatternMaker.makes l.maker in
+    record {
+      filled : IsFilled finds finished makes l.fn.table → IsFilled finds finished makes l.table;
+      kept : Holds l.table (texts_of_table l.fn.table);
+      held : Holds l.table (texts_of (take l.pattern-index l.patterns));
+    }

@@ -1,0 +1,54 @@
+//! The patterns of schemas put into a table.
+
+ghost use Rattle.std.specs.Prelude.{◌≡◌, ◌∷◌, [], List, ℕ, true, IfErr, OnOk};
+ghost use Rattle.schema_meaning.specs.Members.{is_listed};
+ghost use Rattle.schema_patterns.specs.Tables.{texts_of_table};
+ghost use Rattle.reached_sites.specs.Patterns.{texts_of, text_of, Holds, IsFilled, RefusesPattern};
+
+use crate::cause::BuildCause;
+use crate::pattern::Pattern;
+use schema_patterns::{PatternError, PatternMaker, PatternTable};
+use std::alloc::Global;
+
+fn add_pattern<P: PatternMaker>(
+    alloc: Global,
+    maker: &P,
+    pattern: &Pattern<'_>,
+    table: &mut PatternTable<P::Matcher>,
+) -> Result<(), BuildCause>
+    ensures filled { OnOk result (IsFilled P.Matcher.finds (P.finished maker.now) (P.makes maker.now) table.old → IsFilled P.Matcher.finds (P.finished maker.now) (P.makes maker.now) table.new) }
+    ensures kept { OnOk result (Holds table.new (texts_of_table table.old)) }
+    ensures held { OnOk result (is_listed (text_of pattern.now) (texts_of_table table.new) ≡ true) }
+    ensures refused { IfErr result (RefusesPattern (P.makes maker.now) (pattern.now ∷ [])) }
+{
+    let text = pattern.text;
+    match table.add_with(alloc, text, || maker.make(alloc, text)) {
+        Ok(_) => Ok(()),
+        Err(PatternError::BadPattern) => Err(BuildCause::BadPattern {
+            place: pattern.place.shared()?,
+        }),
+        Err(PatternError::Memory) => Err(BuildCause::Memory),
+    }
+}
+
+/// Puts patterns into a table, in which each text is made once.
+///
+/// # Errors
+///
+/// A pattern that the maker refuses, the first of them, or want of memory.
+pub(crate) fn add_patterns<P: PatternMaker>(
+    alloc: Global,
+    maker: &P,
+    patterns: &[Pattern<'_>],
+    table: &mut PatternTable<P::Matcher>,
+) -> Result<(), BuildCause>
+    ensures filled { OnOk result (IsFilled P.Matcher.finds (P.finished maker.now) (P.makes maker.now) table.old → IsFilled P.Matcher.finds (P.finished maker.now) (P.makes maker.now) table.new) }
+    ensures kept { OnOk result (Holds table.new (texts_of_table table.old)) }
+    ensures held { OnOk result (Holds table.new (texts_of patterns.now)) }
+    ensures refused { IfErr result (RefusesPattern (P.makes maker.now) patterns.now) }
+{
+    for pattern in patterns {
+        add_pattern(alloc, maker, pattern, table)?;
+    }
+    Ok(())
+}

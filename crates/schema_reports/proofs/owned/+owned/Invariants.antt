@@ -1,0 +1,22 @@
+use Rattle.std.proofs.Common.{◌≡◌, ◌+◌, ◌*◌}
+use Rattle.schema_reports.specs.Told.{faults_of, branches_in}
+use Rattle.schema_reports.proofs.owned.+owned.Given as goal
+
+-- how deep the errors go, and a list's own step above those that it holds
+abbrev pub decreases-owned_error : goal.decreases-owned_error
+decreases-owned_error l = 3 * goal.size-owned_error l
+
+abbrev pub decreases-owned_kind : goal.decreases-owned_kind
+decreases-owned_kind l = 3 * goal.size-owned_kind l
+
+abbrev pub decreases-owned_errors : goal.decreases-owned_errors
+decreases-owned_errors l = 3 * goal.size-owned_errors l + 1
+
+abbrev pub decreases-owned_context : goal.decreases-owned_context
+decreases-owned_context l = 3 * goal.size-owned_context l + 2
+
+abbrev pub invariant-owned_context-loop-errors : goal.invariant-owned_context-loop-errors
+invariant-owned_context-loop-errors l = branches_in l.branches.items ≡ branches_in l.yielded
+
+abbrev pub invariant-owned_errors-loop-error : goal.invariant-owned_errors-loop-error
+invariant-owned_errors-loop-error l = faults_of l.owned.items ≡ faults_of l.yielded

@@ -1,0 +1,113 @@
+//! Errors with values of their own.
+ghost use Rattle.std.specs.Prelude.{◌≡◌, IfOk};
+ghost use Rattle.schema_reports.specs.Kinds.{kind_of};
+ghost use Rattle.schema_reports.specs.Told.{fault_of, faults_of, branches_in};
+
+use crate::error::ValidationError;
+use crate::kind::ValidationErrorKind as Kind;
+use std::alloc::{AllocError, Global};
+
+impl ValidationError<'_> {
+    /// The same error with values of its own, and so are those that it carries.
+    ///
+    /// What it has of its own is kept, and a value that was lent is copied. The error comes where memory is out.
+    pub fn into_owned<'o>(self, alloc: Global) -> Result<ValidationError<'o>, AllocError>
+        ensures { IfOk result (λ e. fault_of e ≡ fault_of self.entry) }
+    {
+        owned_error(alloc, self)
+    }
+}
+
+#[cycle(owned)]
+fn owned_error<'o>(
+    alloc: Global,
+    error: ValidationError<'_>,
+) -> Result<ValidationError<'o>, AllocError>
+    ensures { IfOk result (λ e. fault_of e ≡ fault_of error.entry) }
+{
+    let ValidationError {
+        kind,
+        instance,
+        instance_path,
+        schema_path,
+        evaluation_path,
+    } = error;
+    let kind = owned_kind(alloc, Box::into_inner(kind))?;
+    Ok(ValidationError {
+        kind: Box::new(alloc, kind)?,
+        instance: instance.into_owned()?,
+        instance_path,
+        schema_path,
+        evaluation_path,
+    })
+}
+
+#[cycle(owned)]
+fn owned_kind<'o>(alloc: Global, kind: Kind<'_>) -> Result<Kind<'o>, AllocError>
+    ensures { IfOk result (λ k. kind_of k ≡ kind_of kind.entry) }
+{
+    match kind {
+        Kind::AdditionalItems => Ok(Kind::AdditionalItems),
+        Kind::AdditionalProperties { unexpected } => Ok(Kind::AdditionalProperties { unexpected }),
+        Kind::AnyOf { context } => Ok(Kind::AnyOf {
+            context: owned_context(alloc, context)?,
+        }),
+        Kind::Constant { expected_value } => Ok(Kind::Constant { expected_value }),
+        Kind::Contains => Ok(Kind::Contains),
+        Kind::Enumeration { options } => Ok(Kind::Enumeration { options }),
+        Kind::ExclusiveMaximum { limit } => Ok(Kind::ExclusiveMaximum { limit }),
+        Kind::ExclusiveMinimum { limit } => Ok(Kind::ExclusiveMinimum { limit }),
+        Kind::FalseSchema => Ok(Kind::FalseSchema),
+        Kind::MaxItems { limit } => Ok(Kind::MaxItems { limit }),
+        Kind::Maximum { limit } => Ok(Kind::Maximum { limit }),
+        Kind::MaxLength { limit } => Ok(Kind::MaxLength { limit }),
+        Kind::MaxProperties { limit } => Ok(Kind::MaxProperties { limit }),
+        Kind::MinItems { limit } => Ok(Kind::MinItems { limit }),
+        Kind::Minimum { limit } => Ok(Kind::Minimum { limit }),
+        Kind::MinLength { limit } => Ok(Kind::MinLength { limit }),
+        Kind::MinProperties { limit } => Ok(Kind::MinProperties { limit }),
+        Kind::MultipleOf { multiple_of } => Ok(Kind::MultipleOf { multiple_of }),
+        Kind::Not { schema } => Ok(Kind::Not { schema }),
+        Kind::OneOfMultipleValid { context } => Ok(Kind::OneOfMultipleValid {
+            context: owned_context(alloc, context)?,
+        }),
+        Kind::OneOfNotValid { context } => Ok(Kind::OneOfNotValid {
+            context: owned_context(alloc, context)?,
+        }),
+        Kind::Pattern { pattern } => Ok(Kind::Pattern { pattern }),
+        Kind::PropertyNames { error } => Ok(Kind::PropertyNames {
+            error: Box::new(alloc, owned_error(alloc, Box::into_inner(error))?)?,
+        }),
+        Kind::Required { property } => Ok(Kind::Required { property }),
+        Kind::Types { names } => Ok(Kind::Types { names }),
+        Kind::UniqueItems => Ok(Kind::UniqueItems),
+    }
+}
+
+#[cycle(owned)]
+fn owned_context<'o>(
+    alloc: Global,
+    context: Vec<Vec<ValidationError<'_>>>,
+) -> Result<Vec<Vec<ValidationError<'o>>>, AllocError>
+    ensures { IfOk result (λ es. branches_in es.items ≡ branches_in context.entry.items) }
+{
+    let mut branches = Vec::new(alloc);
+    for errors in context {
+        branches.push(owned_errors(alloc, errors)?)?;
+    }
+    Ok(branches)
+}
+
+#[cycle(owned)]
+fn owned_errors<'o>(
+    alloc: Global,
+    errors: Vec<ValidationError<'_>>,
+) -> Result<Vec<ValidationError<'o>>, AllocError>
+    ensures { IfOk result (λ es. faults_of es.items ≡ faults_of errors.entry.items) }
+{
+    let mut owned = Vec::new(alloc);
+    for error in errors {
+        owned.push(owned_error(alloc, error)?)?;
+    }
+    Ok(owned)
+}

@@ -1,2 +1,0 @@
-//! What is not read of schemas yet, and the causes of a build with it: definitions alone, in `specs/`.
-#![tactic(auto)]

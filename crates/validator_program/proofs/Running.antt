@@ -1,0 +1,39 @@
+-- Runs of the validator that the words name.
+use Rattle.std.proofs.Common.{ℕ, List, [], Option, codes, option_map, unwrap_or, if◌then◌else◌, refl, subst}
+use Rattle.clap.specs.Words.{Row, first_of, all_of}
+use Rattle.clap.specs.Walk.{texts}
+use Rattle.program_words.specs.Read.{HasWordsOf}
+use Rattle.program_words.specs.declared.words.ProgramWords.{ProgramWords}
+use Rattle.regex_patterns.specs.Matchers.{finds_by_regex}
+use Rattle.regex_patterns.specs.declared.RegexMatcher.{RegexMatcher}
+use Rattle.line_cuts.specs.Runs.{RunsThrough, Stops}
+use Rattle.line_cuts.specs.declared.report.RunReport.{RunReport}
+use Rattle.line_cuts.specs.declared.report.RunError.{RunError}
+use Rattle.line_runs.specs.Runs.{IsLineText}
+use Rattle.line_runs.specs.Passed.{root_in, IsMadeBy}
+use Rattle.line_runs.specs.Passed.{Root, Patterns}
+use Rattle.program_files.specs.Held.{Held}
+use Rattle.line_runs.specs.Passed.{Validator}
+use Rattle.validator_program.specs.Given.{IsBuiltOf}
+use Rattle.validator_program.specs.Answered.{patterns_of_regex, IsNamed, AnswersAll, StopsEarly}
+
+-- what is built of the words that were read is named by them
+pub named_by : (rows : List Row) (held : List ℕ → Held) (w : ProgramWords) (root : Root) → HasWordsOf rows w
+    → IsBuiltOf held w.schema.now (texts w.files.items) (option_map (λ s. s.now) w.base) (option_map (λ s. s.now) w.draft) (option_map (λ s. s.now) w.meta) root → IsNamed rows held root
+named_by rows held w root has built = record {
+  schema = w.schema.now;
+  is_schema = has.schema;
+  built = subst (λ (ws : List (List ℕ)). IsBuiltOf held w.schema.now ws (first_of (codes "base") rows) (first_of (codes "draft") rows) (first_of (codes "meta") rows) root) has.files
+      (subst (λ (b : Option (List ℕ)). IsBuiltOf held w.schema.now (texts w.files.items) b (first_of (codes "draft") rows) (first_of (codes "meta") rows) root) has.base
+      (subst (λ (d : Option (List ℕ)). IsBuiltOf held w.schema.now (texts w.files.items) (option_map (λ s. s.now) w.base) d (first_of (codes "meta") rows) root) has.draft
+      (subst (λ (m : Option (List ℕ)). IsBuiltOf held w.schema.now (texts w.files.items) (option_map (λ s. s.now) w.base) (option_map (λ s. s.now) w.draft) m root) has.meta built)));
+}
+
+module _ (rows : List Row) (held : List ℕ → Held) (v : Validator RegexMatcher) (named : IsNamed rows held (root_in v)) (made : IsMadeBy finds_by_regex patterns_of_regex v)
+    (from to before after : Option (List ℕ)) where
+  pub answers_all : (report : RunReport) → ((p : Patterns) → IsMadeBy finds_by_regex p v → RunsThrough (IsLineText p (root_in v)) from to before after report)
+      → AnswersAll rows held from to before after (if report.any_refused then 1 else 0)
+  answers_all report h = record { root = root_in v; named = named; report = report; answered = h patterns_of_regex made; is_status = refl }
+
+  pub stops_early : (e : RunError) → ((p : Patterns) → IsMadeBy finds_by_regex p v → Stops (IsLineText p (root_in v)) e from to before after) → StopsEarly rows held from to before after
+  stops_early e h = record { root = root_in v; named = named; error = e; stopped = h patterns_of_regex made }
