@@ -9,3 +9,6 @@ pub mod Built
 pub mod Joined
 pub mod New
 pub mod Passed
+pub mod Hashes
+pub mod Maps
+pub mod Mapped

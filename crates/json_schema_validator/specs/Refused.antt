@@ -12,7 +12,8 @@ use Rattle.schema_reading.specs.BuildCauses.{IsCauseOf}
 use Rattle.given_documents.specs.Given.{Given, documents_by}
 use Rattle.referencing_errors.specs.Causes.{IsMemory, NamesLookup}
 use Rattle.referencing_errors.specs.declared.error.Error as reference
-use Rattle.fault_checks.specs.Passed.{NamesCause, IsExceeded}
+use Rattle.fault_checks.specs.Passed.{NamesCause, IsExceeded, BuildCause}
+use Rattle.fault_checks.specs.Passed as reached
 use Rattle.schema_roots.specs.Passed.{Asking, IsGathered, Stops, HasCause, SharedRegistry, SchemaRegistry, beside}
 use Rattle.schema_roots.specs.Roots.{Root, Patterns, Finds, IsSound}
 use Rattle.schema_roots.specs.Answers.{IsFault}
@@ -63,6 +64,19 @@ RefusesBuild p limit r (error.Schema e) =
     × (IsExceeded r.documents p.makes (root_site target) limit e ⊎ ((cause : rows.BuildCause) × NamesCause cause e × IsCauseOf r.documents p.makes (root_site target) cause))
 RefusesBuild p limit r (error.MetaSchema i e) = ⊥
 RefusesBuild p limit r error.Memory = Unit {0}
+
+-- the reference to the root leads nowhere
+abbrev pub RefusesReference : Root → BuildError → Type 0
+RefusesReference r (error.Document e) = ⊥
+RefusesReference r (error.Registry e) = ⊥
+RefusesReference r (error.Root e) = (cause : LookupCause) × (lookup r.documents r.base r.reference ≡ Err cause) × NamesLookup cause e
+RefusesReference r (error.Schema e) = ⊥
+RefusesReference r (error.MetaSchema i e) = ⊥
+RefusesReference r error.Memory = Unit {0}
+
+-- the error that a refusal of several roots becomes
+abbrev pub IsOfPlaces : BuildCause → BuildError → Type 0
+IsOfPlaces e b = ((e ≡ reached.Memory) × (b ≡ error.Memory)) ⊎ ((e ≡ reached.Memory → ⊥) × (b ≡ error.Schema e))
 
 -- ---- meta-schemas
 

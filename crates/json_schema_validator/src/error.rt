@@ -9,6 +9,7 @@ ghost use Rattle.fault_checks.specs.Passed as reached;
 ghost use Rattle.schema_roots.specs.Roots.{Root, Patterns, Finds};
 ghost use Rattle.json_schema_validator.specs.Refused.{IsOfRegistry, RefusesBuild, TellsFault};
 ghost use Rattle.json_schema_validator.specs.New.{IsOfDocument};
+ghost use Rattle.json_schema_validator.specs.Refused.{RefusesReference, IsOfPlaces};
 
 use fault_checks::{BuildCause, Error as ReferenceError};
 use schema_reports::ValidationError;
@@ -86,6 +87,26 @@ impl BuildError {
     /// The error of a root that leads to a cause, or to too much.
     pub(crate) fn of_schema(cause: BuildCause) -> BuildError
         ensures { (p : Patterns) (limit : ℕ) (root : Root) (target : Target) → Finds root target → reached.RefusesWithin root.documents p.makes (root_site target) limit cause → RefusesBuild p limit root result }
+    {
+        match cause {
+            BuildCause::Memory => BuildError::Memory,
+            cause => BuildError::Schema(cause),
+        }
+    }
+
+    /// The error of a reference to a root that leads nowhere.
+    pub(crate) fn of_reference(error: ReferenceError) -> BuildError
+        ensures { (root : Root) → RefusesLookup (lookup root.documents root.base root.reference) error → RefusesReference root result }
+    {
+        match error {
+            ReferenceError::Memory => BuildError::Memory,
+            error => BuildError::Root(error),
+        }
+    }
+
+    /// The error of places from which too much is reached.
+    pub(crate) fn of_places(cause: BuildCause) -> BuildError
+        ensures { IsOfPlaces cause result }
     {
         match cause {
             BuildCause::Memory => BuildError::Memory,

@@ -8,9 +8,11 @@
 mod building;
 mod checking;
 mod error;
+mod mapping;
 mod meta_schema;
 mod options;
 mod validator;
+mod validator_map;
 
 pub use checking::check_error;
 pub use error::BuildError;
@@ -26,3 +28,4 @@ pub use schema_roots::{
 };
 pub use uri_references::uri::Uri;
 pub use validator::Validator;
+pub use validator_map::ValidatorMap;

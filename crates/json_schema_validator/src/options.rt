@@ -12,11 +12,14 @@ ghost use Rattle.json_schema_validator.specs.Asked.{IsMet};
 ghost use Rattle.json_schema_validator.specs.Prepared.{asking_by, meta_schemas_given, AreDocuments, IsRegistry};
 ghost use Rattle.json_schema_validator.specs.Refused.{RefusesGiven, RefusesPreparing, RefusesRoot};
 ghost use Rattle.json_schema_validator.specs.Built.{IsBuilt, RefusesBuilding};
+ghost use Rattle.json_schema_validator.specs.Mapped.{IsMapBuilt, RefusesMapping};
 ghost use Rattle.json_schema_validator.specs.Seen.{root_in};
 
 use crate::error::BuildError;
+use crate::mapping::map_at;
 use crate::meta_schema::ask_meta_schema;
 use crate::validator::Validator;
+use crate::validator_map::ValidatorMap;
 use fault_checks::Error;
 use regex_patterns::RegexMaker;
 use schema_drafts::draft::Draft;
@@ -283,5 +286,26 @@ impl<P: PatternMaker + Drop, R: Retrieve + Drop> ValidationOptions<P, R> {
     {
         let registry = self.prepare(documents)?;
         self.build_on(&registry, root)
+    }
+
+    /// A validator for each schema of the document in which a root lies, by its JSON Pointer: those of its schema places at which nothing is wrong
+    /// and from which nothing wrong is reached. Each begins where looking its pointer up, as a fragment, leads from the document's URI.
+    ///
+    /// All that is reached from the places is walked once. The patterns are made once for all of them, and each validator reads the matches of all.
+    /// No meta-schema is asked.
+    ///
+    /// # Errors
+    ///
+    /// Those of `prepare`; a root that leads nowhere; more compile keys than the limit, from all places together; and want of memory.
+    pub fn build_map(
+        &self,
+        documents: &Documents,
+        root: &str,
+    ) -> Result<ValidatorMap<P::Matcher>, BuildError>
+        ensures built { IfOk result (IsMapBuilt P.Matcher.finds (patterns_by P.makes P.finished self.now.maker) R.may_answer R.may_refuse self.now (documents_given documents.now) root.now) }
+        ensures refused { IfErr result (λ e. RefusesPreparing R.may_answer R.may_refuse self.now (documents_given documents.now) e ⊎ RefusesMapping (patterns_by P.makes P.finished self.now.maker) R.may_answer R.may_refuse self.now (documents_given documents.now) root.now e) }
+    {
+        let registry = self.prepare(documents)?;
+        map_at(self.alloc, &registry, root, &self.maker, self.node_limit)
     }
 }

@@ -42,7 +42,7 @@ pub struct Validator<M = RegexMatcher> {
     pub(crate) base: Uri,
     pub(crate) root: String,
     pub(crate) draft: Draft,
-    pub(crate) table: PatternTable<M>,
+    pub(crate) table: Rc<PatternTable<M>>,
     ghost sound: { IsSoundBySome (record { documents = documents_of registry.value ∷ []; base = base; reference = string_bytes root }) },
 }
 
@@ -185,7 +185,7 @@ impl<M: PatternMatcher> Validator<M> {
         let resolver = self.registry.resolver(self.base.clone()?)?;
         match resolver.lookup(self.root.as_str()) {
             Ok(root) => {
-                let matches = Matches::read(self.alloc, &self.table, value)?;
+                let matches = Matches::read(self.alloc, &*self.table, value)?;
                 tell_at(self.alloc, &root, &matches, value, &mut observer)?;
                 Ok(observer)
             }

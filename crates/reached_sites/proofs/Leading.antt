@@ -34,7 +34,7 @@ module _ (v : Visit) (makes : List ℕ → Bool) (leads : List Visit) where
   pub leads-object : (s : Site) (ms : Members) → Met v s → view v.site.contents.now ≡ object ms → Rest (own_of v) makes (site_of v) ms ms [] leads → Leads (own_of v) makes s leads
   leads-object s ms m e rest = leads-alike (own_of v) makes s (site_of v) leads m.alike (object-here ms e rest)
 
-rows-of-boolean : (own : List Document) (makes : List ℕ → Bool) (s : Site) (b : Bool) → s.contents ≡ boolean b
+pub rows-of-boolean : (own : List Document) (makes : List ℕ → Bool) (s : Site) (b : Bool) → s.contents ≡ boolean b
     → (causes_in (rows_at (own ∷ []) makes s) ≡ []) × (leads_in (rows_at (own ∷ []) makes s) ≡ [])
 unfolding rows_at
 rows-of-boolean own makes s true e = (ap (λ d. causes_in (rows_in s (contexts (own ∷ []) makes s) d)) e, ap (λ d. leads_in (rows_in s (contexts (own ∷ []) makes s) d)) e)
@@ -69,7 +69,7 @@ IsOther (string t) = Unit {0}
 IsOther (array ds) = Unit {0}
 IsOther (object ms) = ⊥
 
-other-rows : (docs : List (List Document)) (makes : List ℕ → Bool) (s : Site) (d : Data) → s.contents ≡ d → IsOther d → rows_at docs makes s ≡ no_schema s
+pub other-rows : (docs : List (List Document)) (makes : List ℕ → Bool) (s : Site) (d : Data) → s.contents ≡ d → IsOther d → rows_at docs makes s ≡ no_schema s
 unfolding rows_at
 other-rows docs makes s null e o = ap (rows_in s (contexts docs makes s)) e
 other-rows docs makes s (boolean b) e o = absurd o

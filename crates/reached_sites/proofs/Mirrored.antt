@@ -15,13 +15,13 @@ use Rattle.reached_sites.specs.declared.cause.BuildCause.{BuildCause}
 use Rattle.reached_sites.specs.declared.visit.Visit.{Visit}
 use Rattle.reached_sites.proofs.Meeting.{met-alike}
 
-one-causes : (docs : Documents) (rs qs : List Row) → AllZip (RowsAgree docs) rs qs → causes_in rs ≡ causes_in qs
+pub one-causes : (docs : Documents) (rs qs : List Row) → AllZip (RowsAgree docs) rs qs → causes_in rs ≡ causes_in qs
 one-causes docs [] [] z = refl
 one-causes docs [] (q ∷ qs) z = absurd z
 one-causes docs (r ∷ rs) [] z = absurd z
 one-causes docs (r ∷ rs) (q ∷ qs) z = ap₂ (λ a b. a ++ b) z.0.causes (one-causes docs rs qs z.1)
 
-alike-leads : (docs : Documents) (rs qs : List Row) → AllZip (RowsAgree docs) rs qs → AllZip (AreAlike docs) (leads_in rs) (leads_in qs)
+pub alike-leads : (docs : Documents) (rs qs : List Row) → AllZip (RowsAgree docs) rs qs → AllZip (AreAlike docs) (leads_in rs) (leads_in qs)
 alike-leads docs [] [] z = tt
 alike-leads docs [] (q ∷ qs) z = absurd z
 alike-leads docs (r ∷ rs) [] z = absurd z
@@ -31,7 +31,7 @@ module _ (own : List Document) where
   met-among : (v : Visit) (s t : Site) → Belongs own v → AreAlike (own ∷ []) s t → Met v t → Met v s
   met-among v s t b a m = met-alike v s t (subst (λ (ds : List Document). AreAlike (ds ∷ []) s t) (sym b.documents) a) m
 
-  matches-alike : (ss ts : List Site) (vs : List Visit) → AllZip (AreAlike (own ∷ [])) ss ts → Matches own vs ts → Matches own vs ss
+  pub matches-alike : (ss ts : List Site) (vs : List Visit) → AllZip (AreAlike (own ∷ [])) ss ts → Matches own vs ts → Matches own vs ss
   matches-alike [] [] vs z m = m
   matches-alike [] (t ∷ ts) vs z m = absurd z
   matches-alike (s ∷ ss) [] vs z m = absurd z

@@ -7,11 +7,11 @@ use Rattle.schema_reading.specs.Rows as rows
 use Rattle.reached_sites.specs.Causes.{RefusesRoot}
 use Rattle.reached_sites.specs.declared.cause.BuildCause.{BuildCause}
 
-reached-through : (docs : Documents) (makes : List ℕ → Bool) (root s t : Site) → Reached docs makes root s → Reached docs makes s t → Reached docs makes root t
+pub reached-through : (docs : Documents) (makes : List ℕ → Bool) (root s t : Site) → Reached docs makes root s → Reached docs makes s t → Reached docs makes root t
 reached-through docs makes root s _ r at_root = r
 reached-through docs makes root s _ r (by_keyword {s = u} row t q i j) = by_keyword row t (reached-through docs makes root s u r q) i j
 
-cause-through : (docs : Documents) (makes : List ℕ → Bool) (root s : Site) (c : rows.BuildCause) → Reached docs makes root s → IsCauseOf docs makes s c → IsCauseOf docs makes root c
+pub cause-through : (docs : Documents) (makes : List ℕ → Bool) (root s : Site) (c : rows.BuildCause) → Reached docs makes root s → IsCauseOf docs makes s c → IsCauseOf docs makes root c
 cause-through docs makes root s c r w =
     record { site = w.site; reached = reached-through docs makes root s w.site r w.reached; row = w.row; stands = w.stands; wrong = w.wrong }
 

@@ -1,7 +1,7 @@
 -- How a list of visits grows by others: those that are not among it yet are put behind.
-use Rattle.std.specs.Prelude.{◌≡◌, ◌⊎◌, List, [], ◌∷◌, ◌++◌}
+use Rattle.std.specs.Prelude.{◌≡◌, ◌⊎◌, ℕ, List, [], ◌∷◌, ◌++◌, Some, slice_get}
 use Rattle.schema_meaning.specs.Members.{In}
-use Rattle.reached_sites.specs.Visits.{Known}
+use Rattle.reached_sites.specs.Visits.{Known, Repeats}
 use Rattle.reached_sites.specs.declared.visit.Visit.{Visit}
 
 pub record Grows (old new leads : List Visit) : Type 0 where
@@ -13,6 +13,10 @@ pub record Grows (old new leads : List Visit) : Type 0 where
 -- one visit is put behind others, or is among them
 abbrev pub AddsOne : List Visit → List Visit → Visit → Type 0
 AddsOne old new lead = (new ≡ old ++ lead ∷ []) ⊎ ((new ≡ old) × Known old lead)
+
+-- at a position stands a visit, or one that is the same
+abbrev pub StandsAt : List Visit → ℕ → Visit → Type 0
+StandsAt vs i w = (v : Visit) × (slice_get vs i ≡ Some v) × ((v ≡ w) ⊎ Repeats v w)
 
 -- no visit is among those before it
 pub data Apart : List Visit → Type 0 where

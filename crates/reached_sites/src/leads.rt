@@ -145,7 +145,12 @@ fn push_target<'r>(
     Ok(())
 }
 
-fn push_leads<'r>(
+/// Puts the visits of what a keyword of a schema leads to behind others.
+///
+/// # Errors
+///
+/// Where memory was refused or a count of owners is full.
+pub fn push_leads<'r>(
     alloc: Global,
     visit: &Visit<'r>,
     keyword: Keyword<'r>,

@@ -3,15 +3,15 @@
 
 pub mod cause;
 pub mod checking;
-mod leads;
-mod making;
-mod pattern;
+pub mod leads;
+pub mod making;
+pub mod pattern;
 pub mod place;
-mod reaching;
+pub mod reaching;
 mod refusing;
-mod schema_path;
-mod visit;
-mod visited;
-mod waypoint;
+pub mod schema_path;
+pub mod visit;
+pub mod visited;
+pub mod waypoint;
 
 pub use referencing::{Draft, Error, Registry, uri};

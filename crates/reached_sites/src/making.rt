@@ -16,8 +16,8 @@ fn add_pattern<P: PatternMaker>(
     pattern: &Pattern<'_>,
     table: &mut PatternTable<P::Matcher>,
 ) -> Result<(), BuildCause>
-    ensures filled { OnOk result (IsFilled P.Matcher.finds (P.finished maker.now) (P.makes maker.now) table.old → IsFilled P.Matcher.finds (P.finished maker.now) (P.makes maker.now) table.new) }
-    ensures kept { OnOk result (Holds table.new (texts_of_table table.old)) }
+    ensures filled { IsFilled P.Matcher.finds (P.finished maker.now) (P.makes maker.now) table.old → IsFilled P.Matcher.finds (P.finished maker.now) (P.makes maker.now) table.new }
+    ensures kept { Holds table.new (texts_of_table table.old) }
     ensures held { OnOk result (is_listed (text_of pattern.now) (texts_of_table table.new) ≡ true) }
     ensures refused { IfErr result (RefusesPattern (P.makes maker.now) (pattern.now ∷ [])) }
 {
@@ -36,14 +36,14 @@ fn add_pattern<P: PatternMaker>(
 /// # Errors
 ///
 /// A pattern that the maker refuses, the first of them, or want of memory.
-pub(crate) fn add_patterns<P: PatternMaker>(
+pub fn add_patterns<P: PatternMaker>(
     alloc: Global,
     maker: &P,
     patterns: &[Pattern<'_>],
     table: &mut PatternTable<P::Matcher>,
 ) -> Result<(), BuildCause>
-    ensures filled { OnOk result (IsFilled P.Matcher.finds (P.finished maker.now) (P.makes maker.now) table.old → IsFilled P.Matcher.finds (P.finished maker.now) (P.makes maker.now) table.new) }
-    ensures kept { OnOk result (Holds table.new (texts_of_table table.old)) }
+    ensures filled { IsFilled P.Matcher.finds (P.finished maker.now) (P.makes maker.now) table.old → IsFilled P.Matcher.finds (P.finished maker.now) (P.makes maker.now) table.new }
+    ensures kept { Holds table.new (texts_of_table table.old) }
     ensures held { OnOk result (Holds table.new (texts_of patterns.now)) }
     ensures refused { IfErr result (RefusesPattern (P.makes maker.now) patterns.now) }
 {

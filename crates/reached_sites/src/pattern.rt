@@ -17,9 +17,9 @@ use std::alloc::{AllocError, Global};
 
 /// A pattern that has to be made, and where it stands.
 #[derive(Drop)]
-pub(crate) struct Pattern<'r> {
-    pub(crate) text: &'r str,
-    pub(crate) place: SchemaPlace,
+pub struct Pattern<'r> {
+    pub text: &'r str,
+    pub place: SchemaPlace,
 }
 
 // The names of a keyword's value, each in turn: they are patterns.
@@ -57,7 +57,7 @@ fn by_patterns<'r>(applicator: &Applicator<'r>) -> Option<&'r Map<String, Value>
 /// # Errors
 ///
 /// Where memory was refused or a count of owners is full.
-pub(crate) fn push_patterns<'r>(
+pub fn push_patterns<'r>(
     alloc: Global,
     place: &SchemaPlace,
     name: &str,

@@ -28,7 +28,7 @@ impl SchemaPlace {
     /// # Errors
     ///
     /// Where memory was refused or a count of owners is full.
-    pub(crate) fn of_target(alloc: Global, target: &Resolved<'_>) -> Result<SchemaPlace, AllocError>
+    pub fn of_target(alloc: Global, target: &Resolved<'_>) -> Result<SchemaPlace, AllocError>
         ensures document { IfOk result (λ p. p.document.value ≡ (target_in target.now).document) }
         ensures path { IfOk result (λ p. p.path ≡ (target_in target.now).path) }
     {
@@ -43,7 +43,7 @@ impl SchemaPlace {
     /// # Errors
     ///
     /// Where a count of owners is full.
-    pub(crate) fn shared(&self) -> Result<SchemaPlace, AllocError>
+    pub fn shared(&self) -> Result<SchemaPlace, AllocError>
         ensures { IfOk result (λ p. place_in p ≡ place_in self.now) }
     {
         Ok(SchemaPlace {
@@ -53,7 +53,7 @@ impl SchemaPlace {
     }
 
     /// Whether both are the same place.
-    pub(crate) fn is(&self, other: &SchemaPlace) -> bool
+    pub fn is(&self, other: &SchemaPlace) -> bool
         ensures { Decides result (place_in self.now ≡ place_in other.now) }
     {
         self.path == other.path && self.document.as_str() == other.document.as_str()
@@ -64,7 +64,7 @@ impl SchemaPlace {
     /// # Errors
     ///
     /// Where memory was refused.
-    pub(crate) fn text(&self, alloc: Global) -> Result<String, AllocError>
+    pub fn text(&self, alloc: Global) -> Result<String, AllocError>
         ensures { IfOk result (λ t. string_bytes t ≡ place_text (place_in self.now)) }
     {
         let mut text = String::from_str(alloc, self.document.as_str())?;
@@ -77,7 +77,7 @@ impl SchemaPlace {
     /// # Errors
     ///
     /// Where memory was refused or a count of owners is full.
-    pub(crate) fn member(&self, alloc: Global, name: &str) -> Result<SchemaPlace, AllocError>
+    pub fn member(&self, alloc: Global, name: &str) -> Result<SchemaPlace, AllocError>
         ensures document { IfOk result (λ p. p.document.value ≡ self.now.document.value) }
         ensures path { IfOk result (λ p. p.path ≡ name_part name.now ∷ self.now.path) }
     {
@@ -92,7 +92,7 @@ impl SchemaPlace {
     /// # Errors
     ///
     /// Where memory was refused or a count of owners is full.
-    pub(crate) fn item(&self, alloc: Global, index: usize) -> Result<SchemaPlace, AllocError>
+    pub fn item(&self, alloc: Global, index: usize) -> Result<SchemaPlace, AllocError>
         ensures document { IfOk result (λ p. p.document.value ≡ self.now.document.value) }
         ensures path { IfOk result (λ p. p.path ≡ index_part index ∷ self.now.path) }
     {

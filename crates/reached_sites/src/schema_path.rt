@@ -14,14 +14,14 @@ use std::alloc::{AllocError, Global};
 /// The path to a schema from the root, or from the reference that was followed last. Its steps are names alone, as those of a pointer
 /// are: an item's index is the name of its digits.
 #[derive(Drop)]
-pub(crate) struct SchemaPath {
-    pub(crate) steps: Path,
+pub struct SchemaPath {
+    pub steps: Path,
     ghost named: { spelled steps ≡ steps },
 }
 
 impl SchemaPath {
     /// The path of a root.
-    pub(crate) const fn root() -> SchemaPath
+    pub const fn root() -> SchemaPath
         ensures { result.steps ≡ [] }
     {
         SchemaPath {
@@ -34,7 +34,7 @@ impl SchemaPath {
     /// # Errors
     ///
     /// Where memory was refused or a count of owners is full.
-    pub(crate) fn of_reference(alloc: Global, text: &str) -> Result<SchemaPath, AllocError>
+    pub fn of_reference(alloc: Global, text: &str) -> Result<SchemaPath, AllocError>
         requires { reads_as_path text.now ≡ true }
         ensures { IfOk result (λ p. p.steps ≡ path_of_reference text.now) }
     {
@@ -48,7 +48,7 @@ impl SchemaPath {
     /// # Errors
     ///
     /// Where memory was refused or a count of owners is full.
-    pub(crate) fn member(&self, alloc: Global, name: &str) -> Result<SchemaPath, AllocError>
+    pub fn member(&self, alloc: Global, name: &str) -> Result<SchemaPath, AllocError>
         ensures { IfOk result (λ p. p.steps ≡ name_part name.now ∷ self.now.steps) }
     {
         Ok(SchemaPath {
@@ -61,7 +61,7 @@ impl SchemaPath {
     /// # Errors
     ///
     /// Where memory was refused or a count of owners is full.
-    pub(crate) fn item(&self, alloc: Global, index: usize) -> Result<SchemaPath, AllocError>
+    pub fn item(&self, alloc: Global, index: usize) -> Result<SchemaPath, AllocError>
         ensures { IfOk result (λ p. p.steps ≡ by_name (index_part index) ∷ self.now.steps) }
     {
         let mut digits = String::new(alloc);
@@ -70,7 +70,7 @@ impl SchemaPath {
     }
 
     /// Whether both are the same path.
-    pub(crate) fn is(&self, other: &SchemaPath) -> bool
+    pub fn is(&self, other: &SchemaPath) -> bool
         ensures { Decides result (self.now.steps ≡ other.now.steps) }
     {
         self.steps == other.steps

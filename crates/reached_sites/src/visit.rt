@@ -24,10 +24,10 @@ use std::rc::Rc;
 
 /// A schema that is to be checked, where it stands, and the key of its scope.
 #[derive(Drop)]
-pub(crate) struct Visit<'r> {
-    pub(crate) point: Waypoint,
-    pub(crate) site: Site<'r>,
-    pub(crate) key: Rc<ScopeKey>,
+pub struct Visit<'r> {
+    pub point: Waypoint,
+    pub site: Site<'r>,
+    pub key: Rc<ScopeKey>,
     ghost keyed: { key_of key.value ≡ scope_key (documents_at site) (base_of site.resolver) (scope_of site.resolver) },
 }
 
@@ -81,7 +81,7 @@ impl<'r> Visit<'r> {
     /// # Errors
     ///
     /// Where memory was refused or a count of owners is full.
-    pub(crate) fn first_visits(
+    pub fn first_visits(
         alloc: Global,
         root: &Resolved<'r>,
         matches: &'r Matches,
@@ -93,8 +93,12 @@ impl<'r> Visit<'r> {
         Ok(visits)
     }
 
-    // The visit of a root.
-    fn of_root(
+    /// The visit of a root.
+    ///
+    /// # Errors
+    ///
+    /// Where memory was refused or a count of owners is full.
+    pub fn of_root(
         alloc: Global,
         root: &Resolved<'r>,
         matches: &'r Matches,
@@ -115,7 +119,7 @@ impl<'r> Visit<'r> {
     /// # Errors
     ///
     /// Where memory was refused or a count of owners is full.
-    pub(crate) fn of_target(
+    pub fn of_target(
         alloc: Global,
         text: &str,
         target: Resolved<'r>,
@@ -149,7 +153,7 @@ impl<'r> Visit<'r> {
     /// # Errors
     ///
     /// Where memory was refused or a count of owners is full.
-    pub(crate) fn below(
+    pub fn below(
         &self,
         alloc: Global,
         point: Waypoint,
@@ -171,7 +175,7 @@ impl<'r> Visit<'r> {
     /// # Errors
     ///
     /// Where a count of owners is full.
-    pub(crate) fn repeats(&self, other: &Visit<'_>) -> Result<bool, AllocError>
+    pub fn repeats(&self, other: &Visit<'_>) -> Result<bool, AllocError>
         ensures { IfOk result (λ b. Decides b (Repeats self.now other.now)) }
     {
         if !is_one_key(&*self.key, &*other.key) {

@@ -10,12 +10,12 @@ use std::collections::BTreeMap;
 
 /// The positions of visits, by the texts of their places.
 #[derive(Drop)]
-pub(crate) struct Visited {
+pub struct Visited {
     positions: BTreeMap<String, List<usize>>,
 }
 
 impl Visited {
-    pub(crate) fn new(alloc: Global) -> Visited
+    pub fn new(alloc: Global) -> Visited
         ensures { (text : List ℕ) → positions_under result text ≡ [] }
     {
         Visited {
@@ -24,7 +24,7 @@ impl Visited {
     }
 
     /// The positions under a text, if there are any, the last one first.
-    pub(crate) fn under(&self, text: &str) -> Option<&List<usize>>
+    pub fn under(&self, text: &str) -> Option<&List<usize>>
         ensures { or [] (option_map (λ positions. positions.now) result) ≡ positions_under self.now text.now }
     {
         self.positions.get(text)
@@ -50,7 +50,7 @@ impl Visited {
     /// # Errors
     ///
     /// Where memory was refused or a count of owners is full.
-    pub(crate) fn put(
+    pub fn put(
         &mut self,
         alloc: Global,
         text: &str,

@@ -16,9 +16,9 @@ use std::alloc::{AllocError, Global};
 
 /// A place of a document with the schema path by which a walk comes there.
 #[derive(Drop)]
-pub(crate) struct Waypoint {
-    pub(crate) place: SchemaPlace,
-    pub(crate) schema_path: SchemaPath,
+pub struct Waypoint {
+    pub place: SchemaPlace,
+    pub schema_path: SchemaPath,
 }
 
 impl Waypoint {
@@ -27,7 +27,7 @@ impl Waypoint {
     /// # Errors
     ///
     /// Where memory was refused or a count of owners is full.
-    pub(crate) fn of_root(alloc: Global, root: &Resolved<'_>) -> Result<Waypoint, AllocError>
+    pub fn of_root(alloc: Global, root: &Resolved<'_>) -> Result<Waypoint, AllocError>
         ensures document { IfOk result (λ p. p.place.document.value ≡ (target_in root.now).document) }
         ensures path { IfOk result (λ p. p.place.path ≡ (target_in root.now).path) }
         ensures road { IfOk result (λ p. p.schema_path.steps ≡ []) }
@@ -43,7 +43,7 @@ impl Waypoint {
     /// # Errors
     ///
     /// Where memory was refused or a count of owners is full.
-    pub(crate) fn of_target(
+    pub fn of_target(
         alloc: Global,
         text: &str,
         target: &Resolved<'_>,
@@ -64,7 +64,7 @@ impl Waypoint {
     /// # Errors
     ///
     /// Where memory was refused or a count of owners is full.
-    pub(crate) fn member(&self, alloc: Global, name: &str) -> Result<Waypoint, AllocError>
+    pub fn member(&self, alloc: Global, name: &str) -> Result<Waypoint, AllocError>
         ensures document { IfOk result (λ p. p.place.document.value ≡ self.now.place.document.value) }
         ensures path { IfOk result (λ p. p.place.path ≡ name_part name.now ∷ self.now.place.path) }
         ensures road { IfOk result (λ p. p.schema_path.steps ≡ name_part name.now ∷ self.now.schema_path.steps) }
@@ -80,7 +80,7 @@ impl Waypoint {
     /// # Errors
     ///
     /// Where memory was refused or a count of owners is full.
-    pub(crate) fn item(&self, alloc: Global, index: usize) -> Result<Waypoint, AllocError>
+    pub fn item(&self, alloc: Global, index: usize) -> Result<Waypoint, AllocError>
         ensures document { IfOk result (λ p. p.place.document.value ≡ self.now.place.document.value) }
         ensures path { IfOk result (λ p. p.place.path ≡ index_part index ∷ self.now.place.path) }
         ensures road { IfOk result (λ p. p.schema_path.steps ≡ by_name (index_part index) ∷ self.now.schema_path.steps) }
@@ -92,7 +92,7 @@ impl Waypoint {
     }
 
     /// Whether both are the same place by the same schema path.
-    pub(crate) fn is(&self, other: &Waypoint) -> bool
+    pub fn is(&self, other: &Waypoint) -> bool
         ensures { Decides result (AreOnePoint self.now other.now) }
     {
         self.schema_path.is(&other.schema_path) && self.place.is(&other.place)

@@ -14,6 +14,8 @@ mod faults;
 #[cfg(test)]
 mod limits;
 #[cfg(test)]
+mod maps;
+#[cfg(test)]
 mod options;
 #[cfg(test)]
 mod patterns;

@@ -1,0 +1,43 @@
+-- Where the keywords of a schema lead that have no cause.
+use Rattle.std.specs.Prelude.{◌≡◌, ℕ, List, [], ◌∷◌, Bool, true, false}
+use Rattle.serde_json.specs.Data.{Data, Members}
+use Rattle.schema_drafts.specs.Counts.{counts}
+use Rattle.schema_documents.specs.Bearers.{Document}
+use Rattle.schema_documents.specs.Places.{Dialect}
+use Rattle.schema_meaning.specs.Members.{In}
+use Rattle.schema_reading.specs.Sites.{Site}
+use Rattle.schema_reading.specs.Rows.{BuildCause, Row, has_reference, row_at, rows_of, rows_at}
+use Rattle.reached_sites.specs.Led.{leads_in, causes_in}
+use Rattle.reached_sites.specs.Members.{context_in}
+use Rattle.reached_sites.specs.Patterns.{written_by}
+use Rattle.reached_sites.specs.Visits.{Matches, Adds}
+use Rattle.reached_sites.specs.declared.visit.Visit.{Visit}
+use Rattle.std.specs.Prelude.{if◌then◌else◌}
+
+-- whether a list of causes is empty
+pub record Tells (b : Bool) (causes : List BuildCause) : Type 0 where
+  pub right : b ≡ true → causes ≡ []
+  pub wrong : b ≡ false → (c : BuildCause) × In c causes
+
+-- the row of a member of a site's schema
+abbrev pub row_in : List Document → (List ℕ → Bool) → Site → Members → List ℕ → Data → Row
+row_in own makes s all k d = row_at (context_in own makes s all) k d
+
+-- the patterns that one member writes
+abbrev pub written_at : Dialect → Members → List ℕ → Data → List (List ℕ)
+written_at y all k d = if counts y.draft y.vocabularies (has_reference all) k then written_by k d else []
+
+-- what a member leads to was put behind others, and whether it has no cause
+pub record MemberLed (own : List Document) (makes : List ℕ → Bool) (s : Site) (all : Members) (k : List ℕ) (d : Data) (old new : List Visit) (b : Bool) : Type 0 where
+  pub adds : Adds own old new (row_in own makes s all k d).leads
+  pub tells : Tells b (row_in own makes s all k d).causes
+
+-- the same of all members
+pub record MembersLed (own : List Document) (makes : List ℕ → Bool) (s : Site) (all : Members) (leads : List Visit) (b : Bool) : Type 0 where
+  pub met : Matches own leads (leads_in (rows_of (context_in own makes s all) all))
+  pub tells : Tells b (causes_in (rows_of (context_in own makes s all) all))
+
+-- visits stand for the sites that the keywords of a schema lead to, and whether none of these has a cause
+pub record IsLed (own : List Document) (makes : List ℕ → Bool) (s : Site) (leads : List Visit) (b : Bool) : Type 0 where
+  pub met : Matches own leads (leads_in (rows_at (own ∷ []) makes s))
+  pub tells : Tells b (causes_in (rows_at (own ∷ []) makes s))

@@ -1,0 +1,131 @@
+//! Where the keywords of a schema lead that have no cause.
+
+ghost use Rattle.std.specs.Prelude.{◌≡◌, ◌∷◌, [], List, ℕ, true, false, IfOk, OnOk, string_bytes};
+ghost use Rattle.serde_json.specs.View.{view, members_view};
+ghost use Rattle.referencing.specs.Resolved.{documents_in};
+ghost use Rattle.schema_meaning.specs.Members.{In, is_listed};
+ghost use Rattle.schema_reading.specs.Sites as sites;
+ghost use Rattle.applicators.specs.Made.{is_made_by};
+ghost use Rattle.schema_patterns.specs.Tables.{texts_of_table};
+ghost use Rattle.reached_sites.specs.Patterns.{text_of, texts_of, written, written_members, Holds, IsFilled};
+ghost use Rattle.reached_sites.specs.Visits.{site_of, Met};
+ghost use Rattle.reached_sites.specs.declared.pattern.Pattern.{Pattern};
+ghost use Rattle.root_checks.specs.Led.{written_at, MemberLed, MembersLed, IsLed};
+
+use reached_sites::cause::BuildCause;
+use reached_sites::leads::push_leads;
+use reached_sites::making::add_patterns;
+use reached_sites::pattern::{Pattern, push_patterns};
+use reached_sites::visit::Visit;
+use schema_patterns::{PatternMaker, PatternTable};
+use schema_sites::keyword::Refusal;
+use schema_sites::reading::keyword;
+use serde_json::{Map, Value};
+use std::alloc::{AllocError, Global};
+
+/// What the keywords of a schema lead to that have no cause, and whether none has one.
+#[derive(Drop)]
+pub(crate) struct Led<'r> {
+    pub(crate) leads: Vec<Visit<'r>>,
+    pub(crate) is_right: bool,
+}
+
+// Puts patterns into a table, and answers whether each is made.
+fn are_made<P: PatternMaker>(
+    alloc: Global,
+    maker: &P,
+    patterns: &[Pattern<'_>],
+    table: &mut PatternTable<P::Matcher>,
+) -> Result<bool, AllocError>
+    ensures filled { IsFilled P.Matcher.finds (P.finished maker.now) (P.makes maker.now) table.old → IsFilled P.Matcher.finds (P.finished maker.now) (P.makes maker.now) table.new }
+    ensures kept { Holds table.new (texts_of_table table.old) }
+    ensures made { IfOk result (λ b. b ≡ true → Holds table.new (texts_of patterns.now)) }
+    ensures unmade { IfOk result (λ b. b ≡ false → (q : Pattern) × In q patterns.now × (is_made_by (P.makes maker.now) (text_of q) ≡ false)) }
+{
+    match add_patterns(alloc, maker, patterns, table) {
+        Ok(()) => Ok(true),
+        Err(BuildCause::Memory) => Err(AllocError),
+        Err(_) => Ok(false),
+    }
+}
+
+// Puts what a member leads to behind others, where it has no cause, and answers whether that is so.
+fn push_member<'r, P: PatternMaker>(
+    alloc: Global,
+    visit: &Visit<'r>,
+    members: &'r Map<String, Value>,
+    name: &str,
+    value: &'r Value,
+    maker: &P,
+    leads: &mut Vec<Visit<'r>>,
+    table: &mut PatternTable<P::Matcher>,
+) -> Result<bool, AllocError>
+    ensures led { IfOk result (λ b. IsFilled P.Matcher.finds (P.finished maker.now) (P.makes maker.now) table.old → MemberLed (documents_in visit.now.site.resolver) (P.makes maker.now) (site_of visit.now) (members_view members.now.entries) name.now (view value.now) leads.old.items leads.new.items b) }
+    ensures filled { OnOk result (IsFilled P.Matcher.finds (P.finished maker.now) (P.makes maker.now) table.old → IsFilled P.Matcher.finds (P.finished maker.now) (P.makes maker.now) table.new) }
+    ensures kept { OnOk result (Holds table.new (texts_of_table table.old)) }
+    ensures written { IfOk result (λ b. b ≡ true → Holds table.new (written_at (site_of visit.now).dialect (members_view members.now.entries) name.now (view value.now))) }
+{
+    match keyword(alloc, &visit.site, members, name, value) {
+        Ok(keyword) => {
+            let mut patterns = Vec::new(alloc);
+            push_patterns(alloc, &visit.point.place, name, &keyword, &mut patterns)?;
+            if !are_made(alloc, maker, patterns.as_slice(), table)? {
+                return Ok(false);
+            }
+            push_leads(alloc, visit, keyword, leads)?;
+            Ok(true)
+        }
+        Err(Refusal::Memory) => Err(AllocError),
+        Err(_) => Ok(false),
+    }
+}
+
+fn led_by_members<'r, P: PatternMaker>(
+    alloc: Global,
+    visit: &Visit<'r>,
+    members: &'r Map<String, Value>,
+    maker: &P,
+    table: &mut PatternTable<P::Matcher>,
+) -> Result<Led<'r>, AllocError>
+    ensures led { IfOk result (λ l. IsFilled P.Matcher.finds (P.finished maker.now) (P.makes maker.now) table.old → MembersLed (documents_in visit.now.site.resolver) (P.makes maker.now) (site_of visit.now) (members_view members.now.entries) l.leads.items l.is_right) }
+    ensures filled { OnOk result (IsFilled P.Matcher.finds (P.finished maker.now) (P.makes maker.now) table.old → IsFilled P.Matcher.finds (P.finished maker.now) (P.makes maker.now) table.new) }
+    ensures kept { OnOk result (Holds table.new (texts_of_table table.old)) }
+    ensures written { IfOk result (λ l. l.is_right ≡ true → Holds table.new (written_members (site_of visit.now).dialect (members_view members.now.entries) (members_view members.now.entries))) }
+{
+    let mut leads = Vec::new(alloc);
+    let mut is_right = true;
+    for (name, value) in members.iter() {
+        let name = name.as_str();
+        let is_clear = push_member(alloc, visit, members, name, value, maker, &mut leads, table)?;
+        is_right = is_right && is_clear;
+    }
+    Ok(Led { leads, is_right })
+}
+
+/// What the keywords of a schema lead to that have no cause. The patterns of those are put into the table.
+///
+/// It reads each member once, and looks its references up.
+///
+/// # Errors
+///
+/// Where memory was refused or a count of owners is full.
+pub(crate) fn led_by<'r, P: PatternMaker>(
+    alloc: Global,
+    visit: &Visit<'r>,
+    maker: &P,
+    table: &mut PatternTable<P::Matcher>,
+) -> Result<Led<'r>, AllocError>
+    ensures led { IfOk result (λ l. IsFilled P.Matcher.finds (P.finished maker.now) (P.makes maker.now) table.old → (s : sites.Site) → Met visit.now s → IsLed (documents_in visit.now.site.resolver) (P.makes maker.now) s l.leads.items l.is_right) }
+    ensures filled { OnOk result (IsFilled P.Matcher.finds (P.finished maker.now) (P.makes maker.now) table.old → IsFilled P.Matcher.finds (P.finished maker.now) (P.makes maker.now) table.new) }
+    ensures kept { OnOk result (Holds table.new (texts_of_table table.old)) }
+    ensures written { IfOk result (λ l. l.is_right ≡ true → (s : sites.Site) → Met visit.now s → Holds table.new (written s)) }
+{
+    let contents = visit.site.contents;
+    if let Some(members) = contents.as_object() {
+        return led_by_members(alloc, visit, members, maker, table);
+    }
+    Ok(Led {
+        leads: Vec::new(alloc),
+        is_right: contents.is_boolean(),
+    })
+}
