@@ -1,5 +1,5 @@
 -- The places below a place lie below its path, with names that rise, and their paths part.
-use Rattle.std.proofs.Common.{◌≡◌, ◌∙◌, ◌≤◌, ℕ, suc, List, [], ◌∷◌, ◌++◌, Bool, true, false, Option, Some, None, refl, sym, ap, append_assoc, arith}
+use Rattle.std.proofs.Common.{◌≡◌, ◌∙◌, ◌≤◌, ℕ, suc, List, [], ◌∷◌, ◌++◌, Bool, true, false, Option, Some, None, refl, sym, append_assoc, arith}
 use Rattle.std.specs.Cmp.{first_so, second_so}
 use Rattle.std.specs.List.{AllByRecursion}
 use Rattle.std.specs.Prelude.{is_some, if◌then◌else◌}
@@ -14,8 +14,7 @@ use Rattle.schema_documents.specs.Identifiers.{is_hidden}
 use Rattle.schema_documents.specs.Places.{Dialect, SchemaPlace, Named, settled, awaited, by_schema, schema_in_force, placed, entered, if_schema, each_item, each_member, in_list, in_map, held, children_of, children_in, children}
 use Rattle.place_laws.specs.Rising.{rises, are_rising, items_rise, members_rise}
 use Rattle.place_laws.proofs.Lists.{joined, unless}
-use Rattle.place_pointers.proofs.Lists.{each_implied, Pairs, pairs_joined}
-use Rattle.place_pointers.proofs.Apart.{Apart, Below}
+use Rattle.place_pointers.proofs.Lists.{each_implied, pairs_joined}
 use Rattle.place_pointers.proofs.Levels.{PathsPart, PathsApart, IsChild}
 
 abbrev pub path_of : SchemaPlace → List Part
@@ -90,9 +89,9 @@ module _ (meta : List ℕ → Option Dialect) (p : SchemaPlace) where
       let rest = each_item meta p path (suc i) ds in
       joined (InLater path i) here rest
       (each_implied (Inside (index i ∷ path)) (InLater path i) here (λ x h. record { position = i; behind = omega arith; inside = h })
-        (schema_inside (index i ∷ path) d (first_so (rises d) (items_rise ds) r)))
+      (schema_inside (index i ∷ path) d (first_so (rises d) (items_rise ds) r)))
       (each_implied (InLater path (suc i)) (InLater path i) rest (λ x h. record { position = h.position; behind = omega (arith, h.behind); inside = h.inside })
-        (items_inside path (suc i) ds (second_so (rises d) (items_rise ds) r)))
+      (items_inside path (suc i) ds (second_so (rises d) (items_rise ds) r)))
 
   members_inside : (path : List Part) (k : List ℕ) (ms : Members) → get_member k ms ≡ None → members_rise ms ≡ true
       → AllByRecursion (InOther path k) (each_member meta p path ms)
@@ -101,7 +100,7 @@ module _ (meta : List ℕ → Option Dialect) (p : SchemaPlace) where
       let here = if_schema meta p (name l ∷ path) d in
       joined (InOther path k) here (each_member meta p path ms)
       (each_implied (Inside (name l ∷ path)) (InOther path k) here (λ x h. record { other = l; differs = lacks_first k l d ms n; inside = h })
-        (schema_inside (name l ∷ path) d (first_so (rises d) (members_rise ms) r)))
+      (schema_inside (name l ∷ path) d (first_so (rises d) (members_rise ms) r)))
       (members_inside path k ms (lacks_rest k l d ms n) (second_so (rises d) (members_rise ms) r))
 
   each_inside : (path : List Part) (ms : Members) → members_rise ms ≡ true → AllByRecursion (Inside path) (each_member meta p path ms)
@@ -144,7 +143,7 @@ module _ (meta : List ℕ → Option Dialect) (p : SchemaPlace) where
       let here = held meta p (name l ∷ p.path) h d in
       joined (InOther p.path k) here (children_of meta p hidden ms)
       (each_implied (Inside (name l ∷ p.path)) (InOther p.path k) here (λ x g. record { other = l; differs = lacks_first k l d ms n; inside = g })
-        (held_inside (name l ∷ p.path) h d (first_so (rises d) (members_rise ms) r)))
+      (held_inside (name l ∷ p.path) h d (first_so (rises d) (members_rise ms) r)))
       (others_inside hidden k ms (lacks_rest k l d ms n) (second_so (rises d) (members_rise ms) r))
 
   children_inside : (hidden : Bool) (ms : Members) → members_rise ms ≡ true → AllByRecursion (IsChild path_of Rises p) (children_of meta p hidden ms)
@@ -154,8 +153,8 @@ module _ (meta : List ℕ → Option Dialect) (p : SchemaPlace) where
       let here = held meta p (name l ∷ p.path) h d in
       joined (IsChild path_of Rises p) here (children_of meta p hidden ms)
       (each_implied (Inside (name l ∷ p.path)) (IsChild path_of Rises p) here
-        (λ x g. record { lies = record { below = record { next = name l; more = g.parts; is = g.is } }; sound = record { rising = g.rising } })
-        (held_inside (name l ∷ p.path) h d (first_so (rises d) (members_rise ms) r)))
+      (λ x g. record { lies = record { below = record { next = name l; more = g.parts; is = g.is } }; sound = record { rising = g.rising } })
+      (held_inside (name l ∷ p.path) h d (first_so (rises d) (members_rise ms) r)))
       (children_inside hidden ms (second_so (rises d) (members_rise ms) r))
 
   contents_inside : (d : Data) → rises d ≡ true → AllByRecursion (IsChild path_of Rises p) (children_in meta p d)
@@ -186,9 +185,9 @@ module _ (meta : List ℕ → Option Dialect) (p : SchemaPlace) where
       let rest = each_item meta p path (suc i) ds in
       pairs_joined (PathsPart path_of) here rest (schema_apart (index i ∷ path) d) (items_apart path (suc i) ds (second_so (rises d) (items_rise ds) r))
       (each_implied (Inside (index i ∷ path)) (λ x. AllByRecursion (PathsPart path_of x) rest) here
-        (λ x h. each_implied (InLater path (suc i)) (PathsPart path_of x) rest (λ y g. parted path (index i) (index g.position) x y (next i g.position g.behind) h g.inside)
-          (items_inside path (suc i) ds (second_so (rises d) (items_rise ds) r)))
-        (schema_inside (index i ∷ path) d (first_so (rises d) (items_rise ds) r)))
+      (λ x h. each_implied (InLater path (suc i)) (PathsPart path_of x) rest (λ y g. parted path (index i) (index g.position) x y (next i g.position g.behind) h g.inside)
+      (items_inside path (suc i) ds (second_so (rises d) (items_rise ds) r)))
+      (schema_inside (index i ∷ path) d (first_so (rises d) (items_rise ds) r)))
     where
       next : (i j : ℕ) → suc i ≤ j → index i ≡ index j → ⊥
       next i j behind e = (let same : i ≡ j = cc in omega (arith, behind, same))
@@ -200,9 +199,9 @@ module _ (meta : List ℕ → Option Dialect) (p : SchemaPlace) where
       let rest = each_member meta p path ms in
       pairs_joined (PathsPart path_of) here rest (schema_apart (name k ∷ path) d) (members_apart path ms (rising_rest k ms g) (second_so (rises d) (members_rise ms) r))
       (each_implied (Inside (name k ∷ path)) (λ x. AllByRecursion (PathsPart path_of x) rest) here
-        (λ x h. each_implied (InOther path k) (PathsPart path_of x) rest (λ y o. parted path (name k) (name o.other) x y (λ e. o.differs (let same : k ≡ o.other = cc in same)) h o.inside)
-          (members_inside path k ms (behind_none k ms g) (second_so (rises d) (members_rise ms) r)))
-        (schema_inside (name k ∷ path) d (first_so (rises d) (members_rise ms) r)))
+      (λ x h. each_implied (InOther path k) (PathsPart path_of x) rest (λ y o. parted path (name k) (name o.other) x y (λ e. o.differs (let same : k ≡ o.other = cc in same)) h o.inside)
+      (members_inside path k ms (behind_none k ms g) (second_so (rises d) (members_rise ms) r)))
+      (schema_inside (name k ∷ path) d (first_so (rises d) (members_rise ms) r)))
 
   list_apart : (path : List Part) (d : Data) → rises d ≡ true → PathsApart path_of (in_list meta p path d)
   list_apart path null r = tt
@@ -244,9 +243,9 @@ module _ (meta : List ℕ → Option Dialect) (p : SchemaPlace) where
       pairs_joined (PathsPart path_of) here rest (held_apart (name k ∷ p.path) h d (first_so (rises d) (members_rise ms) r))
       (each_apart hidden ms (rising_rest k ms g) (second_so (rises d) (members_rise ms) r))
       (each_implied (Inside (name k ∷ p.path)) (λ x. AllByRecursion (PathsPart path_of x) rest) here
-        (λ x i. each_implied (InOther p.path k) (PathsPart path_of x) rest (λ y o. parted p.path (name k) (name o.other) x y (λ e. o.differs (let same : k ≡ o.other = cc in same)) i o.inside)
-          (others_inside hidden k ms (behind_none k ms g) (second_so (rises d) (members_rise ms) r)))
-        (held_inside (name k ∷ p.path) h d (first_so (rises d) (members_rise ms) r)))
+      (λ x i. each_implied (InOther p.path k) (PathsPart path_of x) rest (λ y o. parted p.path (name k) (name o.other) x y (λ e. o.differs (let same : k ≡ o.other = cc in same)) i o.inside)
+      (others_inside hidden k ms (behind_none k ms g) (second_so (rises d) (members_rise ms) r)))
+      (held_inside (name k ∷ p.path) h d (first_so (rises d) (members_rise ms) r)))
 
   contents_apart : (d : Data) → rises d ≡ true → PathsApart path_of (children_in meta p d)
   contents_apart null r = tt

@@ -1,5 +1,5 @@
 -- The pointers of a document's schema places are distinct.
-use Rattle.std.proofs.Common.{◌≡◌, ◌∙◌, ◌++◌, ◌<◌, ◌^◌, ℕ, suc, List, [], ◌∷◌, Bool, true, false, Option, Some, None, option_and_then, All, decimal, map, reverse, refl, sym, ap, arith, true≢false}
+use Rattle.std.proofs.Common.{◌≡◌, ◌∙◌, ◌++◌, ℕ, suc, List, [], ◌∷◌, true, false, Option, Some, None, option_and_then, All, map, reverse, refl, sym, ap}
 use Rattle.std.proofs.lemmas.Fmt.{decimal_injective}
 use Rattle.std.proofs.lemmas.Bool.{false_from_ne_true}
 use Rattle.std.proofs.lemmas.List.{reverse-reverse}
@@ -20,7 +20,6 @@ use Rattle.place_laws.specs.Rising.{rises}
 use Rattle.place_laws.specs.Laws.{Leads}
 use Rattle.place_laws.proofs.Leading.{places_lead}
 use Rattle.place_pointers.specs.Pointers.{pointer_of, pointers_under}
-use Rattle.place_pointers.proofs.Lists.{each_implied}
 use Rattle.place_pointers.proofs.Levels.{PathsDiffer, PathsDistinct, levels_distinct}
 use Rattle.place_pointers.proofs.Children.{path_of, Rises, all_inside, all_apart}
 
@@ -69,7 +68,7 @@ clean : (p : Part) → PartFits p → All NotSlash (part_text p)
 clean (name k) f = escape_no_slash k
 clean (index n) f = index_no_slash n f
 
-pub one_path : (ps qs : List Part) (d x y : Data) → value_at ps d ≡ Some x → value_at qs d ≡ Some y → PathFits ps → PathFits qs
+one_path : (ps qs : List Part) (d x y : Data) → value_at ps d ≡ Some x → value_at qs d ≡ Some y → PathFits ps → PathFits qs
     → pointer_text ps ≡ pointer_text qs → ps ≡ qs
 one_path [] [] d x y h g f e t = refl
 one_path [] (q ∷ qs) d x y h g f e t = absurd (cc t)
@@ -77,7 +76,7 @@ one_path (p ∷ ps) [] d x y h g f e t = absurd (cc t)
 one_path (p ∷ ps) (q ∷ qs) d x y h g f e t =
     let texts : part_text p ++ pointer_text ps ≡ part_text q ++ pointer_text qs = cc in
     let cut = cut_is (part_text p ++ pointer_text ps) (part_text p) (pointer_text ps) (part_text q) (pointer_text qs)
-      (cuts_first (part_text p) (pointer_text ps) (clean p f.0) (rest_of ps)) (rest_of ps) (clean q e.0) (rest_of qs) texts in
+    (cuts_first (part_text p) (pointer_text ps) (clean p f.0) (rest_of ps)) (rest_of ps) (clean q e.0) (rest_of qs) texts in
     let a = behind ps (value_in p d) x h in
     let b = behind qs (value_in q d) y g in
     let part : p ≡ q = one_part p q d a.0 b.0 a.1 b.1 f.0 e.0 cut.0 in
@@ -88,16 +87,16 @@ one_path (p ∷ ps) (q ∷ qs) d x y h g f e t =
 -- ---- the pointers
 
 -- a place whose path leads to its contents, with indexes that fit
-pub record Led (d : Data) (p : SchemaPlace) : Type 0 where
-  pub leads : Leads d p
-  pub fits : PathFits (reverse p.path)
+record Led (d : Data) (p : SchemaPlace) : Type 0 where
+  leads : Leads d p
+  fits : PathFits (reverse p.path)
 
 differ : (d : Data) (p q : SchemaPlace) → Led d p → Led d q → PathsDiffer path_of p q → bytes_eq (pointer_of p) (pointer_of q) ≡ false
 differ d p q a b h =
     false_from_ne_true (bytes_eq (pointer_of p) (pointer_of q)) (λ same.
-      let texts : pointer_of p ≡ pointer_of q = (bytes_eq-Decides (pointer_of p) (pointer_of q)).0 same in
-      let paths = one_path (reverse p.path) (reverse q.path) d p.contents q.contents a.leads b.leads a.fits b.fits texts in
-      h.differ (sym (reverse-reverse p.path) ∙ ap reverse paths ∙ reverse-reverse q.path))
+    let texts : pointer_of p ≡ pointer_of q = (bytes_eq-Decides (pointer_of p) (pointer_of q)).0 same in
+    let paths = one_path (reverse p.path) (reverse q.path) d p.contents q.contents a.leads b.leads a.fits b.fits texts in
+    h.differ (sym (reverse-reverse p.path) ∙ ap reverse paths ∙ reverse-reverse q.path))
 
 differ_each : (d : Data) (p : SchemaPlace) (ps : List SchemaPlace) → Led d p → AllByRecursion (Led d) ps → AllByRecursion (PathsDiffer path_of p) ps
     → AllByRecursion (λ t. bytes_eq (pointer_of p) t ≡ false) (map pointer_of ps)
@@ -109,11 +108,14 @@ unfolding IsDistinct
 texts_distinct d [] a h = tt
 texts_distinct d (p ∷ ps) a h = (differ_each d p ps a.0 a.1 h.0, texts_distinct d ps a.1 h.1)
 
-pub all_led : (d : Data) (ps : List SchemaPlace) → All (Leads d) ps → All (λ p. PathFits (reverse p.path)) ps → AllByRecursion (Led d) ps
+all_led : (d : Data) (ps : List SchemaPlace) → All (Leads d) ps → All (λ p. PathFits (reverse p.path)) ps → AllByRecursion (Led d) ps
 all_led d [] a f = tt
-all_led d (p ∷ ps) a f = (record { leads = All-head (Leads d) p ps a; fits = All-head (λ q. PathFits (reverse q.path)) p ps f },
-    all_led d ps (All-tail (Leads d) p ps a) (All-tail (λ q. PathFits (reverse q.path)) p ps f))
+all_led d (p ∷ ps) a f = (
+  record { leads = All-head (Leads d) p ps a; fits = All-head (λ q. PathFits (reverse q.path)) p ps f },
+  all_led d ps (All-tail (Leads d) p ps a) (All-tail (λ q. PathFits (reverse q.path)) p ps f),
+)
 
+-- where its names rise and its indexes fit
 pub pointers_distinct : (told : List ℕ → Option Dialect) (d : Document) → rises d.contents ≡ true
     → All (λ p. PathFits (reverse p.path)) (places told d.uri d.default d.contents) → IsDistinct bytes_eq (pointers_under told d)
 pointers_distinct told d r f =

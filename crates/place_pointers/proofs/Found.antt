@@ -1,5 +1,5 @@
 -- The first document of a URI.
-use Rattle.std.proofs.Common.{◌≡◌, ◌∙◌, ◌&&◌, ◌||◌, not, ℕ, List, [], ◌∷◌, Bool, true, false, Option, Some, None, map, option_map, find, refl, sym, ap, subst}
+use Rattle.std.proofs.Common.{◌≡◌, ◌∙◌, ◌||◌, not, ℕ, List, [], ◌∷◌, Bool, true, false, Option, Some, None, map, option_map, find, refl, ap, subst}
 use Rattle.std.proofs.lemmas.Bool.{false_from_ne_true}
 use Rattle.std.proofs.lemmas.Slice.Eq.{bytes_eq-Decides}
 use Rattle.std.specs.Cmp.{first_so, second_so}
@@ -57,14 +57,17 @@ uri_among d e (x ∷ documents) (later i) same = or_true (bytes_eq d.uri x.uri) 
 other_uri : (e d : Document) (documents : List Document) → are_apart (e ∷ documents) ≡ true → In d documents → bytes_eq e.uri d.uri ≡ false
 other_uri e d documents apart i =
     false_from_ne_true (bytes_eq e.uri d.uri) (λ same.
-      let among = uri_among e d documents i ((bytes_eq-Decides e.uri d.uri).0 same) in
-      let lacks : not (list_any (λ x. bytes_eq e.uri x.uri) documents) ≡ true = first_so (not (list_any (λ x. bytes_eq e.uri x.uri) documents)) (are_apart documents) apart in
-      let no : false ≡ true = subst (λ b. not b ≡ true) among lacks in cc)
+    let among = uri_among e d documents i ((bytes_eq-Decides e.uri d.uri).0 same) in
+    let lacks : not (list_any (λ x. bytes_eq e.uri x.uri) documents) ≡ true = first_so (not (list_any (λ x. bytes_eq e.uri x.uri) documents)) (are_apart documents) apart in
+    let no : false ≡ true = subst (λ b. not b ≡ true) among lacks in cc)
+
+first_of_its_own : (documents : List Document) (d : Document) → are_apart documents ≡ true → In d documents → IsDocumentAt documents d.uri d
+first_of_its_own [] d apart i = elim i [ ]
+first_of_its_own (e ∷ documents) d apart first = (let here = (bytes_eq-Decides d.uri d.uri).1 refl in rw here refl)
+first_of_its_own (e ∷ documents) d apart (later i) =
+    (let other = other_uri e d documents apart i in
+    rw other (first_of_its_own documents d (second_so (not (list_any (λ x. bytes_eq e.uri x.uri) documents)) (are_apart documents) apart) i))
 
 -- of documents whose URIs are apart each is the first of its own
-pub is_document_at : (documents : List Document) (d : Document) → are_apart documents ≡ true → In d documents → IsDocumentAt documents d.uri d
-is_document_at [] d apart i = elim i [ ]
-is_document_at (e ∷ documents) d apart first = (let here = (bytes_eq-Decides d.uri d.uri).1 refl in rw here refl)
-is_document_at (e ∷ documents) d apart (later i) =
-    (let other = other_uri e d documents apart i in
-    rw other (is_document_at documents d (second_so (not (list_any (λ x. bytes_eq e.uri x.uri) documents)) (are_apart documents) apart) i))
+pub is_document_at : (documents : List Document) (uri : List ℕ) (d : Document) → are_apart documents ≡ true → In d documents → d.uri ≡ uri → IsDocumentAt documents uri d
+is_document_at documents uri d apart i same = subst (λ u. IsDocumentAt documents u d) same (first_of_its_own documents d apart i)

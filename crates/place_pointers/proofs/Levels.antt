@@ -1,5 +1,5 @@
 -- The paths of elements by levels, where the paths of those below each one part.
-use Rattle.std.proofs.Common.{◌≡◌, ◌∙◌, ℕ, zero, suc, List, [], ◌∷◌, ◌++◌, ◌⊎◌, inl, inr, refl, ap, sym}
+use Rattle.std.proofs.Common.{◌≡◌, ◌∙◌, ℕ, zero, suc, List, [], ◌∷◌, ◌⊎◌, inl, inr, refl, ap, sym}
 use Rattle.std.specs.List.{flat_map, AllByRecursion}
 use Rattle.json_paths.specs.Parts.{Part}
 use Rattle.schema_meaning.specs.Members.{In, first, later}
@@ -94,4 +94,4 @@ module _ {P : Type 0} (path : P → List Part) where
           (levels_distinct n (flat_map children ps) (below S children kept ps s) (all_below ps s a))
           (of_each (λ p. AllByRecursion (PathsDiffer p) rest) ps
           (λ p i. each_implied (IsUnder ps) (PathsDiffer p) rest (differ_from ps a p i)
-            (by_levels (IsUnder ps) children (under_still ps) n (flat_map children ps) (first_under ps ps s (λ q j. j)))))
+          (by_levels (IsUnder ps) children (under_still ps) n (flat_map children ps) (first_under ps ps s (λ q j. j)))))

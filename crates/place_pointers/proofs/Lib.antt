@@ -1,6 +1,6 @@
-pub mod Lists
-pub mod Apart
-pub mod Levels
-pub mod Children
+mod Lists
+mod Apart
+mod Levels
+mod Children
 pub mod Distinct
 pub mod Found

@@ -1,5 +1,5 @@
 -- Visits found by the texts of their places.
-use Rattle.std.proofs.Common.{◌≡◌, ◌⊎◌, ℕ, zero, suc, List, [], ◌∷◌, ◌++◌, Bool, true, false, Option, Some, None, refl, sym, ap, subst, ◌∙◌, length, inl, inr, bytes_eq, slice_get, option_map, Bor, cond, String, Global}
+use Rattle.std.proofs.Common.{◌≡◌, ◌⊎◌, ℕ, zero, suc, List, [], ◌∷◌, ◌++◌, Bool, true, false, Option, Some, None, IfSome, IfNone, refl, sym, ap, subst, ◌∙◌, length, inl, inr, bytes_eq, slice_get, option_map, Bor, cond, String, Global}
 use Rattle.std.specs.BTreeMap.{BTreeMap, get_by_text}
 use Rattle.std.specs.Bool.{Decides}
 use Rattle.std.specs.Option.{option_copied}
@@ -128,3 +128,17 @@ among-rest vs i is w refuted h = by h.0 h.1 h.2
 
 pub among-none : (vs : List Visit) (w : Visit) → RepeatedAmong vs [] w → ⊥
 among-none vs w h = none-in h.1
+
+pub at-known : (vs : List Visit) (i : ℕ) (w : Visit) → RepeatedAt vs i w → Known vs w
+at-known vs i w h = record { visit = h.0; listed = in-place vs i h.0 h.1; same = h.2 }
+
+module _ {A : Type 0} where
+  pub at-end : (xs : List A) (x : A) → slice_get (xs ++ x ∷ []) (length xs) ≡ Some x
+  at-end [] x = refl
+  at-end (y ∷ xs) x = at-end xs x
+
+pub found-at : (vs us : List Visit) (i : ℕ) (w : Visit) (o : Option ℕ) → us ≡ vs → o ≡ Some i → IfSome o (λ j. RepeatedAt us j w) → RepeatedAt vs i w
+found-at vs us i w o e is h = subst (λ (l : List Visit). RepeatedAt l i w) e (subst (λ (x : Option ℕ). IfSome x (λ j. RepeatedAt us j w)) is h)
+
+pub absent-there : (o : Option ℕ) (P : Type 0) → o ≡ None → IfNone o P → P
+absent-there o P is h = subst (λ (x : Option ℕ). IfNone x P) is h

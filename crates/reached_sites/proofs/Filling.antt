@@ -173,3 +173,16 @@ module _ {M : Type 0} where
     made = record { each = λ p c is. none-some c (sym (same-found table.patterns.entries p ∙ ap (λ (es : List (List ℕ × CompiledPattern M)). found es p) e) ∙ is) };
     each = record { each = λ p i. none-in (subst (λ (es : List (List ℕ × CompiledPattern M)). In p (map (λ e. e.0) es)) e i) };
   }
+
+-- ---- behind an addition that was refused
+
+module _ {M : Type 0} (old new : PatternTable M) (same : entries_of new ≡ entries_of old) where
+  same-texts : texts_of_table new ≡ texts_of_table old
+  same-texts = ap (map (λ e. e.0)) same
+
+  pub refused-holds : Holds new (texts_of_table old)
+  refused-holds p i = subst (λ (ts : List (List ℕ)). is_listed p ts ≡ true) (sym same-texts) (holds-itself old p i)
+
+  pub refused-filled : (finds : M → List ℕ → Option Bool) (finished : List ℕ → List ℕ → Option Bool) (makes : List ℕ → Bool) → (AreMadeBy finds finished old → AreMadeBy finds finished new)
+      → IsFilled finds finished makes old → IsFilled finds finished makes new
+  refused-filled finds finished makes goes f = record { made = goes f.made; each = subst (λ ts. AreMade makes ts) (sym same-texts) f.each }

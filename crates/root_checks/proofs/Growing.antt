@@ -1,5 +1,5 @@
 -- A graph of visits that grows by what the next one leads to.
-use Rattle.std.proofs.Common.{◌≡◌, ◌∙◌, ◌⊎◌, ◌<◌, ◌≤◌, ◌+◌, ℕ, suc, List, [], ◌∷◌, ◌++◌, Bool, true, false, Some, refl, sym, ap, subst, inl, inr, arith, length, slice_get}
+use Rattle.std.proofs.Common.{◌≡◌, ◌∙◌, ◌⊎◌, ◌<◌, ◌≤◌, ◌+◌, ℕ, zero, suc, List, [], ◌∷◌, ◌++◌, Bool, true, false, Some, refl, sym, ap, subst, inl, inr, arith, length, slice_get}
 use Rattle.std.specs.Prelude.{if◌then◌else◌}
 use Rattle.schema_meaning.specs.Members.{In, first}
 use Rattle.schema_documents.specs.Bearers.{Document}
@@ -36,8 +36,15 @@ wrong-before : (b : Bool) (wrong : List ℕ) (i j : ℕ) → In j wrong → In j
 wrong-before true wrong i j h = h
 wrong-before false wrong i j h = in-before wrong (i ∷ []) h
 
+one-up : {j i : ℕ} → (j < i) ⊎ (j ≡ i) → (suc j < suc i) ⊎ (suc j ≡ suc i)
+one-up (inl h) = inl (omega (arith, h))
+one-up (inr e) = inr (ap suc e)
+
 before-or-here : (j i : ℕ) → j < i + 1 → (j < i) ⊎ (j ≡ i)
-before-or-here j i h = omega (arith, h)
+before-or-here zero zero h = inr refl
+before-or-here zero (suc i) h = inl (omega arith)
+before-or-here (suc j) zero h = absurd (omega (arith, h))
+before-or-here (suc j) (suc i) h = one-up (before-or-here j i (omega (arith, h)))
 
 module _ (own : List Document) (makes : List ℕ → Bool) (roots : List Site) (placed : ArePlaced own roots) (old new leads : List Visit) (i : ℕ) (v : Visit) (es fs : List Edge) (wrong : List ℕ) (b : Bool)
     (at : slice_get old i ≡ Some v) (l : Links i old new leads es fs) (led : (s : Site) → Met v s → IsLed own makes s leads b) (g : IsGraph own makes roots old es wrong i) where
@@ -110,7 +117,7 @@ module _ (own : List Document) (makes : List ℕ → Bool) (roots : List Site) (
   abbrev wrongs : List ℕ
   wrongs = noted_wrong b wrong i
 
-  reached-stays : (j : ℕ) (t : Site) → IsReachedBy old es j t → IsReachedBy new fs j t
+  reached-stays : (j : ℕ) (t : Site) → IsReachedBy own makes old es j t → IsReachedBy own makes new fs j t
   reached-stays j t h = record { position = h.position; visited = later h.position t h.visited; linked = l.kept _ h.linked }
 
   read-stays : (j : ℕ) (s : Site) → IsRead own makes old es wrong j s → IsRead own makes new fs wrongs j s
@@ -119,7 +126,7 @@ module _ (own : List Document) (makes : List ℕ → Bool) (roots : List Site) (
     right = λ none. h.right (λ k. none (wrong-before b wrong i j k));
   }
 
-  reads-on : (t s : Site) (m : Met v s) → In t (led_from own makes s) → IsReachedBy new fs i t
+  reads-on : (t s : Site) (m : Met v s) → In t (led_from own makes s) → IsReachedBy own makes new fs i t
   reads-on t s m k =
       let x = visit-of own (led s m).met k in
       let y = l.there x.0 x.1 in

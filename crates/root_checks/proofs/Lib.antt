@@ -2,7 +2,10 @@ pub mod Positions
 pub mod Visits
 pub mod Members
 pub mod Sites
-pub mod Linking
+pub mod Edges
 pub mod Growing
-pub mod Starting
+pub mod Begun
 pub mod Ending
+pub mod Clear
+pub mod Walks
+pub mod Sorting

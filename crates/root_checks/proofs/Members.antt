@@ -21,7 +21,7 @@ use Rattle.schema_sites.specs.declared.keyword.Refusal.{Refusal}
 use Rattle.schema_sites.specs.declared.keyword.Refusal.TheVariants as refusal
 use Rattle.reached_sites.specs.Led.{leads_in, causes_in}
 use Rattle.reached_sites.specs.Members.{context_in}
-use Rattle.reached_sites.specs.Patterns.{text_of, texts_of, written_members, Puts, Holds, IsFilled}
+use Rattle.reached_sites.specs.Patterns.{text_of, texts_of, written_members, Puts, Holds, IsFilled, RefusesPattern}
 use Rattle.reached_sites.specs.Places.{place_in}
 use Rattle.reached_sites.specs.Visits.{site_of, Adds, Matches}
 use Rattle.reached_sites.specs.declared.pattern.Pattern.{Pattern}
@@ -33,6 +33,8 @@ use Rattle.reached_sites.proofs.Putting.{in-texts}
 use Rattle.reached_sites.proofs.Walking.{own_of, context_of, row_here}
 use Rattle.reached_sites.proofs.Writing.{every_text, all-made, member-shown}
 use Rattle.walk_laws.proofs.Named.{listed_in}
+use Rattle.reached_sites.specs.declared.cause.BuildCause.{BuildCause}
+use Rattle.root_checks.specs.Memory.{wants_memory, refuses_memory}
 use Rattle.root_checks.specs.Led.{Tells, row_in, written_at, MemberLed, MembersLed}
 
 -- ---- one member
@@ -47,14 +49,19 @@ abbrev HasOne : Row → Type 0
 HasOne row = (c : rows.BuildCause) × In c row.causes
 
 -- a refusal that is no want of memory is a cause
-pub refusal-cause : (x : Context) (k : List ℕ) (d : Data) (row : Row) (e : Refusal) → Refuses x k d row e → (e ≡ refusal.Memory → ⊥) → HasOne row
+pub refusal-cause : (x : Context) (k : List ℕ) (d : Data) (row : Row) (e : Refusal) → Refuses x k d row e → refuses_memory e ≡ false → HasOne row
 refusal-cause x k d row (refusal.Value expected) r n = (_, r.stands)
 refusal-cause x k d row (refusal.Entry m expected) r n = (_, r.stands)
 refusal-cause x k d row (refusal.Element i expected) r n = (_, r.stands)
 refusal-cause x k d row (refusal.Target target) r n = (_, r.stands)
 refusal-cause x k d row (refusal.Reference error) r n = (_, r.2.stands)
 refusal-cause x k d row refusal.LeftOut r n = (_, r.stands)
-refusal-cause x k d row refusal.Memory r n = absurd (n refl)
+refusal-cause x k d row refusal.Memory r n = absurd (true≢false n)
+
+-- a pattern that is refused is one that is not made
+pub unmade-of : (makes : List ℕ → Bool) (qs : List Pattern) (e : BuildCause) → RefusesPattern makes qs e → wants_memory e ≡ false → (q : Pattern) × In q qs × (is_made_by makes (text_of q) ≡ false)
+unmade-of makes qs e (inl m) n = absurd (true≢false (sym (ap wants_memory m) ∙ n))
+unmade-of makes qs e (inr r) n = (r.0, r.1, r.2)
 
 module _ (v : Visit) (makes : List ℕ → Bool) (all : Members) (k : List ℕ) (d : Data) where
   abbrev MemberOf : List Visit → List Visit → Bool → Type 0
@@ -145,6 +152,7 @@ module _ {M : Type 0} (v : Visit) (makes : List ℕ → Bool) (all : Members) (k
     causes = λ c i. g.causes c (in-behind row.causes (causes_in left) i);
   }
 
+module _ {M : Type 0} (v : Visit) (all : Members) (k : List ℕ) (d : Data) (rest : Members) (a b : Bool) (table larger : PatternTable M) where
   written-left : Holds larger (texts_of_table table) → Holds larger (written_at (site_of v).dialect all k d) → (p : List ℕ) → IsWritten v all (member k d rest) table p → IsWritten v all rest larger p
   written-left more here p (inl i) = inl (more p (listed_in p (texts_of_table table) i))
   written-left more here p (inr i) = by (in-either (written_at (site_of v).dialect all k d) (written_members (site_of v).dialect all rest) i)
@@ -157,6 +165,9 @@ module _ {M : Type 0} (v : Visit) (makes : List ℕ → Bool) (all : Members) (k
       → AreWritten v all rest (a && b) larger
   written-goes more here w t p i = (let both = both-right a b t in written-left more (here both.1) p (w both.0 p i))
 
+pub written-begins : {M : Type 0} (v : Visit) (all : Members) (table : PatternTable M) → AreWritten v all all true table
+written-begins v all table t p i = inr i
+
 module _ {M : Type 0} (v : Visit) (makes : List ℕ → Bool) (all : Members) (leads : List Visit) (b : Bool) (table : PatternTable M) where
   by-matches : (fin : List Visit) (ss : List Site) → Adds (own_of v) [] fin ss → Matches (own_of v) fin ss
   by-matches fin ss a = subst (λ l. Matches (own_of v) l ss) (sym a.grown) a.met
@@ -167,6 +178,7 @@ module _ {M : Type 0} (v : Visit) (makes : List ℕ → Bool) (all : Members) (l
     tells = record { right = λ t. g.right t refl; wrong = g.wrong };
   }
 
+module _ {M : Type 0} (v : Visit) (all : Members) (b : Bool) (table : PatternTable M) where
   all-put : (p : List ℕ) → IsWritten v all no_members table p → is_listed p (texts_of_table table) ≡ true
   all-put p (inl i) = i
   all-put p (inr i) = none-in i

@@ -1,7 +1,7 @@
 -- Elements by their positions.
 use Rattle.std.proofs.Common.{◌≡◌, ◌⊎◌, ◌∙◌, ◌<◌, ◌+◌, ℕ, zero, suc, List, [], ◌∷◌, ◌++◌, Option, Some, None, refl, sym, ap, subst, inl, inr, arith, length, get_or, slice_get}
-use Rattle.std.specs.List.{All}
-use Rattle.std.proofs.lemmas.List.{All-nil, All-cons}
+use Rattle.std.specs.List.{All, AllZip}
+use Rattle.std.proofs.lemmas.List.Elements.{All-nil, All-cons}
 use Rattle.std.proofs.lemmas.Option.{slice_get_within}
 use Rattle.schema_meaning.specs.Members.{In, first, later}
 
@@ -39,3 +39,13 @@ module _ {A : Type 0} where
   pub all-of : (P : A → Type 0) (xs : List A) → ((x : A) → In x xs → P x) → All P xs
   all-of P [] h = All-nil P
   all-of P (x ∷ xs) h = All-cons P x xs (h x first) (all-of P xs (λ y i. h y (later i)))
+
+module _ {A B : Type 0} (R : A → B → Type 0) where
+  pub zip-push : (xs : List A) (ys : List B) (x : A) (y : B) → AllZip R xs ys → R x y → AllZip R (xs ++ x ∷ []) (ys ++ y ∷ [])
+  zip-push [] [] x y h r = (r, tt)
+  zip-push [] (z ∷ ys) x y h r = absurd h
+  zip-push (w ∷ xs) [] x y h r = absurd h
+  zip-push (w ∷ xs) (z ∷ ys) x y h r = (h.0, zip-push xs ys x y h.1 r)
+
+pub same-all : {A : Type 0} (P : A → Type 0) (xs ys : List A) → xs ≡ ys → All P ys → All P xs
+same-all P xs ys e h = subst (λ l. All P l) (sym e) h

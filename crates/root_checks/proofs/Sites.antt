@@ -12,10 +12,11 @@ use Rattle.site_laws.proofs.Alike.{turned}
 use Rattle.site_laws.proofs.Reading.{read_alike}
 use Rattle.site_laws.specs.Laws.{AreAlike, RowsAgree}
 use Rattle.reached_sites.specs.Led.{leads_in, causes_in}
+use Rattle.reached_sites.specs.Patterns.{written}
 use Rattle.reached_sites.specs.Visits.{site_of, Met, Matches, none}
 use Rattle.reached_sites.specs.declared.visit.Visit.{Visit}
-use Rattle.reached_sites.proofs.Leading.{IsOther, rows-of-boolean, other-rows}
-use Rattle.reached_sites.proofs.Listing.{in-one}
+use Rattle.reached_sites.proofs.Leading.{IsOther, rows-of-boolean, other-rows, boolean-of, other-of, written-boolean}
+use Rattle.reached_sites.proofs.Listing.{none-in}
 use Rattle.reached_sites.proofs.Mirrored.{one-causes, alike-leads, matches-alike}
 use Rattle.reached_sites.proofs.Walking.{own_of, rows-of-object}
 use Rattle.root_checks.specs.Led.{Tells, MembersLed, IsLed}
@@ -58,3 +59,16 @@ module _ (v : Visit) (makes : List ℕ → Bool) (s : Site) (m : Met v s) (leads
         tells = subst (λ y. Tells y (causes_in (rows_at (own_of v ∷ []) makes s))) (sym f)
             (subst (λ (rs : List Row). Tells false (causes_in rs)) (sym rows) (tells-wrong _ _ first));
       }
+
+  -- what is no object: a boolean, or no schema
+  either-led : (x : Bool) → leads ≡ [] → as_object (view v.site.contents.now) ≡ None → b ≡ x → is_some (as_bool (view v.site.contents.now)) ≡ x → IsLed (own_of v) makes s leads b
+  either-led true n e t y = (let h = boolean-of (view v.site.contents.now) y in led-boolean h.0 h.1 n t)
+  either-led false n e t y = led-other (view v.site.contents.now) refl (other-of (view v.site.contents.now) e y) n t
+
+  pub led-else : leads ≡ [] → as_object (view v.site.contents.now) ≡ None → b ≡ is_some (as_bool (view v.site.contents.now)) → IsLed (own_of v) makes s leads b
+  led-else n e t = either-led (is_some (as_bool (view v.site.contents.now))) n e t refl
+
+pub written-else : {P : Type 0} (v : Visit) (s : Site) (m : Met v s) (p : List ℕ) (b : Bool) → b ≡ true → b ≡ is_some (as_bool (view v.site.contents.now)) → In p (written s) → P
+written-else v s m p b t e i =
+    let h = boolean-of (view v.site.contents.now) (sym e ∙ t) in
+    none-in (subst (λ (ts : List (List ℕ)). In p ts) (written-boolean v s h.0 m h.1) i)

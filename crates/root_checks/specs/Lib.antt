@@ -1,3 +1,4 @@
+pub mod Memory
 pub mod Led
 pub mod Linked
 pub mod Starts

@@ -15,9 +15,9 @@ IsNode count start = IfSome start (λ i. i < count)
 
 -- all are nodes
 pub record AreNodes (count : ℕ) (edges : List Edge) (wrong : List ℕ) (starts : List (Option ℕ)) : Type 0 where
-  pub edges : All (IsWithin count) edges
-  pub wrong : All (λ i. i < count) wrong
-  pub starts : All (IsNode count) starts
+  pub edges_are : All (IsWithin count) edges
+  pub wrong_are : All (λ i. i < count) wrong
+  pub starts_are : All (IsNode count) starts
 
 -- whether a root leads somewhere, and to no node that is wrong
 abbrev pub IsClear : List Edge → List ℕ → Option ℕ → Bool → Type 0

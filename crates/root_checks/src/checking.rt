@@ -44,15 +44,15 @@ fn marks_of(
     count: usize,
     edges: &[Edge],
     wrong: &[usize],
-    starts: &[Option<usize>],
+    starts: Vec<Option<usize>>,
 ) -> Result<Vec<bool>, AllocError>
-    requires { AreNodes count edges.now wrong.now starts.now }
-    ensures { IfOk result (λ v. AllZip (IsClear edges.now wrong.now) starts.now v.items) }
+    requires { AreNodes count edges.now wrong.now starts.items }
+    ensures { IfOk result (λ v. AllZip (IsClear edges.now wrong.now) starts.items v.items) }
 {
     let marks = leading_to(alloc, count, edges, wrong)?;
     let mut right = Vec::new(alloc);
     for start in starts {
-        right.push(is_right(*start, marks.as_slice()))?;
+        right.push(is_right(start, marks.as_slice()))?;
     }
     Ok(right)
 }
@@ -72,17 +72,29 @@ fn check<'r, P: PatternMaker>(
     ensures refused { IfErr result (RefusesEach (documents_in resolver.now ∷ []) (P.makes maker.now) (sites_from (documents_in resolver.now) (base_of resolver.now) (map string_bytes references.now)) limit) }
 {
     let graph = walk(alloc, resolver, references, matches, maker, limit)?;
-    let right = marks_of(
-        alloc,
-        graph.visits.len(),
-        graph.edges.as_slice(),
-        graph.wrong.as_slice(),
-        graph.starts.as_slice(),
-    )?;
-    Ok(Checked {
-        right,
-        table: graph.table,
-    })
+    let starts = graph.starts;
+    let table = graph.table;
+    let count = graph.visits.len();
+    let (edges, wrong) = (graph.edges.as_slice(), graph.wrong.as_slice());
+    let right = marks_of(alloc, count, edges, wrong, starts)?;
+    Ok(Checked { right, table })
+}
+
+// The same from a base, by no matches.
+fn check_from<P: PatternMaker>(
+    alloc: Global,
+    resolver: &Resolver<'_>,
+    references: &[String],
+    maker: &P,
+    limit: usize,
+) -> Result<Checked<P::Matcher>, BuildCause>
+    requires apart { are_apart (documents_in resolver.now) ≡ true }
+    requires rise { list_all contents_rise (documents_in resolver.now) ≡ true }
+    ensures checked { IfOk result (IsChecked P.Matcher.finds (patterns_by P.makes P.finished maker.now) (documents_in resolver.now) (base_of resolver.now) (map string_bytes references.now) limit) }
+    ensures refused { IfErr result (RefusesEach (documents_in resolver.now ∷ []) (P.makes maker.now) (sites_from (documents_in resolver.now) (base_of resolver.now) (map string_bytes references.now)) limit) }
+{
+    let matches = Matches::none(alloc);
+    check(alloc, &*resolver, references, &matches, maker, limit)
 }
 
 /// Which of the roots that some references from a base lead to may be read, and the patterns that are reached from those. A reference that
@@ -106,8 +118,7 @@ pub fn check_each<P: PatternMaker>(
     ensures checked { IfOk result (IsChecked P.Matcher.finds (patterns_by P.makes P.finished maker.now) (documents_of registry.now) base.now (map string_bytes references.now) limit) }
     ensures refused { IfErr result (RefusesEach (documents_of registry.now ∷ []) (P.makes maker.now) (sites_from (documents_of registry.now) base.now (map string_bytes references.now)) limit) }
 {
-    let matches = Matches::none(alloc);
     let resolver = registry.resolver(base.clone()?)?;
     registry.names_rise();
-    check(alloc, &resolver, references, &matches, maker, limit)
+    check_from(alloc, &resolver, references, maker, limit)
 }

@@ -70,9 +70,9 @@ pub(crate) fn walk<'r, P: PatternMaker>(
         if visits.len() > limit {
             return Err(BuildCause::NodeLimit { limit });
         }
-        let led = led_by(alloc, &visits[next], maker, &mut table)?;
-        note(&mut wrong, next, led.is_right)?;
-        link(alloc, &mut visits, &mut visited, &mut edges, next, led.leads)?;
+        let (leads, is_right) = led_by(alloc, &visits[next], maker, &mut table)?;
+        note(&mut wrong, next, is_right)?;
+        link(alloc, &mut visits, &mut visited, &mut edges, next, leads)?;
         next += 1;
     }
     Ok(Graph {

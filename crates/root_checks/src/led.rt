@@ -1,6 +1,6 @@
 //! Where the keywords of a schema lead that have no cause.
 
-ghost use Rattle.std.specs.Prelude.{◌≡◌, ◌∷◌, [], List, ℕ, true, false, IfOk, OnOk, string_bytes};
+ghost use Rattle.std.specs.Prelude.{◌≡◌, ◌∷◌, ◌&&◌, [], List, ℕ, true, false, IfOk, OnOk, string_bytes};
 ghost use Rattle.serde_json.specs.View.{view, members_view};
 ghost use Rattle.referencing.specs.Resolved.{documents_in};
 ghost use Rattle.schema_meaning.specs.Members.{In, is_listed};
@@ -10,6 +10,7 @@ ghost use Rattle.schema_patterns.specs.Tables.{texts_of_table};
 ghost use Rattle.reached_sites.specs.Patterns.{text_of, texts_of, written, written_members, Holds, IsFilled};
 ghost use Rattle.reached_sites.specs.Visits.{site_of, Met};
 ghost use Rattle.reached_sites.specs.declared.pattern.Pattern.{Pattern};
+ghost use Rattle.root_checks.specs.Memory as memory;
 ghost use Rattle.root_checks.specs.Led.{written_at, MemberLed, MembersLed, IsLed};
 
 use reached_sites::cause::BuildCause;
@@ -23,11 +24,22 @@ use schema_sites::reading::keyword;
 use serde_json::{Map, Value};
 use std::alloc::{AllocError, Global};
 
-/// What the keywords of a schema lead to that have no cause, and whether none has one.
-#[derive(Drop)]
-pub(crate) struct Led<'r> {
-    pub(crate) leads: Vec<Visit<'r>>,
-    pub(crate) is_right: bool,
+fn wants_memory(cause: &BuildCause) -> bool
+    ensures { result ≡ memory.wants_memory cause.now }
+{
+    match cause {
+        BuildCause::Memory => true,
+        _ => false,
+    }
+}
+
+fn refuses_memory(refusal: &Refusal<'_>) -> bool
+    ensures { result ≡ memory.refuses_memory refusal.now }
+{
+    match refusal {
+        Refusal::Memory => true,
+        _ => false,
+    }
 }
 
 // Puts patterns into a table, and answers whether each is made.
@@ -44,8 +56,13 @@ fn are_made<P: PatternMaker>(
 {
     match add_patterns(alloc, maker, patterns, table) {
         Ok(()) => Ok(true),
-        Err(BuildCause::Memory) => Err(AllocError),
-        Err(_) => Ok(false),
+        Err(cause) => {
+            if wants_memory(&cause) {
+                Err(AllocError)
+            } else {
+                Ok(false)
+            }
+        }
     }
 }
 
@@ -75,9 +92,20 @@ fn push_member<'r, P: PatternMaker>(
             push_leads(alloc, visit, keyword, leads)?;
             Ok(true)
         }
-        Err(Refusal::Memory) => Err(AllocError),
-        Err(_) => Ok(false),
+        Err(refusal) => {
+            if refuses_memory(&refusal) {
+                Err(AllocError)
+            } else {
+                Ok(false)
+            }
+        }
     }
+}
+
+fn are_both(one: bool, other: bool) -> bool
+    ensures { result ≡ (one && other) }
+{
+    one && other
 }
 
 fn led_by_members<'r, P: PatternMaker>(
@@ -86,23 +114,23 @@ fn led_by_members<'r, P: PatternMaker>(
     members: &'r Map<String, Value>,
     maker: &P,
     table: &mut PatternTable<P::Matcher>,
-) -> Result<Led<'r>, AllocError>
-    ensures led { IfOk result (λ l. IsFilled P.Matcher.finds (P.finished maker.now) (P.makes maker.now) table.old → MembersLed (documents_in visit.now.site.resolver) (P.makes maker.now) (site_of visit.now) (members_view members.now.entries) l.leads.items l.is_right) }
+) -> Result<(Vec<Visit<'r>>, bool), AllocError>
+    ensures led { IfOk result (λ l. IsFilled P.Matcher.finds (P.finished maker.now) (P.makes maker.now) table.old → MembersLed (documents_in visit.now.site.resolver) (P.makes maker.now) (site_of visit.now) (members_view members.now.entries) l.0.items l.1) }
     ensures filled { OnOk result (IsFilled P.Matcher.finds (P.finished maker.now) (P.makes maker.now) table.old → IsFilled P.Matcher.finds (P.finished maker.now) (P.makes maker.now) table.new) }
     ensures kept { OnOk result (Holds table.new (texts_of_table table.old)) }
-    ensures written { IfOk result (λ l. l.is_right ≡ true → Holds table.new (written_members (site_of visit.now).dialect (members_view members.now.entries) (members_view members.now.entries))) }
+    ensures written { IfOk result (λ l. l.1 ≡ true → Holds table.new (written_members (site_of visit.now).dialect (members_view members.now.entries) (members_view members.now.entries))) }
 {
     let mut leads = Vec::new(alloc);
     let mut is_right = true;
     for (name, value) in members.iter() {
         let name = name.as_str();
         let is_clear = push_member(alloc, visit, members, name, value, maker, &mut leads, table)?;
-        is_right = is_right && is_clear;
+        is_right = are_both(is_right, is_clear);
     }
-    Ok(Led { leads, is_right })
+    Ok((leads, is_right))
 }
 
-/// What the keywords of a schema lead to that have no cause. The patterns of those are put into the table.
+/// What the keywords of a schema lead to that have no cause, and whether none has one. The patterns of those are put into the table.
 ///
 /// It reads each member once, and looks its references up.
 ///
@@ -114,18 +142,15 @@ pub(crate) fn led_by<'r, P: PatternMaker>(
     visit: &Visit<'r>,
     maker: &P,
     table: &mut PatternTable<P::Matcher>,
-) -> Result<Led<'r>, AllocError>
-    ensures led { IfOk result (λ l. IsFilled P.Matcher.finds (P.finished maker.now) (P.makes maker.now) table.old → (s : sites.Site) → Met visit.now s → IsLed (documents_in visit.now.site.resolver) (P.makes maker.now) s l.leads.items l.is_right) }
+) -> Result<(Vec<Visit<'r>>, bool), AllocError>
+    ensures led { IfOk result (λ l. IsFilled P.Matcher.finds (P.finished maker.now) (P.makes maker.now) table.old → (s : sites.Site) → Met visit.now s → IsLed (documents_in visit.now.site.resolver) (P.makes maker.now) s l.0.items l.1) }
     ensures filled { OnOk result (IsFilled P.Matcher.finds (P.finished maker.now) (P.makes maker.now) table.old → IsFilled P.Matcher.finds (P.finished maker.now) (P.makes maker.now) table.new) }
     ensures kept { OnOk result (Holds table.new (texts_of_table table.old)) }
-    ensures written { IfOk result (λ l. l.is_right ≡ true → (s : sites.Site) → Met visit.now s → Holds table.new (written s)) }
+    ensures written { IfOk result (λ l. l.1 ≡ true → (s : sites.Site) → Met visit.now s → Holds table.new (written s)) }
 {
     let contents = visit.site.contents;
     if let Some(members) = contents.as_object() {
         return led_by_members(alloc, visit, members, maker, table);
     }
-    Ok(Led {
-        leads: Vec::new(alloc),
-        is_right: contents.is_boolean(),
-    })
+    Ok((Vec::new(alloc), contents.is_boolean()))
 }

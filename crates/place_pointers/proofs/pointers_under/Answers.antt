@@ -1,4 +1,4 @@
-use Rattle.std.proofs.Common.{◌≡◌, ◌∙◌, map, take, reverse, string_bytes, ap, sym, subst}
+use Rattle.std.proofs.Common.{◌≡◌, ◌∙◌, map, take, reverse, ap, sym, subst}
 use Rattle.std.proofs.lemmas.List.{take_all}
 use Rattle.std.specs.List.{All, IsDistinct}
 use Rattle.std.specs.Prelude.{bytes_eq}

@@ -1,7 +1,7 @@
 use Rattle.std.proofs.Common.{◌≡◌, sym, ap, rules, false, inr}
 use Rattle.schema_meaning.specs.Members.{first}
 use Rattle.schema_reading.specs.Rows.{Place, bad_pattern}
-use Rattle.reached_sites.proofs.Filling.{addition-filled, addition-holds, added-made, numbered-listed, not-made}
+use Rattle.reached_sites.proofs.Filling.{addition-filled, addition-holds, added-made, numbered-listed, not-made, refused-filled, refused-holds}
 use Rattle.reached_sites.proofs.making.add_pattern.Goals as goal
 
 pub returns-in-Ok-clause-filled : goal.returns-in-Ok-clause-filled
@@ -31,3 +31,27 @@ returns-in_ok-shared-in-Err-BadPattern-clause-refused g c =
     let k = r.1 in
     let unmade : makes q.text.now ≡ false = search rules in
     inr (q, first, not-made makes q.text.now r.0 unmade, ap (λ (p : Place). bad_pattern p) (sym c.in_ok-shared-in-Err-BadPattern.ensures))
+
+pub returns-in_err-shared-in-Err-BadPattern-clause-filled : goal.returns-in_err-shared-in-Err-BadPattern-clause-filled
+returns-in_err-shared-in-Err-BadPattern-clause-filled g c =
+    refused-filled c.args.table.now c.add_with.new.self c.in-Err-BadPattern.ensures.unchanged g.P.Matcher.PatternMatcher.finds (g.P.PatternMaker.finished c.args.maker.now) (g.P.PatternMaker.makes c.args.maker.now)
+    (c.in-Err-BadPattern.ensures.made (g.P.PatternMaker.finished c.args.maker.now) (λ m k. search rules))
+
+pub returns-in_err-shared-in-Err-BadPattern-clause-kept : goal.returns-in_err-shared-in-Err-BadPattern-clause-kept
+returns-in_err-shared-in-Err-BadPattern-clause-kept g c = refused-holds c.args.table.now c.add_with.new.self c.in-Err-BadPattern.ensures.unchanged
+
+pub returns-in_ok-shared-in-Err-BadPattern-clause-filled : goal.returns-in_ok-shared-in-Err-BadPattern-clause-filled
+returns-in_ok-shared-in-Err-BadPattern-clause-filled g c =
+    refused-filled c.args.table.now c.add_with.new.self c.in-Err-BadPattern.ensures.unchanged g.P.Matcher.PatternMatcher.finds (g.P.PatternMaker.finished c.args.maker.now) (g.P.PatternMaker.makes c.args.maker.now)
+    (c.in-Err-BadPattern.ensures.made (g.P.PatternMaker.finished c.args.maker.now) (λ m k. search rules))
+
+pub returns-in_ok-shared-in-Err-BadPattern-clause-kept : goal.returns-in_ok-shared-in-Err-BadPattern-clause-kept
+returns-in_ok-shared-in-Err-BadPattern-clause-kept g c = refused-holds c.args.table.now c.add_with.new.self c.in-Err-BadPattern.ensures.unchanged
+
+pub returns-in-Err-Memory-clause-filled : goal.returns-in-Err-Memory-clause-filled
+returns-in-Err-Memory-clause-filled g c =
+    refused-filled c.args.table.now c.add_with.new.self c.in-Err-Memory.ensures.unchanged g.P.Matcher.PatternMatcher.finds (g.P.PatternMaker.finished c.args.maker.now) (g.P.PatternMaker.makes c.args.maker.now)
+    (c.in-Err-Memory.ensures.made (g.P.PatternMaker.finished c.args.maker.now) (λ m k. search rules))
+
+pub returns-in-Err-Memory-clause-kept : goal.returns-in-Err-Memory-clause-kept
+returns-in-Err-Memory-clause-kept g c = refused-holds c.args.table.now c.add_with.new.self c.in-Err-Memory.ensures.unchanged

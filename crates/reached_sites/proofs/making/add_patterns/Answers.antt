@@ -36,3 +36,7 @@ loop-pattern-preserved g c =
           subst (λ (ts : List (List ℕ)). Holds larger ts) (sym texts)
           (holds-both larger (texts_of (take i qs)) (text_of q ∷ []) (holds-too table larger (texts_of (take i qs)) known.held kept) (holds-one larger (text_of q) c.in_ok-add_pattern.ensures.held));
     }
+
+pub returns-in_err-add_pattern-clause-kept : goal.returns-in_err-add_pattern-clause-kept
+returns-in_err-add_pattern-clause-kept g c =
+    holds-too c.loop-pattern.table c.add_pattern.new.table (texts_of_table c.args.table.now) c.loop-pattern.invariant.kept c.in_err-add_pattern.ensures.kept

@@ -10,9 +10,9 @@ loop-lead-init c = record { grows = λ fin g. g; apart = λ f a. (f, a) }
 
 pub loop-lead-preserved : goal.loop-lead-preserved
 loop-lead-preserved c =
-    adding-goes c.args.visited.now c.loop-lead.visited c.add_one.new.visited c.args.visits.now.items c.loop-lead.visits.items c.add_one.new.visits.items
+    adding-goes c.args.visited.now c.loop-lead.visited c.put.new.visited c.args.visits.now.items c.loop-lead.visits.items c.put.new.visits.items
     (into_iter_items c.into_iter-lead-iterator.result) (into_iter_items c.loop-lead.lead-iterator) (into_iter_items c.next.new.self) c.in-Some.lead
-    c.loop-lead.invariant c.in-Some.ensures.steps.0 c.in_ok-add_one.ensures.grows c.in_ok-add_one.ensures.apart
+    c.loop-lead.invariant c.in-Some.ensures.steps.0 c.in_ok-put.ensures.grows c.in_ok-put.ensures.apart
 
 pub returns-clause-grows : goal.returns-clause-grows
 returns-clause-grows c =

@@ -1,6 +1,5 @@
 use Rattle.reached_sites.specs.Filed.{RepeatedAmong}
-use Rattle.reached_sites.proofs.reaching.is_among.Given as goal
+use Rattle.reached_sites.proofs.reaching.position_among.Given as goal
 
 abbrev pub invariant-loop-position : goal.invariant-loop-position
-invariant-loop-position l =
-    (RepeatedAmong l.visits l.positions l.visit → RepeatedAmong l.visits l.rest l.visit) × (RepeatedAmong l.visits l.rest l.visit → RepeatedAmong l.visits l.positions l.visit)
+invariant-loop-position l = RepeatedAmong l.visits l.positions l.visit → RepeatedAmong l.visits l.rest l.visit

@@ -2,7 +2,6 @@
 use Rattle.std.proofs.Common.{◌≡◌, ◌∙◌, ◌⊎◌, ◌≤◌, ◌<◌, ℕ, List, [], ◌∷◌, ◌++◌, Bool, true, false, Option, Some, None, Ok, Err, is_ok, refl, sym, ap, subst, inl, inr, append-nil, append_assoc, length, slice_get, arith}
 use Rattle.std.specs.Bool.{Decides}
 use Rattle.std.specs.List.{AllZip, list_all}
-use Rattle.std.proofs.lemmas.List.{AllZip-push}
 use Rattle.schema_meaning.specs.Members.{In, first, later}
 use Rattle.schema_documents.specs.Bearers.{Document}
 use Rattle.schema_documents.specs.Lookup.{LookupCause, Target, lookup}
@@ -11,7 +10,9 @@ use Rattle.schema_reading.specs.Sites.{Site, root_site}
 use Rattle.target_laws.specs.Laws.{are_apart, contents_rise, by_reference}
 use Rattle.key_laws.proofs.Lying.{Lies}
 use Rattle.key_laws.proofs.One.{root_lies}
-use Rattle.reached_sites.specs.Growing.{AddsOne, StandsAt}
+use Rattle.reached_sites.specs.Filed.{Filed}
+use Rattle.reached_sites.specs.Growing.{AddsOne, StandsAt, Apart, none}
+use Rattle.reached_sites.specs.declared.visited.Visited.{Visited}
 use Rattle.reached_sites.specs.Visits.{Met, Belongs}
 use Rattle.reached_sites.specs.declared.visit.Visit.{Visit}
 use Rattle.reached_sites.proofs.Listing.{in-before, in-behind, in-either, in-one, none-in}
@@ -19,8 +20,8 @@ use Rattle.root_checks.specs.Graphs.{IsVisited, IsReachedFrom, IsGraph}
 use Rattle.root_checks.specs.Linked.{Extends}
 use Rattle.root_checks.specs.Starts.{site_of_answer, sites_from, LeadsNowhere, Starts, StartsAt, Start, Begins, StartsOne}
 use Rattle.root_checks.proofs.Growing.{visited-later}
-use Rattle.root_checks.proofs.Linking.{extends-none, extends-more}
-use Rattle.root_checks.proofs.Positions.{in-place}
+use Rattle.root_checks.proofs.Edges.{extends-none, extends-more}
+use Rattle.root_checks.proofs.Positions.{in-place, zip-push}
 use Rattle.root_checks.proofs.Visits.{ArePlaced, met-again, reached-more}
 
 module _ (own : List Document) (base : List ℕ) where
@@ -36,13 +37,14 @@ module _ (own : List Document) (base : List ℕ) where
   answer-lies r (Ok t) e s i = subst (λ u. Lies (own ∷ []) u) (sym (in-one i)) (root_lies own t (by_reference base r e))
   answer-lies r (Err c) e s i = none-in i
 
+  either-lies : (r : List ℕ) (rs : List (List ℕ)) (s : Site) → (In s (sites_from own base rs) → Lies (own ∷ []) s)
+      → In s (site_of_answer (lookup (own ∷ []) base r)) ⊎ In s (sites_from own base rs) → Lies (own ∷ []) s
+  either-lies r rs s rest (inl j) = answer-lies r (lookup (own ∷ []) base r) refl s j
+  either-lies r rs s rest (inr j) = rest j
+
   sites-lie : (rs : List (List ℕ)) (s : Site) → In s (sites_from own base rs) → Lies (own ∷ []) s
   sites-lie [] s i = none-in i
-  sites-lie (r ∷ rs) s i = by (in-either (site_of_answer (lookup (own ∷ []) base r)) (sites_from own base rs) i)
-    where
-      by : In s (site_of_answer (lookup (own ∷ []) base r)) ⊎ In s (sites_from own base rs) → Lies (own ∷ []) s
-      by (inl j) = answer-lies r (lookup (own ∷ []) base r) refl s j
-      by (inr j) = sites-lie rs s j
+  sites-lie (r ∷ rs) s i = either-lies r rs s (sites-lie rs s) (in-either (site_of_answer (lookup (own ∷ []) base r)) (sites_from own base rs) i)
 
   pub sites-placed : are_apart own ≡ true → list_all contents_rise own ≡ true → (rs : List (List ℕ)) → ArePlaced own (sites_from own base rs)
   sites-placed apart rise rs = record { apart = apart; rise = rise; lie = λ s i. sites-lie rs s i }
@@ -68,14 +70,18 @@ module _ (own : List Document) (base : List ℕ) where
       (j, subst (λ u. IsVisited vs j u) (ap root_site one ∙ sym (in-one i)) h.visited)
   visited-of vs r o (Err c) e h s i = none-in i
 
-  pub sites-visited : (vs : List Visit) (rs : List (List ℕ)) (os : List (Option ℕ)) → Start own base vs rs os → (s : Site) → In s (sites_from own base rs) → (i : ℕ) × IsVisited vs i s
+  abbrev Somewhere : List Visit → Site → Type 0
+  Somewhere vs s = (i : ℕ) × IsVisited vs i s
+
+  either-visited : (vs : List Visit) (r : List ℕ) (rs : List (List ℕ)) (o : Option ℕ) (s : Site) → StartsAt own base vs r o → (In s (sites_from own base rs) → Somewhere vs s)
+      → In s (site_of_answer (lookup (own ∷ []) base r)) ⊎ In s (sites_from own base rs) → Somewhere vs s
+  either-visited vs r rs o s h rest (inl j) = visited-of vs r o (lookup (own ∷ []) base r) refl h s j
+  either-visited vs r rs o s h rest (inr j) = rest j
+
+  pub sites-visited : (vs : List Visit) (rs : List (List ℕ)) (os : List (Option ℕ)) → Start own base vs rs os → (s : Site) → In s (sites_from own base rs) → Somewhere vs s
   sites-visited vs [] os h s i = none-in i
   sites-visited vs (r ∷ rs) [] h s i = absurd h
-  sites-visited vs (r ∷ rs) (o ∷ os) h s i = by (in-either (site_of_answer (lookup (own ∷ []) base r)) (sites_from own base rs) i)
-    where
-      by : In s (site_of_answer (lookup (own ∷ []) base r)) ⊎ In s (sites_from own base rs) → (i : ℕ) × IsVisited vs i s
-      by (inl j) = visited-of vs r o (lookup (own ∷ []) base r) refl h.0 s j
-      by (inr j) = sites-visited vs rs os h.1 s j
+  sites-visited vs (r ∷ rs) (o ∷ os) h s i = either-visited vs r rs o s h.0 (sites-visited vs rs os h.1 s) (in-either (site_of_answer (lookup (own ∷ []) base r)) (sites_from own base rs) i)
 
   -- ---- one reference more
 
@@ -158,20 +164,29 @@ module _ (own : List Document) (base : List ℕ) where
 
 -- ---- a loop over references
 
-pub record Starting (own : List Document) (base : List ℕ) (rs : List (List ℕ)) (vs : List Visit) (starts : List (Option ℕ)) : Type 0 where
+pub record Starting (own : List Document) (base : List ℕ) (rs : List (List ℕ)) (vs : List Visit) (os : List (Option ℕ)) : Type 0 where
   pub begun : (makes : List ℕ → Bool) → AreBegun own base makes rs vs
-  pub starts : Start own base vs rs starts
+  pub starts : Start own base vs rs os
 
 pub starting-goes : (own : List Document) (base : List ℕ) → are_apart own ≡ true → list_all contents_rise own ≡ true → (rs : List (List ℕ)) (r : List ℕ) (old new : List Visit) (os : List (Option ℕ)) (o : Option ℕ)
     → StartsOne own base r old new o → Starting own base rs old os → Starting own base (rs ++ r ∷ []) new (os ++ o ∷ [])
 starting-goes own base apart rise rs r old new os None h s = record {
   begun = λ makes. begun-nowhere own base makes rs r apart rise old new h.1 (s.begun makes);
-  starts = AllZip-push (StartsAt own base new) rs os r None (subst (λ (vs : List Visit). Start own base vs rs os) (sym h.1) s.starts) h.0;
+  starts = zip-push (StartsAt own base new) rs os r None (subst (λ (vs : List Visit). Start own base vs rs os) (sym h.1) s.starts) h.0;
 }
 starting-goes own base apart rise rs r old new os (Some i) h s =
     let none : List ℕ → Bool = λ t. false in
     let e = begun-extends own base none rs r apart rise old new i h (s.begun none) in
     record {
       begun = λ makes. begun-more own base makes rs r apart rise old new i h (s.begun makes);
-      starts = AllZip-push (StartsAt own base new) rs os r (Some i) (start-later own base old new e.0 rs os e.1 s.starts) (starts-there own base none rs r apart rise old new i h (s.begun none));
+      starts = zip-push (StartsAt own base new) rs os r (Some i) (start-later own base old new e.0 rs os e.1 s.starts) (starts-there own base none rs r apart rise old new i h (s.begun none));
     }
+
+pub starting-begins : (own : List Document) (base : List ℕ) (vs : List Visit) (os : List (Option ℕ)) → vs ≡ [] → os ≡ [] → Starting own base [] vs os
+starting-begins own base vs os e f = subst (λ v. Starting own base [] v os) (sym e) (subst (λ o. Starting own base [] [] o) (sym f) (record { begun = λ makes. begun-none own base makes; starts = tt }))
+
+pub filed-none : (visited : Visited) (vs : List Visit) → vs ≡ [] → Filed visited vs
+filed-none visited vs e = subst (λ l. Filed visited l) (sym e) (record { each = λ i v at. absurd (cc (at)) })
+
+pub apart-none : (vs : List Visit) → vs ≡ [] → Apart vs
+apart-none vs e = subst (λ l. Apart l) (sym e) none
