@@ -101,7 +101,14 @@ fn map_of<P: PatternMaker>(
     let references = references_to(alloc, pointers.as_slice())?;
     registry.documents_are_apart();
     let places = registry.registry();
-    let checked = match check_each(alloc, places, document, references.as_slice(), maker, node_limit) {
+    let checked = match check_each(
+        alloc,
+        places,
+        document,
+        references.as_slice(),
+        maker,
+        node_limit,
+    ) {
         Ok(checked) => checked,
         Err(cause) => return Err(BuildError::of_places(cause)),
     };

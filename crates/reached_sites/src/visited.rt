@@ -50,12 +50,7 @@ impl Visited {
     /// # Errors
     ///
     /// Where memory was refused or a count of owners is full.
-    pub fn put(
-        &mut self,
-        alloc: Global,
-        text: &str,
-        position: usize,
-    ) -> Result<(), AllocError>
+    pub fn put(&mut self, alloc: Global, text: &str, position: usize) -> Result<(), AllocError>
         ensures { OnOk result ((q : List ℕ) → positions_under self.new q ≡ (if bytes_eq text.now q then position ∷ positions_under self.old text.now else positions_under self.old q)) }
     {
         let positions = self.with_one(alloc, text, position)?;

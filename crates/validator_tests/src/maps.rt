@@ -26,11 +26,7 @@ fn options_of(rt: &impl Abort, alloc: Global) -> ValidationOptions {
 }
 
 // The pointers, one a line, or why there is no map.
-fn keys_or_why(
-    rt: &impl Abort,
-    alloc: Global,
-    built: Result<ValidatorMap, BuildError>,
-) -> String {
+fn keys_or_why(rt: &impl Abort, alloc: Global, built: Result<ValidatorMap, BuildError>) -> String {
     let mut text = String::new(alloc);
     match built {
         Ok(map) => {
@@ -63,7 +59,10 @@ fn have_each_schema_that_may_be_read(rt: HostRuntime) {
             "{\"$defs\":{\"a\":{\"not\":{\"$ref\":\"#/$defs/b\"}},\"b\":{\"not\":{\"$ref\":\"#/$defs/a\"},\"minItems\":\"1\"},\"c\":{\"$ref\":\"s#/$defs/bad\"},\"d\":{\"$ref\":\"s#/$defs/text\"}}}",
             "'' '/$defs/d' ",
         ),
-        ("{\"properties\":{\"a/b%\":true}}", "'' '/properties/a~1b%' "),
+        (
+            "{\"properties\":{\"a/b%\":true}}",
+            "'' '/properties/a~1b%' ",
+        ),
         ("false", "'' "),
         ("{\"unevaluatedItems\":false}", "'/unevaluatedItems' "),
     ] {
@@ -79,22 +78,44 @@ fn are_of_the_document_of_the_root(rt: HostRuntime) {
         ("#/$defs/x", "'' '/$defs/x' "),
         ("s#/$defs/text", "'' '/$defs/text' "),
         ("#/$defs/none", "Pointer '/$defs/none' does not exist"),
-        ("http://b.test/", "Resource 'http://b.test/' is not present and retrieving it failed"),
+        (
+            "http://b.test/",
+            "Resource 'http://b.test/' is not present and retrieving it failed",
+        ),
     ] {
-        let map = map_by(&rt, alloc, &options_of(&rt, alloc), "{\"$defs\":{\"x\":true}}", root);
+        let map = map_by(
+            &rt,
+            alloc,
+            &options_of(&rt, alloc),
+            "{\"$defs\":{\"x\":true}}",
+            root,
+        );
         assert_eq!(rt; keys_or_why(&rt, alloc, map).as_str(), want, "{root}");
     }
 }
 
 // The faults of a value by the validator under a pointer.
-fn told(rt: &impl Abort, alloc: Global, map: &ValidatorMap, pointer: &str, instance: &str) -> String {
+fn told(
+    rt: &impl Abort,
+    alloc: Global,
+    map: &ValidatorMap,
+    pointer: &str,
+    instance: &str,
+) -> String {
     let value = Value::from_str(alloc, instance).expect(rt, "JSON");
     let validator = map.get(pointer).expect(rt, "a validator");
-    lines(rt, alloc, validator.iter_errors(&value).expect(rt, "memory"))
+    lines(
+        rt,
+        alloc,
+        validator.iter_errors(&value).expect(rt, "memory"),
+    )
 }
 
 fn assert_has(rt: &impl Abort, map: &ValidatorMap, pointer: &str, want: bool) {
-    assert!(rt; map.contains_key(pointer) == want && map.get(pointer).is_some() == want, "{pointer}");
+    assert!(rt;
+        map.contains_key(pointer) == want && map.get(pointer).is_some() == want,
+        "{pointer}"
+    );
 }
 
 #[test]
@@ -115,10 +136,19 @@ fn read_each_schema(rt: HostRuntime) {
     }
     for (pointer, want) in [
         ("", "/next/v /$ref/properties/next/$ref/properties/v/type\n"),
-        ("#/$defs/node", "/next/v /properties/next/$ref/properties/v/type\n"),
+        (
+            "#/$defs/node",
+            "/next/v /properties/next/$ref/properties/v/type\n",
+        ),
         ("/$defs/node/properties/v", " /type\n"),
     ] {
-        let found = told(&rt, alloc, &map, pointer, "{\"v\":1,\"next\":{\"v\":\"x\"}}");
+        let found = told(
+            &rt,
+            alloc,
+            &map,
+            pointer,
+            "{\"v\":1,\"next\":{\"v\":\"x\"}}",
+        );
         assert_eq!(rt; found.as_str(), want, "{pointer}");
     }
 }
@@ -141,9 +171,13 @@ fn count_the_keys_of_all_places(rt: HostRuntime) {
 #[test]
 fn ask_no_meta_schema(rt: HostRuntime) {
     let alloc = rt.alloc();
-    let meta = "{\"$schema\":\"https://json-schema.org/draft/2020-12/schema\",\"$id\":\"http://a.test/m\",\"not\":{}}";
-    let options =
-        options_of(&rt, alloc).with_meta_schemas(documents_of(&rt, alloc, &[("http://a.test/m", meta)]));
+    let meta =
+        "{\"$schema\":\"https://json-schema.org/draft/2020-12/schema\",\"$id\":\"http://a.test/m\",\"not\":{}}";
+    let options = options_of(&rt, alloc).with_meta_schemas(documents_of(
+        &rt,
+        alloc,
+        &[("http://a.test/m", meta)],
+    ));
     let schema = "{\"$schema\":\"http://a.test/m\",\"not\":{}}";
     let map = map_by(&rt, alloc, &options, schema, "");
     assert_eq!(rt; keys_or_why(&rt, alloc, map).as_str(), "'' '/not' ");
