@@ -11,6 +11,9 @@ use Rattle.json_schema_validator.specs.Asked.{IsMet}
 use Rattle.json_schema_validator.specs.Prepared.{IsRegistry}
 use Rattle.json_schema_validator.specs.Refused.{RefusesPreparing, RefusesRoot}
 use Rattle.json_schema_validator.specs.Built.{IsBuilt, RefusesBuilding}
+use Rattle.json_schema_validator.specs.Maps.{IsMapAt, RefusesMapAt}
+use Rattle.json_schema_validator.specs.Mapped.{IsMapBuilt, RefusesMapping}
+use Rattle.json_schema_validator.specs.declared.validator_map.ValidatorMap.{ValidatorMap}
 use Rattle.json_schema_validator.specs.New.{AreDefault, alone, IsNew, Refuses}
 use Rattle.json_schema_validator.specs.declared.error.BuildError.{BuildError}
 use Rattle.json_schema_validator.specs.declared.options.ValidationOptions.{ValidationOptions}
@@ -28,6 +31,16 @@ module _ {P R : Type 0} (p : Patterns) (may_answer : R → List ℕ → Data →
       → IfErr x (λ e. RefusesPreparing may_answer may_refuse o given e ⊎ RefusesBuilding p may_answer may_refuse o given reference e)
   building_refused (Ok v) why = tt
   building_refused (Err e) why = inr (record { registry = r; prepared = prepared; refused = why })
+
+  pub mapped_by : {M : Type 0} (finds : M → List ℕ → Option Bool) (x : Result (ValidatorMap M) BuildError) → IfOk x (λ m. IsMapAt finds p r reference o.node_limit m)
+      → IfOk x (IsMapBuilt finds p may_answer may_refuse o given reference)
+  mapped_by finds (Ok m) is = record { registry = r; prepared = prepared; is_map = is }
+  mapped_by finds (Err e) is = tt
+
+  pub mapping_refused : {T : Type 0} (x : Result T BuildError) → IfErr x (λ e. RefusesMapAt p r reference o.node_limit e)
+      → IfErr x (λ e. RefusesPreparing may_answer may_refuse o given e ⊎ RefusesMapping p may_answer may_refuse o given reference e)
+  mapping_refused (Ok v) why = tt
+  mapping_refused (Err e) why = inr (record { registry = r; prepared = prepared; refused = why })
 
 -- a validator of one schema, by the options that stand until it is said otherwise
 module _ {P R : Type 0} (makes : P → List ℕ → Bool) (finished : P → List ℕ → List ℕ → Option Bool) (may_answer : R → List ℕ → Data → Type 0) (may_refuse : R → List ℕ → Type 0)

@@ -5,3 +5,5 @@ mod BuiltLemmas
 pub mod Preparing
 pub mod Placing
 pub mod Joining
+pub mod Entries
+pub mod Rooting

@@ -1,5 +1,9 @@
 -- What is known of a root once it was checked.
-use Rattle.std.proofs.Common.{◌≡◌, ℕ, List, [], ◌∷◌, true, Ok, is_ok, refl, ap, subst}
+use Rattle.std.proofs.Common.{◌≡◌, ℕ, List, [], ◌∷◌, Bool, true, Option, Ok, is_ok, refl, sym, ap, subst}
+use Rattle.schema_matches.specs.Read.{IsReadBy}
+use Rattle.schema_matches.specs.declared.matches.Matches.{Matches}
+use Rattle.schema_patterns.specs.Tables.{AreMadeBy, texts_of_table}
+use Rattle.schema_patterns.specs.declared.table.PatternTable.{PatternTable}
 use Rattle.std.specs.List.{list_all}
 use Rattle.schema_documents.specs.Bearers.{Document}
 use Rattle.schema_documents.specs.Lookup.{Target, lookup}
@@ -47,3 +51,17 @@ root_from own base reference = record { documents = own ∷ []; base = base; ref
 pub one_root : {own other : List Document} {base other_base reference other_reference : List ℕ} → own ≡ other → base ≡ other_base → reference ≡ other_reference
     → root_from own base reference ≡ root_from other other_base other_reference
 one_root d b r = rw (d, b, r) refl
+
+-- a table that several may have is the same
+module _ {M : Type 0} where
+  pub shared_patterns : (p : Patterns) (r : Root) (t u : PatternTable M) → u ≡ t → HoldsPatterns p r (texts_of_table t) → HoldsPatterns p r (texts_of_table u)
+  shared_patterns p r t u e h = subst (λ (x : PatternTable M). HoldsPatterns p r (texts_of_table x)) (sym e) h
+
+  pub shared_made : (finds : M → List ℕ → Option Bool) (finished : List ℕ → List ℕ → Option Bool) (t u : PatternTable M) → u ≡ t → AreMadeBy finds finished t → AreMadeBy finds finished u
+  shared_made finds finished t u e h = subst (λ (x : PatternTable M). AreMadeBy finds finished x) (sym e) h
+
+  -- the matches that are read by it
+  pub read_by : (finds : M → List ℕ → Option Bool) (finished : List ℕ → List ℕ → Option Bool) (t u : PatternTable M) (texts : List (List ℕ)) (m : Matches) → u ≡ t
+      → ((f : List ℕ → List ℕ → Option Bool) → AreMadeBy finds f u → IsReadBy f (texts_of_table u) texts m) → AreMadeBy finds finished t → IsReadBy finished (texts_of_table t) texts m
+  read_by finds finished t u texts m e h made =
+      subst (λ (x : PatternTable M). IsReadBy finished (texts_of_table x) texts m) e (h finished (shared_made finds finished t u e made))

@@ -1,9 +1,9 @@
 //! How maps of validators are built.
 
-ghost use Rattle.std.specs.Prelude.{◌≡◌, ◌∷◌, [], ℕ, List, map, true, bytes_eq, string_bytes, IfOk, IfErr, OnOk, None};
+ghost use Rattle.std.specs.Prelude.{◌≡◌, ◌∷◌, [], ℕ, List, map, true, bytes_eq, string_bytes, length, slice_get, ◌<◌, IfOk, IfErr, OnOk, None, Some};
 ghost use Rattle.std.specs.List.{AllZip, IsDistinct};
 ghost use Rattle.schema_documents.specs.Bearers.{Document};
-ghost use Rattle.place_pointers.specs.Pointers as pointers;
+ghost use Rattle.place_pointers.specs.Pointers as places;
 ghost use Rattle.schema_roots.specs.Passed.{documents_shared};
 ghost use Rattle.schema_roots.specs.Roots.{IsSoundBySome, patterns_by};
 ghost use Rattle.json_schema_validator.specs.Maps.{entries_in, entry_at, place_root, PutsPlace, Enters, IsMapOf, IsMapAt, ArePlacesExceeded, RefusesMapAt};
@@ -22,7 +22,7 @@ use uri_references::uri::Uri;
 
 // The references by which pointers are looked up.
 fn references_to(alloc: Global, pointers: &[String]) -> Result<Vec<String>, AllocError>
-    ensures { IfOk result (λ v. map string_bytes v.items ≡ map pointers.reference_to (map string_bytes pointers.now)) }
+    ensures { IfOk result (λ v. map string_bytes v.items ≡ map places.reference_to (map string_bytes pointers.now)) }
 {
     let mut references = Vec::new(alloc);
     for pointer in pointers {
@@ -57,6 +57,13 @@ fn put<M: PatternMatcher>(
     }
 }
 
+fn is_marked(marks: &[bool], position: usize) -> bool
+    requires { position < length marks.now }
+    ensures { slice_get marks.now position ≡ Some result }
+{
+    marks[position]
+}
+
 // The validators of the places that are marked.
 fn validators_at<M: PatternMatcher>(
     alloc: Global,
@@ -72,15 +79,11 @@ fn validators_at<M: PatternMatcher>(
 {
     let table = Rc::new(alloc, table)?;
     let mut map = ValidatorMap::new(alloc);
-    for (position, pointer) in pointers.iter().enumerate() {
+    for position in 0..pointers.len() {
+        let is_right = is_marked(right, position);
+        let pointer = pointers[position].as_str();
         put(
-            alloc,
-            registry,
-            document,
-            pointer.as_str(),
-            right[position],
-            &table,
-            &mut map,
+            alloc, registry, document, pointer, is_right, &table, &mut map,
         )?;
     }
     Ok(map)
@@ -94,8 +97,8 @@ fn map_of<P: PatternMaker>(
     maker: &P,
     node_limit: usize,
 ) -> Result<ValidatorMap<P::Matcher>, BuildError>
-    ensures built { IfOk result (λ m. (d : Document) → pointers.IsDocumentAt (documents_shared registry.now) document.now d → IsMapOf P.Matcher.finds (patterns_by P.makes P.finished maker.now) (documents_shared registry.now) d node_limit m) }
-    ensures refused { IfErr result (λ e. (d : Document) → pointers.IsDocumentAt (documents_shared registry.now) document.now d → ArePlacesExceeded (patterns_by P.makes P.finished maker.now) (documents_shared registry.now) d node_limit e) }
+    ensures built { IfOk result (λ m. (d : Document) → places.IsDocumentAt (documents_shared registry.now) document.now d → IsMapOf P.Matcher.finds (patterns_by P.makes P.finished maker.now) (documents_shared registry.now) d node_limit m) }
+    ensures refused { IfErr result (λ e. (d : Document) → places.IsDocumentAt (documents_shared registry.now) document.now d → ArePlacesExceeded (patterns_by P.makes P.finished maker.now) (documents_shared registry.now) d node_limit e) }
 {
     let pointers = pointers_in(alloc, registry.registry(), document)?;
     let references = references_to(alloc, pointers.as_slice())?;
@@ -141,7 +144,10 @@ pub(crate) fn map_at<P: PatternMaker>(
 {
     let resolver = registry.registry().resolver(registry.base().clone()?)?;
     match resolver.lookup(root) {
-        Ok(found) => map_of(alloc, registry.own(), found.document(), maker, node_limit),
+        Ok(found) => {
+            registry.own().documents_are_apart();
+            map_of(alloc, registry.own(), found.document(), maker, node_limit)
+        }
         Err(error) => Err(BuildError::of_reference(error)),
     }
 }

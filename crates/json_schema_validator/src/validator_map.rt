@@ -21,9 +21,10 @@ pub struct ValidatorMap<M = RegexMatcher> {
 fn pointer_in(text: &str) -> &str
     ensures { result.now ≡ hashes.without_hash text.now }
 {
-    match text.strip_prefix('#') {
-        Some(pointer) => pointer,
-        None => text,
+    if text.starts_with('#') {
+        &text[1..]
+    } else {
+        text
     }
 }
 

@@ -10,7 +10,7 @@ use Rattle.schema_patterns.specs.Tables.{texts_of_table}
 use Rattle.schema_roots.specs.Roots.{Root, patterns_by}
 use Rattle.target_laws.specs.Laws.{are_apart, contents_rise}
 use Rattle.json_schema_validator.specs.Seen.{root_of}
-use Rattle.json_schema_validator.proofs.Placing.{sound_there, within_there, patterns_there, one_root}
+use Rattle.json_schema_validator.proofs.Placing.{sound_there, within_there, patterns_there, one_root, shared_patterns, shared_made}
 use Rattle.json_schema_validator.proofs.validator.Validator.at.Goals as goal
 
 pub returns-in-Err-clause-refused : goal.returns-in-Err-clause-refused
@@ -62,8 +62,9 @@ returns-clause-made g c =
     let one = one_root (there ∙ sym c.in_ok-share.ensures) (c.in_ok-resolver.ensures.base ∙ c.in_ok-clone.ensures.cases ∙ sym c.in_ok-clone-2.ensures.cases) (sym c.in_ok-from_str.ensures.ok) in
     record {
       sound = sound_there own (base_of resolver) c.args.root.now t found apart rise p c.in-Ok-check_reached.ensures.accepted _ one;
-      patterns = patterns_there own (base_of resolver) c.args.root.now t found apart rise p (texts_of_table c.in-Ok-check_reached.table) c.in-Ok-check_reached.ensures.patterns _ one;
-      made = c.in-Ok-check_reached.ensures.made;
+      patterns = shared_patterns p _ c.in-Ok-check_reached.table c.in_ok-shared.field-0.value c.in_ok-shared.ensures
+          (patterns_there own (base_of resolver) c.args.root.now t found apart rise p (texts_of_table c.in-Ok-check_reached.table) c.in-Ok-check_reached.ensures.patterns _ one);
+      made = shared_made g.M.PatternMatcher.finds p.finished c.in-Ok-check_reached.table c.in_ok-shared.field-0.value c.in_ok-shared.ensures c.in-Ok-check_reached.ensures.made;
     }
 
 pub returns-clause-within : goal.returns-clause-within

@@ -10,6 +10,7 @@ use Rattle.target_laws.proofs.Looked.{lookups_lie}
 use Rattle.schema_roots.specs.Roots.{Root, Finds}
 use Rattle.json_schema_validator.specs.Seen.{root_in}
 use Rattle.json_schema_validator.proofs.Hearing.{heard, keeps}
+use Rattle.json_schema_validator.proofs.Placing.{read_by}
 use Rattle.json_schema_validator.proofs.validator.Validator.told.Goals as goal
 
 pub tell_at-requires : goal.tell_at-requires
@@ -33,7 +34,8 @@ returns-in-Ok-clause-heard g c =
     sym (ap₂ (λ ds b. lookup (ds ∷ []) b r.reference) documents base) ∙ ap (lookup (documents_in resolver ∷ []) (base_of resolver)) (sym c.as_str.ensures.value) ∙ c.in-Ok.ensures.ok in
     λ p made.
     heard r (view c.args.value.now) c.args.observer _ (target_in root) c.in_ok-matches-in-Ok.matches (documents_in root.resolver ∷ []) (ap (λ own. own ∷ []) there) found
-    c.in_ok-tell_at-in-Ok.ensures p made.sound (record { patterns = texts_of_table v.table; hold = made.patterns; read = c.in_ok-matches-in-Ok.ensures p.finished made.made })
+    c.in_ok-tell_at-in-Ok.ensures p made.sound
+    (record { patterns = texts_of_table v.table.value; hold = made.patterns; read = read_by g.M.PatternMatcher.finds p.finished v.table.value c.deref-in-Ok.result.now _ c.in_ok-matches-in-Ok.matches c.deref-in-Ok.ensures c.in_ok-matches-in-Ok.ensures made.made })
 
 pub returns-in-Ok-clause-kept : goal.returns-in-Ok-clause-kept
 returns-in-Ok-clause-kept g c =

@@ -1,0 +1,14 @@
+use Rattle.schema_roots.specs.Passed.{documents_given}
+use Rattle.schema_roots.specs.Roots.{patterns_by}
+use Rattle.json_schema_validator.proofs.BuiltLemmas.{mapped_by, mapping_refused}
+use Rattle.json_schema_validator.proofs.options.ValidationOptions.build_map.Goals as goal
+
+pub returns-clause-built : goal.returns-clause-built
+returns-clause-built g c =
+    mapped_by (patterns_by g.P.PatternMaker.makes g.P.PatternMaker.finished c.args.self.now.maker) g.R.Retrieve.may_answer g.R.Retrieve.may_refuse c.args.self.now
+    (documents_given c.args.documents.now) c.args.root.now c.in_ok-registry.registry c.in_ok-registry.ensures.prepared g.P.Matcher.PatternMatcher.finds c.map_at.result c.map_at.ensures.built
+
+pub returns-clause-refused : goal.returns-clause-refused
+returns-clause-refused g c =
+    mapping_refused (patterns_by g.P.PatternMaker.makes g.P.PatternMaker.finished c.args.self.now.maker) g.R.Retrieve.may_answer g.R.Retrieve.may_refuse c.args.self.now
+    (documents_given c.args.documents.now) c.args.root.now c.in_ok-registry.registry c.in_ok-registry.ensures.prepared c.map_at.result c.map_at.ensures.refused
