@@ -1,10 +1,20 @@
-//! Tests of keywords that assert, and of those of an object's members: what they refuse in a build, and what they tell of values.
+//! Tests of keywords by validators: what they refuse in a build, and what they tell of values.
 #![tactic(auto)]
 
 #[cfg(test)]
 mod asserting;
 #[cfg(test)]
+mod branching;
+#[cfg(test)]
+mod carrying;
+#[cfg(test)]
+mod choosing;
+#[cfg(test)]
+mod counting;
+#[cfg(test)]
 mod depending;
+#[cfg(test)]
+mod naming;
 #[cfg(test)]
 mod others;
 #[cfg(test)]

@@ -10,12 +10,12 @@ use schema_vocabularies::{Vocabulary, VocabularySet};
 use serde_json::Value;
 use std::alloc::Global;
 use std::process::Abort;
-use std::test::Fail;
 use uri_references::uri::from_str;
 
 // A meta-schema that requires the applicators alone.
-fn registry<'a>(alloc: Global) -> Result<Registry<'a>, Error> {
+fn registry<'a>(rt: &impl Abort, alloc: Global) -> Registry<'a> {
     prepared(
+        rt,
         alloc,
         &[(
             "http://a.test/m",
@@ -23,38 +23,45 @@ fn registry<'a>(alloc: Global) -> Result<Registry<'a>, Error> {
             {\"https://json-schema.org/draft/2020-12/vocab/applicator\":true,\"http://a.test/v\":true}}",
         )],
     )
+    .expect(rt, "a registry")
 }
 
-fn shown(alloc: Global, set: &VocabularySet) -> Result<String, Fail> {
+fn shown(rt: &impl Abort, alloc: Global, set: &VocabularySet) -> String {
     let mut text = String::new(alloc);
     for (vocabulary, name) in &[
         (Vocabulary::Applicator, "applicator "),
         (Vocabulary::Validation, "validation "),
     ] {
         if set.contains(vocabulary) {
-            text.push_str(*name)?;
+            text.push_str(*name).expect(rt, "memory");
         }
     }
     for uri in set.custom() {
-        text.push_str(uri.as_str())?;
+        text.push_str(uri.as_str()).expect(rt, "memory");
     }
-    Ok(text)
+    text
 }
 
-fn by_registry(registry: &Registry<'_>, text: &str) -> Result<String, Fail> {
+fn by_registry(rt: &impl Abort, registry: &Registry<'_>, text: &str) -> String {
     let alloc = registry.allocator();
-    let schema = Value::from_str(alloc, text)?;
+    let schema = Value::from_str(alloc, text).expect(rt, "JSON");
     shown(
+        rt,
         alloc,
-        &registry.find_vocabularies(Draft::Draft202012, &schema)?,
+        &registry
+            .find_vocabularies(Draft::Draft202012, &schema)
+            .expect(rt, "memory"),
     )
 }
 
-fn by_resolver(alloc: Global, resolver: &Resolver<'_>, text: &str) -> Result<String, Fail> {
-    let schema = Value::from_str(alloc, text)?;
+fn by_resolver(rt: &impl Abort, alloc: Global, resolver: &Resolver<'_>, text: &str) -> String {
+    let schema = Value::from_str(alloc, text).expect(rt, "JSON");
     shown(
+        rt,
         alloc,
-        &resolver.find_vocabularies(Draft::Draft202012, &schema)?,
+        &resolver
+            .find_vocabularies(Draft::Draft202012, &schema)
+            .expect(rt, "memory"),
     )
 }
 
@@ -64,21 +71,20 @@ fn assert_found(
     registry: &Registry<'_>,
     resolver: &Resolver<'_>,
     rows: &[(&str, &str)],
-) -> Result<(), Fail> {
+) {
     for (text, want) in rows {
-        assert_eq!(rt; by_registry(registry, text)?.as_str(), *want);
+        assert_eq!(rt; by_registry(rt, registry, text).as_str(), *want);
         assert_eq!(rt;
-            by_resolver(registry.allocator(), resolver, text)?.as_str(),
+            by_resolver(rt, registry.allocator(), resolver, text).as_str(),
             *want
         );
     }
-    Ok(())
 }
 
 #[test]
-fn vocabularies_of_schemas(rt: HostRuntime) -> Result<(), Fail> {
-    let base = from_str(rt.alloc(), "http://a.test/r")?;
-    let registry = registry(rt.alloc()).expect(&rt, "a registry");
+fn vocabularies_of_schemas(rt: HostRuntime) {
+    let base = from_str(rt.alloc(), "http://a.test/r").expect(&rt, "a URI");
+    let registry = registry(&rt, rt.alloc());
     let resolver = registry.resolver(base).expect(&rt, "memory");
     assert_found(
         &rt,
@@ -96,25 +102,24 @@ fn vocabularies_of_schemas(rt: HostRuntime) -> Result<(), Fail> {
             ("{\"$vocabulary\":{}}", "applicator validation "),
             ("true", "applicator validation "),
         ],
-    )
+    );
 }
 
-fn assert_resolved(rt: &impl Abort, alloc: Global, resolver: &Resolver<'_>) -> Result<(), Fail> {
+fn assert_resolved(rt: &impl Abort, alloc: Global, resolver: &Resolver<'_>) {
     let uri = resolver.resolve_uri("d?e#f").expect(rt, "a URI");
     assert_eq!(rt; uri.as_str(), "http://a.test/b/d?e#f");
-    let error = refusal(alloc, resolver.resolve_uri("a b").err())?;
+    let error = refusal(rt, alloc, resolver.resolve_uri("a b").err());
     assert_eq!(rt; error.as_str(), "Invalid URI 'a b'");
-    Ok(())
 }
 
 #[test]
-fn uris_resolved(rt: HostRuntime) -> Result<(), Fail> {
-    let base = from_str(rt.alloc(), "http://a.test/b/c")?;
-    let registry = registry(rt.alloc()).expect(&rt, "a registry");
+fn uris_resolved(rt: HostRuntime) {
+    let base = from_str(rt.alloc(), "http://a.test/b/c").expect(&rt, "a URI");
+    let registry = registry(&rt, rt.alloc());
     let uri = registry.resolve_uri(&base, "../d#").expect(&rt, "a URI");
     assert_eq!(rt; uri.as_str(), "http://a.test/d");
     let resolver = registry.resolver(base).expect(&rt, "memory");
-    assert_resolved(&rt, rt.alloc(), &resolver)
+    assert_resolved(&rt, rt.alloc(), &resolver);
 }
 
 fn resolver_at<'r>(rt: &impl Abort, registry: &'r Registry<'_>, base: &str) -> Resolver<'r> {
@@ -136,7 +141,7 @@ fn assert_compared<'r>(rt: &impl Abort, registry: &'r Registry<'_>, mine: &Resol
 
 #[test]
 fn resolvers_compared(rt: HostRuntime) {
-    let registry = registry(rt.alloc()).expect(&rt, "a registry");
+    let registry = registry(&rt, rt.alloc());
     assert_compared(
         &rt,
         &registry,
@@ -145,19 +150,24 @@ fn resolvers_compared(rt: HostRuntime) {
 }
 
 #[test]
-fn builders_printed(rt: HostRuntime) -> Result<(), Fail> {
+fn builders_printed(rt: HostRuntime) {
     let alloc = rt.alloc();
-    let builder = Registry::new(alloc).add("http://a.test/m", Value::Null)?;
+    let builder = Registry::new(alloc)
+        .add("http://a.test/m", Value::Null)
+        .expect(&rt, "a builder");
     assert_eq!(rt;
-        format!(in alloc; "{builder:?}")?.as_str(),
+        format!(in alloc; "{builder:?}")
+            .expect(&rt, "memory")
+            .as_str(),
         "RegistryBuilder { draft: Draft202012, documents: 1, retriever: DefaultRetriever, limit: 256 }"
     );
     let other = builder
         .retriever(MapRetriever::new(alloc))
         .retrieval_limit(2);
     assert_eq!(rt;
-        format!(in alloc; "{other:?}")?.as_str(),
+        format!(in alloc; "{other:?}")
+            .expect(&rt, "memory")
+            .as_str(),
         "RegistryBuilder { draft: Draft202012, documents: 1, retriever: MapRetriever { documents: {} }, limit: 2 }"
     );
-    Ok(())
 }

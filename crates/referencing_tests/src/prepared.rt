@@ -5,29 +5,29 @@ use referencing::resolver::Resolved;
 use referencing_errors::error::Error;
 use serde_json::Value;
 use std::alloc::Global;
-use std::test::Fail;
+use std::process::Abort;
 use uri_references::uri::from_str;
 
 pub(crate) fn prepared<'a>(
+    rt: &impl Abort,
     alloc: Global,
     documents: &[(&str, &str)],
 ) -> Result<Registry<'a>, Error> {
     let mut builder = Registry::new(alloc);
     for (uri, text) in documents {
-        let Ok(document) = Value::from_str(alloc, text) else {
-            return Err(Error::Memory);
-        };
-        builder = builder.add(uri, document)?;
+        let document = Value::from_str(alloc, text).expect(rt, "JSON");
+        builder = builder.add(uri, document).expect(rt, "a builder");
     }
     builder.prepare()
 }
 
-pub(crate) fn retriever_of(alloc: Global, pairs: &[(&str, &str)]) -> Result<MapRetriever, Fail> {
+pub(crate) fn retriever_of(rt: &impl Abort, alloc: Global, pairs: &[(&str, &str)]) -> MapRetriever {
     let mut retriever = MapRetriever::new(alloc);
     for (uri, text) in pairs {
-        retriever.add(alloc, *uri, Value::from_str(alloc, *text)?)?;
+        let document = Value::from_str(alloc, *text).expect(rt, "JSON");
+        retriever.add(alloc, *uri, document).expect(rt, "memory");
     }
-    Ok(retriever)
+    retriever
 }
 
 pub(crate) fn reached<'r>(
@@ -40,9 +40,9 @@ pub(crate) fn reached<'r>(
 }
 
 // What an error tells, where there is one.
-pub(crate) fn refusal(alloc: Global, error: Option<Error>) -> Result<String, Fail> {
+pub(crate) fn refusal(rt: &impl Abort, alloc: Global, error: Option<Error>) -> String {
     match error {
-        Some(error) => Ok(format!(in alloc; "{error}")?),
-        None => Ok(String::from_str(alloc, "nothing refused")?),
+        Some(error) => format!(in alloc; "{error}").expect(rt, "memory"),
+        None => String::from_str(alloc, "nothing refused").expect(rt, "memory"),
     }
 }
