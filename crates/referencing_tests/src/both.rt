@@ -9,11 +9,7 @@ use std::alloc::Global;
 use std::process::Abort;
 use uri_references::uri::{Uri, from_str};
 
-fn shown(
-    rt: &impl Abort,
-    alloc: Global,
-    answer: Result<Option<Resolved<'_>>, Error>,
-) -> String {
+fn shown(rt: &impl Abort, alloc: Global, answer: Result<Option<Resolved<'_>>, Error>) -> String {
     match answer {
         Ok(Some(resolved)) => resolved.contents().to_string(alloc).expect(rt, "memory"),
         Ok(None) => String::from_str(alloc, "nothing looked up").expect(rt, "memory"),
