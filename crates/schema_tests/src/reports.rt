@@ -63,20 +63,16 @@ fn locations_are_paths(rt: HostRuntime) {
     assert_eq!(rt; pointer(&rt, rt.alloc(), &path).as_str(), "/a~1b/2");
 }
 
-// The pointer of the path that a reference begins.
-fn begun(rt: &impl Abort, alloc: Global, reference: Reference<'_>) -> String {
-    let path = reference.path(alloc).expect(rt, "memory");
-    pointer(rt, alloc, &path)
-}
-
 #[test]
 fn references_begin_paths(rt: HostRuntime) {
-    let alloc = rt.alloc();
-    let followed = Reference::followed("http://a.test/s#/$defs/a~1b/0");
-    assert_eq!(rt; begun(&rt, alloc, followed).as_str(), "/$defs/a~1b/0");
-    let anchor = Reference::followed("#anchor");
-    assert_eq!(rt; begun(&rt, alloc, anchor).as_str(), "");
-    assert_eq!(rt; begun(&rt, alloc, Reference::none()).as_str(), "");
+    let path = Reference::followed("http://a.test/s#/$defs/a~1b/0")
+        .path(rt.alloc())
+        .expect(&rt, "memory");
+    assert_eq!(rt; pointer(&rt, rt.alloc(), &path).as_str(), "/$defs/a~1b/0");
+    let path = Reference::followed("#anchor").path(rt.alloc());
+    assert!(rt; path.expect(&rt, "memory").is_root());
+    let path = Reference::none().path(rt.alloc());
+    assert!(rt; path.expect(&rt, "memory").is_root());
 }
 
 fn refuse_twice<'i>(
@@ -116,6 +112,13 @@ fn a_verdict_hears_of_any_fault(rt: HostRuntime) {
     assert!(rt; !accepts(observer).expect(&rt, "a verdict"));
 }
 
+fn first_error<'i>(observer: Observer<'i>) -> Option<ValidationError<'i>> {
+    match observer {
+        Observer::First(first) => first.into_error(),
+        _ => None,
+    }
+}
+
 fn paths(rt: &impl Abort, alloc: Global, error: &ValidationError<'_>) -> String {
     let instance = pointer(rt, alloc, error.instance_path());
     let schema = pointer(rt, alloc, error.schema_path());
@@ -123,26 +126,24 @@ fn paths(rt: &impl Abort, alloc: Global, error: &ValidationError<'_>) -> String 
     format!(in alloc; "{instance} {schema} {evaluation}").expect(rt, "memory")
 }
 
-// A line of the paths of an error, and the compact text of the value that it is told of.
-fn write_error(rt: &impl Abort, alloc: Global, text: &mut String, error: &ValidationError<'_>) {
-    let paths = paths(rt, alloc, error);
-    write!(text, "{paths} {}\n", error.instance()).expect(rt, "memory");
+// The paths of an error, and the compact text of the value that it is told of.
+fn assert_error(
+    rt: &impl Abort,
+    alloc: Global,
+    error: &ValidationError<'_>,
+    want: &str,
+    value: &str,
+) {
+    assert_eq!(rt; paths(rt, alloc, error).as_str(), want);
+    let instance = error.instance().to_string(alloc).expect(rt, "memory");
+    assert_eq!(rt; instance.as_str(), value);
 }
 
-// That line, the name of what is wrong, and how the error is shown.
-fn shown(rt: &impl Abort, alloc: Global, error: &ValidationError<'_>) -> String {
-    let mut text = String::new(alloc);
-    write_error(rt, alloc, &mut text, error);
-    write!(text, "{} {error}", error.kind().as_str()).expect(rt, "memory");
-    text
-}
-
-// What is said of the first error.
-fn first_shown(rt: &impl Abort, alloc: Global, observer: Observer<'_>) -> String {
-    match observer {
-        Observer::First(first) => shown(rt, alloc, &first.into_error().expect(rt, "an error")),
-        _ => String::new(alloc),
-    }
+// The name of what is wrong, which is how the error is shown.
+fn assert_kind(rt: &impl Abort, alloc: Global, error: &ValidationError<'_>, want: &str) {
+    assert_eq!(rt; error.kind().as_str(), want);
+    let shown = format!(in alloc; "{error}").expect(rt, "memory");
+    assert_eq!(rt; shown.as_str(), want);
 }
 
 #[test]
@@ -151,26 +152,26 @@ fn the_first_fault_is_kept(rt: HostRuntime) {
     assert!(rt; !observer.is_settled());
     refuse_twice(&rt, rt.alloc(), &mut observer, &Value::Null);
     assert!(rt; observer.is_settled());
-    assert_eq!(rt;
-        first_shown(&rt, rt.alloc(), observer).as_str(),
-        "/0/a /not /not null\nFalseSchema FalseSchema"
-    );
+    let error = first_error(observer).expect(&rt, "an error");
+    assert_error(&rt, rt.alloc(), &error, "/0/a /not /not", "null");
+    assert_kind(&rt, rt.alloc(), &error, "FalseSchema");
 }
 
-// The lines of all errors.
-fn lines(rt: &impl Abort, alloc: Global, errors: ErrorIterator<'_>) -> String {
-    let mut text = String::new(alloc);
-    for error in errors {
-        write_error(rt, alloc, &mut text, &error);
-    }
-    text
-}
-
-fn all_shown(rt: &impl Abort, alloc: Global, observer: Observer<'_>) -> String {
+fn all_errors<'i>(observer: Observer<'i>) -> Option<ErrorIterator<'i>> {
     match observer {
-        Observer::All(all) => lines(rt, alloc, ErrorIterator::of(all.into_errors())),
-        _ => String::new(alloc),
+        Observer::All(all) => Some(ErrorIterator::of(all.into_errors())),
+        _ => None,
     }
+}
+
+// The paths and the instance of each error.
+fn assert_errors(rt: &impl Abort, alloc: Global, observer: Observer<'_>, rows: &[(&str, &str)]) {
+    let mut errors = all_errors(observer).expect(rt, "all errors");
+    for (paths, instance) in rows {
+        let error = errors.next().expect(rt, "an error");
+        assert_error(rt, alloc, &error, paths, instance);
+    }
+    assert!(rt; errors.next().is_none());
 }
 
 #[test]
@@ -178,9 +179,11 @@ fn all_faults_are_kept(rt: HostRuntime) {
     let mut observer = Observer::All(AllFaults::new(rt.alloc()));
     refuse_twice(&rt, rt.alloc(), &mut observer, &Value::Null);
     assert!(rt; !observer.is_settled());
-    assert_eq!(rt;
-        all_shown(&rt, rt.alloc(), observer).as_str(),
-        "/0/a /not /not null\n/0/b /items /items null\n"
+    assert_errors(
+        &rt,
+        rt.alloc(),
+        observer,
+        &[("/0/a /not /not", "null"), ("/0/b /items /items", "null")],
     );
 }
 
@@ -197,9 +200,16 @@ fn what_another_heard_comes_after(rt: HostRuntime) {
     let mut observer = Observer::All(AllFaults::new(rt.alloc()));
     refuse_twice(&rt, rt.alloc(), &mut observer, &Value::Null);
     refuse_a_text(&rt, rt.alloc(), &mut observer);
-    assert_eq!(rt;
-        all_shown(&rt, rt.alloc(), observer).as_str(),
-        "/0/a /not /not null\n/0/b /items /items null\n/0/a /not /not \"name\"\n/0/b /items /items \"name\"\n"
+    assert_errors(
+        &rt,
+        rt.alloc(),
+        observer,
+        &[
+            ("/0/a /not /not", "null"),
+            ("/0/b /items /items", "null"),
+            ("/0/a /not /not", "\"name\""),
+            ("/0/b /items /items", "\"name\""),
+        ],
     );
 }
 
@@ -209,10 +219,8 @@ fn the_first_stays_where_another_heard_more(rt: HostRuntime) {
     refuse_a_text(&rt, rt.alloc(), &mut observer);
     refuse_twice(&rt, rt.alloc(), &mut observer, &Value::Null);
     refuse_a_text(&rt, rt.alloc(), &mut observer);
-    assert_eq!(rt;
-        first_shown(&rt, rt.alloc(), observer).as_str(),
-        "/0/a /not /not \"name\"\nFalseSchema FalseSchema"
-    );
+    let error = first_error(observer).expect(&rt, "an error");
+    assert_error(&rt, rt.alloc(), &error, "/0/a /not /not", "\"name\"");
 }
 
 #[test]
@@ -238,24 +246,12 @@ fn refuse_a_name<'i>(
         .expect(rt, "memory");
 }
 
-// The error of a name, and the error of the name itself that it carries.
-fn carried_shown(rt: &impl Abort, alloc: Global, error: &ValidationError<'_>) -> String {
-    let mut text = String::new(alloc);
-    write_error(rt, alloc, &mut text, error);
-    match error.kind() {
-        ValidationErrorKind::PropertyNames { error } => write_error(rt, alloc, &mut text, error),
-        _ => text.push_str("another kind").expect(rt, "memory"),
-    }
-    text
-}
-
-fn name_shown(rt: &impl Abort, alloc: Global, observer: Observer<'_>) -> String {
-    match observer {
-        Observer::First(first) => {
-            carried_shown(rt, alloc, &first.into_error().expect(rt, "an error"))
-        }
-        _ => String::new(alloc),
-    }
+// The error of a name carries that of the name itself.
+fn assert_carries(rt: &impl Abort, alloc: Global, error: &ValidationError<'_>) {
+    let ValidationErrorKind::PropertyNames { error: carried } = error.kind() else {
+        panic!(rt; "another kind")
+    };
+    assert_error(rt, alloc, carried, "/0/a /not /not", "\"name\"");
 }
 
 #[test]
@@ -265,10 +261,10 @@ fn errors_of_names_are_told_of_the_object(rt: HostRuntime) {
     let object = Value::from_str(alloc, "{\"name\": 1}").expect(&rt, "JSON");
     let mut observer = Observer::First(FirstFault::new());
     refuse_a_name(&rt, alloc, &mut observer, &text, &object);
-    assert_eq!(rt;
-        name_shown(&rt, alloc, observer).as_str(),
-        " /not /not {\"name\":1}\n/0/a /not /not \"name\"\n"
-    );
+    let error = first_error(observer).expect(&rt, "an error");
+    assert_error(&rt, alloc, &error, " /not /not", "{\"name\":1}");
+    assert!(rt; error.instance().is_object());
+    assert_carries(&rt, alloc, &error);
 }
 
 fn names_in(rt: &impl Abort, alloc: Global, value: &Value) -> TypeNames {
