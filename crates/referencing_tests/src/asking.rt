@@ -10,12 +10,12 @@ use schema_vocabularies::{Vocabulary, VocabularySet};
 use serde_json::Value;
 use std::alloc::Global;
 use std::process::Abort;
+use std::test::Fail;
 use uri_references::uri::from_str;
 
 // A meta-schema that requires the applicators alone.
-fn registry<'a>(rt: &impl Abort, alloc: Global) -> Registry<'a> {
+fn registry<'a>(alloc: Global) -> Result<Registry<'a>, Error> {
     prepared(
-        rt,
         alloc,
         &[(
             "http://a.test/m",
@@ -23,45 +23,38 @@ fn registry<'a>(rt: &impl Abort, alloc: Global) -> Registry<'a> {
             {\"https://json-schema.org/draft/2020-12/vocab/applicator\":true,\"http://a.test/v\":true}}",
         )],
     )
-    .expect(rt, "a registry")
 }
 
-fn shown(rt: &impl Abort, alloc: Global, set: &VocabularySet) -> String {
+fn shown(alloc: Global, set: &VocabularySet) -> Result<String, Fail> {
     let mut text = String::new(alloc);
     for (vocabulary, name) in &[
         (Vocabulary::Applicator, "applicator "),
         (Vocabulary::Validation, "validation "),
     ] {
         if set.contains(vocabulary) {
-            text.push_str(*name).expect(rt, "memory");
+            text.push_str(*name)?;
         }
     }
     for uri in set.custom() {
-        text.push_str(uri.as_str()).expect(rt, "memory");
+        text.push_str(uri.as_str())?;
     }
-    text
+    Ok(text)
 }
 
-fn by_registry(rt: &impl Abort, registry: &Registry<'_>, text: &str) -> String {
+fn by_registry(registry: &Registry<'_>, text: &str) -> Result<String, Fail> {
     let alloc = registry.allocator();
-    let schema = Value::from_str(alloc, text).expect(rt, "JSON");
+    let schema = Value::from_str(alloc, text)?;
     shown(
-        rt,
         alloc,
-        &registry
-            .find_vocabularies(Draft::Draft202012, &schema)
-            .expect(rt, "memory"),
+        &registry.find_vocabularies(Draft::Draft202012, &schema)?,
     )
 }
 
-fn by_resolver(rt: &impl Abort, alloc: Global, resolver: &Resolver<'_>, text: &str) -> String {
-    let schema = Value::from_str(alloc, text).expect(rt, "JSON");
+fn by_resolver(alloc: Global, resolver: &Resolver<'_>, text: &str) -> Result<String, Fail> {
+    let schema = Value::from_str(alloc, text)?;
     shown(
-        rt,
         alloc,
-        &resolver
-            .find_vocabularies(Draft::Draft202012, &schema)
-            .expect(rt, "memory"),
+        &resolver.find_vocabularies(Draft::Draft202012, &schema)?,
     )
 }
 
@@ -71,20 +64,21 @@ fn assert_found(
     registry: &Registry<'_>,
     resolver: &Resolver<'_>,
     rows: &[(&str, &str)],
-) {
+) -> Result<(), Fail> {
     for (text, want) in rows {
-        assert_eq!(rt; by_registry(rt, registry, text).as_str(), *want);
+        assert_eq!(rt; by_registry(registry, text)?.as_str(), *want);
         assert_eq!(rt;
-            by_resolver(rt, registry.allocator(), resolver, text).as_str(),
+            by_resolver(registry.allocator(), resolver, text)?.as_str(),
             *want
         );
     }
+    Ok(())
 }
 
 #[test]
-fn vocabularies_of_schemas(rt: HostRuntime) {
-    let base = from_str(rt.alloc(), "http://a.test/r").expect(&rt, "a URI");
-    let registry = registry(&rt, rt.alloc());
+fn vocabularies_of_schemas(rt: HostRuntime) -> Result<(), Fail> {
+    let base = from_str(rt.alloc(), "http://a.test/r")?;
+    let registry = registry(rt.alloc()).expect(&rt, "a registry");
     let resolver = registry.resolver(base).expect(&rt, "memory");
     assert_found(
         &rt,
@@ -102,24 +96,25 @@ fn vocabularies_of_schemas(rt: HostRuntime) {
             ("{\"$vocabulary\":{}}", "applicator validation "),
             ("true", "applicator validation "),
         ],
-    );
+    )
 }
 
-fn assert_resolved(rt: &impl Abort, alloc: Global, resolver: &Resolver<'_>) {
+fn assert_resolved(rt: &impl Abort, alloc: Global, resolver: &Resolver<'_>) -> Result<(), Fail> {
     let uri = resolver.resolve_uri("d?e#f").expect(rt, "a URI");
     assert_eq!(rt; uri.as_str(), "http://a.test/b/d?e#f");
-    let error = refusal(rt, alloc, resolver.resolve_uri("a b").err());
+    let error = refusal(alloc, resolver.resolve_uri("a b").err())?;
     assert_eq!(rt; error.as_str(), "Invalid URI 'a b'");
+    Ok(())
 }
 
 #[test]
-fn uris_resolved(rt: HostRuntime) {
-    let base = from_str(rt.alloc(), "http://a.test/b/c").expect(&rt, "a URI");
-    let registry = registry(&rt, rt.alloc());
+fn uris_resolved(rt: HostRuntime) -> Result<(), Fail> {
+    let base = from_str(rt.alloc(), "http://a.test/b/c")?;
+    let registry = registry(rt.alloc()).expect(&rt, "a registry");
     let uri = registry.resolve_uri(&base, "../d#").expect(&rt, "a URI");
     assert_eq!(rt; uri.as_str(), "http://a.test/d");
     let resolver = registry.resolver(base).expect(&rt, "memory");
-    assert_resolved(&rt, rt.alloc(), &resolver);
+    assert_resolved(&rt, rt.alloc(), &resolver)
 }
 
 fn resolver_at<'r>(rt: &impl Abort, registry: &'r Registry<'_>, base: &str) -> Resolver<'r> {
@@ -141,7 +136,7 @@ fn assert_compared<'r>(rt: &impl Abort, registry: &'r Registry<'_>, mine: &Resol
 
 #[test]
 fn resolvers_compared(rt: HostRuntime) {
-    let registry = registry(&rt, rt.alloc());
+    let registry = registry(rt.alloc()).expect(&rt, "a registry");
     assert_compared(
         &rt,
         &registry,
@@ -150,24 +145,19 @@ fn resolvers_compared(rt: HostRuntime) {
 }
 
 #[test]
-fn builders_printed(rt: HostRuntime) {
+fn builders_printed(rt: HostRuntime) -> Result<(), Fail> {
     let alloc = rt.alloc();
-    let builder = Registry::new(alloc)
-        .add("http://a.test/m", Value::Null)
-        .expect(&rt, "a builder");
+    let builder = Registry::new(alloc).add("http://a.test/m", Value::Null)?;
     assert_eq!(rt;
-        format!(in alloc; "{builder:?}")
-            .expect(&rt, "memory")
-            .as_str(),
+        format!(in alloc; "{builder:?}")?.as_str(),
         "RegistryBuilder { draft: Draft202012, documents: 1, retriever: DefaultRetriever, limit: 256 }"
     );
     let other = builder
         .retriever(MapRetriever::new(alloc))
         .retrieval_limit(2);
     assert_eq!(rt;
-        format!(in alloc; "{other:?}")
-            .expect(&rt, "memory")
-            .as_str(),
+        format!(in alloc; "{other:?}")?.as_str(),
         "RegistryBuilder { draft: Draft202012, documents: 1, retriever: MapRetriever { documents: {} }, limit: 2 }"
     );
+    Ok(())
 }

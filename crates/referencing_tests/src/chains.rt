@@ -10,6 +10,7 @@ use schema_drafts::resource::ResourceRef;
 use serde_json::Value;
 use std::alloc::Global;
 use std::process::Abort;
+use std::test::Fail;
 use uri_references::uri::from_str;
 
 const LIST: &str =
@@ -29,66 +30,62 @@ const PLAIN: &str =
 const STRICT: &str =
     "{\"$schema\":\"https://json-schema.org/draft/2019-09/schema\",\"$id\":\"http://a.test/strict\",\"$recursiveAnchor\":true,\"$ref\":\"tree\"}";
 
-fn shown(rt: &impl Abort, alloc: Global, resolved: &Resolved<'_>) -> String {
-    let path = resolved.path().to_pointer(alloc).expect(rt, "memory");
-    let base = resolved.resolver().base_uri().expect(rt, "memory");
+fn shown(alloc: Global, resolved: &Resolved<'_>) -> Result<String, Fail> {
+    let path = resolved.path().to_pointer(alloc)?;
+    let base = resolved.resolver().base_uri()?;
     let document = resolved.document().as_str();
-    format!(in alloc; "{document}#{path} {}", base.as_str()).expect(rt, "memory")
+    Ok(format!(in alloc; "{document}#{path} {}", base.as_str())?)
 }
 
 // Where a chain leads from a base, or why it leads nowhere.
-fn led(rt: &impl Abort, registry: &Registry<'_>, base: &str, steps: &[Step<'_>]) -> String {
+fn led(registry: &Registry<'_>, base: &str, steps: &[Step<'_>]) -> Result<String, Fail> {
     let alloc = registry.allocator();
-    match follow(registry, from_str(alloc, base).expect(rt, "a URI"), steps) {
-        Ok(Some(resolved)) => shown(rt, alloc, &resolved),
-        Ok(None) => String::from_str(alloc, "nothing looked up").expect(rt, "memory"),
-        Err(error) => refusal(rt, alloc, Some(error)),
+    match follow(registry, from_str(alloc, base)?, steps) {
+        Ok(Some(resolved)) => shown(alloc, &resolved),
+        Ok(None) => Ok(String::from_str(alloc, "nothing looked up")?),
+        Err(error) => refusal(alloc, Some(error)),
     }
 }
 
-fn lists<'a>(rt: &impl Abort, alloc: Global) -> Registry<'a> {
+fn lists<'a>(alloc: Global) -> Result<Registry<'a>, Error> {
     prepared(
-        rt,
         alloc,
         &[
             ("http://a.test/list", LIST),
             ("http://a.test/strings", STRINGS),
         ],
     )
-    .expect(rt, "a registry")
 }
 
 // Where a chain leads that goes by the items of the list.
 fn led_by_items(
-    rt: &impl Abort,
     alloc: Global,
     base: &str,
     first: &'static str,
     last: Step<'static>,
-) -> String {
-    let list = Value::from_str(alloc, LIST).expect(rt, "JSON");
-    let items = ResourceRef::new(list.get("items").expect(rt, "items"), Draft::Draft202012);
+) -> Result<String, Fail> {
+    let list = Value::from_str(alloc, LIST)?;
+    let items = ResourceRef::new(list.get("items").ok_or("items")?, Draft::Draft202012);
     led(
-        rt,
-        &lists(rt, alloc),
+        &lists(alloc)?,
         base,
         &[Step::Lookup(first), Step::Enter(items), last],
     )
 }
 
 #[test]
-fn references_of_items(rt: HostRuntime) {
+fn references_of_items(rt: HostRuntime) -> Result<(), Fail> {
     let led = led_by_items(
-        &rt,
         rt.alloc(),
         "http://a.test/strings",
         "list",
         Step::Lookup("#item"),
-    );
+    )?;
     assert_eq!(rt;
         led.as_str(),
         "http://a.test/list#/$defs/d http://a.test/list"
     );
+    Ok(())
 }
 
 // Each base, reference and `$dynamicRef` of the items, and what is told of the chain.
@@ -96,15 +93,16 @@ fn assert_dynamic(
     rt: &impl Abort,
     alloc: Global,
     rows: &[(&str, &'static str, &'static str, &str)],
-) {
+) -> Result<(), Fail> {
     for (base, first, last, want) in rows {
-        let led = led_by_items(rt, alloc, base, *first, Step::Dynamic(*last));
+        let led = led_by_items(alloc, base, *first, Step::Dynamic(*last))?;
         assert_eq!(rt; led.as_str(), *want);
     }
+    Ok(())
 }
 
 #[test]
-fn dynamic_references(rt: HostRuntime) {
+fn dynamic_references(rt: HostRuntime) -> Result<(), Fail> {
     assert_dynamic(
         &rt,
         rt.alloc(),
@@ -128,32 +126,28 @@ fn dynamic_references(rt: HostRuntime) {
                 "Anchor 'none' does not exist",
             ),
         ],
-    );
+    )
 }
 
-fn led_to_item(rt: &impl Abort, registry: &Registry<'_>) -> String {
-    let there = reached(registry, "http://a.test/strings", "list").expect(rt, "a target");
+fn led_to_item(registry: &Registry<'_>) -> Result<String, Fail> {
+    let there = reached(registry, "http://a.test/strings", "list")?;
     shown(
-        rt,
         registry.allocator(),
-        &there
-            .resolver()
-            .lookup_dynamic_ref("#item")
-            .expect(rt, "a target"),
+        &there.resolver().lookup_dynamic_ref("#item")?,
     )
 }
 
 #[test]
-fn dynamic_references_of_resolvers(rt: HostRuntime) {
+fn dynamic_references_of_resolvers(rt: HostRuntime) -> Result<(), Fail> {
     assert_eq!(rt;
-        led_to_item(&rt, &lists(&rt, rt.alloc())).as_str(),
+        led_to_item(&lists(rt.alloc())?)?.as_str(),
         "http://a.test/strings#/$defs/s http://a.test/strings"
     );
+    Ok(())
 }
 
-fn trees<'a>(rt: &impl Abort, alloc: Global) -> Registry<'a> {
+fn trees<'a>(alloc: Global) -> Result<Registry<'a>, Error> {
     prepared(
-        rt,
         alloc,
         &[
             ("http://a.test/tree", TREE),
@@ -161,47 +155,52 @@ fn trees<'a>(rt: &impl Abort, alloc: Global) -> Registry<'a> {
             ("http://a.test/plain", PLAIN),
         ],
     )
-    .expect(rt, "a registry")
 }
 
 // Where a chain of plain references leads that ends in `$recursiveRef`.
-fn led_recursively(rt: &impl Abort, alloc: Global, base: &str, references: &[&str]) -> String {
+fn led_recursively(alloc: Global, base: &str, references: &[&str]) -> Result<String, Fail> {
     let mut steps = Vec::new(alloc);
     for reference in references {
-        steps.push(Step::Lookup(*reference)).expect(rt, "memory");
+        steps.push(Step::Lookup(*reference))?;
     }
-    steps.push(Step::Recursive).expect(rt, "memory");
-    led(rt, &trees(rt, alloc), base, steps.as_slice())
+    steps.push(Step::Recursive)?;
+    led(&trees(alloc)?, base, steps.as_slice())
 }
 
-fn assert_recursive(rt: &impl Abort, alloc: Global, references: &[&str], rows: &[(&str, &str)]) {
+fn assert_recursive(
+    rt: &impl Abort,
+    alloc: Global,
+    references: &[&str],
+    rows: &[(&str, &str)],
+) -> Result<(), Fail> {
     for (base, want) in rows {
-        let led = led_recursively(rt, alloc, base, references);
+        let led = led_recursively(alloc, base, references)?;
         assert_eq!(rt; led.as_str(), *want);
     }
+    Ok(())
 }
 
 #[test]
-fn recursive_references(rt: HostRuntime) {
+fn recursive_references(rt: HostRuntime) -> Result<(), Fail> {
     let (strict, alloc) = ("http://a.test/strict", rt.alloc());
     assert_recursive(
         &rt,
         alloc,
         &["tree"],
         &[(strict, "http://a.test/strict# http://a.test/strict")],
-    );
+    )?;
     assert_recursive(
         &rt,
         alloc,
         &["plain", "tree"],
         &[(strict, "http://a.test/tree# http://a.test/tree")],
-    );
+    )?;
     assert_recursive(
         &rt,
         alloc,
         &["plain"],
         &[(strict, "http://a.test/plain# http://a.test/plain")],
-    );
+    )?;
     assert_recursive(
         &rt,
         alloc,
@@ -216,27 +215,24 @@ fn recursive_references(rt: HostRuntime) {
                 "Resource 'http://a.test/none' is not present and retrieving it failed",
             ),
         ],
-    );
+    )
 }
 
-fn led_to_end(rt: &impl Abort, registry: &Registry<'_>) -> String {
-    let there = reached(registry, "http://a.test/strict", "tree").expect(rt, "a target");
+fn led_to_end(registry: &Registry<'_>) -> Result<String, Fail> {
+    let there = reached(registry, "http://a.test/strict", "tree")?;
     shown(
-        rt,
         registry.allocator(),
-        &there
-            .resolver()
-            .lookup_recursive_ref()
-            .expect(rt, "a target"),
+        &there.resolver().lookup_recursive_ref()?,
     )
 }
 
 #[test]
-fn recursive_references_of_resolvers(rt: HostRuntime) {
+fn recursive_references_of_resolvers(rt: HostRuntime) -> Result<(), Fail> {
     assert_eq!(rt;
-        led_to_end(&rt, &trees(&rt, rt.alloc())).as_str(),
+        led_to_end(&trees(rt.alloc())?)?.as_str(),
         "http://a.test/strict# http://a.test/strict"
     );
+    Ok(())
 }
 
 // Where a reference leads in a document that stands alone, and that no reference leads nowhere.
@@ -246,21 +242,27 @@ fn assert_led_alone(
     uri: &str,
     reference: &str,
     want: &str,
-) {
-    assert_eq!(rt; led(rt, registry, uri, &[]).as_str(), "nothing looked up");
-    let there = led(rt, registry, uri, &[Step::Lookup(reference)]);
+) -> Result<(), Fail> {
+    assert_eq!(rt; led(registry, uri, &[])?.as_str(), "nothing looked up");
+    let there = led(registry, uri, &[Step::Lookup(reference)])?;
     assert_eq!(rt; there.as_str(), want);
+    Ok(())
 }
 
-fn assert_led(rt: &impl Abort, alloc: Global, rows: &[(&str, &str, &str, &str)]) {
+fn assert_led(
+    rt: &impl Abort,
+    alloc: Global,
+    rows: &[(&str, &str, &str, &str)],
+) -> Result<(), Fail> {
     for (uri, text, reference, want) in rows {
-        let registry = prepared(rt, alloc, &[(*uri, *text)]).expect(rt, "a registry");
-        assert_led_alone(rt, &registry, uri, reference, want);
+        let registry = prepared(alloc, &[(*uri, *text)])?;
+        assert_led_alone(rt, &registry, uri, reference, want)?;
     }
+    Ok(())
 }
 
 #[test]
-fn chains_of_plain_references(rt: HostRuntime) {
+fn chains_of_plain_references(rt: HostRuntime) -> Result<(), Fail> {
     assert_led(
         &rt,
         rt.alloc(),
@@ -296,93 +298,80 @@ fn chains_of_plain_references(rt: HostRuntime) {
                 "Pointer '/a' does not exist",
             ),
         ],
-    );
+    )
 }
 
 // The key of the scope that three references lead to from a base.
-fn key(rt: &impl Abort, registry: &Registry<'_>, base: &str, references: &[&str; 3]) -> ScopeKey {
+fn key(registry: &Registry<'_>, base: &str, references: &[&str; 3]) -> Result<ScopeKey, Fail> {
     let steps = [
         Step::Lookup(references[0]),
         Step::Lookup(references[1]),
         Step::Lookup(references[2]),
     ];
-    let found = follow(
-        registry,
-        from_str(registry.allocator(), base).expect(rt, "a URI"),
-        &steps,
-    )
-    .expect(rt, "a URI");
-    found
-        .expect(rt, "nothing looked up")
-        .resolver()
-        .scope_key()
-        .expect(rt, "memory")
+    let found = follow(registry, from_str(registry.allocator(), base)?, &steps)?;
+    Ok(found.ok_or("nothing looked up")?.resolver().scope_key()?)
 }
 
 // Whether the scopes of what is reached from two bases have one key.
 fn have_one_key(
-    rt: &impl Abort,
     registry: &Registry<'_>,
     left: (&str, &[&str; 3]),
     right: (&str, &[&str; 3]),
-) -> bool {
-    let mine = key(rt, registry, left.0, left.1);
-    mine == key(rt, registry, right.0, right.1)
+) -> Result<bool, Fail> {
+    let mine = key(registry, left.0, left.1)?;
+    Ok(mine == key(registry, right.0, right.1)?)
 }
 
-fn assert_keys(rt: &impl Abort, registry: &Registry<'_>) {
+fn assert_keys(rt: &impl Abort, registry: &Registry<'_>) -> Result<(), Fail> {
     // the same resources, one of them entered twice
     assert!(rt;
         have_one_key(
-            rt,
             registry,
             ("http://a.test/strings", &["list", "", ""]),
             ("http://a.test/strings", &["list", "strings", "list"])
-        )
+        )?
     );
     // one innermost resource, other outer ones
     assert!(rt;
         !have_one_key(
-            rt,
             registry,
             ("http://a.test/strings", &["list", "", ""]),
             ("http://a.test/list", &["", "", ""])
-        )
+        )?
     );
     // the same resources in another order
     assert!(rt;
         !have_one_key(
-            rt,
             registry,
             ("http://a.test/strings", &["list", "tree", ""]),
             ("http://a.test/list", &["strings", "tree", ""])
-        )
+        )?
     );
+    Ok(())
 }
 
 #[test]
-fn scope_keys(rt: HostRuntime) {
+fn scope_keys(rt: HostRuntime) -> Result<(), Fail> {
     let registry = prepared(
-        &rt,
         rt.alloc(),
         &[
             ("http://a.test/list", LIST),
             ("http://a.test/tree", TREE),
             ("http://a.test/strings", STRINGS),
         ],
-    )
-    .expect(&rt, "a registry");
-    assert_keys(&rt, &registry);
+    )?;
+    assert_keys(&rt, &registry)
 }
 
-fn assert_runs_told(rt: &impl Abort, registry: &Registry<'_>) {
+fn assert_runs_told(rt: &impl Abort, registry: &Registry<'_>) -> Result<(), Fail> {
     let run = ("http://a.test/plain", &["tree", "strict", ""]);
     let broken = ("http://a.test/plain", &["tree", "plain", "strict"]);
-    assert!(rt; !have_one_key(rt, registry, run, broken));
-    assert!(rt; have_one_key(rt, registry, run, run));
+    assert!(rt; !have_one_key(registry, run, broken)?);
+    assert!(rt; have_one_key(registry, run, run)?);
+    Ok(())
 }
 
 #[test]
-fn scope_keys_tell_the_end_of_a_run(rt: HostRuntime) {
-    assert_runs_told(&rt, &trees(&rt, rt.alloc()));
+fn scope_keys_tell_the_end_of_a_run(rt: HostRuntime) -> Result<(), Fail> {
+    assert_runs_told(&rt, &trees(rt.alloc())?)
 }

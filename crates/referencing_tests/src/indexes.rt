@@ -9,6 +9,7 @@ use serde_json::Value;
 use std::alloc::Global;
 use std::process::Abort;
 use std::rc::Rc;
+use std::test::Fail;
 use uri_references::uri::Uri;
 
 const FIRST: &str = "{\"$id\": \"http://a.test/own/\", \"$anchor\": \"top\",
@@ -19,87 +20,83 @@ const SECOND: &str =
     "{\"$schema\": \"http://json-schema.org/draft-07/schema#\", \"$anchor\": \"none\",
     \"definitions\": {\"a\": {\"$id\": \"#name\"}, \"b\": {\"$id\": \"http://a.test/own/part\"}, \"c\": {\"$id\": \"#name\", \"$ref\": \"#\"}}}";
 
-fn document<'a>(rt: &impl Abort, alloc: Global, uri: &str, contents: Contents<'a>) -> Document<'a> {
-    Document {
-        uri: Rc::new(alloc, Uri::parse(alloc, uri).expect(rt, "a URI")).expect(rt, "memory"),
+fn document<'a>(alloc: Global, uri: &str, contents: Contents<'a>) -> Result<Document<'a>, Fail> {
+    Ok(Document {
+        uri: Rc::new(alloc, Uri::parse(alloc, uri)?)?,
         contents,
         default: Draft::Draft202012,
-    }
+    })
 }
 
-fn shown(rt: &impl Abort, alloc: Global, found: Option<&Bearer>) -> String {
+fn shown(alloc: Global, found: Option<&Bearer>) -> Result<String, Fail> {
     match found {
         Some(place) => {
-            let pointer = place.path.to_pointer(alloc).expect(rt, "memory");
-            format!(in alloc;
+            let pointer = place.path.to_pointer(alloc)?;
+            Ok(format!(in alloc;
                 "{}#{pointer} {} {:?}",
                 place.document,
                 place.base.as_str(),
                 place.dialect.draft
-            )
-            .expect(rt, "memory")
+            )?)
         }
-        None => String::from_str(alloc, "none").expect(rt, "memory"),
+        None => Ok(String::from_str(alloc, "none")?),
     }
 }
 
-fn owned<'a>(rt: &impl Abort, alloc: Global, uri: &str, text: &str) -> Document<'a> {
-    document(
-        rt,
-        alloc,
-        uri,
-        Contents::Owned(Value::from_str(alloc, text).expect(rt, "JSON")),
-    )
+fn owned<'a>(alloc: Global, uri: &str, text: &str) -> Result<Document<'a>, Fail> {
+    document(alloc, uri, Contents::Owned(Value::from_str(alloc, text)?))
 }
 
-fn all_owned<'a>(rt: &impl Abort, alloc: Global, texts: &[(&str, &str)]) -> Vec<Document<'a>> {
+fn all_owned<'a>(alloc: Global, texts: &[(&str, &str)]) -> Result<Vec<Document<'a>>, Fail> {
     let mut documents = Vec::new(alloc);
     for (uri, text) in texts {
-        documents
-            .push(owned(rt, alloc, uri, text))
-            .expect(rt, "memory");
+        documents.push(owned(alloc, uri, text)?)?;
     }
-    documents
+    Ok(documents)
 }
 
 // The index of documents without meta-schemas of their own.
-fn indexed(rt: &impl Abort, alloc: Global, documents: &[Document<'_>]) -> Index {
-    index_of(alloc, &MetaSchemas::none(alloc), documents).expect(rt, "memory")
+fn indexed(alloc: Global, documents: &[Document<'_>]) -> Result<Index, Fail> {
+    Ok(index_of(alloc, &MetaSchemas::none(alloc), documents)?)
 }
 
-fn indexed_standing(rt: &impl Abort, alloc: Global, documents: &[Document<'_>]) -> Index {
-    let places = standings(alloc, &MetaSchemas::none(alloc), documents).expect(rt, "memory");
-    Index::of(alloc, &places).expect(rt, "memory")
+fn indexed_standing(alloc: Global, documents: &[Document<'_>]) -> Result<Index, Fail> {
+    let places = standings(alloc, &MetaSchemas::none(alloc), documents)?;
+    Ok(Index::of(alloc, &places)?)
 }
 
 fn lent_and_shared<'a>(
-    rt: &impl Abort,
     alloc: Global,
     lent: &'a Value,
     shared: Rc<Value>,
-) -> Vec<Document<'a>> {
-    let second = document(rt, alloc, "http://a.test/second", Contents::Shared(shared));
-    let first = document(rt, alloc, "http://a.test/first", Contents::Lent(lent));
-    vec![in alloc; first, second].expect(rt, "memory")
+) -> Result<Vec<Document<'a>>, Fail> {
+    let second = document(alloc, "http://a.test/second", Contents::Shared(shared))?;
+    let first = document(alloc, "http://a.test/first", Contents::Lent(lent))?;
+    Ok(vec![in alloc; first, second]?)
 }
 
-fn assert_borne(rt: &impl Abort, alloc: Global, index: &Index, rows: &[(&str, &str)]) {
+fn assert_borne(
+    rt: &impl Abort,
+    alloc: Global,
+    index: &Index,
+    rows: &[(&str, &str)],
+) -> Result<(), Fail> {
     for (uri, want) in rows {
-        assert_eq!(rt; shown(rt, alloc, index.bearer(uri)).as_str(), *want);
+        assert_eq!(rt; shown(alloc, index.bearer(uri))?.as_str(), *want);
     }
+    Ok(())
 }
 
 #[test]
-fn the_last_bearer_of_a_uri(rt: HostRuntime) {
+fn the_last_bearer_of_a_uri(rt: HostRuntime) -> Result<(), Fail> {
     let alloc = rt.alloc();
-    let second = Value::from_str(alloc, SECOND).expect(&rt, "JSON");
-    let shared = Rc::new(alloc, second).expect(&rt, "memory");
-    let lent = Value::from_str(alloc, FIRST).expect(&rt, "JSON");
-    let documents = lent_and_shared(&rt, alloc, &lent, shared);
+    let shared = Rc::new(alloc, Value::from_str(alloc, SECOND)?)?;
+    let lent = Value::from_str(alloc, FIRST)?;
+    let documents = lent_and_shared(alloc, &lent, shared)?;
     assert_borne(
         &rt,
         alloc,
-        &indexed_standing(&rt, alloc, &documents),
+        &indexed_standing(alloc, &documents)?,
         &[
             ("http://a.test/first", "0# http://a.test/own/ Draft202012"),
             ("http://a.test/own/", "0# http://a.test/own/ Draft202012"),
@@ -111,16 +108,19 @@ fn the_last_bearer_of_a_uri(rt: HostRuntime) {
             ("http://c.test/", "none"),
             ("http://a.test/own", "none"),
         ],
-    );
+    )
 }
 
-fn assert_anchored(rt: &impl Abort, alloc: Global, index: &Index, rows: &[(&str, &str, &str)]) {
+fn assert_anchored(
+    rt: &impl Abort,
+    alloc: Global,
+    index: &Index,
+    rows: &[(&str, &str, &str)],
+) -> Result<(), Fail> {
     for (base, name, want) in rows {
-        assert_eq!(rt;
-            shown(rt, alloc, index.anchored(base, name)).as_str(),
-            *want
-        );
+        assert_eq!(rt; shown(alloc, index.anchored(base, name))?.as_str(), *want);
     }
+    Ok(())
 }
 
 const ANCHORED: [(&str, &str, &str); 9] = [
@@ -156,17 +156,16 @@ const ANCHORED: [(&str, &str, &str); 9] = [
 ];
 
 #[test]
-fn the_last_bearer_of_an_anchor(rt: HostRuntime) {
+fn the_last_bearer_of_an_anchor(rt: HostRuntime) -> Result<(), Fail> {
     let alloc = rt.alloc();
     let documents = all_owned(
-        &rt,
         alloc,
         &[
             ("http://a.test/first", FIRST),
             ("http://a.test/second", SECOND),
         ],
-    );
-    assert_anchored(&rt, alloc, &indexed(&rt, alloc, &documents), &ANCHORED);
+    )?;
+    assert_anchored(&rt, alloc, &indexed(alloc, &documents)?, &ANCHORED)
 }
 
 const DYNAMIC: &str =
@@ -179,11 +178,12 @@ fn assert_dynamically_anchored(
     alloc: Global,
     index: &Index,
     rows: &[(&str, &str, &str)],
-) {
+) -> Result<(), Fail> {
     for (base, name, want) in rows {
         let found = index.dynamically_anchored(base, name);
-        assert_eq!(rt; shown(rt, alloc, found).as_str(), *want);
+        assert_eq!(rt; shown(alloc, found)?.as_str(), *want);
     }
+    Ok(())
 }
 
 // That an answer is a place of a document with a keyword at its root.
@@ -199,9 +199,9 @@ fn assert_answer(
 }
 
 #[test]
-fn the_last_bearer_of_a_dynamic_anchor(rt: HostRuntime) {
+fn the_last_bearer_of_a_dynamic_anchor(rt: HostRuntime) -> Result<(), Fail> {
     let alloc = rt.alloc();
-    let documents = all_owned(&rt, alloc, &[("http://a.test/d", DYNAMIC)]);
+    let documents = all_owned(alloc, &[("http://a.test/d", DYNAMIC)])?;
     let index = index_of(alloc, &MetaSchemas::none(alloc), &documents).expect(&rt, "memory");
     let found = dynamically_anchored(&documents, &index, "http://a.test/part", "n");
     assert_answer(&rt, found, 0, "$dynamicAnchor");
@@ -223,24 +223,24 @@ fn the_last_bearer_of_a_dynamic_anchor(rt: HostRuntime) {
             ("http://a.test/d", "plain", "none"),
             ("http://a.test/old", "n", "none"),
         ],
-    );
+    )
 }
 
 #[test]
-fn answers_have_the_document(rt: HostRuntime) {
+fn answers_have_the_document(rt: HostRuntime) -> Result<(), Fail> {
     let alloc = rt.alloc();
     let documents = all_owned(
-        &rt,
         alloc,
         &[
             ("http://a.test/", "{\"$anchor\": \"x\"}"),
             ("http://a.test/", "{\"$dynamicAnchor\": \"y\"}"),
         ],
-    );
+    )?;
     let index = index_of(alloc, &MetaSchemas::none(alloc), &documents).expect(&rt, "memory");
     let borne = bearer(&documents, &index, "http://a.test/");
     assert_answer(&rt, borne, 1, "$dynamicAnchor");
     let named = anchored(&documents, &index, "http://a.test/", "x");
     assert_answer(&rt, named, 0, "$anchor");
     assert!(rt; bearer(&documents, &index, "http://b.test/").is_none());
+    Ok(())
 }

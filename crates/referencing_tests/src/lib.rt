@@ -6,8 +6,6 @@ mod adding;
 #[cfg(test)]
 mod asking;
 #[cfg(test)]
-mod both;
-#[cfg(test)]
 mod chains;
 #[cfg(test)]
 mod indexes;

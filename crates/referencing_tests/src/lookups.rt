@@ -6,97 +6,89 @@ use referencing_errors::error::Error;
 use serde_json::Value;
 use std::alloc::Global;
 use std::process::Abort;
+use std::test::Fail;
 
-fn shown(rt: &impl Abort, alloc: Global, resolved: &Resolved<'_>) -> String {
-    let path = resolved.path().to_pointer(alloc).expect(rt, "memory");
-    let there = resolved.resolver().base_uri().expect(rt, "memory");
-    let contents = resolved.contents().to_string(alloc).expect(rt, "memory");
+fn shown(alloc: Global, resolved: &Resolved<'_>) -> Result<String, Fail> {
+    let path = resolved.path().to_pointer(alloc)?;
+    let there = resolved.resolver().base_uri()?;
+    let contents = resolved.contents().to_string(alloc)?;
     let document = resolved.document().as_str();
-    format!(in alloc; "{document} '{path}' {} {contents}", there.as_str()).expect(rt, "memory")
+    Ok(format!(in alloc; "{document} '{path}' {} {contents}", there.as_str())?)
 }
 
-fn lent<'a>(rt: &impl Abort, alloc: Global, uri: &str, document: &'a Value) -> Registry<'a> {
-    Registry::new(alloc)
-        .add(uri, document)
-        .expect(rt, "a builder")
-        .prepare()
-        .expect(rt, "a registry")
+fn lent<'a>(alloc: Global, uri: &str, document: &'a Value) -> Result<Registry<'a>, Error> {
+    Registry::new(alloc).add(uri, document)?.prepare()
 }
 
-fn found_in(rt: &impl Abort, registry: &Registry<'_>, base: &str, reference: &str) -> String {
-    shown(
-        rt,
-        registry.allocator(),
-        &reached(registry, base, reference).expect(rt, "a target"),
-    )
+fn found_in(registry: &Registry<'_>, base: &str, reference: &str) -> Result<String, Fail> {
+    shown(registry.allocator(), &reached(registry, base, reference)?)
 }
 
 // What a reference leads to from the URI of a document that stands alone.
-fn found(rt: &impl Abort, alloc: Global, uri: &str, text: &str, reference: &str) -> String {
-    let document = Value::from_str(alloc, text).expect(rt, "JSON");
-    found_in(rt, &lent(rt, alloc, uri, &document), uri, reference)
+fn found(alloc: Global, uri: &str, text: &str, reference: &str) -> Result<String, Fail> {
+    let document = Value::from_str(alloc, text)?;
+    found_in(&lent(alloc, uri, &document)?, uri, reference)
 }
 
-fn refused(rt: &impl Abort, alloc: Global, uri: &str, text: &str, reference: &str) -> String {
-    let document = Value::from_str(alloc, text).expect(rt, "JSON");
-    let registry = lent(rt, alloc, uri, &document);
-    refusal(rt, alloc, reached(&registry, uri, reference).err())
+fn refused(alloc: Global, uri: &str, text: &str, reference: &str) -> Result<String, Fail> {
+    let document = Value::from_str(alloc, text)?;
+    let registry = lent(alloc, uri, &document)?;
+    refusal(alloc, reached(&registry, uri, reference).err())
 }
 
 fn root_and_leaf<'a>(
-    rt: &impl Abort,
     alloc: Global,
     root: &'a Value,
     leaf: &'a Value,
-) -> Registry<'a> {
-    let builder = Registry::new(alloc)
-        .add("http://a.test/root.json", root)
-        .expect(rt, "a builder");
-    builder
-        .add("http://a.test/leaf.json", leaf)
-        .expect(rt, "a builder")
-        .prepare()
-        .expect(rt, "a registry")
+) -> Result<Registry<'a>, Error> {
+    let builder = Registry::new(alloc).add("http://a.test/root.json", root)?;
+    builder.add("http://a.test/leaf.json", leaf)?.prepare()
 }
 
-fn assert_root_and_leaf(rt: &impl Abort, registry: &Registry<'_>) {
+fn assert_root_and_leaf(rt: &impl Abort, registry: &Registry<'_>) -> Result<(), Fail> {
     assert!(rt; registry.contains_resource("http://a.test/leaf.json"));
     assert!(rt; !registry.contains_resource("http://a.test/stem.json"));
     assert_eq!(rt;
-        found_in(rt, registry, "http://a.test/root.json", "leaf.json").as_str(),
+        found_in(registry, "http://a.test/root.json", "leaf.json")?.as_str(),
         "http://a.test/leaf.json '' http://a.test/leaf.json {\"$id\":\"http://a.test/leaf.json\",\"type\":\"string\"}"
     );
     assert_eq!(rt;
-        found_in(rt, registry, "http://a.test/leaf.json", "root.json#/items").as_str(),
+        found_in(registry, "http://a.test/leaf.json", "root.json#/items")?.as_str(),
         "http://a.test/root.json '/items' http://a.test/root.json {\"$ref\":\"leaf.json\"}"
     );
+    Ok(())
 }
 
 #[test]
-fn between_documents(rt: HostRuntime) {
+fn between_documents(rt: HostRuntime) -> Result<(), Fail> {
     let alloc = rt.alloc();
     let root = Value::from_str(
         alloc,
         "{\"$id\":\"http://a.test/root.json\",\"type\":\"array\",\"minItems\":2,\"items\":{\"$ref\":\"leaf.json\"}}",
-    )
-    .expect(&rt, "JSON");
+    )?;
     let leaf = Value::from_str(
         alloc,
         "{\"$id\":\"http://a.test/leaf.json\",\"type\":\"string\"}",
     )
     .expect(&rt, "a JSON text");
-    let registry = root_and_leaf(&rt, alloc, &root, &leaf);
-    assert_root_and_leaf(&rt, &registry);
+    let registry = root_and_leaf(alloc, &root, &leaf).expect(&rt, "a registry");
+    assert_root_and_leaf(&rt, &registry)
 }
 
-fn assert_found(rt: &impl Abort, alloc: Global, uri: &str, rows: &[(&str, &str, &str)]) {
+fn assert_found(
+    rt: &impl Abort,
+    alloc: Global,
+    uri: &str,
+    rows: &[(&str, &str, &str)],
+) -> Result<(), Fail> {
     for (text, reference, want) in rows {
-        assert_eq!(rt; found(rt, alloc, uri, text, reference).as_str(), *want);
+        assert_eq!(rt; found(alloc, uri, text, reference)?.as_str(), *want);
     }
+    Ok(())
 }
 
 #[test]
-fn bases(rt: HostRuntime) {
+fn bases(rt: HostRuntime) -> Result<(), Fail> {
     assert_found(
         &rt,
         rt.alloc(),
@@ -106,7 +98,7 @@ fn bases(rt: HostRuntime) {
             "",
             "http://b.test/ '' http://a.test/m/ {\"$id\":\"http://a.test/m/\"}",
         )],
-    );
+    )?;
     assert_found(
         &rt,
         rt.alloc(),
@@ -128,11 +120,11 @@ fn bases(rt: HostRuntime) {
                 "http://a.test/r '/$defs/b' http://a.test/x {\"$id\":\"x\",\"type\":\"integer\"}",
             ),
         ],
-    );
+    )
 }
 
 #[test]
-fn pointers_and_anchors(rt: HostRuntime) {
+fn pointers_and_anchors(rt: HostRuntime) -> Result<(), Fail> {
     assert_found(
         &rt,
         rt.alloc(),
@@ -164,17 +156,23 @@ fn pointers_and_anchors(rt: HostRuntime) {
                 "http://a.test/d '/definitions/s' http://a.test/d {\"$id\":\"#n\"}",
             ),
         ],
-    );
+    )
 }
 
-fn assert_refused(rt: &impl Abort, alloc: Global, uri: &str, rows: &[(&str, &str, &str)]) {
+fn assert_refused(
+    rt: &impl Abort,
+    alloc: Global,
+    uri: &str,
+    rows: &[(&str, &str, &str)],
+) -> Result<(), Fail> {
     for (text, reference, want) in rows {
-        assert_eq!(rt; refused(rt, alloc, uri, text, reference).as_str(), *want);
+        assert_eq!(rt; refused(alloc, uri, text, reference)?.as_str(), *want);
     }
+    Ok(())
 }
 
 #[test]
-fn references_to_nothing(rt: HostRuntime) {
+fn references_to_nothing(rt: HostRuntime) -> Result<(), Fail> {
     assert_refused(
         &rt,
         rt.alloc(),
@@ -209,5 +207,5 @@ fn references_to_nothing(rt: HostRuntime) {
                 "Anchor 'n' does not exist",
             ),
         ],
-    );
+    )
 }

@@ -6,32 +6,34 @@ use referencing_errors::error::Error;
 use serde_json::Value;
 use std::alloc::Global;
 use std::process::Abort;
+use std::test::Fail;
 
 // The draft of what a reference led to, and which of three keywords count there.
-fn shown(rt: &impl Abort, alloc: Global, resolved: &Resolved<'_>) -> String {
+fn shown(alloc: Global, resolved: &Resolved<'_>) -> Result<String, Fail> {
     let dialect = resolved.dialect();
-    let mut output = format!(in alloc; "{:?}", resolved.draft()).expect(rt, "memory");
+    let mut output = format!(in alloc; "{:?}", resolved.draft())?;
     for keyword in &["items", "type", "unevaluatedItems"] {
         if dialect.counts(false, *keyword) {
-            output.push(' ').expect(rt, "memory");
-            output.push_str(*keyword).expect(rt, "memory");
+            output.push(' ')?;
+            output.push_str(*keyword)?;
         }
     }
-    output
+    Ok(output)
 }
 
-fn shown_at(rt: &impl Abort, registry: &Registry<'_>, base: &str, reference: &str) -> String {
-    shown(
-        rt,
-        registry.allocator(),
-        &reached(registry, base, reference).expect(rt, "a target"),
-    )
+fn shown_at(registry: &Registry<'_>, base: &str, reference: &str) -> Result<String, Fail> {
+    shown(registry.allocator(), &reached(registry, base, reference)?)
 }
 
-fn assert_dialects(rt: &impl Abort, registry: &Registry<'_>, rows: &[(&str, &str, &str)]) {
+fn assert_dialects(
+    rt: &impl Abort,
+    registry: &Registry<'_>,
+    rows: &[(&str, &str, &str)],
+) -> Result<(), Fail> {
     for (base, reference, want) in rows {
-        assert_eq!(rt; shown_at(rt, registry, base, reference).as_str(), *want);
+        assert_eq!(rt; shown_at(registry, base, reference)?.as_str(), *want);
     }
+    Ok(())
 }
 
 const APPLICATORS_ALONE: &str =
@@ -52,13 +54,13 @@ fn assert_dialects_among(
     alloc: Global,
     documents: &[(&str, &str)],
     rows: &[(&str, &str, &str)],
-) {
-    let registry = prepared(rt, alloc, documents).expect(rt, "a registry");
-    assert_dialects(rt, &registry, rows);
+) -> Result<(), Fail> {
+    let registry = prepared(alloc, documents).expect(rt, "a registry");
+    assert_dialects(rt, &registry, rows)
 }
 
 #[test]
-fn dialects_by_meta_schemas(rt: HostRuntime) {
+fn dialects_by_meta_schemas(rt: HostRuntime) -> Result<(), Fail> {
     assert_dialects_among(
         &rt,
         rt.alloc(),
@@ -83,11 +85,11 @@ fn dialects_by_meta_schemas(rt: HostRuntime) {
                 "Draft201909 items type unevaluatedItems",
             ),
         ],
-    );
+    )
 }
 
 #[test]
-fn meta_schemas_above_one_another(rt: HostRuntime) {
+fn meta_schemas_above_one_another(rt: HostRuntime) -> Result<(), Fail> {
     assert_dialects_among(
         &rt,
         rt.alloc(),
@@ -97,14 +99,19 @@ fn meta_schemas_above_one_another(rt: HostRuntime) {
             ("http://a.test/m7", OF_DRAFT_7),
         ],
         &[("http://a.test/d", "", "Draft7 items type")],
-    );
+    )
 }
 
-fn assert_refused(rt: &impl Abort, alloc: Global, rows: &[([(&str, &str); 2], &str)]) {
+fn assert_refused(
+    rt: &impl Abort,
+    alloc: Global,
+    rows: &[([(&str, &str); 2], &str)],
+) -> Result<(), Fail> {
     for (documents, want) in rows {
-        let error = prepared(rt, alloc, documents).err();
-        assert_eq!(rt; refusal(rt, alloc, error).as_str(), *want);
+        let error = prepared(alloc, documents).err();
+        assert_eq!(rt; refusal(alloc, error)?.as_str(), *want);
     }
+    Ok(())
 }
 
 const REFUSED: [([(&str, &str); 2], &str); 5] = [
@@ -159,63 +166,68 @@ const REFUSED: [([(&str, &str); 2], &str); 5] = [
 ];
 
 #[test]
-fn causes_of_meta_schemas(rt: HostRuntime) {
-    assert_refused(&rt, rt.alloc(), &REFUSED);
+fn causes_of_meta_schemas(rt: HostRuntime) -> Result<(), Fail> {
+    assert_refused(&rt, rt.alloc(), &REFUSED)
 }
 
-fn specifications<'a>(
-    rt: &impl Abort,
-    alloc: Global,
-    pairs: &[(&str, &str)],
-) -> Result<Registry<'a>, Error> {
+fn specifications<'a>(alloc: Global, pairs: &[(&str, &str)]) -> Result<Registry<'a>, Error> {
     let mut documents = Vec::new(alloc);
     for (uri, text) in pairs {
-        let document = Value::from_str(alloc, text).expect(rt, "JSON");
-        documents.push((*uri, document)).expect(rt, "memory");
+        let Ok(document) = Value::from_str(alloc, text) else {
+            return Err(Error::Memory);
+        };
+        if documents.push((*uri, document)).is_err() {
+            return Err(Error::Memory);
+        }
     }
     Registry::from_meta_schemas(alloc, documents)
 }
 
 fn specifications_and_document<'a>(
-    rt: &impl Abort,
     alloc: Global,
     specifications: &Registry<'a>,
-) -> Registry<'a> {
-    let document = Value::from_str(alloc, "{\"$schema\": \"http://a.test/m\"}").expect(rt, "JSON");
-    specifications
-        .add("http://a.test/d", document)
-        .expect(rt, "a builder")
-        .prepare()
-        .expect(rt, "a registry")
+) -> Result<Registry<'a>, Error> {
+    let Ok(document) = Value::from_str(alloc, "{\"$schema\": \"http://a.test/m\"}") else {
+        return Err(Error::Memory);
+    };
+    specifications.add("http://a.test/d", document)?.prepare()
 }
 
-fn assert_begun_with(rt: &impl Abort, specifications: &Registry<'_>) {
+fn assert_begun_with(rt: &impl Abort, specifications: &Registry<'_>) -> Result<(), Fail> {
     assert_eq!(rt; specifications.documents().len(), 2);
     assert_eq!(rt; specifications.retrieved().len(), 0);
-    let more = specifications_and_document(rt, specifications.allocator(), specifications);
-    assert_dialects(rt, &more, &[("http://a.test/d", "", "Draft7 items type")]);
+    let more = specifications_and_document(specifications.allocator(), specifications).expect(
+        rt,
+        "a registry",
+    );
+    assert_dialects(rt, &more, &[("http://a.test/d", "", "Draft7 items type")])
 }
 
 #[test]
-fn registries_of_meta_schemas(rt: HostRuntime) {
+fn registries_of_meta_schemas(rt: HostRuntime) -> Result<(), Fail> {
     let pairs = [
         ("http://a.test/m", "{\"$schema\": \"http://a.test/m7\"}"),
         ("http://a.test/m7", OF_DRAFT_7),
     ];
-    let registry = specifications(&rt, rt.alloc(), &pairs).expect(&rt, "a registry");
-    assert_begun_with(&rt, &registry);
+    let registry = specifications(rt.alloc(), &pairs).expect(&rt, "a registry");
+    assert_begun_with(&rt, &registry)
 }
 
 // Why texts are no meta-schemas under URIs.
-fn assert_refused_under(rt: &impl Abort, alloc: Global, rows: &[(&str, &str, &str)]) {
+fn assert_refused_under(
+    rt: &impl Abort,
+    alloc: Global,
+    rows: &[(&str, &str, &str)],
+) -> Result<(), Fail> {
     for (uri, text, want) in rows {
-        let error = specifications(rt, alloc, &[(*uri, *text)]).err();
-        assert_eq!(rt; refusal(rt, alloc, error).as_str(), *want);
+        let error = specifications(alloc, &[(*uri, *text)]).err();
+        assert_eq!(rt; refusal(alloc, error)?.as_str(), *want);
     }
+    Ok(())
 }
 
 #[test]
-fn registries_of_no_meta_schemas(rt: HostRuntime) {
+fn registries_of_no_meta_schemas(rt: HostRuntime) -> Result<(), Fail> {
     assert_refused_under(
         &rt,
         rt.alloc(),
@@ -232,5 +244,5 @@ fn registries_of_no_meta_schemas(rt: HostRuntime) {
                 "Unknown meta-schema 'http://a.test/n'",
             ),
         ],
-    );
+    )
 }

@@ -5,29 +5,29 @@ use referencing::resolver::Resolved;
 use referencing_errors::error::Error;
 use serde_json::Value;
 use std::alloc::Global;
-use std::process::Abort;
+use std::test::Fail;
 use uri_references::uri::from_str;
 
 pub(crate) fn prepared<'a>(
-    rt: &impl Abort,
     alloc: Global,
     documents: &[(&str, &str)],
 ) -> Result<Registry<'a>, Error> {
     let mut builder = Registry::new(alloc);
     for (uri, text) in documents {
-        let document = Value::from_str(alloc, text).expect(rt, "JSON");
-        builder = builder.add(uri, document).expect(rt, "a builder");
+        let Ok(document) = Value::from_str(alloc, text) else {
+            return Err(Error::Memory);
+        };
+        builder = builder.add(uri, document)?;
     }
     builder.prepare()
 }
 
-pub(crate) fn retriever_of(rt: &impl Abort, alloc: Global, pairs: &[(&str, &str)]) -> MapRetriever {
+pub(crate) fn retriever_of(alloc: Global, pairs: &[(&str, &str)]) -> Result<MapRetriever, Fail> {
     let mut retriever = MapRetriever::new(alloc);
     for (uri, text) in pairs {
-        let document = Value::from_str(alloc, *text).expect(rt, "JSON");
-        retriever.add(alloc, *uri, document).expect(rt, "memory");
+        retriever.add(alloc, *uri, Value::from_str(alloc, *text)?)?;
     }
-    retriever
+    Ok(retriever)
 }
 
 pub(crate) fn reached<'r>(
@@ -40,9 +40,9 @@ pub(crate) fn reached<'r>(
 }
 
 // What an error tells, where there is one.
-pub(crate) fn refusal(rt: &impl Abort, alloc: Global, error: Option<Error>) -> String {
+pub(crate) fn refusal(alloc: Global, error: Option<Error>) -> Result<String, Fail> {
     match error {
-        Some(error) => format!(in alloc; "{error}").expect(rt, "memory"),
-        None => String::from_str(alloc, "nothing refused").expect(rt, "memory"),
+        Some(error) => Ok(format!(in alloc; "{error}")?),
+        None => Ok(String::from_str(alloc, "nothing refused")?),
     }
 }

@@ -4,16 +4,18 @@ use referencing::resolver::{Resolved, Resolver};
 use schema_drafts::draft::Draft;
 use std::alloc::Global;
 use std::process::Abort;
+use std::test::Fail;
 
-fn assert_refused(rt: &impl Abort, alloc: Global, rows: &[(&str, &str)]) {
+fn assert_refused(rt: &impl Abort, alloc: Global, rows: &[(&str, &str)]) -> Result<(), Fail> {
     for (text, want) in rows {
-        let error = prepared(rt, alloc, &[("http://a.test/d", text)]).err();
-        assert_eq!(rt; refusal(rt, alloc, error).as_str(), *want);
+        let error = prepared(alloc, &[("http://a.test/d", text)]).err();
+        assert_eq!(rt; refusal(alloc, error)?.as_str(), *want);
     }
+    Ok(())
 }
 
 #[test]
-fn causes_of_documents(rt: HostRuntime) {
+fn causes_of_documents(rt: HostRuntime) -> Result<(), Fail> {
     assert_refused(
         &rt,
         rt.alloc(),
@@ -32,47 +34,37 @@ fn causes_of_documents(rt: HostRuntime) {
             ("{\"const\":{\"$ref\":\"x\"}}", "nothing refused"),
             ("{\"$ref\":\"#/nowhere\"}", "nothing refused"),
         ],
-    );
+    )
 }
 
-fn shown(rt: &impl Abort, alloc: Global, resolver: &Resolver<'_>) -> String {
+fn shown(alloc: Global, resolver: &Resolver<'_>) -> Result<String, Fail> {
     let mut output = String::new(alloc);
-    for uri in &resolver.dynamic_scope().expect(rt, "memory") {
-        output.push_str(uri.as_str()).expect(rt, "memory");
-        output.push(' ').expect(rt, "memory");
+    for uri in &resolver.dynamic_scope()? {
+        output.push_str(uri.as_str())?;
+        output.push(' ')?;
     }
-    output
+    Ok(output)
 }
 
-fn shown_inside(rt: &impl Abort, alloc: Global, resolved: &Resolved<'_>) -> String {
+fn shown_inside(alloc: Global, resolved: &Resolved<'_>) -> Result<String, Fail> {
     let below = Draft::default().create_resource_ref(resolved.contents());
-    shown(
-        rt,
-        alloc,
-        &resolved
-            .resolver()
-            .in_subresource(below)
-            .expect(rt, "memory"),
-    )
+    shown(alloc, &resolved.resolver().in_subresource(below)?)
 }
 
-fn scope(rt: &impl Abort, alloc: Global, text: &str, reference: &str) -> String {
-    let registry = prepared(rt, alloc, &[("http://a.test/d", text)]).expect(rt, "a registry");
-    shown_inside(
-        rt,
-        alloc,
-        &reached(&registry, "http://a.test/d", reference).expect(rt, "a target"),
-    )
+fn scope(alloc: Global, text: &str, reference: &str) -> Result<String, Fail> {
+    let registry = prepared(alloc, &[("http://a.test/d", text)])?;
+    shown_inside(alloc, &reached(&registry, "http://a.test/d", reference)?)
 }
 
-fn assert_scopes(rt: &impl Abort, alloc: Global, rows: &[(&str, &str, &str)]) {
+fn assert_scopes(rt: &impl Abort, alloc: Global, rows: &[(&str, &str, &str)]) -> Result<(), Fail> {
     for (text, reference, want) in rows {
-        assert_eq!(rt; scope(rt, alloc, text, reference).as_str(), *want);
+        assert_eq!(rt; scope(alloc, text, reference)?.as_str(), *want);
     }
+    Ok(())
 }
 
 #[test]
-fn resources_entered(rt: HostRuntime) {
+fn resources_entered(rt: HostRuntime) -> Result<(), Fail> {
     assert_scopes(
         &rt,
         rt.alloc(),
@@ -89,5 +81,5 @@ fn resources_entered(rt: HostRuntime) {
                 "http://a.test/f http://a.test/d ",
             ),
         ],
-    );
+    )
 }

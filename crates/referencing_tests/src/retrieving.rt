@@ -9,6 +9,7 @@ use serde_json::Value;
 use std::alloc::Global;
 use std::cell::Cell;
 use std::process::Abort;
+use std::test::Fail;
 use uri_references::uri::Uri;
 
 const TWO_REFERENCES: &str =
@@ -27,27 +28,26 @@ fn prepared<'a, R: Retrieve + Drop>(
     builder.prepare()
 }
 
-fn uris(rt: &impl Abort, alloc: Global, registry: &Registry<'_>) -> String {
+fn uris(alloc: Global, registry: &Registry<'_>) -> Result<String, Fail> {
     let mut text = String::new(alloc);
     for uri in registry.retrieved() {
-        text.push_str(uri.as_str()).expect(rt, "memory");
-        text.push(' ').expect(rt, "memory");
+        text.push_str(uri.as_str())?;
+        text.push(' ')?;
     }
-    text
+    Ok(text)
 }
 
 // The URIs that were answered, or the error.
 fn retrieved(
-    rt: &impl Abort,
     alloc: Global,
     text: &str,
     pairs: &[(&str, &str)],
     limit: u64,
-) -> String {
-    let document = Value::from_str(alloc, text).expect(rt, "JSON");
-    match prepared(alloc, document, retriever_of(rt, alloc, pairs), limit) {
-        Ok(registry) => uris(rt, alloc, &registry),
-        Err(error) => refusal(rt, alloc, Some(error)),
+) -> Result<String, Fail> {
+    let document = Value::from_str(alloc, text)?;
+    match prepared(alloc, document, retriever_of(alloc, pairs)?, limit) {
+        Ok(registry) => uris(alloc, &registry),
+        Err(error) => refusal(alloc, Some(error)),
     }
 }
 
@@ -56,14 +56,15 @@ fn assert_retrieved(
     alloc: Global,
     pairs: &[(&str, &str)],
     rows: &[(&str, u64, &str)],
-) {
+) -> Result<(), Fail> {
     for (text, limit, want) in rows {
-        assert_eq!(rt; retrieved(rt, alloc, text, pairs, *limit).as_str(), *want);
+        assert_eq!(rt; retrieved(alloc, text, pairs, *limit)?.as_str(), *want);
     }
+    Ok(())
 }
 
 #[test]
-fn limits_of_retrieval(rt: HostRuntime) {
+fn limits_of_retrieval(rt: HostRuntime) -> Result<(), Fail> {
     assert_retrieved(
         &rt,
         rt.alloc(),
@@ -73,11 +74,11 @@ fn limits_of_retrieval(rt: HostRuntime) {
             (TWO_REFERENCES, 2, "http://a.test/x http://a.test/y "),
             ("{\"$ref\": \"#/a\"}", 0, ""),
         ],
-    );
+    )
 }
 
 #[test]
-fn asked_in_one_round(rt: HostRuntime) {
+fn asked_in_one_round(rt: HostRuntime) -> Result<(), Fail> {
     assert_retrieved(
         &rt,
         rt.alloc(),
@@ -90,82 +91,71 @@ fn asked_in_one_round(rt: HostRuntime) {
             256,
             "Resource 'http://a.test/y' is not present and retrieving it failed",
         )],
-    );
+    )
 }
 
 #[test]
-fn causes_of_answers(rt: HostRuntime) {
+fn causes_of_answers(rt: HostRuntime) -> Result<(), Fail> {
     assert_retrieved(
         &rt,
         rt.alloc(),
         &[("http://a.test/x", "{\"$id\":\"a b\"}")],
         &[("{\"$ref\":\"x\"}", 256, "Invalid URI 'a b'")],
-    );
+    )
 }
 
-fn answered<'a>(
-    rt: &impl Abort,
-    alloc: Global,
-    text: &str,
-    pairs: &[(&str, &str)],
-) -> Registry<'a> {
-    let document = Value::from_str(alloc, text).expect(rt, "JSON");
-    let retriever = retriever_of(rt, alloc, pairs);
-    prepared(alloc, document, retriever, 256).expect(rt, "a registry")
+fn answered<'a>(alloc: Global, text: &str, pairs: &[(&str, &str)]) -> Result<Registry<'a>, Fail> {
+    let document = Value::from_str(alloc, text)?;
+    let retriever = retriever_of(alloc, pairs)?;
+    Ok(prepared(alloc, document, retriever, 256)?)
 }
 
 #[test]
-fn meta_schema_retrieved(rt: HostRuntime) {
+fn meta_schema_retrieved(rt: HostRuntime) -> Result<(), Fail> {
     let registry = answered(
-        &rt,
         rt.alloc(),
         "{\"$schema\":\"http://a.test/m\"}",
         &[(
             "http://a.test/m",
             "{\"$schema\":\"http://json-schema.org/draft-07/schema#\"}",
         )],
-    );
+    )?;
     let there = reached(&registry, "http://a.test/r", "").expect(&rt, "a document");
     assert!(rt; there.draft() == Draft::Draft7);
+    Ok(())
 }
 
 // The contents of the document of a URI.
-fn document(rt: &impl Abort, registry: &Registry<'_>, uri: &str) -> String {
-    let contents = reached(registry, uri, "").expect(rt, "a target").contents();
-    contents
-        .to_string(registry.allocator())
-        .expect(rt, "memory")
+fn document(registry: &Registry<'_>, uri: &str) -> Result<String, Fail> {
+    let contents = reached(registry, uri, "")?.contents();
+    Ok(contents.to_string(registry.allocator())?)
 }
 
-fn assert_documents(rt: &impl Abort, registry: &Registry<'_>, rows: &[(&str, &str)]) {
+fn assert_documents(
+    rt: &impl Abort,
+    registry: &Registry<'_>,
+    rows: &[(&str, &str)],
+) -> Result<(), Fail> {
     for (uri, want) in rows {
-        assert_eq!(rt; document(rt, registry, uri).as_str(), *want);
+        assert_eq!(rt; document(registry, uri)?.as_str(), *want);
     }
+    Ok(())
 }
 
-fn with_null<'a>(rt: &impl Abort, parent: &Registry<'a>) -> Registry<'a> {
-    parent
-        .add("http://a.test/z", Value::Null)
-        .expect(rt, "a builder")
-        .prepare()
-        .expect(rt, "a registry")
+fn with_null<'a>(parent: &Registry<'a>) -> Result<Registry<'a>, Error> {
+    parent.add("http://a.test/z", Value::Null)?.prepare()
 }
 
 // A child with a document of the parent's again.
-fn added_again<'a>(rt: &impl Abort, alloc: Global, parent: &Registry<'a>) -> Registry<'a> {
+fn added_again<'a>(alloc: Global, parent: &Registry<'a>) -> Result<Registry<'a>, Fail> {
     let pairs = vec![in alloc;
         ("http://a.test/x", Value::Bool(true)),
         ("http://a.test/w", Value::Bool(false)),
-    ]
-    .expect(rt, "memory");
-    parent
-        .extend(pairs)
-        .expect(rt, "a builder")
-        .prepare()
-        .expect(rt, "a registry")
+    ]?;
+    Ok(parent.extend(pairs)?.prepare()?)
 }
 
-fn assert_grandchild(rt: &impl Abort, registry: &Registry<'_>) {
+fn assert_grandchild(rt: &impl Abort, registry: &Registry<'_>) -> Result<(), Fail> {
     assert_documents(
         rt,
         registry,
@@ -174,10 +164,10 @@ fn assert_grandchild(rt: &impl Abort, registry: &Registry<'_>) {
             ("http://a.test/w", "false"),
             ("http://a.test/z", "null"),
         ],
-    );
+    )
 }
 
-fn assert_child(rt: &impl Abort, parent: &Registry<'_>, child: &Registry<'_>) {
+fn assert_child(rt: &impl Abort, parent: &Registry<'_>, child: &Registry<'_>) -> Result<(), Fail> {
     assert_eq!(rt; child.retrieved().len(), 0);
     assert_documents(
         rt,
@@ -187,25 +177,24 @@ fn assert_child(rt: &impl Abort, parent: &Registry<'_>, child: &Registry<'_>) {
             ("http://a.test/x", "[1]"),
             ("http://a.test/z", "null"),
         ],
-    );
-    assert_grandchild(rt, &added_again(rt, child.allocator(), child));
-    assert_documents(rt, parent, &[("http://a.test/x", "[1]")]);
+    )?;
+    assert_grandchild(rt, &added_again(child.allocator(), child)?)?;
+    assert_documents(rt, parent, &[("http://a.test/x", "[1]")])
 }
 
-fn assert_children(rt: &impl Abort, parent: &Registry<'_>) {
-    let child = with_null(rt, parent);
-    assert_child(rt, parent, &child);
+fn assert_children(rt: &impl Abort, parent: &Registry<'_>) -> Result<(), Fail> {
+    let child = with_null(parent).expect(rt, "a registry");
+    assert_child(rt, parent, &child)
 }
 
 #[test]
-fn children_of_registries(rt: HostRuntime) {
+fn children_of_registries(rt: HostRuntime) -> Result<(), Fail> {
     let parent = answered(
-        &rt,
         rt.alloc(),
         "{\"$ref\":\"x\"}",
         &[("http://a.test/x", "[1]")],
-    );
-    assert_children(&rt, &parent);
+    )?;
+    assert_children(&rt, &parent)
 }
 
 // Answers each URI with a document that refers to a further one.
@@ -229,14 +218,15 @@ impl Retrieve for Web {
 }
 
 #[test]
-fn web_beyond_the_limit(rt: HostRuntime) {
+fn web_beyond_the_limit(rt: HostRuntime) -> Result<(), Fail> {
     let alloc = rt.alloc();
-    let document = Value::from_str(alloc, "{\"$ref\":\"x\"}").expect(&rt, "JSON");
+    let document = Value::from_str(alloc, "{\"$ref\":\"x\"}")?;
     let error = prepared(alloc, document, Web, 3).err();
     assert_eq!(rt;
-        refusal(&rt, alloc, error).as_str(),
+        refusal(alloc, error)?.as_str(),
         "More than 3 documents wanted"
     );
+    Ok(())
 }
 
 // Answers `true` once, and `false` from then on.
@@ -258,16 +248,15 @@ impl Retrieve for Changing {
 }
 
 #[test]
-fn asked_once_for_a_uri(rt: HostRuntime) {
+fn asked_once_for_a_uri(rt: HostRuntime) -> Result<(), Fail> {
     let root = Value::from_str(
         rt.alloc(),
         "{\"properties\":{\"x\":{\"$ref\":\"x\"},\"y\":{\"$ref\":\"http://A.test/x#\"}}}",
-    )
-    .expect(&rt, "JSON");
+    )?;
     let retriever = Changing {
         asked: Cell::new(false),
     };
-    let registry = prepared(rt.alloc(), root, retriever, 256).expect(&rt, "a registry");
+    let registry = prepared(rt.alloc(), root, retriever, 256)?;
     assert_eq!(rt; registry.retrieved().len(), 1);
-    assert_documents(&rt, &registry, &[("http://a.test/x", "true")]);
+    assert_documents(&rt, &registry, &[("http://a.test/x", "true")])
 }

@@ -9,43 +9,43 @@ use serde_json::Value;
 use std::alloc::Global;
 use std::process::Abort;
 use std::rc::Rc;
+use std::test::Fail;
 use uri_references::uri::from_str;
 
 const TWO_REFERENCES: &str =
     "{\"properties\": {\"x\": {\"$ref\": \"http://a.test/x\"}, \"y\": {\"$ref\": \"http://a.test/y\"},
     \"z\": {\"$ref\": \"HTTP://a.test/x#/a\"}}}";
 
-fn root<'a>(rt: &impl Abort, alloc: Global, text: &str) -> Vec<Document<'a>> {
-    let uri = from_str(alloc, "http://a.test/r").expect(rt, "a URI");
+fn root<'a>(alloc: Global, text: &str) -> Result<Vec<Document<'a>>, Fail> {
+    let contents = Value::from_str(alloc, text)?;
     let document = Document {
-        uri: Rc::new(alloc, uri).expect(rt, "memory"),
-        contents: Contents::Owned(Value::from_str(alloc, text).expect(rt, "JSON")),
+        uri: Rc::new(alloc, from_str(alloc, "http://a.test/r")?)?,
+        contents: Contents::Owned(contents),
         default: Draft::Draft202012,
     };
-    vec![in alloc; document].expect(rt, "memory")
+    Ok(vec![in alloc; document]?)
 }
 
-fn uris(rt: &impl Abort, alloc: Global, retrieved: &Retrieved<'_>) -> String {
+fn uris(alloc: Global, retrieved: &Retrieved<'_>) -> Result<String, Fail> {
     let mut text = String::new(alloc);
     for uri in &retrieved.uris {
-        text.push_str(uri.as_str()).expect(rt, "memory");
-        text.push(' ').expect(rt, "memory");
+        text.push_str(uri.as_str())?;
+        text.push(' ')?;
     }
-    text
+    Ok(text)
 }
 
 // The URIs that were answered, or the error.
 fn shown<R: Retrieve>(
-    rt: &impl Abort,
     alloc: Global,
     text: &str,
     retriever: &R,
     limit: u64,
-) -> String {
-    let documents = root(rt, alloc, text);
+) -> Result<String, Fail> {
+    let documents = root(alloc, text)?;
     match retrieve_wanted(alloc, documents, Draft::Draft202012, retriever, limit) {
-        Ok(retrieved) => uris(rt, alloc, &retrieved),
-        Err(error) => refusal(rt, alloc, Some(error)),
+        Ok(retrieved) => uris(alloc, &retrieved),
+        Err(error) => refusal(alloc, Some(error)),
     }
 }
 
@@ -55,15 +55,16 @@ fn assert_answered(
     alloc: Global,
     pairs: &[(&str, &str)],
     rows: &[(&str, u64, &str)],
-) {
-    let retriever = retriever_of(rt, alloc, pairs);
+) -> Result<(), Fail> {
+    let retriever = retriever_of(alloc, pairs)?;
     for (text, limit, want) in rows {
-        assert_eq!(rt; shown(rt, alloc, text, &retriever, *limit).as_str(), *want);
+        assert_eq!(rt; shown(alloc, text, &retriever, *limit)?.as_str(), *want);
     }
+    Ok(())
 }
 
 #[test]
-fn limits(rt: HostRuntime) {
+fn limits(rt: HostRuntime) -> Result<(), Fail> {
     let alloc = rt.alloc();
     assert_answered(
         &rt,
@@ -73,13 +74,14 @@ fn limits(rt: HostRuntime) {
             (TWO_REFERENCES, 1, "More than 1 documents wanted"),
             (TWO_REFERENCES, 2, "http://a.test/x http://a.test/y "),
         ],
-    );
-    let nothing = shown(&rt, alloc, "{\"$ref\": \"#/a\"}", &DefaultRetriever, 0);
+    )?;
+    let nothing = shown(alloc, "{\"$ref\": \"#/a\"}", &DefaultRetriever, 0)?;
     assert_eq!(rt; nothing.as_str(), "");
+    Ok(())
 }
 
 #[test]
-fn rounds(rt: HostRuntime) {
+fn rounds(rt: HostRuntime) -> Result<(), Fail> {
     assert_answered(
         &rt,
         rt.alloc(),
@@ -92,7 +94,7 @@ fn rounds(rt: HostRuntime) {
             256,
             "Resource 'http://a.test/y' is not present and retrieving it failed",
         )],
-    );
+    )?;
     assert_answered(
         &rt,
         rt.alloc(),
@@ -104,19 +106,18 @@ fn rounds(rt: HostRuntime) {
             ),
         ],
         &[("{\"$ref\": \"b\"}", 256, "http://a.test/b http://a.test/c ")],
-    );
+    )
 }
 
 #[test]
-fn meta_schemas(rt: HostRuntime) {
+fn meta_schemas(rt: HostRuntime) -> Result<(), Fail> {
     let alloc = rt.alloc();
     let unknown = shown(
-        &rt,
         alloc,
         "{\"$schema\": \"http://a.test/m\"}",
         &DefaultRetriever,
         256,
-    );
+    )?;
     assert_eq!(rt; unknown.as_str(), "Unknown meta-schema 'http://a.test/m'");
     assert_answered(
         &rt,
@@ -134,7 +135,7 @@ fn meta_schemas(rt: HostRuntime) {
             256,
             "http://a.test/m http://a.test/x ",
         )],
-    );
+    )?;
     assert_answered(
         &rt,
         alloc,
@@ -144,5 +145,5 @@ fn meta_schemas(rt: HostRuntime) {
             256,
             "Unknown meta-schema 'http://a.test/n'",
         )],
-    );
+    )
 }

@@ -10,6 +10,7 @@ use serde_json::Value;
 use std::alloc::Global;
 use std::process::Abort;
 use std::rc::Rc;
+use std::test::Fail;
 use uri_references::uri::Uri;
 
 const META: &str =
@@ -17,29 +18,23 @@ const META: &str =
     \"https://json-schema.org/draft/2020-12/vocab/core\": true, \"https://json-schema.org/draft/2020-12/vocab/validation\": true,
     \"https://json-schema.org/draft/2020-12/vocab/applicator\": false, \"http://v.test/own\": true, \"http://v.test/other\": false}}";
 
-fn document(rt: &impl Abort, alloc: Global, uri: &str, text: &str) -> Document<'static> {
-    let uri = Uri::parse(alloc, uri).expect(rt, "a URI");
-    Document {
-        uri: Rc::new(alloc, uri).expect(rt, "memory"),
-        contents: Contents::Owned(Value::from_str(alloc, text).expect(rt, "JSON")),
-        default: Draft::Draft202012,
-    }
-}
-
-fn documents(rt: &impl Abort, alloc: Global, texts: &[(&str, &str)]) -> Vec<Document<'static>> {
+fn documents(alloc: Global, texts: &[(&str, &str)]) -> Result<Vec<Document<'static>>, Fail> {
     let mut documents = Vec::new(alloc);
     for (uri, text) in texts {
-        let document = document(rt, alloc, uri, text);
-        documents.push(document).expect(rt, "memory");
+        documents.push(Document {
+            uri: Rc::new(alloc, Uri::parse(alloc, uri)?)?,
+            contents: Contents::Owned(Value::from_str(alloc, text)?),
+            default: Draft::Draft202012,
+        })?;
     }
-    documents
+    Ok(documents)
 }
 
-fn written(rt: &impl Abort, alloc: Global, known: &MetaSchemas, uri: &str) -> String {
+fn written(alloc: Global, known: &MetaSchemas, uri: &str) -> Result<String, Fail> {
     let Some(dialect) = known.get(uri) else {
-        return String::from_str(alloc, "none").expect(rt, "memory");
+        return Ok(String::from_str(alloc, "none")?);
     };
-    let mut line = format!(in alloc; "{:?}", dialect.draft).expect(rt, "memory");
+    let mut line = format!(in alloc; "{:?}", dialect.draft)?;
     if let Some(required) = dialect.required {
         let KnownVocabularies {
             core,
@@ -53,52 +48,52 @@ fn written(rt: &impl Abort, alloc: Global, known: &MetaSchemas, uri: &str) -> St
             (validation, " validation"),
         ] {
             if *is_required {
-                line.push_str(*name).expect(rt, "memory");
+                line.push_str(*name)?;
             }
         }
     }
-    line
+    Ok(line)
 }
 
-fn written_anew(rt: &impl Abort, alloc: Global, told: &Told) -> String {
+fn written_anew(alloc: Global, told: &Told) -> Result<String, Fail> {
     match &told.anew {
-        Some(uri) => String::from_str(alloc, uri.as_str()).expect(rt, "memory"),
-        None => String::from_str(alloc, "at rest").expect(rt, "memory"),
+        Some(uri) => Ok(String::from_str(alloc, uri.as_str())?),
+        None => Ok(String::from_str(alloc, "at rest")?),
     }
 }
 
-fn written_cause(rt: &impl Abort, alloc: Global, places: &[Standing<'_>], uri: &Uri) -> String {
-    let cause = awaited_cause(alloc, places, uri.clone().expect(rt, "memory")).expect(rt, "memory");
-    format!(in alloc; "{cause:?}\n").expect(rt, "memory")
+fn written_cause(alloc: Global, places: &[Standing<'_>], uri: &Uri) -> Result<String, Fail> {
+    let cause = awaited_cause(alloc, places, uri.clone()?)?;
+    Ok(format!(in alloc; "{cause:?}\n")?)
 }
 
 // What places await, and why, a line each.
-fn written_causes(rt: &impl Abort, alloc: Global, places: &[Standing<'_>]) -> String {
+fn written_causes(alloc: Global, places: &[Standing<'_>]) -> Result<String, Fail> {
     let mut lines = String::new(alloc);
     for standing in places {
         if let Some(uri) = &standing.place.awaits {
-            lines
-                .push_str(&written_cause(rt, alloc, places, uri))
-                .expect(rt, "memory");
+            lines.push_str(&written_cause(alloc, places, uri)?)?;
         }
     }
-    lines
+    Ok(lines)
 }
 
 // What the places await under all that documents tell.
-fn causes(rt: &impl Abort, alloc: Global, documents: &[Document<'_>]) -> String {
-    let told = meta_schemas(alloc, documents).expect(rt, "memory");
-    written_causes(
-        rt,
-        alloc,
-        &standings(alloc, &told.meta_schemas, documents).expect(rt, "memory"),
-    )
+fn causes(alloc: Global, documents: &[Document<'_>]) -> Result<String, Fail> {
+    let told = meta_schemas(alloc, documents)?;
+    written_causes(alloc, &standings(alloc, &told.meta_schemas, documents)?)
 }
 
-fn assert_written(rt: &impl Abort, alloc: Global, told: &Told, rows: &[(&str, &str)]) {
+fn assert_written(
+    rt: &impl Abort,
+    alloc: Global,
+    told: &Told,
+    rows: &[(&str, &str)],
+) -> Result<(), Fail> {
     for (uri, want) in rows {
-        assert_eq!(rt; written(rt, alloc, &told.meta_schemas, uri).as_str(), *want);
+        assert_eq!(rt; written(alloc, &told.meta_schemas, uri)?.as_str(), *want);
     }
+    Ok(())
 }
 
 // What documents tell after some stages: of URIs, and anew.
@@ -109,10 +104,11 @@ fn assert_told_after(
     stages: usize,
     rows: &[(&str, &str)],
     anew: &str,
-) {
-    let told = told_after(alloc, documents, stages).expect(rt, "memory");
-    assert_written(rt, alloc, &told, rows);
-    assert_eq!(rt; written_anew(rt, alloc, &told).as_str(), anew);
+) -> Result<(), Fail> {
+    let told = told_after(alloc, documents, stages)?;
+    assert_written(rt, alloc, &told, rows)?;
+    assert_eq!(rt; written_anew(alloc, &told)?.as_str(), anew);
+    Ok(())
 }
 
 fn assert_told(
@@ -121,17 +117,17 @@ fn assert_told(
     documents: &[Document<'_>],
     rows: &[(&str, &str)],
     anew: &str,
-) {
-    let told = meta_schemas(alloc, documents).expect(rt, "memory");
-    assert_written(rt, alloc, &told, rows);
-    assert_eq!(rt; written_anew(rt, alloc, &told).as_str(), anew);
+) -> Result<(), Fail> {
+    let told = meta_schemas(alloc, documents)?;
+    assert_written(rt, alloc, &told, rows)?;
+    assert_eq!(rt; written_anew(alloc, &told)?.as_str(), anew);
+    Ok(())
 }
 
 #[test]
-fn draft_and_vocabularies_of_a_meta_schema(rt: HostRuntime) {
+fn draft_and_vocabularies_of_a_meta_schema(rt: HostRuntime) -> Result<(), Fail> {
     let alloc = rt.alloc();
     let documents = documents(
-        &rt,
         alloc,
         &[
             (
@@ -140,9 +136,9 @@ fn draft_and_vocabularies_of_a_meta_schema(rt: HostRuntime) {
             ),
             ("http://a.test/m", META),
         ],
-    );
+    )?;
     assert_eq!(rt; how_many(&documents), Some(2));
-    assert_eq!(rt; causes(&rt, alloc, &documents).as_str(), "");
+    assert_eq!(rt; causes(alloc, &documents)?.as_str(), "");
     assert_told(
         &rt,
         alloc,
@@ -154,23 +150,23 @@ fn draft_and_vocabularies_of_a_meta_schema(rt: HostRuntime) {
             ("http://a.test/t", "none"),
         ],
         "at rest",
-    );
+    )
 }
 
 #[test]
-fn one_stage_where_nothing_is_named(rt: HostRuntime) {
+fn one_stage_where_nothing_is_named(rt: HostRuntime) -> Result<(), Fail> {
     let alloc = rt.alloc();
     assert_told_after(
         &rt,
         alloc,
-        &documents(&rt, alloc, &[("http://a.test/m", META)]),
+        &documents(alloc, &[("http://a.test/m", META)])?,
         0,
         &[("http://a.test/m", "Draft202012 core validation")],
         "at rest",
-    );
+    )
 }
 
-fn assert_two_told(rt: &impl Abort, alloc: Global, documents: &[Document<'_>]) {
+fn assert_two_told(rt: &impl Abort, alloc: Global, documents: &[Document<'_>]) -> Result<(), Fail> {
     assert_told(
         rt,
         alloc,
@@ -181,7 +177,7 @@ fn assert_two_told(rt: &impl Abort, alloc: Global, documents: &[Document<'_>]) {
             ("http://a.test/s", "Draft4"),
         ],
         "at rest",
-    );
+    )?;
     assert_told_after(
         rt,
         alloc,
@@ -189,7 +185,7 @@ fn assert_two_told(rt: &impl Abort, alloc: Global, documents: &[Document<'_>]) {
         0,
         &[("http://a.test/m", "none")],
         "http://a.test/n",
-    );
+    )?;
     assert_told_after(
         rt,
         alloc,
@@ -197,13 +193,12 @@ fn assert_two_told(rt: &impl Abort, alloc: Global, documents: &[Document<'_>]) {
         9,
         &[("http://a.test/s", "Draft4")],
         "at rest",
-    );
+    )
 }
 
 #[test]
-fn a_chain_of_two(rt: HostRuntime) {
+fn a_chain_of_two(rt: HostRuntime) -> Result<(), Fail> {
     let documents = documents(
-        &rt,
         rt.alloc(),
         &[
             ("http://a.test/s", "{\"$schema\": \"http://a.test/m\"}"),
@@ -216,26 +211,29 @@ fn a_chain_of_two(rt: HostRuntime) {
                 "{\"$schema\": \"http://json-schema.org/draft-04/schema#\"}",
             ),
         ],
-    );
-    assert_two_told(&rt, rt.alloc(), &documents);
+    )?;
+    assert_two_told(&rt, rt.alloc(), &documents)
 }
 
-fn assert_causes(rt: &impl Abort, alloc: Global, texts: &[(&str, &str)], want: &str) {
-    assert_eq!(rt;
-        causes(rt, alloc, &documents(rt, alloc, texts)).as_str(),
-        want
-    );
+fn assert_causes(
+    rt: &impl Abort,
+    alloc: Global,
+    texts: &[(&str, &str)],
+    want: &str,
+) -> Result<(), Fail> {
+    assert_eq!(rt; causes(alloc, &documents(alloc, texts)?)?.as_str(), want);
+    Ok(())
 }
 
 #[test]
-fn unknown_and_circular(rt: HostRuntime) {
+fn unknown_and_circular(rt: HostRuntime) -> Result<(), Fail> {
     let alloc = rt.alloc();
     assert_causes(
         &rt,
         alloc,
         &[("http://a.test/s", "{\"$schema\": \"http://a.test/m\"}")],
         "Unknown(\"http://a.test/m\")\n",
-    );
+    )?;
     assert_causes(
         &rt,
         alloc,
@@ -244,7 +242,7 @@ fn unknown_and_circular(rt: HostRuntime) {
             ("http://a.test/b", "{\"$schema\": \"http://a.test/a\"}"),
         ],
         "Circular(\"http://a.test/a\")\nCircular(\"http://a.test/b\")\n",
-    );
+    )?;
     assert_causes(
         &rt,
         alloc,
@@ -256,14 +254,13 @@ fn unknown_and_circular(rt: HostRuntime) {
             ),
         ],
         "Unknown(\"http://a.test/n\")\nUnknown(\"http://a.test/n\")\n",
-    );
+    )
 }
 
 #[test]
-fn a_meta_schema_inside_a_document(rt: HostRuntime) {
+fn a_meta_schema_inside_a_document(rt: HostRuntime) -> Result<(), Fail> {
     let alloc = rt.alloc();
     let documents = documents(
-        &rt,
         alloc,
         &[
             (
@@ -276,16 +273,16 @@ fn a_meta_schema_inside_a_document(rt: HostRuntime) {
                 \"$vocabulary\": {\"https://json-schema.org/draft/2019-09/vocab/applicator\": true}}}}",
             ),
         ],
-    );
+    )?;
     assert_written(
         &rt,
         alloc,
-        &meta_schemas(alloc, &documents).expect(&rt, "memory"),
+        &meta_schemas(alloc, &documents)?,
         &[
             ("http://m.test/m", "Draft201909 applicator"),
             ("http://a.test/inner", "Draft201909"),
         ],
-    );
+    )
 }
 
 // What two documents tell of a URI in turn, which is told anew at each stage and in the end.
@@ -295,17 +292,16 @@ fn assert_told_in_turn(
     documents: &[Document<'_>],
     uri: &str,
     rows: &[(usize, &str)],
-) {
+) -> Result<(), Fail> {
     for (stages, want) in rows {
-        assert_told_after(rt, alloc, documents, *stages, &[(uri, *want)], uri);
+        assert_told_after(rt, alloc, documents, *stages, &[(uri, *want)], uri)?;
     }
-    assert_told(rt, alloc, documents, &[], uri);
+    assert_told(rt, alloc, documents, &[], uri)
 }
 
 #[test]
-fn stages_that_never_rest(rt: HostRuntime) {
+fn stages_that_never_rest(rt: HostRuntime) -> Result<(), Fail> {
     let documents = documents(
-        &rt,
         rt.alloc(),
         &[
             (
@@ -318,7 +314,7 @@ fn stages_that_never_rest(rt: HostRuntime) {
                 \"$schema\": \"http://json-schema.org/draft-04/schema#\", \"id\": \"http://a.test/m\"}}}",
             ),
         ],
-    );
+    )?;
     assert_told_in_turn(
         &rt,
         rt.alloc(),
@@ -330,5 +326,5 @@ fn stages_that_never_rest(rt: HostRuntime) {
             (2, "Draft202012"),
             (7, "Draft4"),
         ],
-    );
+    )
 }

@@ -2,3 +2,5 @@
 #![tactic(auto)]
 
 pub mod chains;
+#[cfg(test)]
+mod tests;
