@@ -268,6 +268,27 @@ fn into_branches(rt: HostRuntime) {
 }
 
 #[test]
+fn into_branches_of_the_root(rt: HostRuntime) {
+    let alloc = rt.alloc();
+    let either = "{\"anyOf\":[{\"type\":\"string\"},{\"type\":\"integer\"}]}";
+    let one = "{\"anyOf\":[{\"type\":\"string\"}]}";
+    let chosen = "{\"if\":{\"minimum\":0},\"then\":{\"multipleOf\":2}}";
+    for (root, value, evaluation, want) in [
+        (either, "1", "/anyOf/0/type", "refused"),
+        (either, "null", "/anyOf/0/type", "refused"),
+        (either, "null", "/anyOf", "accepted"),
+        (one, "1", "/anyOf/0/type", "accepted"),
+        (one, "1", "/anyOf", "accepted"),
+        (chosen, "3", "/then/multipleOf", "accepted"),
+        (chosen, "3", "/then", "accepted"),
+        (chosen, "3", "/if", "refused"),
+    ] {
+        let registry = registry(&rt, alloc, root);
+        assert_eq!(rt; said(&rt, alloc, &registry, value, "", evaluation), want);
+    }
+}
+
+#[test]
 fn into_members_that_are_not_declared(rt: HostRuntime) {
     let alloc = rt.alloc();
     let alone = "{\"additionalProperties\":false}";

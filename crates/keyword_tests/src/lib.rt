@@ -14,6 +14,8 @@ mod counting;
 #[cfg(test)]
 mod depending;
 #[cfg(test)]
+mod examples;
+#[cfg(test)]
 mod naming;
 #[cfg(test)]
 mod others;

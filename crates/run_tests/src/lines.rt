@@ -61,6 +61,18 @@ fn kinds_of_lines(rt: HostRuntime) {
 }
 
 #[test]
+fn lines_of_integers(rt: HostRuntime) {
+    let alloc = rt.alloc();
+    let source = MemorySource::new(b"1\n\"x\"\n1.5\n\n2", 100, None);
+    let sink = MemorySink::new(alloc, 100, None);
+    let found = outcome(&rt, alloc, "{\"type\":\"integer\"}", source, sink);
+    assert_eq!(rt;
+        found.as_str(),
+        "[]\n[[\"\",\"/type\"]]\nnull\nnull\n[]\n/ 5 true"
+    );
+}
+
+#[test]
 fn by_nesting(rt: HostRuntime) {
     let alloc = rt.alloc();
     for (depth, want) in [(127, "[]\n/ 1 false"), (128, "null\n/ 1 true")] {

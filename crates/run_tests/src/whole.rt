@@ -17,13 +17,14 @@ const BESIDE: &str =
 const META: &str =
     "[{\"$schema\":\"https://json-schema.org/draft/2020-12/schema\",\"$id\":\"http://a.test/m2\",\"properties\":{\"type\":{\"type\":\"string\"}}},{\"$schema\":\"http://json-schema.org/draft-04/schema#\",\"id\":\"http://a.test/m4\",\"type\":\"object\"}]";
 
-const FILES: [(&str, &str); 11] = [
+const FILES: [(&str, &str); 12] = [
     ("root.json", ROOT),
     ("leaf.json", LEAF),
     ("plain.json", "{\"type\":\"string\"}"),
     ("none", "{"),
     ("half", "1.5"),
     ("wrong.json", "{\"type\":5}"),
+    ("nowhere.json", "{\"$ref\":\"#/$defs/none\"}"),
     ("beside.json", BESIDE),
     ("meta.json", META),
     ("nameless.json", "[{\"type\":\"object\"}]"),
@@ -46,11 +47,17 @@ fn files(rt: &impl Abort, alloc: Global) -> MapFiles {
     files
 }
 
-// The status, what was written, and the fault that was told, each behind a space but the first.
-fn outcome(rt: &impl Abort, alloc: Global, words: &[&str], input: &str) -> String {
+// The status, what was written, and the fault that was told, each behind a space but the first. The writer fails behind so many bytes.
+fn outcome_by(
+    rt: &impl Abort,
+    alloc: Global,
+    words: &[&str],
+    input: &str,
+    fails_to_write: Option<usize>,
+) -> String {
     let files = files(rt, alloc);
     let mut reader = MemorySource::new(input.as_bytes(), 2, None);
-    let mut writer = MemorySink::new(alloc, 3, None);
+    let mut writer = MemorySink::new(alloc, 3, fails_to_write);
     let mut faults = MemorySink::new(alloc, 5, None);
     let status = program(alloc, words, &files, &mut reader, &mut writer, &mut faults);
     let written = str::from_utf8(writer.as_slice()).expect(rt, "UTF-8");
@@ -58,21 +65,30 @@ fn outcome(rt: &impl Abort, alloc: Global, words: &[&str], input: &str) -> Strin
     format!(in alloc; "{status} {written} {fault}").expect(rt, "memory")
 }
 
+fn outcome(rt: &impl Abort, alloc: Global, words: &[&str], input: &str) -> String {
+    outcome_by(rt, alloc, words, input, None)
+}
+
+const LINKED: [&str; 4] = [
+    "root.json",
+    "http://a.test/leaf.json=leaf.json",
+    "--base",
+    "http://a.test/root.json",
+];
+
 #[test]
 fn a_whole_run(rt: HostRuntime) {
     let alloc = rt.alloc();
-    let words = [
-        "root.json",
-        "http://a.test/leaf.json=leaf.json",
-        "--base",
-        "http://a.test/root.json",
-    ];
     assert_eq!(rt;
-        outcome(&rt, alloc, &words, "[1]\n").as_str(),
+        outcome(&rt, alloc, &LINKED, "[1]\n").as_str(),
         "1 [[\"\",\"/minItems\"],[\"/0\",\"/items/$ref/type\"]]\n "
     );
     assert_eq!(rt;
-        outcome(&rt, alloc, &words, "[\"a\",\"b\"]").as_str(),
+        outcome_by(&rt, alloc, &LINKED, "[1]\n", Some(3)).as_str(),
+        "3 [[\" Writing failed\n"
+    );
+    assert_eq!(rt;
+        outcome(&rt, alloc, &LINKED, "[\"a\",\"b\"]").as_str(),
         "0 []\n "
     );
     assert_eq!(rt;
@@ -141,7 +157,7 @@ fn by_meta_schemas(rt: HostRuntime) {
 #[test]
 fn refusals(rt: HostRuntime) {
     let alloc = rt.alloc();
-    let cases: [(&[&str], &str); 12] = [
+    let cases: [(&[&str], &str); 13] = [
         (&["absent", "u:x", "--base", "%"], "2  words refused: u:x\n"),
         (
             &["absent", "--draft", "5", "--base", "%"],
@@ -179,6 +195,10 @@ fn refusals(rt: HostRuntime) {
         (
             &["wrong.json"],
             "2  build refused: Keyword value at 'json-schema:///#/type': expected type name\n",
+        ),
+        (
+            &["nowhere.json"],
+            "2  build refused: Pointer '/$defs/none' does not exist\n",
         ),
         (
             &["root.json", "--base", "u:r"],

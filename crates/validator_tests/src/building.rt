@@ -43,6 +43,10 @@ fn by_what_is_reached(rt: HostRuntime) {
             "Keyword at 'http://a.test/r#/unevaluatedItems' is left out",
         ),
         (
+            "{\"not\":{\"unevaluatedProperties\":false}}",
+            "Keyword at 'http://a.test/r#/not/unevaluatedProperties' is left out",
+        ),
+        (
             "{\"items\":{\"propertyNames\":{\"items\":5}}}",
             "Keyword value at 'http://a.test/r#/items/propertyNames/items': expected schema",
         ),

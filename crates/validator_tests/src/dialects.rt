@@ -40,6 +40,11 @@ fn vocabularies_that_are_required(rt: HostRuntime) {
     for (instance, want) in [("{}", ""), ("[]", ""), ("{\"a\":1}", "/a /properties/a\n")] {
         assert_told_beside(&rt, alloc, schema, instance, want);
     }
+    let requiring =
+        "{\"$schema\":\"http://a.test/meta\",\"properties\":{\"a\":false},\"required\":[\"b\",\"c\"]}";
+    for (instance, want) in [("{}", ""), ("{\"a\":1}", "/a /properties/a\n")] {
+        assert_told_beside(&rt, alloc, requiring, instance, want);
+    }
     // where members are not declared, none is refused for that
     let closed =
         "{\"$schema\":\"http://a.test/bare\",\"properties\":{\"a\":false},\"additionalProperties\":false}";

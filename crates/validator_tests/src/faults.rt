@@ -131,6 +131,29 @@ fn of_a_deep_instance(rt: HostRuntime) {
     assert_told(&rt, alloc, &subject, number.as_str(), wanted.as_str());
 }
 
+// Schemas of which each refers to the next one, and the last is of integers.
+fn linked(rt: &impl Abort, alloc: Global, length: usize) -> String {
+    let mut text = String::from_str(alloc, "{\"$ref\":\"#/$defs/d0\",\"$defs\":{").expect(
+        rt, "memory",
+    );
+    for number in 1..length {
+        let last = number.wrapping_sub(1);
+        write!(text, "\"d{last}\":{{\"$ref\":\"#/$defs/d{number}\"}},").expect(rt, "memory");
+    }
+    let last = length.wrapping_sub(1);
+    write!(text, "\"d{last}\":{{\"type\":\"integer\"}}}}}}").expect(rt, "memory");
+    text
+}
+
+#[test]
+fn of_many_references(rt: HostRuntime) {
+    let alloc = rt.alloc();
+    let subject = built(&rt, alloc, linked(&rt, alloc, 300).as_str());
+    let mut wanted = nested(&rt, alloc, 300, "", " ", "/$ref");
+    wanted.push_str("/type\n").expect(&rt, "memory");
+    assert_told(&rt, alloc, &subject, "\"x\"", wanted.as_str());
+}
+
 fn assert_begun_anew(rt: &impl Abort, alloc: Global, error: &ValidationError<'_>) {
     let schema_path = error.schema_path().to_pointer(alloc).expect(rt, "memory");
     assert_eq!(rt; schema_path.as_str(), "/$defs/a~1b/minItems");

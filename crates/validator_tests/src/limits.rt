@@ -1,5 +1,5 @@
 // How many compile keys schemas lead to: as many are allowed, and one fewer refuses the build.
-use crate::subject::{self, options_at, outcome_of};
+use crate::subject::{self, Subject, assert_told, built_by, options_at, outcome_of};
 use json_schema_validator::{BuildCause, BuildError, Documents, ValidationOptions, Validator};
 use std::alloc::Global;
 use std::process::Abort;
@@ -134,6 +134,34 @@ fn in_several_documents(rt: HostRuntime) {
         let want = wanted(&rt, alloc, keys);
         assert_eq!(rt; outcomes(&rt, alloc, keys, texts).as_str(), want.as_str());
     }
+}
+
+// Two documents that refer to each other, by at most 16 keys.
+fn mutual(rt: &impl Abort, alloc: Global) -> Subject {
+    let documents = subject::documents_of(
+        rt,
+        alloc,
+        &[
+            (
+                "http://a.test/a",
+                "{\"$id\":\"http://a.test/a\",\"properties\":{\"b\":{\"$ref\":\"b\"}}}",
+            ),
+            (
+                "http://a.test/b",
+                "{\"$id\":\"http://a.test/b\",\"type\":\"object\",\"properties\":{\"a\":{\"$ref\":\"a\"}}}",
+            ),
+        ],
+    );
+    let options = options_at(rt, alloc, "http://a.test/a").with_node_limit(16);
+    built_by(rt, &options, &documents)
+}
+
+#[test]
+fn of_two_that_refer_to_each_other(rt: HostRuntime) {
+    let alloc = rt.alloc();
+    let want = "/b/a/b /properties/b/$ref/properties/a/$ref/properties/b/$ref/type\n";
+    let value = "{\"b\":{\"a\":{\"b\":1}}}";
+    assert_told(&rt, alloc, &mutual(&rt, alloc), value, want);
 }
 
 // The limit that was met.

@@ -1,5 +1,5 @@
 // Validators built with a retriever, with a limit, and with meta-schemas handed in (Core 8.1.1, 9.1.2).
-use crate::subject::{documents_of, verdict_of};
+use crate::subject::{Subject, assert_told, built_by, documents_of, options_at, verdict_of};
 use json_schema_validator::{MapRetriever, RegexMaker, Retrieve, ValidationOptions, Validator};
 use serde_json::Value;
 use std::alloc::Global;
@@ -67,6 +67,52 @@ fn retrieved(rt: HostRuntime) {
     ] {
         assert_eq!(rt; outcome(&rt, alloc, &options, schema, value).as_str(), want);
     }
+}
+
+const ROOT: &str =
+    "{\"$schema\":\"https://json-schema.org/draft/2020-12/schema\",\"$id\":\"http://a.test/root.json\",\"type\":\"array\",\"minItems\":2,\"items\":{\"$ref\":\"leaf.json\"}}";
+
+const LEAF: &str =
+    "{\"$schema\":\"https://json-schema.org/draft/2020-12/schema\",\"$id\":\"http://a.test/leaf.json\",\"type\":\"string\"}";
+
+fn with_a_leaf(rt: &impl Abort, alloc: Global) -> Subject {
+    let leaf = retriever_of(rt, alloc, &[("http://a.test/leaf.json", LEAF)]);
+    let options = options_at(rt, alloc, "http://a.test/root.json").with_retriever(leaf);
+    let root = documents_of(rt, alloc, &[("http://a.test/root.json", ROOT)]);
+    built_by(rt, &options, &root)
+}
+
+#[test]
+fn told_by_what_is_retrieved(rt: HostRuntime) {
+    let alloc = rt.alloc();
+    let want = "/0 /items/$ref/type\n /minItems\n";
+    assert_told(&rt, alloc, &with_a_leaf(&rt, alloc), "[1]", want);
+}
+
+// A retriever of documents that refer each to the next one.
+fn chain_of(rt: &impl Abort, alloc: Global, length: usize) -> MapRetriever {
+    let mut retriever = MapRetriever::new(alloc);
+    for number in 0..length {
+        let next = number.wrapping_add(1);
+        let uri = format!(in alloc; "http://a.test/{number}").expect(rt, "memory");
+        let text = format!(in alloc; "{{\"$ref\":\"{next}\"}}").expect(rt, "memory");
+        let document = Value::from_str(alloc, text.as_str()).expect(rt, "JSON");
+        let added = retriever.add(alloc, uri.as_str(), document);
+        added.expect(rt, "a document");
+    }
+    retriever
+}
+
+#[test]
+fn without_an_end(rt: HostRuntime) {
+    let alloc = rt.alloc();
+    let options = Validator::options(alloc)
+        .expect(&rt, "memory")
+        .with_retriever(chain_of(&rt, alloc, 300));
+    assert_eq!(rt;
+        outcome(&rt, alloc, &options, "{\"$ref\":\"http://a.test/0\"}", "1").as_str(),
+        "More than 256 documents wanted"
+    );
 }
 
 #[test]

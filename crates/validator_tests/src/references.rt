@@ -53,6 +53,9 @@ const STRICT: &str =
 const OPEN: &str =
     "{\"$schema\":\"https://json-schema.org/draft/2019-09/schema\",\"$id\":\"http://a.test/open\",\"$ref\":\"tree\",\"type\":\"object\"}";
 
+const NEEDING: &str =
+    "{\"$schema\":\"https://json-schema.org/draft/2019-09/schema\",\"$id\":\"http://a.test/needing\",\"$recursiveAnchor\":true,\"$ref\":\"tree\",\"required\":[\"v\"]}";
+
 #[test]
 fn recursive_ones(rt: HostRuntime) {
     let alloc = rt.alloc();
@@ -60,6 +63,7 @@ fn recursive_ones(rt: HostRuntime) {
         ("http://a.test/tree", TREE),
         ("http://a.test/strict", STRICT),
         ("http://a.test/open", OPEN),
+        ("http://a.test/needing", NEEDING),
     ];
     for (root, instance, want) in [
         (
@@ -67,6 +71,12 @@ fn recursive_ones(rt: HostRuntime) {
             "{\"c\":[1]}",
             "/c/0 /$ref/properties/c/items/$recursiveRef/type\n",
         ),
+        (
+            "http://a.test/needing",
+            "{\"v\":1,\"c\":[{}]}",
+            "/c/0 /$ref/properties/c/items/$recursiveRef/required\n",
+        ),
+        ("http://a.test/tree", "{\"v\":1,\"c\":[{}]}", ""),
         ("http://a.test/tree", "{\"c\":[1]}", ""),
         ("http://a.test/open", "{\"c\":[1]}", ""),
         (

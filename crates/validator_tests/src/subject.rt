@@ -1,6 +1,6 @@
 // Validators of documents, and what they tell of values.
 use json_schema_validator::{
-    BuildError, CheckAnswer, Documents, ErrorIterator, RegexMaker, SchemaRegistry,
+    BuildError, CheckAnswer, Documents, ErrorIterator, RegexMaker, Retrieve, SchemaRegistry,
     ValidationOptions, Validator, check_error,
 };
 use serde_json::Value;
@@ -26,7 +26,11 @@ pub(crate) fn documents_of(rt: &impl Abort, alloc: Global, texts: &[(&str, &str)
     documents
 }
 
-fn built_by(rt: &impl Abort, options: &ValidationOptions, documents: &Documents) -> Subject {
+pub(crate) fn built_by<R: Retrieve + Drop>(
+    rt: &impl Abort,
+    options: &ValidationOptions<RegexMaker, R>,
+    documents: &Documents,
+) -> Subject {
     let registry = options.prepare(documents).expect(rt, "a registry");
     let validator = options.build_on(&registry, "").expect(rt, "a validator");
     Subject {
