@@ -12,7 +12,7 @@ const ROOT: &str =
 
 const LEAF: &str = "{\"$id\":\"http://a.test/leaf.json\",\"type\":\"string\"}";
 
-pub(crate) fn registry(rt: &impl Abort, alloc: Global, root: &str) -> SchemaRegistry {
+fn registry(rt: &impl Abort, alloc: Global, root: &str) -> SchemaRegistry {
     let mut documents = Documents::new(alloc);
     documents
         .add_text("http://a.test/root.json", root.as_bytes())
@@ -37,7 +37,7 @@ fn word(answer: CheckAnswer) -> &'static str {
 }
 
 // What is said of two paths, as a word.
-pub(crate) fn said(
+fn said(
     rt: &impl Abort,
     alloc: Global,
     registry: &SchemaRegistry,
@@ -53,117 +53,186 @@ pub(crate) fn said(
     word(check_fault(alloc, registry, "", &RegexMaker, &value, path).expect(rt, "memory"))
 }
 
-#[test]
-fn two_documents(rt: HostRuntime) {
-    let alloc = rt.alloc();
-    let registry = registry(&rt, alloc, ROOT);
-    for (instance, evaluation, want) in [
-        ("", "/minItems", "accepted"),
-        ("/0", "/items/$ref/type", "accepted"),
-        ("", "/items", "accepted"),
-        ("/0", "/items/$ref", "accepted"),
-        ("/0", "/items", "refused"),
-        ("", "/type", "refused"),
-        ("", "", "refused"),
-        ("/00", "/items/$ref/type", "refused"),
-        ("/1", "/items/$ref/type", "refused"),
-        ("/0", "/items/$ref/type/", "refused"),
-        ("/0/", "/items/$ref/type", "refused"),
-        ("0", "/items/$ref/type", "refused"),
-        ("/0", "items/$ref/type", "refused"),
-        ("", "/~2", "refused"),
-    ] {
-        assert_eq!(rt;
-            said(&rt, alloc, &registry, "[1]", instance, evaluation),
-            want
-        );
+// Each a root beside the leaf, a value, the two paths, and what is said of them.
+pub(crate) fn assert_said(rt: &impl Abort, alloc: Global, rows: &[(&str, &str, &str, &str, &str)]) {
+    for (root, value, instance, evaluation, want) in rows {
+        let registry = registry(rt, alloc, root);
+        let word = said(rt, alloc, &registry, value, instance, evaluation);
+        assert_eq!(rt; word, *want, "{root} {value} {instance} {evaluation}");
     }
 }
+
+const TWO: [(&str, &str, &str, &str, &str); 14] = [
+    (ROOT, "[1]", "", "/minItems", "accepted"),
+    (ROOT, "[1]", "/0", "/items/$ref/type", "accepted"),
+    (ROOT, "[1]", "", "/items", "accepted"),
+    (ROOT, "[1]", "/0", "/items/$ref", "accepted"),
+    (ROOT, "[1]", "/0", "/items", "refused"),
+    (ROOT, "[1]", "", "/type", "refused"),
+    (ROOT, "[1]", "", "", "refused"),
+    (ROOT, "[1]", "/00", "/items/$ref/type", "refused"),
+    (ROOT, "[1]", "/1", "/items/$ref/type", "refused"),
+    (ROOT, "[1]", "/0", "/items/$ref/type/", "refused"),
+    (ROOT, "[1]", "/0/", "/items/$ref/type", "refused"),
+    (ROOT, "[1]", "0", "/items/$ref/type", "refused"),
+    (ROOT, "[1]", "/0", "items/$ref/type", "refused"),
+    (ROOT, "[1]", "", "/~2", "refused"),
+];
+
+#[test]
+fn two_documents(rt: HostRuntime) {
+    assert_said(&rt, rt.alloc(), &TWO);
+}
+
+const ESCAPED: &str =
+    "{\"properties\":{\"a/b\":{\"type\":\"string\"},\"~\":{\"items\":false},\"0\":{\"$ref\":\"leaf.json\"}}}";
+
+const ESCAPES: [(&str, &str, &str, &str, &str); 9] = [
+    (
+        ESCAPED,
+        "{\"a/b\":1,\"~\":[1,2],\"0\":1}",
+        "/a~1b",
+        "/properties/a~1b/type",
+        "accepted",
+    ),
+    (
+        ESCAPED,
+        "{\"a/b\":1,\"~\":[1,2],\"0\":1}",
+        "/a~1b",
+        "/properties/a~1b",
+        "refused",
+    ),
+    (
+        ESCAPED,
+        "{\"a/b\":1,\"~\":[1,2],\"0\":1}",
+        "",
+        "/properties",
+        "accepted",
+    ),
+    (
+        ESCAPED,
+        "{\"a/b\":1,\"~\":[1,2],\"0\":1}",
+        "/~0/1",
+        "/properties/~0/items",
+        "accepted",
+    ),
+    (
+        ESCAPED,
+        "{\"a/b\":1,\"~\":[1,2],\"0\":1}",
+        "/~/1",
+        "/properties/~/items",
+        "refused",
+    ),
+    (
+        ESCAPED,
+        "{\"a/b\":1,\"~\":[1,2],\"0\":1}",
+        "/~0",
+        "/properties/~0/items",
+        "accepted",
+    ),
+    (
+        ESCAPED,
+        "{\"a/b\":1,\"~\":[1,2],\"0\":1}",
+        "/0",
+        "/properties/0/$ref/type",
+        "accepted",
+    ),
+    (
+        ESCAPED,
+        "{\"a/b\":1,\"~\":[1,2],\"0\":1}",
+        "/~0",
+        "/properties/0/$ref/type",
+        "refused",
+    ),
+    (
+        ESCAPED,
+        "{\"a/b\":1,\"~\":[1,2],\"0\":1}",
+        "/x",
+        "/properties/x/type",
+        "refused",
+    ),
+];
 
 #[test]
 fn names_with_escapes(rt: HostRuntime) {
-    let alloc = rt.alloc();
-    let root =
-        "{\"properties\":{\"a/b\":{\"type\":\"string\"},\"~\":{\"items\":false},\"0\":{\"$ref\":\"leaf.json\"}}}";
-    let registry = registry(&rt, alloc, root);
-    for (instance, evaluation, want) in [
-        ("/a~1b", "/properties/a~1b/type", "accepted"),
-        ("/a~1b", "/properties/a~1b", "refused"),
-        ("", "/properties", "accepted"),
-        ("/~0/1", "/properties/~0/items", "accepted"),
-        ("/~/1", "/properties/~/items", "refused"),
-        ("/~0", "/properties/~0/items", "accepted"),
-        ("/0", "/properties/0/$ref/type", "accepted"),
-        ("/~0", "/properties/0/$ref/type", "refused"),
-        ("/x", "/properties/x/type", "refused"),
-    ] {
-        assert_eq!(rt;
-            said(
-                &rt,
-                alloc,
-                &registry,
-                "{\"a/b\":1,\"~\":[1,2],\"0\":1}",
-                instance,
-                evaluation
-            ),
-            want
-        );
-    }
+    assert_said(&rt, rt.alloc(), &ESCAPES);
 }
+
+const NAMED: &str =
+    "{\"propertyNames\":{\"$ref\":\"#/$defs/s\"},\"$defs\":{\"s\":{\"enum\":[\"ab\"]}}}";
+
+const NAMES: [(&str, &str, &str, &str, &str); 10] = [
+    (
+        NAMED,
+        "{\"a\":1}",
+        "",
+        "/propertyNames/$ref/enum",
+        "accepted",
+    ),
+    (
+        NAMED,
+        "{\"ab\":1,\"b\":1}",
+        "",
+        "/propertyNames/$ref/enum",
+        "accepted",
+    ),
+    (NAMED, "{\"a\":1}", "", "/propertyNames/$ref", "accepted"),
+    (NAMED, "{\"a\":1}", "", "/propertyNames", "accepted"),
+    (
+        NAMED,
+        "{\"a\":1}",
+        "/a",
+        "/propertyNames/$ref/enum",
+        "refused",
+    ),
+    (
+        NAMED,
+        "{\"a\":1}",
+        "",
+        "/propertyNames/$ref/type",
+        "refused",
+    ),
+    (NAMED, "{\"a\":1}", "", "/propertyNames/enum", "refused"),
+    (
+        NAMED,
+        "{\"ab\":1}",
+        "",
+        "/propertyNames/$ref/enum",
+        "refused",
+    ),
+    (NAMED, "{\"ab\":1}", "", "/propertyNames", "refused"),
+    (NAMED, "[\"a\"]", "", "/propertyNames/$ref/enum", "refused"),
+];
 
 #[test]
 fn names_of_members(rt: HostRuntime) {
-    let alloc = rt.alloc();
-    let root = "{\"propertyNames\":{\"$ref\":\"#/$defs/s\"},\"$defs\":{\"s\":{\"enum\":[\"ab\"]}}}";
-    let registry = registry(&rt, alloc, root);
-    for (value, instance, evaluation, want) in [
-        ("{\"a\":1}", "", "/propertyNames/$ref/enum", "accepted"),
-        (
-            "{\"ab\":1,\"b\":1}",
-            "",
-            "/propertyNames/$ref/enum",
-            "accepted",
-        ),
-        ("{\"a\":1}", "", "/propertyNames/$ref", "accepted"),
-        ("{\"a\":1}", "", "/propertyNames", "accepted"),
-        ("{\"a\":1}", "/a", "/propertyNames/$ref/enum", "refused"),
-        ("{\"a\":1}", "", "/propertyNames/$ref/type", "refused"),
-        ("{\"a\":1}", "", "/propertyNames/enum", "refused"),
-        ("{\"ab\":1}", "", "/propertyNames/$ref/enum", "refused"),
-        ("{\"ab\":1}", "", "/propertyNames", "refused"),
-        ("[\"a\"]", "", "/propertyNames/$ref/enum", "refused"),
-    ] {
-        assert_eq!(rt;
-            said(&rt, alloc, &registry, value, instance, evaluation),
-            want
-        );
-    }
+    assert_said(&rt, rt.alloc(), &NAMES);
 }
+
+const VALID: [(&str, &str, &str, &str, &str); 6] = [
+    (ROOT, "[\"a\",\"b\"]", "", "", "refused"),
+    (ROOT, "[\"a\",\"b\"]", "", "/type", "refused"),
+    (ROOT, "[\"a\",\"b\"]", "", "/minItems", "refused"),
+    (ROOT, "[\"a\",\"b\"]", "", "/items", "refused"),
+    (ROOT, "[\"a\",\"b\"]", "/0", "/items/$ref", "refused"),
+    (ROOT, "[\"a\",\"b\"]", "/0", "/items/$ref/type", "refused"),
+];
 
 #[test]
 fn of_a_valid_value(rt: HostRuntime) {
-    let alloc = rt.alloc();
-    let registry = registry(&rt, alloc, ROOT);
-    for (instance, evaluation) in [
-        ("", ""),
-        ("", "/type"),
-        ("", "/minItems"),
-        ("", "/items"),
-        ("/0", "/items/$ref"),
-        ("/0", "/items/$ref/type"),
-    ] {
-        let word = said(&rt, alloc, &registry, "[\"a\",\"b\"]", instance, evaluation);
-        assert_eq!(rt; word, "refused");
-    }
+    assert_said(&rt, rt.alloc(), &VALID);
 }
+
+const COMING_BACK: [(&str, &str, &str, &str, &str); 4] = [
+    ("{\"$ref\":\"#\"}", "1", "", "", "refused"),
+    ("{\"$ref\":\"#\"}", "1", "", "/$ref", "refused"),
+    ("{\"$ref\":\"#\"}", "1", "", "/$ref/$ref/$ref", "refused"),
+    ("{\"$ref\":\"#\"}", "1", "", "/$ref/type", "refused"),
+];
 
 #[test]
 fn references_that_come_back(rt: HostRuntime) {
-    let alloc = rt.alloc();
-    let registry = registry(&rt, alloc, "{\"$ref\":\"#\"}");
-    for evaluation in ["", "/$ref", "/$ref/$ref/$ref", "/$ref/type"] {
-        assert_eq!(rt; said(&rt, alloc, &registry, "1", "", evaluation), "refused");
-    }
+    assert_said(&rt, rt.alloc(), &COMING_BACK);
 }
 
 #[test]
@@ -235,118 +304,264 @@ fn paths_beside_the_verdict(rt: HostRuntime) {
     }
 }
 
+const BRANCHING: &str =
+    "{\"properties\":{\"a\":{\"anyOf\":[{\"minimum\":2}]},\"b\":{\"anyOf\":[false,{\"minimum\":2}]},\"c\":{\"oneOf\":[{\"minimum\":2}]},\"d\":{\"oneOf\":[{\"minimum\":2},{\"maximum\":0}]},\"e\":{\"not\":{\"minimum\":1}},\"f\":{\"allOf\":[true,{\"minimum\":2}]},\"g\":{\"contains\":{\"type\":\"integer\"},\"maxContains\":1}}}";
+
+const ONES: &str = "{\"a\":1,\"b\":1,\"c\":1,\"d\":1,\"e\":1,\"f\":1,\"g\":[\"a\"]}";
+
+const BRANCHES: [(&str, &str, &str, &str, &str); 16] = [
+    (BRANCHING, ONES, "/a", "/properties/a/anyOf", "accepted"),
+    (
+        BRANCHING,
+        ONES,
+        "/a",
+        "/properties/a/anyOf/0/minimum",
+        "accepted",
+    ),
+    (BRANCHING, ONES, "/b", "/properties/b/anyOf", "accepted"),
+    (BRANCHING, ONES, "/b", "/properties/b/anyOf/0", "refused"),
+    (
+        BRANCHING,
+        ONES,
+        "/b",
+        "/properties/b/anyOf/1/minimum",
+        "refused",
+    ),
+    (
+        BRANCHING,
+        ONES,
+        "/c",
+        "/properties/c/oneOf/0/minimum",
+        "accepted",
+    ),
+    (BRANCHING, ONES, "/d", "/properties/d/oneOf", "accepted"),
+    (
+        BRANCHING,
+        ONES,
+        "/d",
+        "/properties/d/oneOf/0/minimum",
+        "refused",
+    ),
+    (BRANCHING, ONES, "/e", "/properties/e/not", "accepted"),
+    (
+        BRANCHING,
+        ONES,
+        "/e",
+        "/properties/e/not/minimum",
+        "refused",
+    ),
+    (
+        BRANCHING,
+        ONES,
+        "/f",
+        "/properties/f/allOf/1/minimum",
+        "accepted",
+    ),
+    (BRANCHING, ONES, "/f", "/properties/f/allOf", "accepted"),
+    (
+        BRANCHING,
+        ONES,
+        "/g",
+        "/properties/g/maxContains",
+        "accepted",
+    ),
+    (
+        BRANCHING,
+        ONES,
+        "/g",
+        "/properties/g/minContains",
+        "refused",
+    ),
+    (BRANCHING, ONES, "/g", "/properties/g/contains", "refused"),
+    (
+        BRANCHING,
+        ONES,
+        "/g/0",
+        "/properties/g/contains/type",
+        "refused",
+    ),
+];
+
 #[test]
 fn into_branches(rt: HostRuntime) {
-    let alloc = rt.alloc();
-    let root =
-        "{\"properties\":{\"a\":{\"anyOf\":[{\"minimum\":2}]},\"b\":{\"anyOf\":[false,{\"minimum\":2}]},\"c\":{\"oneOf\":[{\"minimum\":2}]},\"d\":{\"oneOf\":[{\"minimum\":2},{\"maximum\":0}]},\"e\":{\"not\":{\"minimum\":1}},\"f\":{\"allOf\":[true,{\"minimum\":2}]},\"g\":{\"contains\":{\"type\":\"integer\"},\"maxContains\":1}}}";
-    let registry = registry(&rt, alloc, root);
-    let value = "{\"a\":1,\"b\":1,\"c\":1,\"d\":1,\"e\":1,\"f\":1,\"g\":[\"a\"]}";
-    for (instance, evaluation, want) in [
-        ("/a", "/properties/a/anyOf", "accepted"),
-        ("/a", "/properties/a/anyOf/0/minimum", "accepted"),
-        ("/b", "/properties/b/anyOf", "accepted"),
-        ("/b", "/properties/b/anyOf/0", "refused"),
-        ("/b", "/properties/b/anyOf/1/minimum", "refused"),
-        ("/c", "/properties/c/oneOf/0/minimum", "accepted"),
-        ("/d", "/properties/d/oneOf", "accepted"),
-        ("/d", "/properties/d/oneOf/0/minimum", "refused"),
-        ("/e", "/properties/e/not", "accepted"),
-        ("/e", "/properties/e/not/minimum", "refused"),
-        ("/f", "/properties/f/allOf/1/minimum", "accepted"),
-        ("/f", "/properties/f/allOf", "accepted"),
-        ("/g", "/properties/g/maxContains", "accepted"),
-        ("/g", "/properties/g/minContains", "refused"),
-        ("/g", "/properties/g/contains", "refused"),
-        ("/g/0", "/properties/g/contains/type", "refused"),
-    ] {
-        assert_eq!(rt;
-            said(&rt, alloc, &registry, value, instance, evaluation),
-            want
-        );
-    }
+    assert_said(&rt, rt.alloc(), &BRANCHES);
 }
+
+const EITHER: &str = "{\"anyOf\":[{\"type\":\"string\"},{\"type\":\"integer\"}]}";
+
+const ONE: &str = "{\"anyOf\":[{\"type\":\"string\"}]}";
+
+const CHOSEN: &str = "{\"if\":{\"minimum\":0},\"then\":{\"multipleOf\":2}}";
+
+const OF_THE_ROOT: [(&str, &str, &str, &str, &str); 8] = [
+    (EITHER, "1", "", "/anyOf/0/type", "refused"),
+    (EITHER, "null", "", "/anyOf/0/type", "refused"),
+    (EITHER, "null", "", "/anyOf", "accepted"),
+    (ONE, "1", "", "/anyOf/0/type", "accepted"),
+    (ONE, "1", "", "/anyOf", "accepted"),
+    (CHOSEN, "3", "", "/then/multipleOf", "accepted"),
+    (CHOSEN, "3", "", "/then", "accepted"),
+    (CHOSEN, "3", "", "/if", "refused"),
+];
 
 #[test]
 fn into_branches_of_the_root(rt: HostRuntime) {
-    let alloc = rt.alloc();
-    let either = "{\"anyOf\":[{\"type\":\"string\"},{\"type\":\"integer\"}]}";
-    let one = "{\"anyOf\":[{\"type\":\"string\"}]}";
-    let chosen = "{\"if\":{\"minimum\":0},\"then\":{\"multipleOf\":2}}";
-    for (root, value, evaluation, want) in [
-        (either, "1", "/anyOf/0/type", "refused"),
-        (either, "null", "/anyOf/0/type", "refused"),
-        (either, "null", "/anyOf", "accepted"),
-        (one, "1", "/anyOf/0/type", "accepted"),
-        (one, "1", "/anyOf", "accepted"),
-        (chosen, "3", "/then/multipleOf", "accepted"),
-        (chosen, "3", "/then", "accepted"),
-        (chosen, "3", "/if", "refused"),
-    ] {
-        let registry = registry(&rt, alloc, root);
-        assert_eq!(rt; said(&rt, alloc, &registry, value, "", evaluation), want);
-    }
+    assert_said(&rt, rt.alloc(), &OF_THE_ROOT);
 }
+
+const ALONE: &str = "{\"additionalProperties\":false}";
+
+const BESIDE: &str = "{\"properties\":{\"a\":true},\"additionalProperties\":false}";
+
+const NUMBERS: &str = "{\"properties\":{\"a\":true},\"additionalProperties\":{\"minimum\":2}}";
+
+const NOT_DECLARED: [(&str, &str, &str, &str, &str); 10] = [
+    (
+        ALONE,
+        "{\"a\":1,\"b\":1}",
+        "",
+        "/additionalProperties",
+        "accepted",
+    ),
+    (
+        ALONE,
+        "{\"a\":1,\"b\":1}",
+        "/a",
+        "/additionalProperties",
+        "accepted",
+    ),
+    (
+        ALONE,
+        "{\"a\":1,\"b\":1}",
+        "/c",
+        "/additionalProperties",
+        "refused",
+    ),
+    (
+        BESIDE,
+        "{\"a\":1,\"b\":1}",
+        "",
+        "/additionalProperties",
+        "accepted",
+    ),
+    (
+        BESIDE,
+        "{\"a\":1,\"b\":1}",
+        "/a",
+        "/additionalProperties",
+        "refused",
+    ),
+    (
+        BESIDE,
+        "{\"a\":1,\"b\":1}",
+        "/b",
+        "/additionalProperties",
+        "accepted",
+    ),
+    (
+        BESIDE,
+        "{\"a\":1,\"b\":1}",
+        "/b",
+        "/additionalProperties/b",
+        "refused",
+    ),
+    (
+        NUMBERS,
+        "{\"a\":1,\"b\":1}",
+        "/a",
+        "/additionalProperties/minimum",
+        "refused",
+    ),
+    (
+        NUMBERS,
+        "{\"a\":1,\"b\":1}",
+        "/b",
+        "/additionalProperties/minimum",
+        "accepted",
+    ),
+    (
+        NUMBERS,
+        "{\"a\":1,\"b\":1}",
+        "/b",
+        "/additionalProperties",
+        "refused",
+    ),
+];
 
 #[test]
 fn into_members_that_are_not_declared(rt: HostRuntime) {
-    let alloc = rt.alloc();
-    let alone = "{\"additionalProperties\":false}";
-    let beside = "{\"properties\":{\"a\":true},\"additionalProperties\":false}";
-    let numbers = "{\"properties\":{\"a\":true},\"additionalProperties\":{\"minimum\":2}}";
-    for (root, instance, evaluation, want) in [
-        (alone, "", "/additionalProperties", "accepted"),
-        (alone, "/a", "/additionalProperties", "accepted"),
-        (alone, "/c", "/additionalProperties", "refused"),
-        (beside, "", "/additionalProperties", "accepted"),
-        (beside, "/a", "/additionalProperties", "refused"),
-        (beside, "/b", "/additionalProperties", "accepted"),
-        (beside, "/b", "/additionalProperties/b", "refused"),
-        (numbers, "/a", "/additionalProperties/minimum", "refused"),
-        (numbers, "/b", "/additionalProperties/minimum", "accepted"),
-        (numbers, "/b", "/additionalProperties", "refused"),
-    ] {
-        let registry = registry(&rt, alloc, root);
-        let word = said(
-            &rt,
-            alloc,
-            &registry,
-            "{\"a\":1,\"b\":1}",
-            instance,
-            evaluation,
-        );
-        assert_eq!(rt; word, want, "{root} {instance} {evaluation}");
-    }
+    assert_said(&rt, rt.alloc(), &NOT_DECLARED);
 }
+
+const PATTERNS: &str =
+    "{\"properties\":{\"a\":{\"pattern\":\"x.y\"}},\"patternProperties\":{\"b.d\":{\"pattern\":\"^x\"}},\"additionalProperties\":false}";
+
+const BY_PATTERNS: [(&str, &str, &str, &str, &str); 7] = [
+    (
+        PATTERNS,
+        "{\"a\":\"xy\",\"bcd\":\"yx\",\"bd\":\"x\"}",
+        "/a",
+        "/properties/a/pattern",
+        "accepted",
+    ),
+    (
+        PATTERNS,
+        "{\"a\":\"xy\",\"bcd\":\"yx\",\"bd\":\"x\"}",
+        "/bcd",
+        "/patternProperties/b.d/pattern",
+        "accepted",
+    ),
+    (
+        PATTERNS,
+        "{\"a\":\"xy\",\"bcd\":\"yx\",\"bd\":\"x\"}",
+        "/a",
+        "/patternProperties/b.d/pattern",
+        "refused",
+    ),
+    (
+        PATTERNS,
+        "{\"a\":\"xy\",\"bcd\":\"yx\",\"bd\":\"x\"}",
+        "/bcd",
+        "/patternProperties/b.d",
+        "refused",
+    ),
+    (
+        PATTERNS,
+        "{\"a\":\"xy\",\"bcd\":\"yx\",\"bd\":\"x\"}",
+        "",
+        "/additionalProperties",
+        "accepted",
+    ),
+    (
+        PATTERNS,
+        "{\"a\":\"xy\",\"bcd\":\"yx\",\"bd\":\"x\"}",
+        "/bd",
+        "/additionalProperties",
+        "accepted",
+    ),
+    (
+        PATTERNS,
+        "{\"a\":\"xy\",\"bcd\":\"yx\",\"bd\":\"x\"}",
+        "/bcd",
+        "/additionalProperties",
+        "refused",
+    ),
+];
 
 #[test]
 fn into_members_by_patterns(rt: HostRuntime) {
-    let alloc = rt.alloc();
-    let registry = registry(
-        &rt,
-        alloc,
-        "{\"properties\":{\"a\":{\"pattern\":\"x.y\"}},\"patternProperties\":{\"b.d\":{\"pattern\":\"^x\"}},\"additionalProperties\":false}",
-    );
-    for (instance, evaluation, want) in [
-        ("/a", "/properties/a/pattern", "accepted"),
-        ("/bcd", "/patternProperties/b.d/pattern", "accepted"),
-        ("/a", "/patternProperties/b.d/pattern", "refused"),
-        ("/bcd", "/patternProperties/b.d", "refused"),
-        ("", "/additionalProperties", "accepted"),
-        ("/bd", "/additionalProperties", "accepted"),
-        ("/bcd", "/additionalProperties", "refused"),
-    ] {
-        let value = "{\"a\":\"xy\",\"bcd\":\"yx\",\"bd\":\"x\"}";
-        assert_eq!(rt;
-            said(&rt, alloc, &registry, value, instance, evaluation),
-            want
-        );
-    }
+    assert_said(&rt, rt.alloc(), &BY_PATTERNS);
 }
+
+const NOT_BUILT: [(&str, &str, &str, &str, &str); 1] = [(
+    "{\"pattern\":\"(\",\"minimum\":2}",
+    "1",
+    "",
+    "/minimum",
+    "refused",
+)];
 
 #[test]
 fn patterns_that_no_build_takes(rt: HostRuntime) {
-    let alloc = rt.alloc();
-    let registry = registry(&rt, alloc, "{\"pattern\":\"(\",\"minimum\":2}");
-    assert_eq!(rt; said(&rt, alloc, &registry, "1", "", "/minimum"), "refused");
+    assert_said(&rt, rt.alloc(), &NOT_BUILT);
 }

@@ -1,5 +1,5 @@
 // Keywords that ask several schemas, or one of which the answer is turned (Core 10.2.1), and the items behind a list (Core 9.3.1.2 of 2019-09).
-use crate::subject::{refused_otherwise, told_otherwise};
+use crate::subject::{assert_refused, assert_told};
 
 const BAD_VALUES: [(&str, &str, &str); 7] = [
     ("{\"anyOf\":{}}", "anyOf", "list"),
@@ -17,10 +17,7 @@ const BAD_VALUES: [(&str, &str, &str); 7] = [
 
 #[test]
 fn values_that_no_keyword_may_have(rt: HostRuntime) {
-    assert_eq!(rt;
-        refused_otherwise(&rt, rt.alloc(), &BAD_VALUES).as_str(),
-        ""
-    );
+    assert_refused(&rt, rt.alloc(), &BAD_VALUES);
 }
 
 const BRANCHES: [(&str, &str, &str); 17] = [
@@ -81,7 +78,7 @@ const BRANCHES: [(&str, &str, &str); 17] = [
 
 #[test]
 fn schemas_of_which_some_accept(rt: HostRuntime) {
-    assert_eq!(rt; told_otherwise(&rt, rt.alloc(), &BRANCHES).as_str(), "");
+    assert_told(&rt, rt.alloc(), &BRANCHES);
 }
 
 const BEHIND: [(&str, &str, &str); 7] = [
@@ -124,5 +121,5 @@ const BEHIND: [(&str, &str, &str); 7] = [
 
 #[test]
 fn items_behind_the_list(rt: HostRuntime) {
-    assert_eq!(rt; told_otherwise(&rt, rt.alloc(), &BEHIND).as_str(), "");
+    assert_told(&rt, rt.alloc(), &BEHIND);
 }

@@ -1,5 +1,5 @@
 // Schemas that a condition chooses (Core 10.2.2).
-use crate::subject::{refused_otherwise, told_otherwise};
+use crate::subject::{assert_refused, assert_told};
 
 const BAD_VALUES: [(&str, &str, &str); 9] = [
     ("{\"if\":5,\"then\":true}", "if", "schema"),
@@ -31,10 +31,7 @@ const BAD_VALUES: [(&str, &str, &str); 9] = [
 
 #[test]
 fn values_that_are_no_schema(rt: HostRuntime) {
-    assert_eq!(rt;
-        refused_otherwise(&rt, rt.alloc(), &BAD_VALUES).as_str(),
-        ""
-    );
+    assert_refused(&rt, rt.alloc(), &BAD_VALUES);
 }
 
 const BOTH: &str =
@@ -82,7 +79,7 @@ const CHOSEN: [(&str, &str, &str); 17] = [
 
 #[test]
 fn schemas_that_are_chosen(rt: HostRuntime) {
-    assert_eq!(rt; told_otherwise(&rt, rt.alloc(), &CHOSEN).as_str(), "");
+    assert_told(&rt, rt.alloc(), &CHOSEN);
 }
 
 // None of them does anything alone, and what is not read may be no schema.
@@ -119,7 +116,7 @@ const ALONE: [(&str, &str, &str); 12] = [
 
 #[test]
 fn keywords_that_stand_alone(rt: HostRuntime) {
-    assert_eq!(rt; told_otherwise(&rt, rt.alloc(), &ALONE).as_str(), "");
+    assert_told(&rt, rt.alloc(), &ALONE);
 }
 
 const NESTED: [(&str, &str, &str); 7] = [
@@ -162,5 +159,5 @@ const NESTED: [(&str, &str, &str); 7] = [
 
 #[test]
 fn conditions_within_others(rt: HostRuntime) {
-    assert_eq!(rt; told_otherwise(&rt, rt.alloc(), &NESTED).as_str(), "");
+    assert_told(&rt, rt.alloc(), &NESTED);
 }

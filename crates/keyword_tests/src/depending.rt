@@ -1,5 +1,5 @@
 // Names and schemas that depend on a member (Validation 6.5.7 of Draft 7).
-use crate::subject::{refused_otherwise, told_otherwise};
+use crate::subject::{assert_refused, assert_told};
 
 const BAD_VALUES: [(&str, &str, &str); 7] = [
     ("{\"dependencies\":[]}", "dependencies", "object"),
@@ -37,10 +37,7 @@ const BAD_VALUES: [(&str, &str, &str); 7] = [
 
 #[test]
 fn values_that_no_keyword_may_have(rt: HostRuntime) {
-    assert_eq!(rt;
-        refused_otherwise(&rt, rt.alloc(), &BAD_VALUES).as_str(),
-        ""
-    );
+    assert_refused(&rt, rt.alloc(), &BAD_VALUES);
 }
 
 const BOTH: &str = "{\"dependencies\":{\"a\":[\"b\",\"c\"],\"x\":{\"required\":[\"y\"]}}}";
@@ -79,5 +76,5 @@ const DEPENDING: [(&str, &str, &str); 13] = [
 
 #[test]
 fn names_and_schemas_beside_members(rt: HostRuntime) {
-    assert_eq!(rt; told_otherwise(&rt, rt.alloc(), &DEPENDING).as_str(), "");
+    assert_told(&rt, rt.alloc(), &DEPENDING);
 }

@@ -1,5 +1,5 @@
 // Names of members that a schema applies to (Core 10.3.2.4).
-use crate::subject::{built, refused_otherwise, told_otherwise};
+use crate::subject::{assert_refused, assert_told, built};
 use json_schema_validator::{ErrorIterator, ValidationError, ValidationErrorKind};
 use serde_json::Value;
 use std::alloc::Global;
@@ -20,10 +20,7 @@ const BAD_VALUES: [(&str, &str, &str); 2] = [
 
 #[test]
 fn values_that_no_name_keyword_may_have(rt: HostRuntime) {
-    assert_eq!(rt;
-        refused_otherwise(&rt, rt.alloc(), &BAD_VALUES).as_str(),
-        ""
-    );
+    assert_refused(&rt, rt.alloc(), &BAD_VALUES);
 }
 
 const NAMES: [(&str, &str, &str); 12] = [
@@ -105,8 +102,8 @@ const FOR_NO_NAME: [(&str, &str, &str); 7] = [
 
 #[test]
 fn names_that_are_refused(rt: HostRuntime) {
-    assert_eq!(rt; told_otherwise(&rt, rt.alloc(), &NAMES).as_str(), "");
-    assert_eq!(rt; told_otherwise(&rt, rt.alloc(), &FOR_NO_NAME).as_str(), "");
+    assert_told(&rt, rt.alloc(), &NAMES);
+    assert_told(&rt, rt.alloc(), &FOR_NO_NAME);
 }
 
 // The kind, value and instance path of a name's fault, and how many schemas an `anyOf` asked.
@@ -147,32 +144,27 @@ fn named(rt: &impl Abort, alloc: Global, schema: &str, instance: &str) -> String
     all_named(rt, alloc, errors)
 }
 
-#[test]
-fn faults_of_names_are_the_object_s(rt: HostRuntime) {
-    let alloc = rt.alloc();
-    let referred = named(
-        &rt,
-        alloc,
+const OF_THE_OBJECT: [(&str, &str, &str); 3] = [
+    (
         "{\"items\":{\"propertyNames\":{\"$ref\":\"#/$defs/s\"}},\"$defs\":{\"s\":{\"minLength\":2}}}",
         "[{\"a\":1}]",
-    );
-    assert_eq!(rt;
-        referred.as_str(),
-        "PropertyNames of {\"a\":1} by /$defs/s/minLength: MinLength of \"a\" at /0\n"
-    );
-    let several = named(
-        &rt,
-        alloc,
+        "PropertyNames of {\"a\":1} by /$defs/s/minLength: MinLength of \"a\" at /0\n",
+    ),
+    (
         "{\"propertyNames\":{\"anyOf\":[{\"maxLength\":1},{\"const\":\"abc\"}]}}",
         "{\"ab\":1}",
-    );
-    assert_eq!(rt;
-        several.as_str(),
-        "PropertyNames of {\"ab\":1} by /propertyNames/anyOf: AnyOf of \"ab\" at  with 2\n"
-    );
-    let none = named(&rt, alloc, "{\"propertyNames\":false}", "{\"a\":1}");
-    assert_eq!(rt;
-        none.as_str(),
-        "FalseSchema of {\"a\":1} by /propertyNames\n"
-    );
+        "PropertyNames of {\"ab\":1} by /propertyNames/anyOf: AnyOf of \"ab\" at  with 2\n",
+    ),
+    (
+        "{\"propertyNames\":false}",
+        "{\"a\":1}",
+        "FalseSchema of {\"a\":1} by /propertyNames\n",
+    ),
+];
+
+#[test]
+fn faults_of_names_are_the_object_s(rt: HostRuntime) {
+    for (schema, instance, want) in &OF_THE_OBJECT {
+        assert_eq!(rt; named(&rt, rt.alloc(), schema, instance).as_str(), *want);
+    }
 }

@@ -1,5 +1,5 @@
 // Members that are not declared beside (Core 10.3.2.3).
-use crate::subject::{refused_otherwise, told_otherwise};
+use crate::subject::{assert_refused, assert_told};
 
 const BAD_VALUES: [(&str, &str, &str); 4] = [
     (
@@ -26,10 +26,7 @@ const BAD_VALUES: [(&str, &str, &str); 4] = [
 
 #[test]
 fn values_that_are_no_schema(rt: HostRuntime) {
-    assert_eq!(rt;
-        refused_otherwise(&rt, rt.alloc(), &BAD_VALUES).as_str(),
-        ""
-    );
+    assert_refused(&rt, rt.alloc(), &BAD_VALUES);
 }
 
 const OTHERS: [(&str, &str, &str); 16] = [
@@ -101,5 +98,5 @@ const OTHERS: [(&str, &str, &str); 16] = [
 
 #[test]
 fn members_that_are_not_declared(rt: HostRuntime) {
-    assert_eq!(rt; told_otherwise(&rt, rt.alloc(), &OTHERS).as_str(), "");
+    assert_told(&rt, rt.alloc(), &OTHERS);
 }

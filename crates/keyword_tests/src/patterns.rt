@@ -1,5 +1,5 @@
 // Texts and names of members by patterns (Validation 6.3.3; Core 10.3.2.2, 10.3.2.3).
-use crate::subject::{outcome, refused_otherwise, told_otherwise};
+use crate::subject::{assert_refused, assert_told, outcome};
 
 const BAD_VALUES: [(&str, &str, &str); 3] = [
     ("{\"pattern\":3}", "pattern", "text"),
@@ -13,10 +13,7 @@ const BAD_VALUES: [(&str, &str, &str); 3] = [
 
 #[test]
 fn values_that_no_keyword_may_have(rt: HostRuntime) {
-    assert_eq!(rt;
-        refused_otherwise(&rt, rt.alloc(), &BAD_VALUES).as_str(),
-        ""
-    );
+    assert_refused(&rt, rt.alloc(), &BAD_VALUES);
 }
 
 #[test]
@@ -70,7 +67,7 @@ const TEXTS: [(&str, &str, &str); 12] = [
 
 #[test]
 fn texts_that_are_matched(rt: HostRuntime) {
-    assert_eq!(rt; told_otherwise(&rt, rt.alloc(), &TEXTS).as_str(), "");
+    assert_told(&rt, rt.alloc(), &TEXTS);
 }
 
 const MEMBERS: [(&str, &str, &str); 12] = [
@@ -138,5 +135,5 @@ const MEMBERS: [(&str, &str, &str); 12] = [
 
 #[test]
 fn members_whose_names_are_matched(rt: HostRuntime) {
-    assert_eq!(rt; told_otherwise(&rt, rt.alloc(), &MEMBERS).as_str(), "");
+    assert_told(&rt, rt.alloc(), &MEMBERS);
 }

@@ -64,7 +64,7 @@ fn observers_agree(rt: &impl Abort, subject: &Subject, value: &Value, is_valid: 
 }
 
 // The lines of a value, where the three observers agree on it and the check accepts each fault.
-pub(crate) fn told(rt: &impl Abort, alloc: Global, subject: &Subject, instance: &str) -> String {
+fn told(rt: &impl Abort, alloc: Global, subject: &Subject, instance: &str) -> String {
     let value = Value::from_str(alloc, instance).expect(rt, "JSON");
     let errors = subject.validator.iter_errors(&value).expect(rt, "memory");
     let text = lines(rt, alloc, errors);
@@ -78,11 +78,7 @@ pub(crate) fn told(rt: &impl Abort, alloc: Global, subject: &Subject, instance: 
 }
 
 // The rows, each a schema, a value and the lines wanted, of which anything else is told.
-pub(crate) fn told_otherwise(
-    rt: &impl Abort,
-    alloc: Global,
-    rows: &[(&str, &str, &str)],
-) -> String {
+fn told_otherwise(rt: &impl Abort, alloc: Global, rows: &[(&str, &str, &str)]) -> String {
     let mut text = String::new(alloc);
     for (schema, value, want) in rows {
         let found = told(rt, alloc, &built(rt, alloc, schema), value);
@@ -91,6 +87,10 @@ pub(crate) fn told_otherwise(
         }
     }
     text
+}
+
+pub(crate) fn assert_told(rt: &impl Abort, alloc: Global, rows: &[(&str, &str, &str)]) {
+    assert_eq!(rt; told_otherwise(rt, alloc, rows).as_str(), "");
 }
 
 // What the build of a schema under `http://a.test/r` answers.
@@ -104,20 +104,20 @@ fn build(rt: &impl Abort, alloc: Global, schema: &str) -> Result<Validator, Buil
     options.with_base(base).build(&documents, "")
 }
 
-// What is said of that schema: built, or why not.
-pub(crate) fn outcome(rt: &impl Abort, alloc: Global, schema: &str) -> String {
-    match build(rt, alloc, schema) {
+fn shown(rt: &impl Abort, alloc: Global, built: &Result<Validator, BuildError>) -> String {
+    match built {
         Ok(_) => String::from_str(alloc, "built").expect(rt, "memory"),
         Err(error) => format!(in alloc; "{error}").expect(rt, "memory"),
     }
 }
 
+// What is said of that schema: built, or why not.
+pub(crate) fn outcome(rt: &impl Abort, alloc: Global, schema: &str) -> String {
+    shown(rt, alloc, &build(rt, alloc, schema))
+}
+
 // The rows, each a schema, a place in it and what is expected there, that are refused otherwise.
-pub(crate) fn refused_otherwise(
-    rt: &impl Abort,
-    alloc: Global,
-    rows: &[(&str, &str, &str)],
-) -> String {
+fn refused_otherwise(rt: &impl Abort, alloc: Global, rows: &[(&str, &str, &str)]) -> String {
     let mut text = String::new(alloc);
     for (schema, place, expected) in rows {
         let want = format!(in alloc;
@@ -129,4 +129,8 @@ pub(crate) fn refused_otherwise(
         }
     }
     text
+}
+
+pub(crate) fn assert_refused(rt: &impl Abort, alloc: Global, rows: &[(&str, &str, &str)]) {
+    assert_eq!(rt; refused_otherwise(rt, alloc, rows).as_str(), "");
 }

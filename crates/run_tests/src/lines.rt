@@ -60,16 +60,38 @@ fn kinds_of_lines(rt: HostRuntime) {
     }
 }
 
+// Each a schema, the lines that are read, and what is written and reported.
+const WRITTEN: [(&str, &[u8], &str); 4] = [
+    (
+        "{\"type\":\"integer\"}",
+        b"1\n\"x\"\n1.5\n\n2",
+        "[]\n[[\"\",\"/type\"]]\nnull\nnull\n[]\n/ 5 true",
+    ),
+    (
+        "{\"properties\":{\"b\":{\"type\":\"null\"},\"a\":{\"type\":\"null\"}}}",
+        b"{\"b\":1,\"a\":2}\n{}\n",
+        "[[\"/a\",\"/properties/a/type\"],[\"/b\",\"/properties/b/type\"]]\n[]\n/ 2 true",
+    ),
+    (
+        "{\"additionalProperties\":false,\"properties\":{\"foo\":{\"type\":\"string\"}},\"patternProperties\":{\"^bar\":{\"minimum\":5},\"spam$\":{\"maximum\":10}}}",
+        b"{\"bar\":4,\"spam\":11,\"foo\":3,\"faz\":1}\n",
+        "[[\"\",\"/additionalProperties\"],[\"/bar\",\"/patternProperties/^bar/minimum\"],[\"/foo\",\"/properties/foo/type\"],[\"/spam\",\"/patternProperties/spam$/maximum\"]]\n/ 1 true",
+    ),
+    (
+        "{\"pattern\":\"^\\\\S*$\"}",
+        b"\"a\\ufeffb\"\n\"a\\u0085b\"\n",
+        "[[\"\",\"/pattern\"]]\n[]\n/ 2 true",
+    ),
+];
+
 #[test]
-fn lines_of_integers(rt: HostRuntime) {
+fn faults_in_order(rt: HostRuntime) {
     let alloc = rt.alloc();
-    let source = MemorySource::new(b"1\n\"x\"\n1.5\n\n2", 100, None);
-    let sink = MemorySink::new(alloc, 100, None);
-    let found = outcome(&rt, alloc, "{\"type\":\"integer\"}", source, sink);
-    assert_eq!(rt;
-        found.as_str(),
-        "[]\n[[\"\",\"/type\"]]\nnull\nnull\n[]\n/ 5 true"
-    );
+    for (schema, lines, want) in &WRITTEN {
+        let source = MemorySource::new(lines, 100, None);
+        let sink = MemorySink::new(alloc, 100, None);
+        assert_eq!(rt; outcome(&rt, alloc, schema, source, sink).as_str(), *want);
+    }
 }
 
 #[test]
@@ -87,37 +109,6 @@ fn by_nesting(rt: HostRuntime) {
         let sink = MemorySink::new(alloc, 100, None);
         assert_eq!(rt; outcome(&rt, alloc, "{}", source, sink).as_str(), want);
     }
-}
-
-#[test]
-fn paths_of_faults(rt: HostRuntime) {
-    let alloc = rt.alloc();
-    let schema = "{\"properties\":{\"b\":{\"type\":\"null\"},\"a\":{\"type\":\"null\"}}}";
-    let source = MemorySource::new(b"{\"b\":1,\"a\":2}\n{}\n", 100, None);
-    let sink = MemorySink::new(alloc, 100, None);
-    let want = "[[\"/a\",\"/properties/a/type\"],[\"/b\",\"/properties/b/type\"]]\n[]\n/ 2 true";
-    assert_eq!(rt; outcome(&rt, alloc, schema, source, sink).as_str(), want);
-}
-
-#[test]
-fn members_by_patterns(rt: HostRuntime) {
-    let alloc = rt.alloc();
-    let schema =
-        "{\"additionalProperties\":false,\"properties\":{\"foo\":{\"type\":\"string\"}},\"patternProperties\":{\"^bar\":{\"minimum\":5},\"spam$\":{\"maximum\":10}}}";
-    let source = MemorySource::new(b"{\"bar\":4,\"spam\":11,\"foo\":3,\"faz\":1}\n", 100, None);
-    let sink = MemorySink::new(alloc, 100, None);
-    let want =
-        "[[\"\",\"/additionalProperties\"],[\"/bar\",\"/patternProperties/^bar/minimum\"],[\"/foo\",\"/properties/foo/type\"],[\"/spam\",\"/patternProperties/spam$/maximum\"]]\n/ 1 true";
-    assert_eq!(rt; outcome(&rt, alloc, schema, source, sink).as_str(), want);
-}
-
-#[test]
-fn texts_by_patterns(rt: HostRuntime) {
-    let alloc = rt.alloc();
-    let source = MemorySource::new(b"\"a\\ufeffb\"\n\"a\\u0085b\"\n", 100, None);
-    let sink = MemorySink::new(alloc, 100, None);
-    let found = outcome(&rt, alloc, "{\"pattern\":\"^\\\\S*$\"}", source, sink);
-    assert_eq!(rt; found.as_str(), "[[\"\",\"/pattern\"]]\n[]\n/ 2 true");
 }
 
 #[test]

@@ -69,6 +69,13 @@ fn outcome(rt: &impl Abort, alloc: Global, words: &[&str], input: &str) -> Strin
     outcome_by(rt, alloc, words, input, None)
 }
 
+// Each words, and what comes of them.
+fn assert_outcomes(rt: &impl Abort, alloc: Global, input: &str, rows: &[(&[&str], &str)]) {
+    for (words, want) in rows {
+        assert_eq!(rt; outcome(rt, alloc, words, input).as_str(), *want);
+    }
+}
+
 const LINKED: [&str; 4] = [
     "root.json",
     "http://a.test/leaf.json=leaf.json",
@@ -98,116 +105,110 @@ fn a_whole_run(rt: HostRuntime) {
     assert_eq!(rt; outcome(&rt, alloc, &["plain.json"], "").as_str(), "0  ");
 }
 
+const DRAFTS: [(&[&str], &str); 5] = [
+    (&["beside.json", "--draft", "7"], "0 []\n "),
+    (&["--draft=4", "beside.json"], "0 []\n "),
+    (
+        &["beside.json"],
+        "1 [[\"/x\",\"/properties/x/minItems\"]]\n ",
+    ),
+    (
+        &["beside.json", "--draft", "2019-09"],
+        "1 [[\"/x\",\"/properties/x/minItems\"]]\n ",
+    ),
+    (
+        &["beside.json", "--draft", "2020-12"],
+        "1 [[\"/x\",\"/properties/x/minItems\"]]\n ",
+    ),
+];
+
 #[test]
 fn by_draft(rt: HostRuntime) {
-    let alloc = rt.alloc();
-    let cases: [(&[&str], &str); 5] = [
-        (&["beside.json", "--draft", "7"], "0 []\n "),
-        (&["--draft=4", "beside.json"], "0 []\n "),
-        (
-            &["beside.json"],
-            "1 [[\"/x\",\"/properties/x/minItems\"]]\n ",
-        ),
-        (
-            &["beside.json", "--draft", "2019-09"],
-            "1 [[\"/x\",\"/properties/x/minItems\"]]\n ",
-        ),
-        (
-            &["beside.json", "--draft", "2020-12"],
-            "1 [[\"/x\",\"/properties/x/minItems\"]]\n ",
-        ),
-    ];
-    for (words, want) in cases {
-        assert_eq!(rt; outcome(&rt, alloc, words, "{\"x\":[]}\n").as_str(), want);
-    }
+    assert_outcomes(&rt, rt.alloc(), "{\"x\":[]}\n", &DRAFTS);
 }
+
+const META_SCHEMAS: [(&[&str], &str); 7] = [
+    (&["own.json", "--meta", "meta.json"], "0 []\n "),
+    (&["--meta=meta.json", "plain.json"], "0 []\n "),
+    (
+        &["refused.json", "--meta", "meta.json"],
+        "2  build refused: Schema refused by its meta-schema at '/type', '/properties/type/type'\n",
+    ),
+    (
+        &["own.json"],
+        "2  build refused: Unknown meta-schema 'http://a.test/m2'\n",
+    ),
+    (
+        &["own.json", "--meta", "own.json"],
+        "2  file refused: own.json\n",
+    ),
+    (
+        &["own.json", "--meta", "nameless.json"],
+        "2  file refused: nameless.json\n",
+    ),
+    (
+        &["none", "--meta", "absent"],
+        "2  build refused: Document 'json-schema:///' is no JSON text\n",
+    ),
+];
 
 #[test]
 fn by_meta_schemas(rt: HostRuntime) {
-    let alloc = rt.alloc();
-    let cases: [(&[&str], &str); 7] = [
-        (&["own.json", "--meta", "meta.json"], "0 []\n "),
-        (&["--meta=meta.json", "plain.json"], "0 []\n "),
-        (
-            &["refused.json", "--meta", "meta.json"],
-            "2  build refused: Schema refused by its meta-schema at '/type', '/properties/type/type'\n",
-        ),
-        (
-            &["own.json"],
-            "2  build refused: Unknown meta-schema 'http://a.test/m2'\n",
-        ),
-        (
-            &["own.json", "--meta", "own.json"],
-            "2  file refused: own.json\n",
-        ),
-        (
-            &["own.json", "--meta", "nameless.json"],
-            "2  file refused: nameless.json\n",
-        ),
-        (
-            &["none", "--meta", "absent"],
-            "2  build refused: Document 'json-schema:///' is no JSON text\n",
-        ),
-    ];
-    for (words, want) in cases {
-        assert_eq!(rt; outcome(&rt, alloc, words, "\"a\"\n").as_str(), want);
-    }
+    assert_outcomes(&rt, rt.alloc(), "\"a\"\n", &META_SCHEMAS);
 }
+
+const REFUSED: [(&[&str], &str); 13] = [
+    (&["absent", "u:x", "--base", "%"], "2  words refused: u:x\n"),
+    (
+        &["absent", "--draft", "5", "--base", "%"],
+        "2  words refused: --draft 5\n",
+    ),
+    (
+        &["plain.json", "--draft", ""],
+        "2  words refused: --draft \n",
+    ),
+    (
+        &["absent", "--base", "%"],
+        "2  build refused: Invalid URI '%'\n",
+    ),
+    (&["absent", "u:x=none"], "2  file refused: absent\n"),
+    (
+        &["plain.json", "u:x=y=none"],
+        "2  build refused: Document 'u:x=y' is no JSON text\n",
+    ),
+    (
+        &["plain.json", "%=plain.json"],
+        "2  build refused: Invalid URI '%'\n",
+    ),
+    (
+        &["plain.json", "u:x=byte", "u:y=absent"],
+        "2  file refused: byte\n",
+    ),
+    (
+        &["plain.json", "u:x=absent", "u:y=none"],
+        "2  file refused: absent\n",
+    ),
+    (
+        &["half"],
+        "2  build refused: Number at 'json-schema:///#' is no whole number of 64 bits\n",
+    ),
+    (
+        &["wrong.json"],
+        "2  build refused: Keyword value at 'json-schema:///#/type': expected type name\n",
+    ),
+    (
+        &["nowhere.json"],
+        "2  build refused: Pointer '/$defs/none' does not exist\n",
+    ),
+    (
+        &["root.json", "--base", "u:r"],
+        "2  build refused: Resource 'http://a.test/leaf.json' is not present and retrieving it failed\n",
+    ),
+];
 
 #[test]
 fn refusals(rt: HostRuntime) {
-    let alloc = rt.alloc();
-    let cases: [(&[&str], &str); 13] = [
-        (&["absent", "u:x", "--base", "%"], "2  words refused: u:x\n"),
-        (
-            &["absent", "--draft", "5", "--base", "%"],
-            "2  words refused: --draft 5\n",
-        ),
-        (
-            &["plain.json", "--draft", ""],
-            "2  words refused: --draft \n",
-        ),
-        (
-            &["absent", "--base", "%"],
-            "2  build refused: Invalid URI '%'\n",
-        ),
-        (&["absent", "u:x=none"], "2  file refused: absent\n"),
-        (
-            &["plain.json", "u:x=y=none"],
-            "2  build refused: Document 'u:x=y' is no JSON text\n",
-        ),
-        (
-            &["plain.json", "%=plain.json"],
-            "2  build refused: Invalid URI '%'\n",
-        ),
-        (
-            &["plain.json", "u:x=byte", "u:y=absent"],
-            "2  file refused: byte\n",
-        ),
-        (
-            &["plain.json", "u:x=absent", "u:y=none"],
-            "2  file refused: absent\n",
-        ),
-        (
-            &["half"],
-            "2  build refused: Number at 'json-schema:///#' is no whole number of 64 bits\n",
-        ),
-        (
-            &["wrong.json"],
-            "2  build refused: Keyword value at 'json-schema:///#/type': expected type name\n",
-        ),
-        (
-            &["nowhere.json"],
-            "2  build refused: Pointer '/$defs/none' does not exist\n",
-        ),
-        (
-            &["root.json", "--base", "u:r"],
-            "2  build refused: Resource 'http://a.test/leaf.json' is not present and retrieving it failed\n",
-        ),
-    ];
-    for (words, want) in cases {
-        assert_eq!(rt; outcome(&rt, alloc, words, "1\n").as_str(), want);
-    }
+    assert_outcomes(&rt, rt.alloc(), "1\n", &REFUSED);
 }
 
 #[test]

@@ -6,117 +6,138 @@ use std::alloc::Global;
 use std::process::Abort;
 
 // What comes of documents under `http://a.test/r` and `http://a.test/s`, with the first as the root.
-pub(crate) fn outcome(rt: &impl Abort, alloc: Global, root: &str, other: &str) -> String {
+fn outcome(rt: &impl Abort, alloc: Global, root: &str, other: &str) -> String {
     let texts = [("http://a.test/r", root), ("http://a.test/s", other)];
     let documents = documents_of(rt, alloc, &texts);
     let options = options_at(rt, alloc, "http://a.test/r");
     outcome_of(rt, alloc, options.build(&documents, ""))
 }
 
-#[test]
-fn by_what_is_reached(rt: HostRuntime) {
-    let alloc = rt.alloc();
-    for (root, want) in [
-        (
-            "{\"$ref\":\"#/$defs/none\"}",
-            "Pointer '/$defs/none' does not exist",
-        ),
-        ("{\"$defs\":{\"u\":{\"type\":5}}}", "built"),
-        (
-            "{\"$ref\":\"#/$defs/u\",\"$defs\":{\"u\":{\"type\":5}}}",
-            "Keyword value at 'http://a.test/r#/$defs/u/type': expected type name",
-        ),
-        (
-            "{\"$ref\":\"s#/a\"}",
-            "Keyword value at 'http://a.test/s#/a': expected schema",
-        ),
-        (
-            "{\"properties\":{\"x\":{\"minItems\":\"1\"}}}",
-            "Keyword value at 'http://a.test/r#/properties/x/minItems': expected count",
-        ),
-        (
-            "{\"properties\":{\"x\":5}}",
-            "Keyword value at 'http://a.test/r#/properties/x': expected schema",
-        ),
-        (
-            "{\"unevaluatedItems\":false}",
-            "Keyword at 'http://a.test/r#/unevaluatedItems' is left out",
-        ),
-        (
-            "{\"not\":{\"unevaluatedProperties\":false}}",
-            "Keyword at 'http://a.test/r#/not/unevaluatedProperties' is left out",
-        ),
-        (
-            "{\"items\":{\"propertyNames\":{\"items\":5}}}",
-            "Keyword value at 'http://a.test/r#/items/propertyNames/items': expected schema",
-        ),
-        (
-            "{\"$dynamicRef\":5}",
-            "Keyword value at 'http://a.test/r#/$dynamicRef': expected text",
-        ),
-        (
-            "{\"$dynamicRef\":\"#none\"}",
-            "Anchor 'none' does not exist",
-        ),
-        ("5", "Keyword value at 'http://a.test/r#': expected schema"),
-    ] {
-        assert_eq!(rt; outcome(&rt, alloc, root, "{\"a\":5}").as_str(), want);
+// Holds what comes of each pair of these against what is wanted.
+pub(crate) fn assert_outcomes(rt: &impl Abort, alloc: Global, rows: &[(&str, &str, &str)]) {
+    for (root, other, want) in rows {
+        assert_eq!(rt; outcome(rt, alloc, root, other).as_str(), *want);
     }
 }
+
+const REACHED: [(&str, &str, &str); 12] = [
+    (
+        "{\"$ref\":\"#/$defs/none\"}",
+        "{\"a\":5}",
+        "Pointer '/$defs/none' does not exist",
+    ),
+    ("{\"$defs\":{\"u\":{\"type\":5}}}", "{\"a\":5}", "built"),
+    (
+        "{\"$ref\":\"#/$defs/u\",\"$defs\":{\"u\":{\"type\":5}}}",
+        "{\"a\":5}",
+        "Keyword value at 'http://a.test/r#/$defs/u/type': expected type name",
+    ),
+    (
+        "{\"$ref\":\"s#/a\"}",
+        "{\"a\":5}",
+        "Keyword value at 'http://a.test/s#/a': expected schema",
+    ),
+    (
+        "{\"properties\":{\"x\":{\"minItems\":\"1\"}}}",
+        "{\"a\":5}",
+        "Keyword value at 'http://a.test/r#/properties/x/minItems': expected count",
+    ),
+    (
+        "{\"properties\":{\"x\":5}}",
+        "{\"a\":5}",
+        "Keyword value at 'http://a.test/r#/properties/x': expected schema",
+    ),
+    (
+        "{\"unevaluatedItems\":false}",
+        "{\"a\":5}",
+        "Keyword at 'http://a.test/r#/unevaluatedItems' is left out",
+    ),
+    (
+        "{\"not\":{\"unevaluatedProperties\":false}}",
+        "{\"a\":5}",
+        "Keyword at 'http://a.test/r#/not/unevaluatedProperties' is left out",
+    ),
+    (
+        "{\"items\":{\"propertyNames\":{\"items\":5}}}",
+        "{\"a\":5}",
+        "Keyword value at 'http://a.test/r#/items/propertyNames/items': expected schema",
+    ),
+    (
+        "{\"$dynamicRef\":5}",
+        "{\"a\":5}",
+        "Keyword value at 'http://a.test/r#/$dynamicRef': expected text",
+    ),
+    (
+        "{\"$dynamicRef\":\"#none\"}",
+        "{\"a\":5}",
+        "Anchor 'none' does not exist",
+    ),
+    (
+        "5",
+        "{\"a\":5}",
+        "Keyword value at 'http://a.test/r#': expected schema",
+    ),
+];
+
+#[test]
+fn by_what_is_reached(rt: HostRuntime) {
+    assert_outcomes(&rt, rt.alloc(), &REACHED);
+}
+
+const IN_DOCUMENTS: [(&str, &str, &str); 3] = [
+    (
+        "{\"$defs\":{\"u\":{\"$ref\":\"http://b.test/\"}}}",
+        "true",
+        "Resource 'http://b.test/' is not present and retrieving it failed",
+    ),
+    (
+        "{\"$defs\":{\"u\":{\"$id\":\"http://a.test/%zz\"}}}",
+        "true",
+        "Invalid URI 'http://a.test/%zz'",
+    ),
+    (
+        "{\"$schema\":\"http://a.test/m\"}",
+        "true",
+        "Unknown meta-schema 'http://a.test/m'",
+    ),
+];
 
 #[test]
 fn by_what_documents_have(rt: HostRuntime) {
-    let alloc = rt.alloc();
-    for (root, want) in [
-        (
-            "{\"$defs\":{\"u\":{\"$ref\":\"http://b.test/\"}}}",
-            "Resource 'http://b.test/' is not present and retrieving it failed",
-        ),
-        (
-            "{\"$defs\":{\"u\":{\"$id\":\"http://a.test/%zz\"}}}",
-            "Invalid URI 'http://a.test/%zz'",
-        ),
-        (
-            "{\"$schema\":\"http://a.test/m\"}",
-            "Unknown meta-schema 'http://a.test/m'",
-        ),
-    ] {
-        assert_eq!(rt; outcome(&rt, alloc, root, "true").as_str(), want);
-    }
+    assert_outcomes(&rt, rt.alloc(), &IN_DOCUMENTS);
 }
+
+const BY_META_SCHEMAS: [(&str, &str, &str); 5] = [
+    (
+        "{\"$schema\":\"http://a.test/s\"}",
+        "{\"$schema\":\"http://a.test/r\"}",
+        "Circular meta-schema 'http://a.test/r'",
+    ),
+    (
+        "{\"$schema\":\"http://a.test/s\"}",
+        "{\"$schema\":\"http://a.test/none\"}",
+        "Unknown meta-schema 'http://a.test/none'",
+    ),
+    (
+        "{\"$defs\":{\"u\":{\"$id\":\"u\",\"$schema\":\"s\"}}}",
+        "true",
+        "Unknown meta-schema 'json-schema:///s'",
+    ),
+    (
+        "{\"$schema\":\"http://a.test/s\",\"minimum\":1,\"type\":5}",
+        "{\"$vocabulary\":{\"https://json-schema.org/draft/2020-12/vocab/core\":true}}",
+        "built",
+    ),
+    (
+        "{\"$schema\":\"http://a.test/s\",\"unevaluatedItems\":false}",
+        "{\"$vocabulary\":{\"https://json-schema.org/draft/2020-12/vocab/unevaluated\":true}}",
+        "Keyword at 'http://a.test/r#/unevaluatedItems' is left out",
+    ),
+];
 
 #[test]
 fn by_meta_schemas(rt: HostRuntime) {
-    let alloc = rt.alloc();
-    for (root, other, want) in [
-        (
-            "{\"$schema\":\"http://a.test/s\"}",
-            "{\"$schema\":\"http://a.test/r\"}",
-            "Circular meta-schema 'http://a.test/r'",
-        ),
-        (
-            "{\"$schema\":\"http://a.test/s\"}",
-            "{\"$schema\":\"http://a.test/none\"}",
-            "Unknown meta-schema 'http://a.test/none'",
-        ),
-        (
-            "{\"$defs\":{\"u\":{\"$id\":\"u\",\"$schema\":\"s\"}}}",
-            "true",
-            "Unknown meta-schema 'json-schema:///s'",
-        ),
-        (
-            "{\"$schema\":\"http://a.test/s\",\"minimum\":1,\"type\":5}",
-            "{\"$vocabulary\":{\"https://json-schema.org/draft/2020-12/vocab/core\":true}}",
-            "built",
-        ),
-        (
-            "{\"$schema\":\"http://a.test/s\",\"unevaluatedItems\":false}",
-            "{\"$vocabulary\":{\"https://json-schema.org/draft/2020-12/vocab/unevaluated\":true}}",
-            "Keyword at 'http://a.test/r#/unevaluatedItems' is left out",
-        ),
-    ] {
-        assert_eq!(rt; outcome(&rt, alloc, root, other).as_str(), want);
-    }
+    assert_outcomes(&rt, rt.alloc(), &BY_META_SCHEMAS);
 }
 
 // Whether 1 is valid by the schema at a URI, which has the draft of the options.
@@ -148,37 +169,42 @@ fn on_one_registry(rt: HostRuntime) {
     assert!(rt; elsewhere.is_err());
 }
 
+const BY_OLDER_DRAFTS: [(&str, &str, &str); 6] = [
+    (
+        "{\"$schema\":\"https://json-schema.org/draft/2019-09/schema\",\"$recursiveRef\":\"#/x\"}",
+        "true",
+        "Keyword value at 'http://a.test/r#/$recursiveRef': expected text #",
+    ),
+    (
+        "{\"$schema\":\"http://json-schema.org/draft-07/schema#\",\"$recursiveRef\":\"#/x\"}",
+        "true",
+        "built",
+    ),
+    (
+        "{\"$schema\":\"http://json-schema.org/draft-07/schema#\",\"items\":[true]}",
+        "true",
+        "built",
+    ),
+    (
+        "{\"$schema\":\"http://json-schema.org/draft-04/schema#\",\"items\":5}",
+        "true",
+        "Keyword value at 'http://a.test/r#/items': expected schema or list",
+    ),
+    (
+        "{\"items\":[true]}",
+        "true",
+        "Keyword value at 'http://a.test/r#/items': expected schema",
+    ),
+    (
+        "{\"$schema\":\"http://json-schema.org/draft-06/schema#\",\"$ref\":\"s\",\"type\":5}",
+        "true",
+        "built",
+    ),
+];
+
 #[test]
 fn by_older_drafts(rt: HostRuntime) {
-    let alloc = rt.alloc();
-    for (root, want) in [
-        (
-            "{\"$schema\":\"https://json-schema.org/draft/2019-09/schema\",\"$recursiveRef\":\"#/x\"}",
-            "Keyword value at 'http://a.test/r#/$recursiveRef': expected text #",
-        ),
-        (
-            "{\"$schema\":\"http://json-schema.org/draft-07/schema#\",\"$recursiveRef\":\"#/x\"}",
-            "built",
-        ),
-        (
-            "{\"$schema\":\"http://json-schema.org/draft-07/schema#\",\"items\":[true]}",
-            "built",
-        ),
-        (
-            "{\"$schema\":\"http://json-schema.org/draft-04/schema#\",\"items\":5}",
-            "Keyword value at 'http://a.test/r#/items': expected schema or list",
-        ),
-        (
-            "{\"items\":[true]}",
-            "Keyword value at 'http://a.test/r#/items': expected schema",
-        ),
-        (
-            "{\"$schema\":\"http://json-schema.org/draft-06/schema#\",\"$ref\":\"s\",\"type\":5}",
-            "built",
-        ),
-    ] {
-        assert_eq!(rt; outcome(&rt, alloc, root, "true").as_str(), want);
-    }
+    assert_outcomes(&rt, rt.alloc(), &BY_OLDER_DRAFTS);
 }
 
 #[test]

@@ -1,5 +1,5 @@
 // What validators tell: the faults by instance path and evaluation path, a line each, and that the observers agree.
-use crate::subject::{assert_told, assert_told_by, built, built_of};
+use crate::subject::{assert_all_told, assert_told, built, built_of};
 use json_schema_validator::ValidationError;
 use serde_json::Value;
 use std::alloc::Global;
@@ -34,68 +34,67 @@ fn between_two_documents(rt: HostRuntime) {
     assert_told(&rt, alloc, &subject, "{}", " /type\n");
 }
 
-#[test]
-fn by_boolean_schemas(rt: HostRuntime) {
-    let alloc = rt.alloc();
-    assert_told_by(&rt, alloc, "true", "{}", "");
-    assert_told_by(&rt, alloc, "false", "{}", " \n");
-    assert_told_by(
-        &rt,
-        alloc,
+const BOOLEANS: [(&str, &str, &str); 4] = [
+    ("true", "{}", ""),
+    ("false", "{}", " \n"),
+    (
         "{\"properties\":{\"a\":false}}",
         "{\"a\":1}",
         "/a /properties/a\n",
-    );
-    assert_told_by(&rt, alloc, "{\"items\":false}", "[]", "");
+    ),
+    ("{\"items\":false}", "[]", ""),
+];
+
+#[test]
+fn by_boolean_schemas(rt: HostRuntime) {
+    assert_all_told(&rt, rt.alloc(), &BOOLEANS);
 }
+
+const LIST: &str =
+    "{\"$ref\":\"#/$defs/node\",\"$defs\":{\"node\":{\"type\":\"object\",\"properties\":{\"next\":{\"$ref\":\"#/$defs/node\"},\"v\":{\"type\":\"integer\"}}}}}";
+
+const LISTS: [(&str, &str, &str); 3] = [
+    (
+        LIST,
+        "{\"v\":1,\"next\":{\"v\":\"x\"}}",
+        "/next/v /$ref/properties/next/$ref/properties/v/type\n",
+    ),
+    (
+        LIST,
+        "{\"next\":{\"next\":{\"next\":1}}}",
+        "/next/next/next /$ref/properties/next/$ref/properties/next/$ref/properties/next/$ref/type\n",
+    ),
+    (LIST, "{\"next\":{\"v\":2}}", ""),
+];
 
 #[test]
 fn of_a_linked_list(rt: HostRuntime) {
-    let alloc = rt.alloc();
-    let schema =
-        "{\"$ref\":\"#/$defs/node\",\"$defs\":{\"node\":{\"type\":\"object\",\"properties\":{\"next\":{\"$ref\":\"#/$defs/node\"},\"v\":{\"type\":\"integer\"}}}}}";
-    let subject = built(&rt, alloc, schema);
-    assert_told(
-        &rt,
-        alloc,
-        &subject,
-        "{\"v\":1,\"next\":{\"v\":\"x\"}}",
-        "/next/v /$ref/properties/next/$ref/properties/v/type\n",
-    );
-    assert_told(
-        &rt,
-        alloc,
-        &subject,
-        "{\"next\":{\"next\":{\"next\":1}}}",
-        "/next/next/next /$ref/properties/next/$ref/properties/next/$ref/properties/next/$ref/type\n",
-    );
-    assert_told(&rt, alloc, &subject, "{\"next\":{\"v\":2}}", "");
+    assert_all_told(&rt, rt.alloc(), &LISTS);
 }
+
+const SLASHES: [(&str, &str, &str); 1] = [(
+    "{\"properties\":{\"a/b\":{\"type\":\"string\"}}}",
+    "{\"a/b\":1}",
+    "/a~1b /properties/a~1b/type\n",
+)];
 
 #[test]
 fn under_names_with_a_slash(rt: HostRuntime) {
-    let alloc = rt.alloc();
-    let schema = "{\"properties\":{\"a/b\":{\"type\":\"string\"}}}";
-    assert_told_by(
-        &rt,
-        alloc,
-        schema,
-        "{\"a/b\":1}",
-        "/a~1b /properties/a~1b/type\n",
-    );
+    assert_all_told(&rt, rt.alloc(), &SLASHES);
 }
+
+const OWN_TARGETS: [(&str, &str, &str); 2] = [
+    ("{\"$ref\":\"#\"}", "[1]", ""),
+    (
+        "{\"$ref\":\"#\",\"type\":\"null\",\"items\":{\"$ref\":\"#\"}}",
+        "[null]",
+        " /$ref/type\n /type\n",
+    ),
+];
 
 #[test]
 fn of_a_schema_that_is_its_own_target(rt: HostRuntime) {
-    let alloc = rt.alloc();
-    let itself = built(&rt, alloc, "{\"$ref\":\"#\"}");
-    assert_told(&rt, alloc, &itself, "[1]", "");
-    let both = built(
-        &rt,
-        alloc,
-        "{\"$ref\":\"#\",\"type\":\"null\",\"items\":{\"$ref\":\"#\"}}",
-    );
-    assert_told(&rt, alloc, &both, "[null]", " /$ref/type\n /type\n");
+    assert_all_told(&rt, rt.alloc(), &OWN_TARGETS);
 }
 
 // `open` as often as `depth` says, `inside`, and `close` as often.

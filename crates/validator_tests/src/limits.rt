@@ -43,56 +43,97 @@ fn wanted(rt: &impl Abort, alloc: Global, keys: usize) -> String {
     format!(in alloc; "built; More than {fewer} schema nodes").expect(rt, "memory")
 }
 
+// Each documents and how many keys they lead to.
+fn assert_keys(rt: &impl Abort, alloc: Global, rows: &[([&str; 3], usize)]) {
+    for (texts, keys) in rows {
+        let want = wanted(rt, alloc, *keys);
+        assert_eq!(rt; outcomes(rt, alloc, *keys, *texts).as_str(), want.as_str());
+    }
+}
+
+const IN_ONE: [([&str; 3], usize); 12] = [
+    (["true", "true", "true"], 1),
+    (["{\"$defs\":{\"a\":true,\"b\":true}}", "true", "true"], 1),
+    (
+        ["{\"properties\":{\"a\":true,\"b\":true}}", "true", "true"],
+        3,
+    ),
+    (
+        [
+            "{\"anyOf\":[true,true],\"not\":true,\"prefixItems\":[true],\"items\":true}",
+            "true",
+            "true",
+        ],
+        6,
+    ),
+    // the target is the root again
+    (["{\"items\":{\"$ref\":\"#\"}}", "true", "true"], 2),
+    // two references to one place count it, and what is below it, once
+    (
+        [
+            "{\"properties\":{\"a\":{\"$ref\":\"#/$defs/x\"},\"b\":{\"$ref\":\"#/$defs/x\"}},\"$defs\":{\"x\":{\"items\":true}}}",
+            "true",
+            "true",
+        ],
+        5,
+    ),
+    // by a pointer and by an anchor it has two schema paths
+    (
+        [
+            "{\"properties\":{\"a\":{\"$ref\":\"#/$defs/x\"},\"b\":{\"$ref\":\"#x\"}},\"$defs\":{\"x\":{\"$anchor\":\"x\"}}}",
+            "true",
+            "true",
+        ],
+        5,
+    ),
+    // a reference to a place that a keyword leads to, with its schema path
+    (
+        [
+            "{\"properties\":{\"a\":true,\"b\":{\"$ref\":\"#/properties/a\"}}}",
+            "true",
+            "true",
+        ],
+        3,
+    ),
+    (
+        [
+            "{\"allOf\":[true,{\"$ref\":\"#/allOf/0\"}]}",
+            "true",
+            "true",
+        ],
+        3,
+    ),
+    (
+        [
+            "{\"allOf\":[true,{\"$ref\":\"#/%61llOf/0\"}],\"items\":{\"$ref\":\"http://a.test/r#/allOf/1\"}}",
+            "true",
+            "true",
+        ],
+        4,
+    ),
+    // a resource inside: once below its parent, and once below its own reference
+    (
+        [
+            "{\"properties\":{\"a\":{\"$id\":\"e\",\"properties\":{\"b\":true}},\"c\":{\"$ref\":\"e\"}}}",
+            "true",
+            "true",
+        ],
+        6,
+    ),
+    // `$ref` hides its neighbours
+    (
+        [
+            "{\"$schema\":\"http://json-schema.org/draft-07/schema#\",\"$ref\":\"#/definitions/x\",\"properties\":{\"a\":true},\"definitions\":{\"x\":true}}",
+            "true",
+            "true",
+        ],
+        2,
+    ),
+];
+
 #[test]
 fn in_one_document(rt: HostRuntime) {
-    let alloc = rt.alloc();
-    for (root, keys) in [
-        ("true", 1),
-        ("{\"$defs\":{\"a\":true,\"b\":true}}", 1),
-        ("{\"properties\":{\"a\":true,\"b\":true}}", 3),
-        (
-            "{\"anyOf\":[true,true],\"not\":true,\"prefixItems\":[true],\"items\":true}",
-            6,
-        ),
-        // the target is the root again
-        ("{\"items\":{\"$ref\":\"#\"}}", 2),
-        // two references to one place count it, and what is below it, once
-        (
-            "{\"properties\":{\"a\":{\"$ref\":\"#/$defs/x\"},\"b\":{\"$ref\":\"#/$defs/x\"}},\"$defs\":{\"x\":{\"items\":true}}}",
-            5,
-        ),
-        // by a pointer and by an anchor it has two schema paths
-        (
-            "{\"properties\":{\"a\":{\"$ref\":\"#/$defs/x\"},\"b\":{\"$ref\":\"#x\"}},\"$defs\":{\"x\":{\"$anchor\":\"x\"}}}",
-            5,
-        ),
-        // a reference to a place that a keyword leads to, with its schema path
-        (
-            "{\"properties\":{\"a\":true,\"b\":{\"$ref\":\"#/properties/a\"}}}",
-            3,
-        ),
-        ("{\"allOf\":[true,{\"$ref\":\"#/allOf/0\"}]}", 3),
-        (
-            "{\"allOf\":[true,{\"$ref\":\"#/%61llOf/0\"}],\"items\":{\"$ref\":\"http://a.test/r#/allOf/1\"}}",
-            4,
-        ),
-        // a resource inside: once below its parent, and once below its own reference
-        (
-            "{\"properties\":{\"a\":{\"$id\":\"e\",\"properties\":{\"b\":true}},\"c\":{\"$ref\":\"e\"}}}",
-            6,
-        ),
-        // `$ref` hides its neighbours
-        (
-            "{\"$schema\":\"http://json-schema.org/draft-07/schema#\",\"$ref\":\"#/definitions/x\",\"properties\":{\"a\":true},\"definitions\":{\"x\":true}}",
-            2,
-        ),
-    ] {
-        let want = wanted(&rt, alloc, keys);
-        assert_eq!(rt;
-            outcomes(&rt, alloc, keys, [root, "true", "true"]).as_str(),
-            want.as_str()
-        );
-    }
+    assert_keys(&rt, rt.alloc(), &IN_ONE);
 }
 
 const LIST: &str =
@@ -100,40 +141,38 @@ const LIST: &str =
 
 const STRINGS: &str = "{\"$ref\":\"s\",\"$defs\":{\"s\":{\"$dynamicAnchor\":\"item\"}}}";
 
+const IN_SEVERAL: [([&str; 3], usize); 3] = [
+    (
+        [
+            "{\"properties\":{\"a\":{\"$ref\":\"s\"}}}",
+            "{\"type\":\"integer\"}",
+            "true",
+        ],
+        3,
+    ),
+    // each document once from the root alone, and the root's once more from the other
+    (
+        [
+            "{\"properties\":{\"s\":{\"$ref\":\"s\"}}}",
+            "{\"properties\":{\"r\":{\"$ref\":\"r\"}}}",
+            "true",
+        ],
+        6,
+    ),
+    // the list under two dynamic scopes, with a target for each
+    (
+        [
+            "{\"properties\":{\"l\":{\"$ref\":\"s\"},\"t\":{\"$ref\":\"t\"}}}",
+            LIST,
+            STRINGS,
+        ],
+        10,
+    ),
+];
+
 #[test]
 fn in_several_documents(rt: HostRuntime) {
-    let alloc = rt.alloc();
-    for (texts, keys) in [
-        (
-            [
-                "{\"properties\":{\"a\":{\"$ref\":\"s\"}}}",
-                "{\"type\":\"integer\"}",
-                "true",
-            ],
-            3,
-        ),
-        // each document once from the root alone, and the root's once more from the other
-        (
-            [
-                "{\"properties\":{\"s\":{\"$ref\":\"s\"}}}",
-                "{\"properties\":{\"r\":{\"$ref\":\"r\"}}}",
-                "true",
-            ],
-            6,
-        ),
-        // the list under two dynamic scopes, with a target for each
-        (
-            [
-                "{\"properties\":{\"l\":{\"$ref\":\"s\"},\"t\":{\"$ref\":\"t\"}}}",
-                LIST,
-                STRINGS,
-            ],
-            10,
-        ),
-    ] {
-        let want = wanted(&rt, alloc, keys);
-        assert_eq!(rt; outcomes(&rt, alloc, keys, texts).as_str(), want.as_str());
-    }
+    assert_keys(&rt, rt.alloc(), &IN_SEVERAL);
 }
 
 // Two documents that refer to each other, by at most 16 keys.

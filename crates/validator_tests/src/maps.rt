@@ -39,59 +39,75 @@ fn keys_or_why(rt: &impl Abort, alloc: Global, built: Result<ValidatorMap, Build
     text
 }
 
-#[test]
-fn have_each_schema_that_may_be_read(rt: HostRuntime) {
-    let alloc = rt.alloc();
-    for (schema, want) in [
-        (
-            LINKED,
-            "'' '/$defs/node' '/$defs/node/properties/next' '/$defs/node/properties/v' ",
-        ),
-        (
-            "{\"properties\":{\"a\":{\"type\":5},\"b\":{\"type\":\"integer\"}}}",
-            "'/properties/b' ",
-        ),
-        (
-            "{\"$defs\":{\"bad\":{\"pattern\":\"a(\"},\"good\":{\"pattern\":\"a.\"},\"uses\":{\"items\":{\"$ref\":\"#/$defs/bad\"}}}}",
-            "'' '/$defs/good' ",
-        ),
-        (
-            "{\"$defs\":{\"a\":{\"not\":{\"$ref\":\"#/$defs/b\"}},\"b\":{\"not\":{\"$ref\":\"#/$defs/a\"},\"minItems\":\"1\"},\"c\":{\"$ref\":\"s#/$defs/bad\"},\"d\":{\"$ref\":\"s#/$defs/text\"}}}",
-            "'' '/$defs/d' ",
-        ),
-        (
-            "{\"properties\":{\"a/b%\":true}}",
-            "'' '/properties/a~1b%' ",
-        ),
-        ("false", "'' "),
-        ("{\"unevaluatedItems\":false}", "'/unevaluatedItems' "),
-    ] {
-        let map = map_by(&rt, alloc, &options_of(&rt, alloc), schema, "");
-        assert_eq!(rt; keys_or_why(&rt, alloc, map).as_str(), want, "{schema}");
+// Each a schema, a root and the keys, or why there is no map.
+fn assert_keys(rt: &impl Abort, alloc: Global, rows: &[(&str, &str, &str)]) {
+    for (schema, root, want) in rows {
+        let map = map_by(rt, alloc, &options_of(rt, alloc), schema, root);
+        assert_eq!(rt;
+            keys_or_why(rt, alloc, map).as_str(),
+            *want,
+            "{schema} {root}"
+        );
     }
 }
 
+const KEYS: [(&str, &str, &str); 7] = [
+    (
+        LINKED,
+        "",
+        "'' '/$defs/node' '/$defs/node/properties/next' '/$defs/node/properties/v' ",
+    ),
+    (
+        "{\"properties\":{\"a\":{\"type\":5},\"b\":{\"type\":\"integer\"}}}",
+        "",
+        "'/properties/b' ",
+    ),
+    (
+        "{\"$defs\":{\"bad\":{\"pattern\":\"a(\"},\"good\":{\"pattern\":\"a.\"},\"uses\":{\"items\":{\"$ref\":\"#/$defs/bad\"}}}}",
+        "",
+        "'' '/$defs/good' ",
+    ),
+    (
+        "{\"$defs\":{\"a\":{\"not\":{\"$ref\":\"#/$defs/b\"}},\"b\":{\"not\":{\"$ref\":\"#/$defs/a\"},\"minItems\":\"1\"},\"c\":{\"$ref\":\"s#/$defs/bad\"},\"d\":{\"$ref\":\"s#/$defs/text\"}}}",
+        "",
+        "'' '/$defs/d' ",
+    ),
+    (
+        "{\"properties\":{\"a/b%\":true}}",
+        "",
+        "'' '/properties/a~1b%' ",
+    ),
+    ("false", "", "'' "),
+    ("{\"unevaluatedItems\":false}", "", "'/unevaluatedItems' "),
+];
+
+#[test]
+fn have_each_schema_that_may_be_read(rt: HostRuntime) {
+    assert_keys(&rt, rt.alloc(), &KEYS);
+}
+
+const ROOTS: [(&str, &str, &str); 4] = [
+    ("{\"$defs\":{\"x\":true}}", "#/$defs/x", "'' '/$defs/x' "),
+    (
+        "{\"$defs\":{\"x\":true}}",
+        "s#/$defs/text",
+        "'' '/$defs/text' ",
+    ),
+    (
+        "{\"$defs\":{\"x\":true}}",
+        "#/$defs/none",
+        "Pointer '/$defs/none' does not exist",
+    ),
+    (
+        "{\"$defs\":{\"x\":true}}",
+        "http://b.test/",
+        "Resource 'http://b.test/' is not present and retrieving it failed",
+    ),
+];
+
 #[test]
 fn are_of_the_document_of_the_root(rt: HostRuntime) {
-    let alloc = rt.alloc();
-    for (root, want) in [
-        ("#/$defs/x", "'' '/$defs/x' "),
-        ("s#/$defs/text", "'' '/$defs/text' "),
-        ("#/$defs/none", "Pointer '/$defs/none' does not exist"),
-        (
-            "http://b.test/",
-            "Resource 'http://b.test/' is not present and retrieving it failed",
-        ),
-    ] {
-        let map = map_by(
-            &rt,
-            alloc,
-            &options_of(&rt, alloc),
-            "{\"$defs\":{\"x\":true}}",
-            root,
-        );
-        assert_eq!(rt; keys_or_why(&rt, alloc, map).as_str(), want, "{root}");
-    }
+    assert_keys(&rt, rt.alloc(), &ROOTS);
 }
 
 // The faults of a value by the validator under a pointer.

@@ -30,11 +30,22 @@ fn outcome<R: Retrieve + Drop>(
     verdict_of(rt, alloc, options.build(&documents, ""), value)
 }
 
-#[test]
-fn retrieved(rt: HostRuntime) {
-    let alloc = rt.alloc();
+// Each a schema, a value and the verdict, or why there is no validator.
+fn assert_outcomes<R: Retrieve + Drop>(
+    rt: &impl Abort,
+    alloc: Global,
+    options: &ValidationOptions<RegexMaker, R>,
+    rows: &[(&str, &str, &str)],
+) {
+    for (schema, value, want) in rows {
+        assert_eq!(rt; outcome(rt, alloc, options, schema, value).as_str(), *want);
+    }
+}
+
+// At most two documents are retrieved.
+fn retrieving(rt: &impl Abort, alloc: Global) -> ValidationOptions<RegexMaker, MapRetriever> {
     let retriever = retriever_of(
-        &rt,
+        rt,
         alloc,
         &[
             ("http://a.test/x", "{\"$ref\":\"y\"}"),
@@ -42,31 +53,34 @@ fn retrieved(rt: HostRuntime) {
             ("http://a.test/half", "{\"minimum\":1.5}"),
         ],
     );
-    let options = Validator::options(alloc)
-        .expect(&rt, "memory")
-        .with_retriever(retriever)
-        .with_retrieval_limit(2);
-    for (schema, value, want) in [
-        ("{\"$ref\":\"http://a.test/x\"}", "\"a\"", "true"),
-        ("{\"$ref\":\"http://a.test/x\"}", "1", "false"),
-        (
-            "{\"$ref\":\"http://a.test/half\"}",
-            "1",
-            "Resource 'http://a.test/half' is not present and retrieving it failed",
-        ),
-        (
-            "{\"$ref\":\"http://a.test/z\"}",
-            "1",
-            "Resource 'http://a.test/z' is not present and retrieving it failed",
-        ),
-        (
-            "{\"items\":{\"$ref\":\"http://a.test/x\"},\"properties\":{\"a\":{\"$ref\":\"http://a.test/half\"},\"b\":{\"$ref\":\"http://a.test/z\"}}}",
-            "1",
-            "More than 2 documents wanted",
-        ),
-    ] {
-        assert_eq!(rt; outcome(&rt, alloc, &options, schema, value).as_str(), want);
-    }
+    let options = Validator::options(alloc).expect(rt, "memory");
+    options.with_retriever(retriever).with_retrieval_limit(2)
+}
+
+const RETRIEVED: [(&str, &str, &str); 5] = [
+    ("{\"$ref\":\"http://a.test/x\"}", "\"a\"", "true"),
+    ("{\"$ref\":\"http://a.test/x\"}", "1", "false"),
+    (
+        "{\"$ref\":\"http://a.test/half\"}",
+        "1",
+        "Resource 'http://a.test/half' is not present and retrieving it failed",
+    ),
+    (
+        "{\"$ref\":\"http://a.test/z\"}",
+        "1",
+        "Resource 'http://a.test/z' is not present and retrieving it failed",
+    ),
+    (
+        "{\"items\":{\"$ref\":\"http://a.test/x\"},\"properties\":{\"a\":{\"$ref\":\"http://a.test/half\"},\"b\":{\"$ref\":\"http://a.test/z\"}}}",
+        "1",
+        "More than 2 documents wanted",
+    ),
+];
+
+#[test]
+fn retrieved(rt: HostRuntime) {
+    let alloc = rt.alloc();
+    assert_outcomes(&rt, alloc, &retrieving(&rt, alloc), &RETRIEVED);
 }
 
 const ROOT: &str =
@@ -103,76 +117,100 @@ fn chain_of(rt: &impl Abort, alloc: Global, length: usize) -> MapRetriever {
     retriever
 }
 
-#[test]
-fn without_an_end(rt: HostRuntime) {
-    let alloc = rt.alloc();
-    let options = Validator::options(alloc)
-        .expect(&rt, "memory")
-        .with_retriever(chain_of(&rt, alloc, 300));
-    assert_eq!(rt;
-        outcome(&rt, alloc, &options, "{\"$ref\":\"http://a.test/0\"}", "1").as_str(),
-        "More than 256 documents wanted"
-    );
+fn without_an_end(rt: &impl Abort, alloc: Global) -> ValidationOptions<RegexMaker, MapRetriever> {
+    let retriever = chain_of(rt, alloc, 300);
+    let options = Validator::options(alloc).expect(rt, "memory");
+    options.with_retriever(retriever)
 }
+
+const TOO_MANY: [(&str, &str, &str); 1] = [(
+    "{\"$ref\":\"http://a.test/0\"}",
+    "1",
+    "More than 256 documents wanted",
+)];
+
+#[test]
+fn retrieved_without_an_end(rt: HostRuntime) {
+    let alloc = rt.alloc();
+    assert_outcomes(&rt, alloc, &without_an_end(&rt, alloc), &TOO_MANY);
+}
+
+fn with_meta_schemas(rt: &impl Abort, alloc: Global) -> ValidationOptions {
+    let documents = documents_of(
+        rt,
+        alloc,
+        &[
+            ("http://a.test/m2", META),
+            (
+                "http://a.test/bad",
+                "{\"properties\":{\"type\":{\"type\":5}}}",
+            ),
+            (
+                "https://json-schema.org/draft/2020-12/schema",
+                "{\"properties\":{\"minItems\":{\"maximum\":9}}}",
+            ),
+        ],
+    );
+    let options = Validator::options(alloc).expect(rt, "memory");
+    options.with_meta_schemas(documents)
+}
+
+const ASKED: [(&str, &str, &str); 6] = [
+    (
+        "{\"$schema\":\"http://a.test/m2\",\"type\":[\"integer\"]}",
+        "1",
+        "Schema refused by its meta-schema at '/type', '/properties/type/type'",
+    ),
+    (
+        "{\"$schema\":\"http://a.test/m2#\",\"type\":\"integer\"}",
+        "1",
+        "true",
+    ),
+    (
+        "{\"$schema\":\"http://a.test/bad\"}",
+        "1",
+        "Keyword value at 'http://a.test/bad#/properties/type/type': expected type name",
+    ),
+    (
+        "{\"minItems\":10}",
+        "1",
+        "Schema refused by its meta-schema at '/minItems', '/properties/minItems/maximum'",
+    ),
+    ("{\"items\":{\"minItems\":10}}", "1", "true"),
+    (
+        "{\"$schema\":\"http://json-schema.org/draft-07/schema#\",\"minItems\":10}",
+        "1",
+        "true",
+    ),
+];
 
 #[test]
 fn by_a_meta_schema(rt: HostRuntime) {
     let alloc = rt.alloc();
-    let options = Validator::options(alloc)
-        .expect(&rt, "memory")
-        .with_meta_schemas(documents_of(
-            &rt,
-            alloc,
-            &[
-                ("http://a.test/m2", META),
-                (
-                    "http://a.test/bad",
-                    "{\"properties\":{\"type\":{\"type\":5}}}",
-                ),
-                (
-                    "https://json-schema.org/draft/2020-12/schema",
-                    "{\"properties\":{\"minItems\":{\"maximum\":9}}}",
-                ),
-            ],
-        ));
-    for (schema, want) in [
-        (
-            "{\"$schema\":\"http://a.test/m2\",\"type\":[\"integer\"]}",
-            "Schema refused by its meta-schema at '/type', '/properties/type/type'",
-        ),
-        (
-            "{\"$schema\":\"http://a.test/m2#\",\"type\":\"integer\"}",
-            "true",
-        ),
-        (
-            "{\"$schema\":\"http://a.test/bad\"}",
-            "Keyword value at 'http://a.test/bad#/properties/type/type': expected type name",
-        ),
-        (
-            "{\"minItems\":10}",
-            "Schema refused by its meta-schema at '/minItems', '/properties/minItems/maximum'",
-        ),
-        ("{\"items\":{\"minItems\":10}}", "true"),
-        (
-            "{\"$schema\":\"http://json-schema.org/draft-07/schema#\",\"minItems\":10}",
-            "true",
-        ),
-    ] {
-        assert_eq!(rt; outcome(&rt, alloc, &options, schema, "1").as_str(), want);
-    }
+    assert_outcomes(&rt, alloc, &with_meta_schemas(&rt, alloc), &ASKED);
 }
+
+fn with_one_retrieved(
+    rt: &impl Abort,
+    alloc: Global,
+) -> ValidationOptions<RegexMaker, MapRetriever> {
+    let texts = [("http://a.test/m", "{\"$schema\":\"http://a.test/m2\"}")];
+    let documents = documents_of(rt, alloc, &texts);
+    let retriever = retriever_of(rt, alloc, &[("http://a.test/m2", META)]);
+    let options = Validator::options(alloc).expect(rt, "memory");
+    options
+        .with_retriever(retriever)
+        .with_meta_schemas(documents)
+}
+
+const NOT_ASKED: [(&str, &str, &str); 1] = [(
+    "{\"$schema\":\"http://a.test/m2\",\"type\":[\"integer\"]}",
+    "1",
+    "true",
+)];
 
 #[test]
 fn by_no_retrieved_meta_schema(rt: HostRuntime) {
     let alloc = rt.alloc();
-    let options = Validator::options(alloc)
-        .expect(&rt, "memory")
-        .with_retriever(retriever_of(&rt, alloc, &[("http://a.test/m2", META)]))
-        .with_meta_schemas(documents_of(
-            &rt,
-            alloc,
-            &[("http://a.test/m", "{\"$schema\":\"http://a.test/m2\"}")],
-        ));
-    let schema = "{\"$schema\":\"http://a.test/m2\",\"type\":[\"integer\"]}";
-    assert_eq!(rt; outcome(&rt, alloc, &options, schema, "1").as_str(), "true");
+    assert_outcomes(&rt, alloc, &with_one_retrieved(&rt, alloc), &NOT_ASKED);
 }

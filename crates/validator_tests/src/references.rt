@@ -11,36 +11,43 @@ const STRINGS: &str =
 
 const BOTH: &str = "{\"properties\":{\"l\":{\"$ref\":\"list\"},\"s\":{\"$ref\":\"strings\"}}}";
 
-// What is told of an instance from one of three documents on.
-fn assert_told_from(rt: &impl Abort, alloc: Global, root: &str, instance: &str, want: &str) {
-    let documents = [
-        ("http://a.test/list", LIST),
-        ("http://a.test/strings", STRINGS),
-        ("http://a.test/both", BOTH),
-    ];
-    let subject = built_of(rt, alloc, &documents, root);
-    assert_told(rt, alloc, &subject, instance, want);
+// Each a root among documents, an instance and the lines that are wanted.
+fn assert_all_from(
+    rt: &impl Abort,
+    alloc: Global,
+    documents: &[(&str, &str)],
+    rows: &[(&str, &str, &str)],
+) {
+    for (root, instance, want) in rows {
+        let subject = built_of(rt, alloc, documents, root);
+        assert_told(rt, alloc, &subject, instance, want);
+    }
 }
+
+const DYNAMIC: [(&str, &str); 3] = [
+    ("http://a.test/list", LIST),
+    ("http://a.test/strings", STRINGS),
+    ("http://a.test/both", BOTH),
+];
+
+const BY_DYNAMIC_SCOPE: [(&str, &str, &str); 4] = [
+    (
+        "http://a.test/strings",
+        "[\"a\",1]",
+        "/1 /$ref/items/$dynamicRef/type\n",
+    ),
+    ("http://a.test/list", "[\"a\",1]", ""),
+    ("http://a.test/list", "1", " /type\n"),
+    (
+        "http://a.test/both",
+        "{\"l\":[1],\"s\":[1]}",
+        "/s/0 /properties/s/$ref/$ref/items/$dynamicRef/type\n",
+    ),
+];
 
 #[test]
 fn dynamic_ones(rt: HostRuntime) {
-    let alloc = rt.alloc();
-    for (root, instance, want) in [
-        (
-            "http://a.test/strings",
-            "[\"a\",1]",
-            "/1 /$ref/items/$dynamicRef/type\n",
-        ),
-        ("http://a.test/list", "[\"a\",1]", ""),
-        ("http://a.test/list", "1", " /type\n"),
-        (
-            "http://a.test/both",
-            "{\"l\":[1],\"s\":[1]}",
-            "/s/0 /properties/s/$ref/$ref/items/$dynamicRef/type\n",
-        ),
-    ] {
-        assert_told_from(&rt, alloc, root, instance, want);
-    }
+    assert_all_from(&rt, rt.alloc(), &DYNAMIC, &BY_DYNAMIC_SCOPE);
 }
 
 const TREE: &str =
@@ -56,36 +63,35 @@ const OPEN: &str =
 const NEEDING: &str =
     "{\"$schema\":\"https://json-schema.org/draft/2019-09/schema\",\"$id\":\"http://a.test/needing\",\"$recursiveAnchor\":true,\"$ref\":\"tree\",\"required\":[\"v\"]}";
 
+const RECURSIVE: [(&str, &str); 4] = [
+    ("http://a.test/tree", TREE),
+    ("http://a.test/strict", STRICT),
+    ("http://a.test/open", OPEN),
+    ("http://a.test/needing", NEEDING),
+];
+
+const BY_RECURSIVE_SCOPE: [(&str, &str, &str); 6] = [
+    (
+        "http://a.test/strict",
+        "{\"c\":[1]}",
+        "/c/0 /$ref/properties/c/items/$recursiveRef/type\n",
+    ),
+    (
+        "http://a.test/needing",
+        "{\"v\":1,\"c\":[{}]}",
+        "/c/0 /$ref/properties/c/items/$recursiveRef/required\n",
+    ),
+    ("http://a.test/tree", "{\"v\":1,\"c\":[{}]}", ""),
+    ("http://a.test/tree", "{\"c\":[1]}", ""),
+    ("http://a.test/open", "{\"c\":[1]}", ""),
+    (
+        "http://a.test/strict",
+        "{\"c\":[{\"c\":[1]}]}",
+        "/c/0/c/0 /$ref/properties/c/items/$recursiveRef/$ref/properties/c/items/$recursiveRef/type\n",
+    ),
+];
+
 #[test]
 fn recursive_ones(rt: HostRuntime) {
-    let alloc = rt.alloc();
-    let documents = [
-        ("http://a.test/tree", TREE),
-        ("http://a.test/strict", STRICT),
-        ("http://a.test/open", OPEN),
-        ("http://a.test/needing", NEEDING),
-    ];
-    for (root, instance, want) in [
-        (
-            "http://a.test/strict",
-            "{\"c\":[1]}",
-            "/c/0 /$ref/properties/c/items/$recursiveRef/type\n",
-        ),
-        (
-            "http://a.test/needing",
-            "{\"v\":1,\"c\":[{}]}",
-            "/c/0 /$ref/properties/c/items/$recursiveRef/required\n",
-        ),
-        ("http://a.test/tree", "{\"v\":1,\"c\":[{}]}", ""),
-        ("http://a.test/tree", "{\"c\":[1]}", ""),
-        ("http://a.test/open", "{\"c\":[1]}", ""),
-        (
-            "http://a.test/strict",
-            "{\"c\":[{\"c\":[1]}]}",
-            "/c/0/c/0 /$ref/properties/c/items/$recursiveRef/$ref/properties/c/items/$recursiveRef/type\n",
-        ),
-    ] {
-        let subject = built_of(&rt, alloc, &documents, root);
-        assert_told(&rt, alloc, &subject, instance, want);
-    }
+    assert_all_from(&rt, rt.alloc(), &RECURSIVE, &BY_RECURSIVE_SCOPE);
 }

@@ -157,17 +157,18 @@ pub(crate) fn assert_told(
     );
 }
 
-pub(crate) fn assert_told_by(
-    rt: &impl Abort,
-    alloc: Global,
-    schema: &str,
-    instance: &str,
-    want: &str,
-) {
+fn assert_told_by(rt: &impl Abort, alloc: Global, schema: &str, instance: &str, want: &str) {
     let subject = built(rt, alloc, schema);
     assert_eq!(rt;
         told(rt, alloc, &subject, instance).as_str(),
         want,
         "{schema} {instance}"
     );
+}
+
+// Each a schema, a value and the lines that are wanted.
+pub(crate) fn assert_all_told(rt: &impl Abort, alloc: Global, rows: &[(&str, &str, &str)]) {
+    for (schema, instance, want) in rows {
+        assert_told_by(rt, alloc, schema, instance, want);
+    }
 }
