@@ -5,15 +5,18 @@ use serde_json::Value;
 use std::alloc::Global;
 use std::process::Abort;
 
-const BAD_VALUES: [(&str, &str, &str); 16] = [
+const BAD_VALUES: [(&str, &str, &str); 19] = [
     ("{\"type\":[\"string\",5]}", "type", "type name"),
     ("{\"enum\":1}", "enum", "list"),
     ("{\"multipleOf\":0}", "multipleOf", "positive number"),
     ("{\"multipleOf\":-3}", "multipleOf", "positive number"),
     ("{\"maximum\":\"3\"}", "maximum", "number"),
+    ("{\"exclusiveMaximum\":\"3\"}", "exclusiveMaximum", "number"),
+    ("{\"minimum\":null}", "minimum", "number"),
     ("{\"exclusiveMinimum\":true}", "exclusiveMinimum", "number"),
     ("{\"maxLength\":-1}", "maxLength", "count"),
     ("{\"minProperties\":null}", "minProperties", "count"),
+    ("{\"maxProperties\":-1}", "maxProperties", "count"),
     ("{\"uniqueItems\":1}", "uniqueItems", "boolean"),
     (
         "{\"required\":[\"a\",\"b\",\"a\"]}",
