@@ -6,3 +6,4 @@ pub mod Lines
 pub mod Lookups
 pub mod Refusals
 pub mod Dialects
+pub mod Pointers

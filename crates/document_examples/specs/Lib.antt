@@ -3,3 +3,4 @@ pub mod Rows
 pub mod Lookups
 pub mod Dialects
 pub mod Lines
+pub mod Pointers

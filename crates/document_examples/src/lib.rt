@@ -5,6 +5,7 @@ ghost use Rattle.std.specs.List.{AllByRecursion};
 ghost use Rattle.document_examples.specs.Dialects.{Gives, meta_schemas};
 ghost use Rattle.document_examples.specs.Lines.{Written, lines, InputsAreCut};
 ghost use Rattle.document_examples.specs.Lookups.{Answers, lookups, Refuses, refusals};
+ghost use Rattle.document_examples.specs.Pointers.{HasPointers, pointed};
 ghost use Rattle.document_examples.specs.Rows.{Holds, references, scopes, vocabularies, neighbours};
 
 /// References within a document and between documents.
@@ -35,6 +36,11 @@ pub fn neighbours_hold()
 /// References looked up: pointers, anchors, bases, and why others lead nowhere.
 pub fn lookups_hold()
     ensures { AllByRecursion Answers lookups }
+{}
+
+/// The JSON Pointers of schema places, and the references by which they are looked up.
+pub fn pointers_hold()
+    ensures { AllByRecursion HasPointers pointed }
 {}
 
 /// Documents that are no registry, and why.
