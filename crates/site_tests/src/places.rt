@@ -107,25 +107,16 @@ fn entered<'d>(rt: &impl Abort, alloc: Global, inner: &'d Value) -> Place<'d> {
     enter(alloc, &known, &uri, dialect, path, inner).expect(rt, "memory")
 }
 
-// A copy under `http://a.test/e` shares the base.
-fn assert_copied(rt: &impl Abort, place: &Place<'_>, copy: &Place<'_>) {
-    assert_eq!(rt; copy.base.as_str(), "http://a.test/e");
-    assert!(rt; Rc::ptr_eq(&place.base, &copy.base));
-    assert!(rt; copy.path == place.path);
-}
-
 #[test]
 fn copies_share_bases(rt: HostRuntime) {
-    let contents = Value::from_str(rt.alloc(), NESTED).expect(&rt, "JSON");
-    let inner = contents.get("not").expect(&rt, "a member");
-    let place = entered(&rt, rt.alloc(), inner);
-    assert_copied(&rt, &place, &place.clone().expect(&rt, "memory"));
-}
-
-#[test]
-fn schemas_are_objects_and_booleans(rt: HostRuntime) {
-    let contents = Value::from_str(rt.alloc(), NESTED).expect(&rt, "JSON");
+    let alloc = rt.alloc();
+    let contents = Value::from_str(alloc, NESTED).expect(&rt, "JSON");
     let inner = contents.get("not").expect(&rt, "a member");
     assert!(rt; is_schema(inner));
     assert!(rt; !is_schema(inner.get("$id").expect(&rt, "a member")));
+    let place = entered(&rt, alloc, inner);
+    let copy = place.clone().expect(&rt, "memory");
+    assert_eq!(rt; copy.base.as_str(), "http://a.test/e");
+    assert!(rt; Rc::ptr_eq(&place.base, &copy.base));
+    assert!(rt; copy.path == place.path);
 }

@@ -45,21 +45,13 @@ fn table_of(
     check_reached(alloc, root, &refusing(rt, alloc), 65_536)
 }
 
-fn shown(
-    rt: &impl Abort,
-    alloc: Global,
-    found: &Result<PatternTable<ScriptedMatcher>, BuildCause>,
-) -> String {
-    match found {
-        Ok(_) => String::from_str(alloc, "accepted").expect(rt, "memory"),
-        Err(cause) => format!(in alloc; "{cause}").expect(rt, "memory"),
-    }
-}
-
 // What comes of a root.
 fn checked(rt: &impl Abort, registry: &Registry<'_>) -> String {
     let alloc = registry.allocator();
-    shown(rt, alloc, &table_of(rt, alloc, &root_of(rt, registry)))
+    match table_of(rt, alloc, &root_of(rt, registry)) {
+        Ok(_) => String::from_str(alloc, "accepted").expect(rt, "memory"),
+        Err(cause) => format!(in alloc; "{cause}").expect(rt, "memory"),
+    }
 }
 
 fn checked_text(rt: &impl Abort, alloc: Global, text: &str) -> String {
@@ -209,14 +201,6 @@ fn patterns(rt: HostRuntime) {
     );
 }
 
-// Each of three texts stands once.
-fn assert_stand(rt: &impl Abort, table: &PatternTable<ScriptedMatcher>) {
-    assert_eq!(rt; table.len(), 3);
-    for (pattern, stands) in [("a.c", true), ("b", true), ("^c", true), ("d", false)] {
-        assert_eq!(rt; table.get(pattern).is_some(), stands);
-    }
-}
-
 // Each text that is reached stands once in the table, wherever it is written.
 #[test]
 fn table(rt: HostRuntime) {
@@ -228,7 +212,10 @@ fn table(rt: HostRuntime) {
         .prepare()
         .expect(&rt, "a registry");
     let table = table_of(&rt, alloc, &root_of(&rt, &registry)).expect(&rt, "a table");
-    assert_stand(&rt, &table);
+    assert_eq!(rt; table.len(), 3);
+    for (pattern, stands) in [("a.c", true), ("b", true), ("^c", true), ("d", false)] {
+        assert_eq!(rt; table.get(pattern).is_some(), stands);
+    }
 }
 
 #[test]

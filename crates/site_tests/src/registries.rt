@@ -140,23 +140,6 @@ fn whole_numbers(rt: HostRuntime) {
     }
 }
 
-// That a registry has `main` and `part`, and shares them.
-fn assert_holds(rt: &impl Abort, registry: &SchemaRegistry) {
-    let other = registry.own().share().expect(rt, "memory");
-    assert!(rt; other.contains_resource("http://a.test/main"));
-    assert!(rt; registry.registry().contains_resource("http://a.test/part"));
-    assert!(rt; !registry.registry().contains_resource("http://a.test/other"));
-    assert!(rt; registry.parent().is_none());
-}
-
-// The base of that registry.
-fn base_of(rt: &impl Abort, alloc: Global, own: SharedRegistry) -> String {
-    let base = from_str(alloc, "http://a.test/main").expect(rt, "a URI");
-    let registry = SchemaRegistry::new(own, base, None);
-    assert_holds(rt, &registry);
-    String::from_str(alloc, registry.base().as_str()).expect(rt, "memory")
-}
-
 // The base of a registry of documents, with what they want.
 fn prepared<R: Retrieve>(
     rt: &impl Abort,
@@ -164,8 +147,17 @@ fn prepared<R: Retrieve>(
     documents: &Documents,
     retriever: &R,
 ) -> String {
+    let base = from_str(alloc, "http://a.test/main").expect(rt, "a URI");
     match SharedRegistry::prepare(alloc, documents, Draft::Draft7, retriever, 1) {
-        Ok(own) => base_of(rt, alloc, own),
+        Ok(own) => {
+            let registry = SchemaRegistry::new(own, base, None);
+            let other = registry.own().share().expect(rt, "memory");
+            assert!(rt; other.contains_resource("http://a.test/main"));
+            assert!(rt; registry.registry().contains_resource("http://a.test/part"));
+            assert!(rt; !registry.registry().contains_resource("http://a.test/other"));
+            assert!(rt; registry.parent().is_none());
+            format!(in alloc; "{}", registry.base().as_str()).expect(rt, "memory")
+        }
         Err(error) => format!(in alloc; "{error}").expect(rt, "memory"),
     }
 }

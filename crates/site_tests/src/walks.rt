@@ -184,32 +184,20 @@ fn entered<'d>(rt: &impl Abort, alloc: Global, contents: &'d Value) -> Place<'d>
     enter(alloc, &known, &uri, dialect, path, contents).expect(rt, "memory")
 }
 
-const WITHIN: &str = "{\"$id\": \"sub/\", \"not\": {\"type\": \"null\"}}";
-
 #[test]
 fn paths_go_on_from_the_place(rt: HostRuntime) {
-    let contents = Value::from_str(rt.alloc(), WITHIN).expect(&rt, "JSON");
-    let from = entered(&rt, rt.alloc(), &contents);
+    let alloc = rt.alloc();
+    let text = "{\"$id\": \"sub/\", \"not\": {\"type\": \"null\"}}";
+    let contents = Value::from_str(alloc, text).expect(&rt, "JSON");
+    let from = entered(&rt, alloc, &contents);
+    let fragment = "/not";
     assert_eq!(rt;
-        written(&rt, rt.alloc(), &from, "/not").as_str(),
+        written(&rt, alloc, &from, fragment).as_str(),
         "place #/$defs/s/not http://a.test/sub/ Draft6"
     );
-}
-
-fn text_of(rt: &impl Abort, alloc: Global, reached: &Reached<'_>) -> String {
-    reached.contents.to_string(alloc).expect(rt, "memory")
-}
-
-#[test]
-fn bases_are_shared_with_the_place(rt: HostRuntime) {
-    let alloc = rt.alloc();
-    let contents = Value::from_str(alloc, WITHIN).expect(&rt, "JSON");
-    let from = entered(&rt, alloc, &contents);
     let known = MetaSchemas::none(alloc);
-    let reached = follow_pointer(alloc, &known, &from, "/not").expect(&rt, "a value");
+    let reached = follow_pointer(alloc, &known, &from, fragment).expect(&rt, "a value");
     assert!(rt; Rc::ptr_eq(&from.base, &reached.base));
-    assert_eq!(rt;
-        text_of(&rt, alloc, &reached).as_str(),
-        "{\"type\":\"null\"}"
-    );
+    let found = reached.contents.to_string(alloc).expect(&rt, "memory");
+    assert_eq!(rt; found.as_str(), "{\"type\":\"null\"}");
 }
