@@ -48,7 +48,7 @@ use Rattle.fault_steps.specs.declared.walk.Walk.{Walk}
 use Rattle.fault_steps.specs.declared.walk.Step.{Step}
 use Rattle.fault_steps.specs.declared.walk.Step.TheVariants.{Answered, On, Named}
 use Rattle.fault_steps.specs.Steps.{path_at, IsLeft, IsMore, IsNotLonger, GoesInto, LeadsInto, PassesThrough}
-use Rattle.fault_steps.specs.Obliged.{obliges}
+use Rattle.question_paths.specs.Obliged.{obliges}
 use Rattle.fault_steps.proofs.ObligedFacts.{AllOrNone, all_or_none}
 use Rattle.fault_steps.proofs.Going.{Goes, going_by, gone_by, not_named}
 

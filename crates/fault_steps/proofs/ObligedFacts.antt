@@ -12,7 +12,7 @@ use Rattle.applicators.specs.Shapes.{shape_of, site_of}
 use Rattle.applicators.specs.Combined.{asks_values}
 use Rattle.applicators.specs.declared.applicator.Applicator.{Applicator}
 use Rattle.applicators.specs.declared.applicator.Applicator.TheVariants as code
-use Rattle.fault_steps.specs.Obliged.{obliges}
+use Rattle.question_paths.specs.Obliged.{obliges}
 
 abbrev pub AllOrNone : {A : Type 0} → Bool → List A → List A → Type 0
 AllOrNone true all xs = xs ≡ all

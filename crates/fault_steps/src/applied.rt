@@ -12,7 +12,7 @@ ghost use Rattle.keyword_refusals.specs.Passed.{AreAsked};
 ghost use Rattle.keyword_refusals.specs.Rows.{applied_row};
 ghost use Rattle.keyword_refusals.specs.Verdicts.{AppliesIn};
 ghost use Rattle.question_paths.specs.Laws.{OneAhead};
-ghost use Rattle.fault_steps.specs.Obliged.{obliges};
+ghost use Rattle.question_paths.specs.Obliged.{obliges};
 ghost use Rattle.fault_steps.specs.Steps.{PassesThrough, LeadsInto, IsMore, IsNotLonger};
 
 use crate::walk::{AtNames, Step, Walk};
@@ -22,6 +22,7 @@ use applicators::questions::questions;
 use applicators::subschema::Entry;
 use keyword_refusals::road::RoadPart;
 use question_paths::ahead::{Ahead, question_ahead};
+use question_paths::obliging::obliges;
 use question_paths::once::one_ahead;
 use serde_json::Value;
 use std::alloc::{AllocError, Global};
@@ -57,20 +58,6 @@ fn push_road<'r, 'p>(
             parts.push(RoadPart::Index(index))?;
             Ok(())
         }
-    }
-}
-
-// Whether the questions of a keyword oblige, where it asks so many.
-const fn obliges(applicator: &Applicator<'_>, asked: usize) -> bool
-    ensures { result ≡ obliges applicator.now asked }
-{
-    match applicator {
-        Applicator::AnyOf(_) => asked == 1,
-        Applicator::OneOf(_) => asked == 1,
-        Applicator::Not(_) => false,
-        Applicator::Contains { .. } => false,
-        Applicator::If { .. } => false,
-        _ => true,
     }
 }
 

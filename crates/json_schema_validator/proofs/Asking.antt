@@ -1,16 +1,16 @@
 -- What is said of a root by its meta-schema.
-use Rattle.std.proofs.Common.{◌≡◌, ◌∙◌, inl, inr, ap, ap₂, codes, ℕ, List, Bool, true, false, not, Option, Some, Result, Ok, Err, OnOk, IfErr, IsErrAnd, sym, subst}
+use Rattle.std.proofs.Common.{◌≡◌, ◌∙◌, ◌⊎◌, inl, inr, ap, codes, ℕ, List, Bool, true, false, not, Option, Some, Result, Ok, Err, OnOk, IfErr, IsErrAnd, sym, subst}
+use Rattle.serde_json.specs.Data.{Data}
 use Rattle.schema_documents.specs.Words.{has_text}
 use Rattle.schema_documents.specs.Lookup.{Target}
 use Rattle.schema_roots.specs.Passed.{SharedRegistry, SchemaRegistry, documents_shared, retrieved_shared}
 use Rattle.schema_roots.specs.Roots.{Root, Patterns, Finds, IsSound}
 use Rattle.schema_roots.proofs.Found.{finds_one}
-use Rattle.schema_meaning.specs.Faults.{Fault}
 use Rattle.schema_meaning.specs.Readings.{verdicts}
-use Rattle.schema_roots.specs.Answers.{IsAnswer, IsFault}
-use Rattle.json_schema_validator.specs.Asked.{meta_root, meta_schema_of, IsHandedIn, IsMetIn, IsMet}
+use Rattle.schema_roots.specs.Answers.{IsAnswer}
+use Rattle.json_schema_validator.specs.Asked.{meta_root, meta_schema_of, Accepts, IsHandedIn, IsMetIn, IsMet}
 use Rattle.json_schema_validator.specs.Counted.{IsWithin}
-use Rattle.json_schema_validator.specs.Refused.{TellsFault, RefusesByMeta, RefusesRoot}
+use Rattle.json_schema_validator.specs.Refused.{RefusesAt, RefusesBuild, RefusesByMeta, RefusesRoot, RefusesValue}
 use Rattle.json_schema_validator.specs.Seen.{root_of}
 use Rattle.json_schema_validator.specs.declared.error.BuildError.{BuildError}
 use Rattle.json_schema_validator.specs.declared.error.BuildError.TheVariants as error
@@ -31,26 +31,44 @@ module _ (patterns : Patterns) (r : SchemaRegistry) (root : Root) (p : SharedReg
 
 -- ---- the meta-schema that was asked
 
-pub meta_root_by : (p : SharedRegistry) (base text uri : List ℕ) → base ≡ codes "json-schema:///" → text ≡ uri → root_of (documents_shared p) base text ≡ meta_root p uri
-meta_root_by p base text uri b u = ap₂ (root_of (documents_shared p)) b u
+pub meta_root_by : (p : SharedRegistry) (base text : List ℕ) → base ≡ codes "json-schema:///" → root_of (documents_shared p) base text ≡ meta_root p text
+meta_root_by p base text b = ap (λ (u : List ℕ). root_of (documents_shared p) u text) b
 
 one_named : (o : Option (List ℕ)) (u w : List ℕ) → o ≡ Some u → o ≡ Some w → u ≡ w
 one_named o u w e f = cc (e, f)
 
-module _ (patterns : Patterns) (limit : ℕ) (p : SharedRegistry) (t : Target) (uri : List ℕ) (named : meta_schema_of t ≡ Some uri) (r : Root) (is : r ≡ meta_root p uri) (sound : IsSound patterns r) where
-  pub met_there : IsWithin patterns limit r → IsAnswer verdicts patterns r t.contents true → IsMetIn patterns limit p t
-  met_there within answer = λ other asked.
-      let same = is ∙ ap (meta_root p) (one_named (meta_schema_of t) uri other named asked.named) in
-      (subst (IsSound patterns) same sound, subst (IsWithin patterns limit) same within, subst (λ (x : Root). IsAnswer verdicts patterns x t.contents true) same answer)
+-- want of memory says nothing of a meta-schema
+pub of_memory : {T : Type 0} (Made : Patterns → Type 0) (r : Root) (d : Data) (x : Result T BuildError) → IsErrAnd x (λ e. e ≡ error.Memory)
+    → IfErr x (λ e. (p : Patterns) → Made p → (e ≡ error.Memory) ⊎ RefusesValue p r d e)
+of_memory Made r d (Ok y) h = tt
+of_memory Made r d (Err e) h = λ p made. inl h
 
-  pub refused_there : IsHandedIn p uri → (f : Fault) → IsFault patterns r t.contents f → (e : BuildError) → TellsFault f e → RefusesByMeta patterns limit p t e
-  refused_there handed f fault e told = inr (record {
-    uri = uri;
-    asked = record { named = named; handed_in = handed };
-    why = inr (record { sound = subst (IsSound patterns) is sound; fault = f; is_fault = subst (λ (x : Root). IsFault patterns x t.contents f) is fault; told = told });
+-- what a validator says of a value is said of the root that it validates by
+module _ (p : Patterns) (limit : ℕ) (Made : Patterns → Type 0) (made : Made p) (r other : Root) (d : Data) (is : r ≡ other) where
+  pub accepts_by : {T : Type 0} (x : Result T BuildError) → IsSound p r → IsWithin p limit r → OnOk x ((q : Patterns) → Made q → IsAnswer verdicts q r d true) → OnOk x (Accepts p limit other d)
+  accepts_by (Ok y) sound within h = subst (λ (s : Root). Accepts p limit s d) is (sound, within, h p made)
+  accepts_by (Err e) sound within h = tt
+
+  by_reason : (e : BuildError) → (e ≡ error.Memory) ⊎ RefusesValue p r d e → RefusesAt p limit other d e
+  by_reason e (inl memory) = inl (subst (RefusesBuild p limit other) (sym memory) tt)
+  by_reason e (inr refused) = inr (subst (λ (s : Root). RefusesValue p s d e) is refused)
+
+  pub refuses_by : {T : Type 0} (x : Result T BuildError) → IfErr x (λ e. (q : Patterns) → Made q → (e ≡ error.Memory) ⊎ RefusesValue q r d e) → IfErr x (RefusesAt p limit other d)
+  refuses_by (Ok y) h = tt
+  refuses_by (Err e) h = by_reason e (h p made)
+
+-- so it is for the meta-schema of a root
+module _ (p : Patterns) (limit : ℕ) (parent : SharedRegistry) (t : Target) (uri text : List ℕ) (d : Data) (named : meta_schema_of t ≡ Some uri) (is : text ≡ uri) (contents : d ≡ t.contents) where
+  pub met_there : {T : Type 0} (x : Result T BuildError) → OnOk x (Accepts p limit (meta_root parent text) d) → OnOk x (IsMetIn p limit parent t)
+  met_there (Ok y) h = λ other asked.
+      subst (Accepts p limit (meta_root parent other)) contents
+      (subst (λ (u : List ℕ). Accepts p limit (meta_root parent u) d) (is ∙ one_named (meta_schema_of t) uri other named asked.named) h)
+  met_there (Err e) h = tt
+
+  pub refused_there : {T : Type 0} (x : Result T BuildError) → IsHandedIn parent text → IfErr x (RefusesAt p limit (meta_root parent text) d) → IfErr x (RefusesByMeta p limit parent t)
+  refused_there (Ok y) handed h = tt
+  refused_there (Err e) handed h = inr (record {
+    uri = text;
+    asked = record { named = named ∙ ap Some (sym is); handed_in = handed };
+    why = subst (λ (c : Data). RefusesAt p limit (meta_root parent text) c e) contents h;
   })
-
--- want of memory says nothing of the meta-schema
-pub of_memory : {T : Type 0} (patterns : Patterns) (limit : ℕ) (p : SharedRegistry) (t : Target) (x : Result T BuildError) → IsErrAnd x (λ e. e ≡ error.Memory) → IfErr x (RefusesByMeta patterns limit p t)
-of_memory patterns limit p t (Ok y) h = tt
-of_memory patterns limit p t (Err e) h = inl h

@@ -1,5 +1,5 @@
 -- What is known of a root once it was checked.
-use Rattle.std.proofs.Common.{◌≡◌, ℕ, List, [], ◌∷◌, Bool, true, Option, Ok, is_ok, refl, sym, ap, subst}
+use Rattle.std.proofs.Common.{◌≡◌, ℕ, List, [], ◌∷◌, Bool, true, Option, Ok, is_ok, refl, sym, ap, subst, ◌∙◌}
 use Rattle.schema_matches.specs.Read.{IsReadBy}
 use Rattle.schema_matches.specs.declared.matches.Matches.{Matches}
 use Rattle.schema_patterns.specs.Tables.{AreMadeBy, texts_of_table}
@@ -13,11 +13,15 @@ use Rattle.schema_reading.specs.BuildCauses.{IsCauseOf}
 use Rattle.target_laws.specs.Laws.{are_apart, contents_rise, by_reference}
 use Rattle.fault_checks.specs.Passed.{AreWithin}
 use Rattle.fault_checks.specs.Passed.{IsPlaced}
-use Rattle.schema_roots.specs.Roots.{Root, Patterns, IsSound}
+use Rattle.schema_drafts.specs.declared.draft.Draft.{Draft}
+use Rattle.schema_roots.specs.Roots.{Root, Patterns, Finds, IsSound}
 use Rattle.schema_roots.proofs.Found.{finds_one}
 use Rattle.schema_roots.specs.Matched.{HoldsPatterns}
 use Rattle.fault_checks.specs.Passed.{AreAmong}
 use Rattle.json_schema_validator.specs.Counted.{IsWithin}
+use Rattle.json_schema_validator.specs.Made.{IsMadeAt, IsMadeBy}
+use Rattle.json_schema_validator.specs.Seen.{root_in}
+use Rattle.json_schema_validator.specs.declared.validator.Validator.{Validator}
 
 module _ (own : List Document) (base reference : List ℕ) (t : Target) (found : lookup (own ∷ []) base reference ≡ Ok t)
     (apart : are_apart own ≡ true) (rise : list_all contents_rise own ≡ true) where
@@ -54,9 +58,6 @@ one_root d b r = rw (d, b, r) refl
 
 -- a table that several may have is the same
 module _ {M : Type 0} where
-  pub shared_patterns : (p : Patterns) (r : Root) (t u : PatternTable M) → u ≡ t → HoldsPatterns p r (texts_of_table t) → HoldsPatterns p r (texts_of_table u)
-  shared_patterns p r t u e h = subst (λ (x : PatternTable M). HoldsPatterns p r (texts_of_table x)) (sym e) h
-
   pub shared_made : (finds : M → List ℕ → Option Bool) (finished : List ℕ → List ℕ → Option Bool) (t u : PatternTable M) → u ≡ t → AreMadeBy finds finished t → AreMadeBy finds finished u
   shared_made finds finished t u e h = subst (λ (x : PatternTable M). AreMadeBy finds finished x) (sym e) h
 
@@ -65,3 +66,14 @@ module _ {M : Type 0} where
       → ((f : List ℕ → List ℕ → Option Bool) → AreMadeBy finds f u → IsReadBy f (texts_of_table u) texts m) → AreMadeBy finds finished t → IsReadBy finished (texts_of_table t) texts m
   read_by finds finished t u texts m e h made =
       subst (λ (x : PatternTable M). IsReadBy finished (texts_of_table x) texts m) e (h finished (shared_made finds finished t u e made))
+
+  -- what was checked is said of the validator that has it
+  pub made_over : (finds : M → List ℕ → Option Bool) (p : Patterns) (v : Validator M) (r : Root) (t : PatternTable M) → root_in v ≡ r → v.table.value ≡ t → IsMadeAt finds p r t → IsMadeBy finds p v
+  made_over finds p v r t root table made =
+      subst (λ (x : Root). IsMadeAt finds p x v.table.value) (sym root) (subst (λ (u : PatternTable M). IsMadeAt finds p r u) (sym table) made)
+
+  pub draft_over : (v : Validator M) (r : Root) (d : Draft) → root_in v ≡ r → v.draft ≡ d → ((target : Target) → Finds r target → d ≡ target.dialect.draft) → (target : Target) → Finds (root_in v) target → v.draft ≡ target.dialect.draft
+  draft_over v r d root is drafted target found = is ∙ drafted target (subst (λ (x : Root). Finds x target) root found)
+
+  pub within_over : (p : Patterns) (limit : ℕ) (v : Validator M) (r : Root) → root_in v ≡ r → IsWithin p limit r → IsWithin p limit (root_in v)
+  within_over p limit v r root h = subst (IsWithin p limit) (sym root) h

@@ -1,5 +1,6 @@
 -- Meta-schemas that are asked: the one that a root's `$schema` names, or that of its draft, where it was handed in (Core 8.1.1).
 use Rattle.std.specs.Prelude.{◌≡◌, ℕ, List, true, false, codes, Option, Some, None, option_and_then}
+use Rattle.serde_json.specs.Data.{Data}
 use Rattle.schema_drafts.specs.declared.draft.Draft.{Draft}
 use Rattle.schema_drafts.specs.declared.draft.Draft.TheVariants.{Draft4, Draft6, Draft7, Draft201909, Draft202012, Unknown}
 use Rattle.schema_documents.specs.Words.{or_else, has_text}
@@ -43,10 +44,13 @@ pub record IsAsked (p : SharedRegistry) (t : Target) (uri : List ℕ) : Type 0 w
   pub named : meta_schema_of t ≡ Some uri
   pub handed_in : IsHandedIn p uri
 
--- the meta-schema of a root, where it is asked, may be read, reaches no more compile keys than the limit, and accepts the root's value
+-- a meta-schema may be read, reaches no more compile keys than the limit, and accepts a value
+abbrev pub Accepts : Patterns → ℕ → Root → Data → Type 0
+Accepts p limit r d = IsSound p r × IsWithin p limit r × IsAnswer verdicts p r d true
+
+-- so does the meta-schema of a root, where it is asked, with the root's value
 abbrev pub IsMetIn : Patterns → ℕ → SharedRegistry → Target → Type 0
-IsMetIn p limit parent t = (uri : List ℕ) → IsAsked parent t uri
-    → IsSound p (meta_root parent uri) × IsWithin p limit (meta_root parent uri) × IsAnswer verdicts p (meta_root parent uri) t.contents true
+IsMetIn p limit parent t = (uri : List ℕ) → IsAsked parent t uri → Accepts p limit (meta_root parent uri) t.contents
 
 -- the same where meta-schemas were handed in
 abbrev pub IsMet : Patterns → ℕ → Option SharedRegistry → Target → Type 0

@@ -100,11 +100,15 @@ pub record RefusesValue (p : Patterns) (r : Root) (d : Data) (e : BuildError) : 
   pub is_fault : IsFault p r d fault
   pub told : TellsFault fault e
 
--- one that is asked may not be read, or refuses the value
+-- one may not be read, or refuses the value
+abbrev pub RefusesAt : Patterns → ℕ → Root → Data → BuildError → Type 0
+RefusesAt p limit r d e = RefusesBuild p limit r e ⊎ RefusesValue p r d e
+
+-- so does one that is asked
 pub record RefusesAsked (p : Patterns) (limit : ℕ) (parent : SharedRegistry) (t : Target) (e : BuildError) : Type 0 where
   pub uri : List ℕ
   pub asked : IsAsked parent t uri
-  pub why : RefusesBuild p limit (meta_root parent uri) e ⊎ RefusesValue p (meta_root parent uri) t.contents e
+  pub why : RefusesAt p limit (meta_root parent uri) t.contents e
 
 abbrev pub RefusesByMeta : Patterns → ℕ → SharedRegistry → Target → BuildError → Type 0
 RefusesByMeta p limit parent t e = (e ≡ error.Memory) ⊎ RefusesAsked p limit parent t e

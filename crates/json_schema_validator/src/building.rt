@@ -5,13 +5,14 @@ ghost use Rattle.schema_documents.specs.Lookup.{Target};
 ghost use Rattle.schema_roots.specs.Passed.{documents_shared};
 ghost use Rattle.schema_roots.specs.Roots.{Finds, IsSoundBySome, patterns_by};
 ghost use Rattle.json_schema_validator.specs.Counted.{IsWithin};
-ghost use Rattle.json_schema_validator.specs.Made.{IsMadeBy};
+ghost use Rattle.json_schema_validator.specs.Made.{IsMadeAt, IsMadeBy};
 ghost use Rattle.json_schema_validator.specs.Refused.{RefusesBuild};
 ghost use Rattle.json_schema_validator.specs.Seen.{root_in, root_of};
 
 use crate::error::BuildError;
 use crate::validator::Validator;
 use fault_checks::check_reached;
+use schema_drafts::draft::Draft;
 use schema_patterns::{PatternMaker, PatternMatcher, PatternTable};
 use schema_roots::SharedRegistry;
 use std::alloc::{AllocError, Global};
@@ -25,7 +26,69 @@ fn shared<M: Drop>(alloc: Global, table: PatternTable<M>) -> Result<Rc<PatternTa
     Ok(Rc::new(alloc, table)?)
 }
 
+// What is kept of the schema that a reference leads to, where nothing is wrong there: its draft, and the patterns that are reached.
+fn check_at<P: PatternMaker>(
+    alloc: Global,
+    registry: &SharedRegistry,
+    base: &Uri,
+    root: &str,
+    maker: &P,
+    node_limit: usize,
+) -> Result<(Draft, PatternTable<P::Matcher>), BuildError>
+    ensures made { IfOk result (λ x. IsMadeAt P.Matcher.finds (patterns_by P.makes P.finished maker.now) (root_of (documents_shared registry.now) base.now root.now) x.1) }
+    ensures draft { IfOk result (λ x. (target : Target) → Finds (root_of (documents_shared registry.now) base.now root.now) target → x.0 ≡ target.dialect.draft) }
+    ensures within { IfOk result (λ x. IsWithin (patterns_by P.makes P.finished maker.now) node_limit (root_of (documents_shared registry.now) base.now root.now)) }
+    ensures refused { IfErr result (RefusesBuild (patterns_by P.makes P.finished maker.now) node_limit (root_of (documents_shared registry.now) base.now root.now)) }
+{
+    let resolver = registry.registry().resolver(base.clone()?)?;
+    let found = match resolver.lookup(root) {
+        Ok(found) => found,
+        Err(error) => return Err(BuildError::of_root(error)),
+    };
+    registry.documents_are_apart();
+    registry.registry().names_rise();
+    match check_reached(alloc, &found, maker, node_limit) {
+        Ok(table) => Ok((found.draft(), table)),
+        Err(cause) => Err(BuildError::of_schema(cause)),
+    }
+}
+
+// The draft of the schema that a reference leads to.
+fn draft_at(registry: &SharedRegistry, base: &Uri, root: &str) -> Result<Draft, AllocError>
+    ensures { IfOk result (λ d. (target : Target) → Finds (root_of (documents_shared registry.now) base.now root.now) target → d ≡ target.dialect.draft) }
+{
+    let resolver = registry.registry().resolver(base.clone()?)?;
+    match resolver.lookup(root) {
+        Ok(found) => Ok(found.draft()),
+        Err(_) => Err(AllocError),
+    }
+}
+
 impl<M: PatternMatcher> Validator<M> {
+    // A validator that has these.
+    fn with(
+        alloc: Global,
+        registry: &SharedRegistry,
+        base: &Uri,
+        root: &str,
+        draft: Draft,
+        table: &Rc<PatternTable<M>>,
+    ) -> Result<Validator<M>, AllocError>
+        requires sound { IsSoundBySome (root_of (documents_shared registry.now) base.now root.now) }
+        ensures root { IfOk result (λ v. root_in v ≡ root_of (documents_shared registry.now) base.now root.now) }
+        ensures draft { IfOk result (λ v. v.draft ≡ draft) }
+        ensures table { IfOk result (λ v. v.table.value ≡ table.now.value) }
+    {
+        Ok(Validator {
+            alloc,
+            registry: registry.share()?,
+            base: base.clone()?,
+            root: String::from_str(alloc, root)?,
+            draft,
+            table: table.clone()?,
+        })
+    }
+
     // A validator by the schema that a reference leads to, whether it has a meta-schema or not.
     pub(crate) fn at<P: PatternMaker<Matcher = M>>(
         alloc: Global,
@@ -41,25 +104,9 @@ impl<M: PatternMatcher> Validator<M> {
         ensures within { IfOk result (λ v. IsWithin (patterns_by P.makes P.finished maker.now) node_limit (root_in v)) }
         ensures refused { IfErr result (RefusesBuild (patterns_by P.makes P.finished maker.now) node_limit (root_of (documents_shared registry.now) base.now root.now)) }
     {
-        let resolver = registry.registry().resolver(base.clone()?)?;
-        let found = match resolver.lookup(root) {
-            Ok(found) => found,
-            Err(error) => return Err(BuildError::of_root(error)),
-        };
-        registry.documents_are_apart();
-        registry.registry().names_rise();
-        let table = match check_reached(alloc, &found, maker, node_limit) {
-            Ok(table) => table,
-            Err(cause) => return Err(BuildError::of_schema(cause)),
-        };
-        Ok(Validator {
-            alloc,
-            registry: registry.share()?,
-            base: base.clone()?,
-            root: String::from_str(alloc, root)?,
-            draft: found.draft(),
-            table: shared(alloc, table)?,
-        })
+        let (draft, table) = check_at(alloc, registry, base, root, maker, node_limit)?;
+        let table = shared(alloc, table)?;
+        Ok(Validator::with(alloc, registry, base, root, draft, &table)?)
     }
 
     // A validator by the schema that a reference leads to, where nothing is wrong, with a table of the patterns that are reached from there.
@@ -75,17 +122,7 @@ impl<M: PatternMatcher> Validator<M> {
         ensures table { IfOk result (λ v. v.table.value ≡ table.now.value) }
         ensures draft { IfOk result (λ v. (target : Target) → Finds (root_in v) target → v.draft ≡ target.dialect.draft) }
     {
-        let resolver = registry.registry().resolver(base.clone()?)?;
-        let Ok(found) = resolver.lookup(root) else {
-            return Err(AllocError);
-        };
-        Ok(Validator {
-            alloc,
-            registry: registry.share()?,
-            base: base.clone()?,
-            root: String::from_str(alloc, root)?,
-            draft: found.draft(),
-            table: table.clone()?,
-        })
+        let draft = draft_at(registry, base, root)?;
+        Validator::with(alloc, registry, base, root, draft, table)
     }
 }

@@ -1,13 +1,19 @@
 //! Meta-schemas that are asked.
 
-ghost use Rattle.std.specs.Prelude.{◌≡◌, IfOk, IfErr, OnOk, codes, option_map, false, true};
+ghost use Rattle.std.specs.Prelude.{◌≡◌, ◌⊎◌, IfOk, IfErr, OnOk, codes, option_map, false, true};
+ghost use Rattle.serde_json.specs.View.{view};
+ghost use Rattle.schema_meaning.specs.Readings.{verdicts};
 ghost use Rattle.schema_documents.specs.Places as places;
 ghost use Rattle.schema_documents.specs.Words.{has_text};
 ghost use Rattle.fault_checks.specs.Passed.{target_in};
 ghost use Rattle.schema_roots.specs.Passed.{retrieved_by};
-ghost use Rattle.schema_roots.specs.Roots.{patterns_by};
-ghost use Rattle.json_schema_validator.specs.Asked.{schema_of_draft, schema_text, meta_schema_of, IsHandedIn, IsMetIn};
-ghost use Rattle.json_schema_validator.specs.Refused.{RefusesByMeta};
+ghost use Rattle.schema_roots.specs.Answers.{IsAnswer};
+ghost use Rattle.schema_roots.specs.Roots.{Patterns, patterns_by};
+ghost use Rattle.json_schema_validator.specs.Asked.{schema_of_draft, schema_text, meta_schema_of, meta_root, Accepts, IsHandedIn, IsMetIn};
+ghost use Rattle.json_schema_validator.specs.Made.{IsMadeBy};
+ghost use Rattle.json_schema_validator.specs.Refused.{RefusesAt, RefusesByMeta, RefusesValue};
+ghost use Rattle.json_schema_validator.specs.Seen.{root_in};
+ghost use Rattle.json_schema_validator.specs.declared.error.BuildError.TheVariants.{Memory};
 
 use crate::error::BuildError;
 use crate::validator::Validator;
@@ -15,8 +21,9 @@ use fault_checks::{Error, Registry, Resolved};
 use schema_drafts::draft::Draft;
 use schema_identifiers::bases::resolved;
 use schema_identifiers::identifiers::schema_in_force;
-use schema_patterns::PatternMaker;
+use schema_patterns::{PatternMaker, PatternMatcher};
 use schema_roots::SharedRegistry;
+use serde_json::Value;
 use std::alloc::{AllocError, Global};
 use uri_grammar::components::split_fragment;
 use uri_references::uri::Uri;
@@ -95,6 +102,39 @@ fn is_handed_in(parent: &SharedRegistry, base: &Uri, uri: &str) -> Result<bool, 
     }
 }
 
+// Asks a meta-schema whether it accepts a value.
+fn ask<M: PatternMatcher>(
+    alloc: Global,
+    meta_schema: &Validator<M>,
+    value: &Value,
+) -> Result<(), BuildError>
+    ensures accepted { OnOk result ((p : Patterns) → IsMadeBy M.finds p meta_schema.now → IsAnswer verdicts p (root_in meta_schema.now) (view value.now) true) }
+    ensures refused { IfErr result (λ e. (p : Patterns) → IsMadeBy M.finds p meta_schema.now → (e ≡ Memory) ⊎ RefusesValue p (root_in meta_schema.now) (view value.now) e) }
+{
+    match meta_schema.validate(value)? {
+        Ok(()) => Ok(()),
+        Err(error) => Err(BuildError::of_fault(alloc, &error)?),
+    }
+}
+
+// Asks the meta-schema that a URI leads to whether it accepts a value.
+fn ask_at<P: PatternMaker>(
+    alloc: Global,
+    parent: &SharedRegistry,
+    base: &Uri,
+    uri: &str,
+    value: &Value,
+    maker: &P,
+    node_limit: usize,
+) -> Result<(), BuildError>
+    requires base { base.now ≡ codes "json-schema:///" }
+    ensures accepted { OnOk result (Accepts (patterns_by P.makes P.finished maker.now) node_limit (meta_root parent.now uri.now) (view value.now)) }
+    ensures refused { IfErr result (RefusesAt (patterns_by P.makes P.finished maker.now) node_limit (meta_root parent.now uri.now) (view value.now)) }
+{
+    let meta_schema = Validator::at(alloc, parent, base, uri, maker, node_limit)?;
+    ask(alloc, &meta_schema, value)
+}
+
 /// Asks the meta-schema of a root whether it accepts the root's value: the one that its `$schema` names, or without one that of its
 /// draft, where it was handed in. It is read as a root of the meta-schemas alone, by the same maker of patterns and under the limit on
 /// compile keys, and is not asked about in turn.
@@ -119,9 +159,13 @@ pub(crate) fn ask_meta_schema<P: PatternMaker>(
     if !is_handed_in(parent, &base, uri.as_str())? {
         return Ok(());
     }
-    let meta_schema = Validator::at(alloc, parent, &base, uri.as_str(), maker, node_limit)?;
-    match meta_schema.validate(root.contents())? {
-        Ok(()) => Ok(()),
-        Err(error) => Err(BuildError::of_fault(alloc, &error)?),
-    }
+    ask_at(
+        alloc,
+        parent,
+        &base,
+        uri.as_str(),
+        root.contents(),
+        maker,
+        node_limit,
+    )
 }

@@ -3,8 +3,10 @@
 
 mod graph;
 mod leading;
+mod noting;
 #[cfg(test)]
 mod tests;
 
 pub use graph::Edge;
 pub use leading::leading_to;
+pub use noting::note;

@@ -2,7 +2,6 @@
 #![tactic(auto)]
 
 mod asking;
-mod heard;
 mod names;
 mod notes;
 mod progress;

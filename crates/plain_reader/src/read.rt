@@ -23,7 +23,6 @@ ghost use Rattle.plain_reader.specs.Combined.{Counts, HasBranches};
 ghost use Rattle.plain_reader.specs.Targets.{reference_leads, reference_questions};
 
 use crate::asking::of_value;
-use crate::heard::{all_heard, heard_none};
 use crate::names::{read_name, read_named};
 use crate::notes::tell_notes;
 use crate::progress::{Progress, is_in_progress};
@@ -34,6 +33,7 @@ use applicators::question::{Asked, Question};
 use applicators::questions::questions;
 use applicators::subschema::Entry;
 use assertion_faults::{tell_assertion, tell_pattern};
+use heard_faults::{all_heard, heard_none};
 use member_walks::member_walk::MemberWalk;
 use schema_reports::{
     AllFaults, LazyLocation, Observer, Reference, Roads, ValidationError, ValidationErrorKind,

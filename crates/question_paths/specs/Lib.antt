@@ -1,3 +1,4 @@
 pub mod Behind
 pub mod Ahead
 pub mod Laws
+pub mod Obliged

@@ -3,4 +3,5 @@
 
 pub mod ahead;
 pub mod behind;
+pub mod obliging;
 pub mod once;

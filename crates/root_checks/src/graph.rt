@@ -1,6 +1,6 @@
 //! The schemas that are reached from several roots, as a graph.
 
-ghost use Rattle.std.specs.Prelude.{◌≡◌, ◌∷◌, ◌++◌, [], true, map, string_bytes, if◌then◌else◌, IfOk, IfErr, OnOk};
+ghost use Rattle.std.specs.Prelude.{◌≡◌, ◌∷◌, [], true, map, string_bytes, IfOk, IfErr};
 ghost use Rattle.std.specs.List.{list_all};
 ghost use Rattle.target_laws.specs.Laws.{are_apart, contents_rise};
 ghost use Rattle.referencing.specs.Resolved.{base_of, documents_in};
@@ -11,7 +11,7 @@ ghost use Rattle.root_checks.specs.Walked.{IsWalked};
 use crate::led::led_by;
 use crate::linking::link;
 use crate::starting::start;
-use marked_nodes::Edge;
+use marked_nodes::{Edge, note};
 use reached_sites::cause::BuildCause;
 use reached_sites::visit::Visit;
 use referencing::Resolver;
@@ -28,16 +28,6 @@ pub(crate) struct Graph<'r, M> {
     pub(crate) wrong: Vec<usize>,
     pub(crate) starts: Vec<Option<usize>>,
     pub(crate) table: PatternTable<M>,
-}
-
-// Notes a position that is wrong.
-fn note(wrong: &mut Vec<usize>, position: usize, is_right: bool) -> Result<(), AllocError>
-    ensures { OnOk result (wrong.new.items ≡ (if is_right then wrong.old.items else wrong.old.items ++ position ∷ [])) }
-{
-    if !is_right {
-        wrong.push(position)?;
-    }
-    Ok(())
 }
 
 /// Walks all that is reached from the roots of some references, each schema once for each compile key with which it is reached. It goes on behind

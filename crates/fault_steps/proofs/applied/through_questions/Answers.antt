@@ -1,6 +1,6 @@
 use Rattle.std.proofs.Common.{◌∙◌, List, ap, length, sym}
 use Rattle.applicators.specs.declared.question.Question.{Question}
-use Rattle.fault_steps.specs.Obliged.{obliges}
+use Rattle.question_paths.specs.Obliged.{obliges}
 use Rattle.fault_steps.proofs.AppliedSteps.{applied_never}
 use Rattle.fault_steps.proofs.applied.through_questions.Goals as goal
 

@@ -1,81 +1,29 @@
-use Rattle.std.proofs.Common.{◌≡◌, ◌∙◌, [], ◌∷◌, Ok, ap, ap₂, sym, subst}
-use Rattle.std.specs.List.{list_all}
-use Rattle.schema_documents.specs.Lookup.{lookup}
-use Rattle.schema_reading.specs.Sites.{root_site}
-use Rattle.referencing_errors.specs.Causes.{RefusesLookup}
-use Rattle.fault_checks.specs.Passed.{documents_in, base_of, target_in}
+use Rattle.std.proofs.Common.{◌∙◌}
 use Rattle.schema_roots.specs.Passed.{documents_shared}
-use Rattle.fault_checks.specs.Passed.{RefusesWithin}
-use Rattle.schema_patterns.specs.Tables.{texts_of_table}
 use Rattle.schema_roots.specs.Roots.{Root, patterns_by}
-use Rattle.target_laws.specs.Laws.{are_apart, contents_rise}
 use Rattle.json_schema_validator.specs.Seen.{root_of}
-use Rattle.json_schema_validator.proofs.Placing.{sound_there, within_there, patterns_there, one_root, shared_patterns, shared_made}
+use Rattle.json_schema_validator.proofs.Placing.{made_over, draft_over, within_over}
 use Rattle.json_schema_validator.proofs.validator.Validator.at.Goals as goal
 
-pub returns-in-Err-clause-refused : goal.returns-in-Err-clause-refused
-returns-in-Err-clause-refused g c =
+pub with-requires : goal.with-requires
+with-requires g c =
     let p = patterns_by g.P.PatternMaker.makes g.P.PatternMaker.finished c.args.maker.now in
-    let r : Root = root_of (documents_shared c.args.registry.now) c.args.base.now c.args.root.now in
-    let resolver = c.in_ok-resolver.resolver in
-    let documents : documents_in resolver ≡ documents_shared c.args.registry.now = c.in_ok-resolver.ensures.documents ∙ c.registry.ensures.documents in
-    let base : base_of resolver ≡ r.base = c.in_ok-resolver.ensures.base ∙ c.in_ok-clone.ensures.cases in
-    let same : lookup (documents_in resolver ∷ []) (base_of resolver) r.reference ≡ lookup r.documents r.base r.reference = ap₂ (λ ds b. lookup (ds ∷ []) b r.reference) documents base in
-    c.of_root.ensures p c.args.node_limit r (subst (λ x. RefusesLookup x c.in-Err.error) same c.in-Err.ensures.refused)
-
-pub returns-in-Err-check_reached-clause-refused : goal.returns-in-Err-check_reached-clause-refused
-returns-in-Err-check_reached-clause-refused g c =
-    let p = patterns_by g.P.PatternMaker.makes g.P.PatternMaker.finished c.args.maker.now in
-    let r : Root = root_of (documents_shared c.args.registry.now) c.args.base.now c.args.root.now in
-    let resolver = c.in_ok-resolver.resolver in
-    let documents : documents_in resolver ≡ documents_shared c.args.registry.now = c.in_ok-resolver.ensures.documents ∙ c.registry.ensures.documents in
-    let base : base_of resolver ≡ r.base = c.in_ok-resolver.ensures.base ∙ c.in_ok-clone.ensures.cases in
-    let same : lookup (documents_in resolver ∷ []) (base_of resolver) r.reference ≡ lookup r.documents r.base r.reference = ap₂ (λ ds b. lookup (ds ∷ []) b r.reference) documents base in
-    let target = target_in c.in-Ok.found in
-    let there : documents_in c.in-Ok.found.resolver ≡ documents_shared c.args.registry.now = c.in-Ok.ensures.documents ∙ documents in
-    c.of_schema.ensures p c.args.node_limit r target (sym same ∙ c.in-Ok.ensures.ok)
-    (subst (λ own. RefusesWithin (own ∷ []) p.makes (root_site target) c.args.node_limit c.in-Err-check_reached.cause) there c.in-Err-check_reached.ensures.refused)
-
-pub invariant_of-result : goal.invariant_of-result
-invariant_of-result g c =
-    let p = patterns_by g.P.PatternMaker.makes g.P.PatternMaker.finished c.args.maker.now in
-    let resolver = c.in_ok-resolver.resolver in
-    let own = documents_in c.in-Ok.found.resolver in
-    let t = target_in c.in-Ok.found in
-    let there : own ≡ documents_shared c.args.registry.now = c.in-Ok.ensures.documents ∙ c.in_ok-resolver.ensures.documents ∙ c.registry.ensures.documents in
-    let found = subst (λ ds. lookup (ds ∷ []) (base_of resolver) c.args.root.now ≡ Ok t) (sym c.in-Ok.ensures.documents) c.in-Ok.ensures.ok in
-    let apart = ap are_apart there ∙ c.documents_are_apart.ensures in
-    let rise = ap (list_all contents_rise) (there ∙ sym c.registry-2.ensures.documents) ∙ c.names_rise.ensures in
-    let one = one_root (there ∙ sym c.in_ok-share.ensures) (c.in_ok-resolver.ensures.base ∙ c.in_ok-clone.ensures.cases ∙ sym c.in_ok-clone-2.ensures.cases) (sym c.in_ok-from_str.ensures.ok) in
-    record { sound = λ by_none. by_none p (sound_there own (base_of resolver) c.args.root.now t found apart rise p c.in-Ok-check_reached.ensures.accepted _ one) }
+    record { sound = λ by_none. by_none p c.in_ok-draft.ensures.made.sound }
 
 pub returns-clause-made : goal.returns-clause-made
 returns-clause-made g c =
     let p = patterns_by g.P.PatternMaker.makes g.P.PatternMaker.finished c.args.maker.now in
-    let resolver = c.in_ok-resolver.resolver in
-    let own = documents_in c.in-Ok.found.resolver in
-    let t = target_in c.in-Ok.found in
-    let there : own ≡ documents_shared c.args.registry.now = c.in-Ok.ensures.documents ∙ c.in_ok-resolver.ensures.documents ∙ c.registry.ensures.documents in
-    let found = subst (λ ds. lookup (ds ∷ []) (base_of resolver) c.args.root.now ≡ Ok t) (sym c.in-Ok.ensures.documents) c.in-Ok.ensures.ok in
-    let apart = ap are_apart there ∙ c.documents_are_apart.ensures in
-    let rise = ap (list_all contents_rise) (there ∙ sym c.registry-2.ensures.documents) ∙ c.names_rise.ensures in
-    let one = one_root (there ∙ sym c.in_ok-share.ensures) (c.in_ok-resolver.ensures.base ∙ c.in_ok-clone.ensures.cases ∙ sym c.in_ok-clone-2.ensures.cases) (sym c.in_ok-from_str.ensures.ok) in
-    record {
-      sound = sound_there own (base_of resolver) c.args.root.now t found apart rise p c.in-Ok-check_reached.ensures.accepted _ one;
-      patterns = shared_patterns p _ c.in-Ok-check_reached.table c.in_ok-shared.field-0.value c.in_ok-shared.ensures
-          (patterns_there own (base_of resolver) c.args.root.now t found apart rise p (texts_of_table c.in-Ok-check_reached.table) c.in-Ok-check_reached.ensures.patterns _ one);
-      made = shared_made g.M.PatternMatcher.finds p.finished c.in-Ok-check_reached.table c.in_ok-shared.field-0.value c.in_ok-shared.ensures c.in-Ok-check_reached.ensures.made;
-    }
+    let v = c.in_ok-with.field-0 in
+    let r : Root = root_of (documents_shared c.args.registry.now) c.args.base.now c.args.root.now in
+    made_over g.M.PatternMatcher.finds p v r c.in_ok-draft.table c.in_ok-with.ensures.root (c.in_ok-with.ensures.table ∙ c.in_ok-table.ensures) c.in_ok-draft.ensures.made
+
+pub returns-clause-draft : goal.returns-clause-draft
+returns-clause-draft g c =
+    let r : Root = root_of (documents_shared c.args.registry.now) c.args.base.now c.args.root.now in
+    draft_over c.in_ok-with.field-0 r c.in_ok-draft.draft c.in_ok-with.ensures.root c.in_ok-with.ensures.draft c.in_ok-draft.ensures.draft
 
 pub returns-clause-within : goal.returns-clause-within
 returns-clause-within g c =
     let p = patterns_by g.P.PatternMaker.makes g.P.PatternMaker.finished c.args.maker.now in
-    let resolver = c.in_ok-resolver.resolver in
-    let own = documents_in c.in-Ok.found.resolver in
-    let t = target_in c.in-Ok.found in
-    let there : own ≡ documents_shared c.args.registry.now = c.in-Ok.ensures.documents ∙ c.in_ok-resolver.ensures.documents ∙ c.registry.ensures.documents in
-    let found = subst (λ ds. lookup (ds ∷ []) (base_of resolver) c.args.root.now ≡ Ok t) (sym c.in-Ok.ensures.documents) c.in-Ok.ensures.ok in
-    let apart = ap are_apart there ∙ c.documents_are_apart.ensures in
-    let rise = ap (list_all contents_rise) (there ∙ sym c.registry-2.ensures.documents) ∙ c.names_rise.ensures in
-    let one = one_root (there ∙ sym c.in_ok-share.ensures) (c.in_ok-resolver.ensures.base ∙ c.in_ok-clone.ensures.cases ∙ sym c.in_ok-clone-2.ensures.cases) (sym c.in_ok-from_str.ensures.ok) in
-    within_there own (base_of resolver) c.args.root.now t found apart rise p c.args.node_limit c.in-Ok-check_reached.ensures.within _ one
+    let r : Root = root_of (documents_shared c.args.registry.now) c.args.base.now c.args.root.now in
+    within_over p c.args.node_limit c.in_ok-with.field-0 r c.in_ok-with.ensures.root c.in_ok-draft.ensures.within

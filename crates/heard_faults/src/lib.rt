@@ -1,4 +1,6 @@
 //! What an observer has heard of one question's subschema.
+#![tactic(auto)]
+
 ghost use Rattle.std.specs.Prelude.{◌≡◌};
 ghost use Rattle.schema_meaning.specs.Faults.{Faults, is_none};
 ghost use Rattle.schema_reports.specs.Told.{faults_of};
@@ -8,8 +10,8 @@ ghost use Rattle.schema_reports.specs.declared.observer.Observation.TheVariants 
 use schema_reports::{Observer, ValidationError};
 use std::alloc::Global;
 
-// Whether one that keeps the verdict heard of no fault.
-pub(crate) fn heard_none(observer: Observer<'_>) -> bool
+/// Whether one that keeps the verdict heard of no fault.
+pub fn heard_none(observer: Observer<'_>) -> bool
     ensures { (fs : Faults) → Hears kept.Verdict observer.entry fs → result ≡ is_none fs }
 {
     match observer {
@@ -18,8 +20,8 @@ pub(crate) fn heard_none(observer: Observer<'_>) -> bool
     }
 }
 
-// What one that keeps each fault heard.
-pub(crate) fn all_heard<'i>(alloc: Global, observer: Observer<'i>) -> Vec<ValidationError<'i>>
+/// What one that keeps each fault heard, in order: the errors that the context of a branch holds.
+pub fn all_heard<'i>(alloc: Global, observer: Observer<'i>) -> Vec<ValidationError<'i>>
     ensures { (fs : Faults) → Hears kept.All observer.entry fs → faults_of result.items ≡ fs }
 {
     match observer {
