@@ -1,5 +1,5 @@
 //! Reports and errors of runs.
-ghost use Rattle.std.specs.Prelude.{◌≡◌};
+ghost use Rattle.std.specs.Prelude.{◌≡◌, if◌then◌else◌};
 
 use std::alloc::AllocError;
 use thiserror::Error;
@@ -11,6 +11,15 @@ pub struct RunReport {
     pub lines: u64,
     /// Whether the answer to any line was another than `[]`.
     pub any_refused: bool,
+}
+
+impl RunReport {
+    /// The exit status of a run that came to its end: 0 where the answer to each line was `[]`, and 1 where one was another.
+    pub fn status(self) -> u8
+        ensures { result ≡ (if self.any_refused then 1 else 0) }
+    {
+        u8::from(self.any_refused)
+    }
 }
 
 /// Why a run ended early.

@@ -40,7 +40,7 @@ pub fn program<'a, F: SchemaFiles, S: ByteSource, K: ByteSink, T: ByteSink>(
     ensures stopped { result ≡ 3 → ((reader.new ≡ reader.old) × (writer.new ≡ writer.old)) ⊎ StopsEarly (matches_of program_app (texts words.entry.now)) (F.held files.now) (S.remaining reader.old) (S.remaining reader.new) (K.contents writer.old) (K.contents writer.new) }
 {
     match answer(alloc, words, files, reader, writer) {
-        Ok(report) => u8::from(report.any_refused),
+        Ok(report) => report.status(),
         Err(fault) => told(alloc, &fault, faults),
     }
 }
