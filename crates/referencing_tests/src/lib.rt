@@ -6,6 +6,8 @@ mod adding;
 #[cfg(test)]
 mod asking;
 #[cfg(test)]
+mod both_answers;
+#[cfg(test)]
 mod chains;
 #[cfg(test)]
 mod indexes;

@@ -2,5 +2,3 @@
 #![tactic(auto)]
 
 pub mod chains;
-#[cfg(test)]
-mod tests;

@@ -1,9 +1,9 @@
 // A chain followed in a registry twice.
-use crate::chains::follow_both;
 use referencing::following::Step;
 use referencing::registry::Registry;
 use referencing::resolver::Resolved;
 use referencing_errors::error::Error;
+use registry_laws::chains::follow_both;
 use serde_json::Value;
 use std::alloc::Global;
 use std::test::Fail;
