@@ -39,59 +39,47 @@ fn outcome(
     format!(in alloc; "{written}/ {end}").expect(rt, "memory")
 }
 
-#[test]
-fn lines_in_pieces(rt: HostRuntime) {
-    let alloc = rt.alloc();
-    for (input, want) in [
-        ("", "/ 0 false"),
-        ("\n", "\n/ 1 true"),
-        ("a\nbb", "a\nbb\n/ 2 true"),
-        ("a\n\n", "a\n\n/ 2 true"),
-        ("[]\n[]", "[]\n[]\n/ 2 false"),
-        ("[]\n[1]\n[]\n", "[]\n[1]\n[]\n/ 3 true"),
-    ] {
-        for piece in [1, 2, 3, 100] {
-            let source = MemorySource::new(input.as_bytes(), piece, None);
-            let sink = MemorySink::new(alloc, piece, None);
-            assert_eq!(rt;
-                outcome(&rt, alloc, source, sink).as_str(),
-                want,
-                "at a piece of {piece}"
-            );
-        }
+// Each the bytes, where the reader and the writer fail, and what is written and told.
+type Row = (&'static [u8], Option<usize>, Option<usize>, &'static str);
+
+const CUT: [Row; 15] = [
+    (b"", None, None, "/ 0 false"),
+    (b"\n", None, None, "\n/ 1 true"),
+    (b"a\nbb", None, None, "a\nbb\n/ 2 true"),
+    (b"a\n\n", None, None, "a\n\n/ 2 true"),
+    (b"[]\n[]", None, None, "[]\n[]\n/ 2 false"),
+    (b"[]\n[1]\n[]\n", None, None, "[]\n[1]\n[]\n/ 3 true"),
+    (b"ab\ncd\ne", Some(0), None, "/ Reading failed"),
+    (b"ab\ncd\ne", Some(2), None, "/ Reading failed"),
+    (b"ab\ncd\ne", Some(3), None, "ab\n/ Reading failed"),
+    (b"ab\ncd\ne", Some(5), None, "ab\n/ Reading failed"),
+    (b"ab\ncd\ne", Some(6), None, "ab\ncd\n/ Reading failed"),
+    (b"ab\ncd\ne", None, Some(0), "/ Writing failed"),
+    (b"ab\ncd\ne", None, Some(3), "ab\n/ Writing failed"),
+    (b"ab\ncd\ne", None, Some(7), "ab\ncd\ne/ Writing failed"),
+    (b"ab\ncd\ne", Some(6), Some(4), "ab\nc/ Writing failed"),
+];
+
+const NO_TEXT: [Row; 1] = [(b"ab\n\xff\n", None, None, "ab\n/ No memory")];
+
+fn assert_cut(rt: &impl Abort, alloc: Global, piece: usize, rows: &[Row]) {
+    for (bytes, reads, writes, want) in rows {
+        let source = MemorySource::new(bytes, piece, *reads);
+        let sink = MemorySink::new(alloc, piece, *writes);
+        assert_eq!(rt;
+            outcome(rt, alloc, source, sink).as_str(),
+            *want,
+            "at a piece of {piece}"
+        );
     }
 }
 
 #[test]
-fn failures(rt: HostRuntime) {
-    let alloc = rt.alloc();
-    for (reads, writes, want) in [
-        (Some(0), None, "/ Reading failed"),
-        (Some(2), None, "/ Reading failed"),
-        (Some(3), None, "ab\n/ Reading failed"),
-        (Some(5), None, "ab\n/ Reading failed"),
-        (Some(6), None, "ab\ncd\n/ Reading failed"),
-        (None, Some(0), "/ Writing failed"),
-        (None, Some(3), "ab\n/ Writing failed"),
-        (None, Some(7), "ab\ncd\ne/ Writing failed"),
-        (Some(6), Some(4), "ab\nc/ Writing failed"),
-    ] {
-        for piece in [1, 2, 100] {
-            let source = MemorySource::new(b"ab\ncd\ne", piece, reads);
-            let sink = MemorySink::new(alloc, piece, writes);
-            assert_eq!(rt;
-                outcome(&rt, alloc, source, sink).as_str(),
-                want,
-                "at a piece of {piece}"
-            );
-        }
+fn lines_in_pieces(rt: HostRuntime) {
+    for piece in [1, 2, 3, 100] {
+        assert_cut(&rt, rt.alloc(), piece, &CUT);
     }
-    let source = MemorySource::new(b"ab\n\xff\n", 3, None);
-    let sink = MemorySink::new(alloc, 9, None);
-    assert_eq!(rt;
-        outcome(&rt, alloc, source, sink).as_str(),
-        "ab\n/ No memory"
-    );
+    assert_cut(&rt, rt.alloc(), 3, &NO_TEXT);
 }
 
 #[test]

@@ -34,64 +34,133 @@ fn outcome(
 
 const STRINGS: &str = "{\"type\":\"string\"}";
 
-#[test]
-fn kinds_of_lines(rt: HostRuntime) {
-    let alloc = rt.alloc();
-    for (line, want) in [
-        (b"\"a\"\n".as_slice(), "[]\n/ 1 false"),
-        (b"\"a\"", "[]\n/ 1 false"),
-        (b"", "/ 0 false"),
-        (b"\n", "null\n/ 1 true"),
-        (b"\"a\"\n\n", "[]\nnull\n/ 2 true"),
-        (b"\"\xff\"\n\"a\"\n", "null\n[]\n/ 2 true"),
-        (b"1.5\n1\n\"a\"", "null\n[[\"\",\"/type\"]]\n[]\n/ 3 true"),
-        (b"\"a\" \"b\"\n", "null\n/ 1 true"),
-        (b" \"a\"\r\n", "[]\n/ 1 false"),
-        (b"18446744073709551615\n", "[[\"\",\"/type\"]]\n/ 1 true"),
-        (b"18446744073709551616\n", "null\n/ 1 true"),
-        (b"-9223372036854775808\n", "[[\"\",\"/type\"]]\n/ 1 true"),
-        (b"-9223372036854775809\n", "null\n/ 1 true"),
-    ] {
-        for piece in [1, 100] {
-            let source = MemorySource::new(line, piece, None);
-            let sink = MemorySink::new(alloc, piece, None);
-            assert_eq!(rt; outcome(&rt, alloc, STRINGS, source, sink).as_str(), want);
-        }
+// Each a schema, the bytes, where the reader and the writer fail, and what is written and told.
+type Row = (
+    &'static str,
+    &'static [u8],
+    Option<usize>,
+    Option<usize>,
+    &'static str,
+);
+
+fn assert_runs(rt: &impl Abort, alloc: Global, piece: usize, rows: &[Row]) {
+    for (schema, lines, reads, writes, want) in rows {
+        let source = MemorySource::new(lines, piece, *reads);
+        let sink = MemorySink::new(alloc, piece, *writes);
+        assert_eq!(rt;
+            outcome(rt, alloc, schema, source, sink).as_str(),
+            *want,
+            "at a piece of {piece}"
+        );
     }
 }
 
-// Each a schema, the lines that are read, and what is written and reported.
-const WRITTEN: [(&str, &[u8], &str); 4] = [
+const LINES: [Row; 17] = [
+    (STRINGS, b"\"a\"\n", None, None, "[]\n/ 1 false"),
+    (STRINGS, b"\"a\"", None, None, "[]\n/ 1 false"),
+    (STRINGS, b"", None, None, "/ 0 false"),
+    (STRINGS, b"\n", None, None, "null\n/ 1 true"),
+    (STRINGS, b"\"a\"\n\n", None, None, "[]\nnull\n/ 2 true"),
+    (
+        STRINGS,
+        b"\"\xff\"\n\"a\"\n",
+        None,
+        None,
+        "null\n[]\n/ 2 true",
+    ),
+    (
+        STRINGS,
+        b"1.5\n1\n\"a\"",
+        None,
+        None,
+        "null\n[[\"\",\"/type\"]]\n[]\n/ 3 true",
+    ),
+    (STRINGS, b"\"a\" \"b\"\n", None, None, "null\n/ 1 true"),
+    (STRINGS, b" \"a\"\r\n", None, None, "[]\n/ 1 false"),
+    (
+        STRINGS,
+        b"18446744073709551615\n",
+        None,
+        None,
+        "[[\"\",\"/type\"]]\n/ 1 true",
+    ),
+    (
+        STRINGS,
+        b"18446744073709551616\n",
+        None,
+        None,
+        "null\n/ 1 true",
+    ),
+    (
+        STRINGS,
+        b"-9223372036854775808\n",
+        None,
+        None,
+        "[[\"\",\"/type\"]]\n/ 1 true",
+    ),
+    (
+        STRINGS,
+        b"-9223372036854775809\n",
+        None,
+        None,
+        "null\n/ 1 true",
+    ),
     (
         "{\"type\":\"integer\"}",
         b"1\n\"x\"\n1.5\n\n2",
+        None,
+        None,
         "[]\n[[\"\",\"/type\"]]\nnull\nnull\n[]\n/ 5 true",
     ),
     (
         "{\"properties\":{\"b\":{\"type\":\"null\"},\"a\":{\"type\":\"null\"}}}",
         b"{\"b\":1,\"a\":2}\n{}\n",
+        None,
+        None,
         "[[\"/a\",\"/properties/a/type\"],[\"/b\",\"/properties/b/type\"]]\n[]\n/ 2 true",
     ),
     (
         "{\"additionalProperties\":false,\"properties\":{\"foo\":{\"type\":\"string\"}},\"patternProperties\":{\"^bar\":{\"minimum\":5},\"spam$\":{\"maximum\":10}}}",
         b"{\"bar\":4,\"spam\":11,\"foo\":3,\"faz\":1}\n",
+        None,
+        None,
         "[[\"\",\"/additionalProperties\"],[\"/bar\",\"/patternProperties/^bar/minimum\"],[\"/foo\",\"/properties/foo/type\"],[\"/spam\",\"/patternProperties/spam$/maximum\"]]\n/ 1 true",
     ),
     (
         "{\"pattern\":\"^\\\\S*$\"}",
         b"\"a\\ufeffb\"\n\"a\\u0085b\"\n",
+        None,
+        None,
         "[[\"\",\"/pattern\"]]\n[]\n/ 2 true",
     ),
 ];
 
 #[test]
-fn faults_in_order(rt: HostRuntime) {
-    let alloc = rt.alloc();
-    for (schema, lines, want) in &WRITTEN {
-        let source = MemorySource::new(lines, 100, None);
-        let sink = MemorySink::new(alloc, 100, None);
-        assert_eq!(rt; outcome(&rt, alloc, schema, source, sink).as_str(), *want);
+fn kinds_of_lines_and_faults_in_order(rt: HostRuntime) {
+    for piece in [1, 100] {
+        assert_runs(&rt, rt.alloc(), piece, &LINES);
     }
+}
+
+const FAILING: &[u8] = b"\"a\"\n1.5\n\"bb\"\n";
+
+const FAILURES: [Row; 4] = [
+    (STRINGS, FAILING, Some(4), None, "[]\n/ Reading failed"),
+    (
+        STRINGS,
+        FAILING,
+        Some(9),
+        None,
+        "[]\nnull\n/ Reading failed",
+    ),
+    (STRINGS, FAILING, None, Some(3), "[]\n/ Writing failed"),
+    (STRINGS, FAILING, None, Some(5), "[]\nnu/ Writing failed"),
+];
+
+#[test]
+fn failures(rt: HostRuntime) {
+    assert_runs(&rt, rt.alloc(), 1, &FAILURES);
+    assert_runs(&rt, rt.alloc(), 2, &FAILURES);
 }
 
 #[test]
@@ -108,20 +177,5 @@ fn by_nesting(rt: HostRuntime) {
         let source = MemorySource::new(&line, 100, None);
         let sink = MemorySink::new(alloc, 100, None);
         assert_eq!(rt; outcome(&rt, alloc, "{}", source, sink).as_str(), want);
-    }
-}
-
-#[test]
-fn failures(rt: HostRuntime) {
-    let alloc = rt.alloc();
-    for (reads, writes, want) in [
-        (Some(4), None, "[]\n/ Reading failed"),
-        (Some(9), None, "[]\nnull\n/ Reading failed"),
-        (None, Some(3), "[]\n/ Writing failed"),
-        (None, Some(5), "[]\nnu/ Writing failed"),
-    ] {
-        let source = MemorySource::new(b"\"a\"\n1.5\n\"bb\"\n", 1, reads);
-        let sink = MemorySink::new(alloc, 2, writes);
-        assert_eq!(rt; outcome(&rt, alloc, STRINGS, source, sink).as_str(), want);
     }
 }

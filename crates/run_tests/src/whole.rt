@@ -47,32 +47,33 @@ fn files(rt: &impl Abort, alloc: Global) -> MapFiles {
     files
 }
 
-// The status, what was written, and the fault that was told, each behind a space but the first. The writer fails behind so many bytes.
-fn outcome_by(
+// The status, what was written, and the fault that was told, each behind a space but the first, where the reader, the writer and the writer of
+// faults fail behind so many bytes.
+fn outcome(
     rt: &impl Abort,
     alloc: Global,
     words: &[&str],
     input: &str,
-    fails_to_write: Option<usize>,
+    fails: &[Option<usize>; 3],
 ) -> String {
     let files = files(rt, alloc);
-    let mut reader = MemorySource::new(input.as_bytes(), 2, None);
-    let mut writer = MemorySink::new(alloc, 3, fails_to_write);
-    let mut faults = MemorySink::new(alloc, 5, None);
+    let mut reader = MemorySource::new(input.as_bytes(), 2, fails[0]);
+    let mut writer = MemorySink::new(alloc, 3, fails[1]);
+    let mut faults = MemorySink::new(alloc, 5, fails[2]);
     let status = program(alloc, words, &files, &mut reader, &mut writer, &mut faults);
     let written = str::from_utf8(writer.as_slice()).expect(rt, "UTF-8");
     let fault = str::from_utf8(faults.as_slice()).expect(rt, "UTF-8");
     format!(in alloc; "{status} {written} {fault}").expect(rt, "memory")
 }
 
-fn outcome(rt: &impl Abort, alloc: Global, words: &[&str], input: &str) -> String {
-    outcome_by(rt, alloc, words, input, None)
-}
+const SOUND: [Option<usize>; 3] = [None, None, None];
 
-// Each words, and what comes of them.
-fn assert_outcomes(rt: &impl Abort, alloc: Global, input: &str, rows: &[(&[&str], &str)]) {
-    for (words, want) in rows {
-        assert_eq!(rt; outcome(rt, alloc, words, input).as_str(), *want);
+// Words, the bytes of the lines, and what comes of them.
+type Row = (&'static [&'static str], &'static str, &'static str);
+
+fn assert_outcomes(rt: &impl Abort, alloc: Global, fails: &[Option<usize>; 3], rows: &[Row]) {
+    for (words, input, want) in rows {
+        assert_eq!(rt; outcome(rt, alloc, words, input, fails).as_str(), *want);
     }
 }
 
@@ -83,132 +84,166 @@ const LINKED: [&str; 4] = [
     "http://a.test/root.json",
 ];
 
+const RUNS: [Row; 4] = [
+    (
+        &LINKED,
+        "[1]\n",
+        "1 [[\"\",\"/minItems\"],[\"/0\",\"/items/$ref/type\"]]\n ",
+    ),
+    (&LINKED, "[\"a\",\"b\"]", "0 []\n "),
+    (&["plain.json"], "\"a\"\n\n", "1 []\nnull\n "),
+    (&["plain.json"], "", "0  "),
+];
+
 #[test]
-fn a_whole_run(rt: HostRuntime) {
-    let alloc = rt.alloc();
-    assert_eq!(rt;
-        outcome(&rt, alloc, &LINKED, "[1]\n").as_str(),
-        "1 [[\"\",\"/minItems\"],[\"/0\",\"/items/$ref/type\"]]\n "
-    );
-    assert_eq!(rt;
-        outcome_by(&rt, alloc, &LINKED, "[1]\n", Some(3)).as_str(),
-        "3 [[\" Writing failed\n"
-    );
-    assert_eq!(rt;
-        outcome(&rt, alloc, &LINKED, "[\"a\",\"b\"]").as_str(),
-        "0 []\n "
-    );
-    assert_eq!(rt;
-        outcome(&rt, alloc, &["plain.json"], "\"a\"\n\n").as_str(),
-        "1 []\nnull\n "
-    );
-    assert_eq!(rt; outcome(&rt, alloc, &["plain.json"], "").as_str(), "0  ");
+fn whole_runs(rt: HostRuntime) {
+    assert_outcomes(&rt, rt.alloc(), &SOUND, &RUNS);
 }
 
-const DRAFTS: [(&[&str], &str); 5] = [
-    (&["beside.json", "--draft", "7"], "0 []\n "),
-    (&["--draft=4", "beside.json"], "0 []\n "),
+const STOPPED_READING: [Row; 1] = [(&["plain.json"], "\"a\"\n", "3  Reading failed\n")];
+
+const STOPPED_WRITING: [Row; 1] = [(&LINKED, "[1]\n", "3 [[\" Writing failed\n")];
+
+const STOPPED_SOON: [Row; 1] = [(&["plain.json"], "\"a\"\n", "3 [ Writing failed\n")];
+
+const UNTOLD: [Row; 1] = [(&["plain.json"], "\"a\"\n", "3 [ ")];
+
+#[test]
+fn failures(rt: HostRuntime) {
+    let alloc = rt.alloc();
+    assert_outcomes(&rt, alloc, &[Some(2), None, None], &STOPPED_READING);
+    assert_outcomes(&rt, alloc, &[None, Some(3), None], &STOPPED_WRITING);
+    assert_outcomes(&rt, alloc, &[None, Some(1), None], &STOPPED_SOON);
+    assert_outcomes(&rt, alloc, &[None, Some(1), Some(0)], &UNTOLD);
+}
+
+const DRAFTS: [Row; 5] = [
+    (&["beside.json", "--draft", "7"], "{\"x\":[]}\n", "0 []\n "),
+    (&["--draft=4", "beside.json"], "{\"x\":[]}\n", "0 []\n "),
     (
         &["beside.json"],
+        "{\"x\":[]}\n",
         "1 [[\"/x\",\"/properties/x/minItems\"]]\n ",
     ),
     (
         &["beside.json", "--draft", "2019-09"],
+        "{\"x\":[]}\n",
         "1 [[\"/x\",\"/properties/x/minItems\"]]\n ",
     ),
     (
         &["beside.json", "--draft", "2020-12"],
+        "{\"x\":[]}\n",
         "1 [[\"/x\",\"/properties/x/minItems\"]]\n ",
     ),
 ];
 
 #[test]
 fn by_draft(rt: HostRuntime) {
-    assert_outcomes(&rt, rt.alloc(), "{\"x\":[]}\n", &DRAFTS);
+    assert_outcomes(&rt, rt.alloc(), &SOUND, &DRAFTS);
 }
 
-const META_SCHEMAS: [(&[&str], &str); 7] = [
-    (&["own.json", "--meta", "meta.json"], "0 []\n "),
-    (&["--meta=meta.json", "plain.json"], "0 []\n "),
+const META_SCHEMAS: [Row; 7] = [
+    (&["own.json", "--meta", "meta.json"], "\"a\"\n", "0 []\n "),
+    (&["--meta=meta.json", "plain.json"], "\"a\"\n", "0 []\n "),
     (
         &["refused.json", "--meta", "meta.json"],
+        "\"a\"\n",
         "2  build refused: Schema refused by its meta-schema at '/type', '/properties/type/type'\n",
     ),
     (
         &["own.json"],
+        "\"a\"\n",
         "2  build refused: Unknown meta-schema 'http://a.test/m2'\n",
     ),
     (
         &["own.json", "--meta", "own.json"],
+        "\"a\"\n",
         "2  file refused: own.json\n",
     ),
     (
         &["own.json", "--meta", "nameless.json"],
+        "\"a\"\n",
         "2  file refused: nameless.json\n",
     ),
     (
         &["none", "--meta", "absent"],
+        "\"a\"\n",
         "2  build refused: Document 'json-schema:///' is no JSON text\n",
     ),
 ];
 
 #[test]
 fn by_meta_schemas(rt: HostRuntime) {
-    assert_outcomes(&rt, rt.alloc(), "\"a\"\n", &META_SCHEMAS);
+    assert_outcomes(&rt, rt.alloc(), &SOUND, &META_SCHEMAS);
 }
 
-const REFUSED: [(&[&str], &str); 13] = [
-    (&["absent", "u:x", "--base", "%"], "2  words refused: u:x\n"),
+const REFUSED: [Row; 13] = [
+    (
+        &["absent", "u:x", "--base", "%"],
+        "1\n",
+        "2  words refused: u:x\n",
+    ),
     (
         &["absent", "--draft", "5", "--base", "%"],
+        "1\n",
         "2  words refused: --draft 5\n",
     ),
     (
         &["plain.json", "--draft", ""],
+        "1\n",
         "2  words refused: --draft \n",
     ),
     (
         &["absent", "--base", "%"],
+        "1\n",
         "2  build refused: Invalid URI '%'\n",
     ),
-    (&["absent", "u:x=none"], "2  file refused: absent\n"),
+    (&["absent", "u:x=none"], "1\n", "2  file refused: absent\n"),
     (
         &["plain.json", "u:x=y=none"],
+        "1\n",
         "2  build refused: Document 'u:x=y' is no JSON text\n",
     ),
     (
         &["plain.json", "%=plain.json"],
+        "1\n",
         "2  build refused: Invalid URI '%'\n",
     ),
     (
         &["plain.json", "u:x=byte", "u:y=absent"],
+        "1\n",
         "2  file refused: byte\n",
     ),
     (
         &["plain.json", "u:x=absent", "u:y=none"],
+        "1\n",
         "2  file refused: absent\n",
     ),
     (
         &["half"],
+        "1\n",
         "2  build refused: Number at 'json-schema:///#' is no whole number of 64 bits\n",
     ),
     (
         &["wrong.json"],
+        "1\n",
         "2  build refused: Keyword value at 'json-schema:///#/type': expected type name\n",
     ),
     (
         &["nowhere.json"],
+        "1\n",
         "2  build refused: Pointer '/$defs/none' does not exist\n",
     ),
     (
         &["root.json", "--base", "u:r"],
+        "1\n",
         "2  build refused: Resource 'http://a.test/leaf.json' is not present and retrieving it failed\n",
     ),
 ];
 
 #[test]
 fn refusals(rt: HostRuntime) {
-    assert_outcomes(&rt, rt.alloc(), "1\n", &REFUSED);
+    assert_outcomes(&rt, rt.alloc(), &SOUND, &REFUSED);
 }
 
 #[test]
@@ -223,34 +258,7 @@ fn words_by_clap(rt: HostRuntime) {
         ),
     ];
     for (words, want) in cases {
-        let text = outcome(&rt, alloc, words, "1\n");
+        let text = outcome(&rt, alloc, words, "1\n", &SOUND);
         assert!(rt; text.as_str().starts_with(want), "{text}");
-    }
-}
-
-// The status and the fault where the reader fails after two bytes, or the writer after one; then with faults that are not taken.
-#[test]
-fn failures(rt: HostRuntime) {
-    let alloc = rt.alloc();
-    let files = files(&rt, alloc);
-    for (fails_to_read, fails_to_write, told, want) in [
-        (Some(2), None, None, "3 Reading failed\n"),
-        (None, Some(1), None, "3 Writing failed\n"),
-        (None, Some(1), Some(0), "3 "),
-    ] {
-        let mut reader = MemorySource::new(b"\"a\"\n", 9, fails_to_read);
-        let mut writer = MemorySink::new(alloc, 9, fails_to_write);
-        let mut faults = MemorySink::new(alloc, 9, told);
-        let status = program(
-            alloc,
-            &["plain.json"],
-            &files,
-            &mut reader,
-            &mut writer,
-            &mut faults,
-        );
-        let fault = str::from_utf8(faults.as_slice()).expect(&rt, "UTF-8");
-        let found = format!(in alloc; "{status} {fault}").expect(&rt, "memory");
-        assert_eq!(rt; found.as_str(), want);
     }
 }
