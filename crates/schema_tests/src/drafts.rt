@@ -1,55 +1,65 @@
-//! Tables by draft.
-
+// Tables by draft: drafts by their meta-schemas, keywords, and the members that hold schemas.
+use crate::rows::{assert_answer, assert_text};
 use schema_drafts::draft::Draft;
 use schema_drafts::subschemas::{Subschemas, held_by};
 use serde_json::Value;
 use std::alloc::Global;
 use std::process::Abort;
 
-#[test]
-fn drafts_are_named_by_their_meta_schemas(rt: HostRuntime) {
-    assert_eq!(rt;
-        Draft::from_schema_uri("http://json-schema.org/draft-07/schema#"),
-        Draft::Draft7
-    );
-    assert_eq!(rt;
-        Draft::from_schema_uri("https://json-schema.org/draft/2020-12/schema"),
-        Draft::Draft202012
-    );
-    assert_eq!(rt;
-        Draft::from_schema_uri("http://a.test/meta"),
-        Draft::Unknown
-    );
+// A draft, what is asked of it, the name that it is asked about, and the answer.
+const ASKED: [(Draft, &str, &str, bool); 13] = [
+    (
+        Draft::Draft7,
+        "is named",
+        "http://json-schema.org/draft-07/schema#",
+        true,
+    ),
+    (
+        Draft::Draft202012,
+        "is named",
+        "https://json-schema.org/draft/2020-12/schema",
+        true,
+    ),
+    (Draft::Unknown, "is named", "http://a.test/meta", true),
+    (Draft::Draft4, "has", "dependencies", true),
+    (Draft::Draft4, "has", "const", false),
+    (Draft::Draft201909, "has", "additionalItems", true),
+    (Draft::Draft202012, "has", "additionalItems", false),
+    (Draft::Draft7, "knows", "$comment", true),
+    (Draft::Draft7, "knows", "prefixItems", false),
+    (Draft::Draft7, "holds one or several", "items", true),
+    (Draft::Draft202012, "holds one", "items", true),
+    (
+        Draft::Draft7,
+        "holds none beside a reference",
+        "properties",
+        true,
+    ),
+    (
+        Draft::Draft7,
+        "holds them by name beside a reference",
+        "definitions",
+        true,
+    ),
+];
+
+fn answer(draft: Draft, question: &str, name: &str) -> bool {
+    match question {
+        "is named" => Draft::from_schema_uri(name) == draft,
+        "has" => draft.has_keyword(name),
+        "knows" => draft.is_known_keyword(name),
+        "holds one or several" => held_by(draft, false, name) == Subschemas::OneOrSeveral,
+        "holds one" => held_by(draft, false, name) == Subschemas::One,
+        "holds none beside a reference" => held_by(draft, true, name) == Subschemas::None,
+        _ => held_by(draft, true, name) == Subschemas::ByName,
+    }
 }
 
 #[test]
-fn keywords_go_by_draft(rt: HostRuntime) {
-    assert!(rt; Draft::Draft4.has_keyword("dependencies"));
-    assert!(rt; !Draft::Draft4.has_keyword("const"));
-    assert!(rt; Draft::Draft201909.has_keyword("additionalItems"));
-    assert!(rt; !Draft::Draft202012.has_keyword("additionalItems"));
-    assert!(rt; Draft::Draft7.is_known_keyword("$comment"));
-    assert!(rt; !Draft::Draft7.is_known_keyword("prefixItems"));
-}
-
-#[test]
-fn members_hold_schemas_by_draft(rt: HostRuntime) {
-    assert_eq!(rt;
-        held_by(Draft::Draft7, false, "items"),
-        Subschemas::OneOrSeveral
-    );
-    assert_eq!(rt;
-        held_by(Draft::Draft202012, false, "items"),
-        Subschemas::One
-    );
-    assert_eq!(rt;
-        held_by(Draft::Draft7, true, "properties"),
-        Subschemas::None
-    );
-    assert_eq!(rt;
-        held_by(Draft::Draft7, true, "definitions"),
-        Subschemas::ByName
-    );
+fn tables_go_by_draft(rt: HostRuntime) {
+    for (draft, question, name, want) in &ASKED {
+        assert_answer(&rt, name, answer(*draft, question, name), *want);
+    }
 }
 
 // A schema with members of several drafts, each with some values that are no schemas.
@@ -58,72 +68,57 @@ const WITH_MANY: &str = r#"{"type": "object", "not": false, "items": [{"a": 1}, 
     "definitions": {"g": {"h": 6}}, "prefixItems": [{"i": 7}], "if": {"j": 8}, "contains": {"k": 9},
     "unevaluatedItems": {"l": 10}, "const": {"m": 11}, "additionalProperties": null}"#;
 
-fn children(rt: &impl Abort, alloc: Global, draft: Draft, schema: &Value) -> String {
+const WITH_REFERENCE: &str =
+    r##"{"$ref": "#/definitions/g", "definitions": {"g": {"h": 6}}, "items": {"a": 1}}"##;
+
+// A draft, a schema, and its children.
+const CHILDREN: [(Draft, &str, &str); 9] = [
+    (
+        Draft::Draft4,
+        WITH_MANY,
+        r#"{"d":4} {"h":6} {"a":1} true {"b":2} false {"c":3} true "#,
+    ),
+    (
+        Draft::Draft6,
+        WITH_MANY,
+        r#"{"d":4} {"k":9} {"h":6} {"a":1} true {"b":2} false {"c":3} true "#,
+    ),
+    (
+        Draft::Draft7,
+        WITH_MANY,
+        r#"{"d":4} {"k":9} {"h":6} {"j":8} {"a":1} true {"b":2} false {"c":3} true "#,
+    ),
+    (
+        Draft::Draft201909,
+        WITH_MANY,
+        r#"{"f":5} {"d":4} {"k":9} {"h":6} {"j":8} {"a":1} true {"b":2} false {"c":3} true {"l":10} "#,
+    ),
+    (
+        Draft::Draft202012,
+        WITH_MANY,
+        r#"{"f":5} {"d":4} {"k":9} {"h":6} {"j":8} false {"i":7} {"c":3} true {"l":10} "#,
+    ),
+    (Draft::Draft7, WITH_REFERENCE, r#"{"h":6} "#),
+    (Draft::Draft201909, WITH_REFERENCE, r#"{"h":6} {"a":1} "#),
+    (Draft::Draft7, r#"[{"a": 1}]"#, ""),
+    (Draft::Draft7, "true", ""),
+];
+
+fn children(rt: &impl Abort, alloc: Global, draft: Draft, text: &str) -> String {
+    let schema = Value::from_str(alloc, text).expect(rt, "JSON");
     let mut found = String::new(alloc);
-    for child in draft.subresources_of(schema) {
-        found
-            .push_str(child.to_string(alloc).expect(rt, "memory").as_str())
-            .expect(rt, "memory");
-        found.push(' ').expect(rt, "memory");
+    for child in draft.subresources_of(&schema) {
+        write!(found, "{child} ").expect(rt, "memory");
     }
     found
 }
 
-fn assert_children(rt: &impl Abort, alloc: Global, text: &str, rows: &[(Draft, &str)]) {
-    let schema = Value::from_str(alloc, text).expect(rt, "JSON");
-    for (draft, want) in rows {
-        assert_eq!(rt; children(rt, alloc, *draft, &schema).as_str(), *want);
-    }
-}
-
 #[test]
 fn children_go_by_draft(rt: HostRuntime) {
-    assert_children(
-        &rt,
-        rt.alloc(),
-        WITH_MANY,
-        &[
-            (
-                Draft::Draft4,
-                r#"{"d":4} {"h":6} {"a":1} true {"b":2} false {"c":3} true "#,
-            ),
-            (
-                Draft::Draft6,
-                r#"{"d":4} {"k":9} {"h":6} {"a":1} true {"b":2} false {"c":3} true "#,
-            ),
-            (
-                Draft::Draft7,
-                r#"{"d":4} {"k":9} {"h":6} {"j":8} {"a":1} true {"b":2} false {"c":3} true "#,
-            ),
-            (
-                Draft::Draft201909,
-                r#"{"f":5} {"d":4} {"k":9} {"h":6} {"j":8} {"a":1} true {"b":2} false {"c":3} true {"l":10} "#,
-            ),
-            (
-                Draft::Draft202012,
-                r#"{"f":5} {"d":4} {"k":9} {"h":6} {"j":8} false {"i":7} {"c":3} true {"l":10} "#,
-            ),
-        ],
-    );
-}
-
-#[test]
-fn references_hide_children(rt: HostRuntime) {
-    assert_children(
-        &rt,
-        rt.alloc(),
-        r##"{"$ref": "#/definitions/g", "definitions": {"g": {"h": 6}}, "items": {"a": 1}}"##,
-        &[
-            (Draft::Draft7, r#"{"h":6} "#),
-            (Draft::Draft201909, r#"{"h":6} {"a":1} "#),
-        ],
-    );
-}
-
-#[test]
-fn others_have_no_children(rt: HostRuntime) {
-    assert_children(&rt, rt.alloc(), r#"[{"a": 1}]"#, &[(Draft::Draft7, "")]);
-    assert_children(&rt, rt.alloc(), "true", &[(Draft::Draft7, "")]);
+    for (draft, text, want) in &CHILDREN {
+        let found = children(&rt, rt.alloc(), *draft, text);
+        assert_text(&rt, text, found, want);
+    }
 }
 
 #[test]

@@ -8,6 +8,8 @@ mod reports;
 #[cfg(test)]
 mod retrievers;
 #[cfg(test)]
+mod rows;
+#[cfg(test)]
 mod values;
 #[cfg(test)]
 mod vocabularies;

@@ -1,15 +1,101 @@
 // Paths, references, and what each observer hears.
+use crate::rows::assert_text;
 use schema_reports::{
     AllFaults, ErrorIterator, FirstFault, LazyLocation, Observation, Observer, Reference, Roads,
     ValidationError, ValidationErrorKind, Verdict,
 };
 use schema_steps::Path;
-use schema_types::{TypeNames, read};
+use schema_types::read;
 use serde_json::Value;
 use std::alloc::Global;
 use std::process::Abort;
 
-// A member of the value is refused by a keyword of the schema.
+fn assert_path(rt: &impl Abort, alloc: Global, path: Path, want: &str) {
+    assert!(rt; path.is_root() == want.is_empty(), "{want}");
+    let pointer = path.to_pointer(alloc).expect(rt, "memory");
+    assert_text(rt, want, pointer, want);
+}
+
+fn assert_location(rt: &impl Abort, alloc: Global, location: &LazyLocation<'_, '_>) {
+    let path = location.to_path(alloc).expect(rt, "memory");
+    assert_path(rt, alloc, path, "/a~1b/2");
+    let start = Path::root().push_name(alloc, "x").expect(rt, "memory");
+    let path = location.write_onto(alloc, start).expect(rt, "memory");
+    assert_path(rt, alloc, path, "/x/a~1b/2");
+}
+
+#[test]
+fn locations_are_paths(rt: HostRuntime) {
+    let root = LazyLocation::new();
+    let list = root.push_name("a/b");
+    assert_location(&rt, rt.alloc(), &list.push_index(2));
+}
+
+fn assert_begins(rt: &impl Abort, alloc: Global, reference: Reference<'_>, want: &str) {
+    let path = reference.path(alloc).expect(rt, "memory");
+    assert_path(rt, alloc, path, want);
+}
+
+#[test]
+fn references_begin_paths(rt: HostRuntime) {
+    assert_begins(
+        &rt,
+        rt.alloc(),
+        Reference::followed("http://a.test/s#/$defs/a~1b/0"),
+        "/$defs/a~1b/0",
+    );
+    assert_begins(&rt, rt.alloc(), Reference::followed("#anchor"), "");
+    assert_begins(&rt, rt.alloc(), Reference::none(), "");
+}
+
+// What each observer is told, and what it has heard then: whether more can change it, its verdict, and its errors.
+// An error is shown by its paths in the instance, in the schema and of evaluation, its value, its kind, and its own text.
+const HEARD: [(Observation, &str, &str); 11] = [
+    (Observation::Verdict, "", "open accepted"),
+    (Observation::Verdict, "null", "settled refused"),
+    (Observation::Verdict, "text", "settled refused"),
+    (Observation::First, "", "open"),
+    (
+        Observation::First,
+        "null",
+        "settled; /0/a /not /not null FalseSchema: FalseSchema",
+    ),
+    (
+        Observation::First,
+        "text null text",
+        r#"settled; /0/a /not /not "name" FalseSchema: FalseSchema"#,
+    ),
+    (
+        Observation::First,
+        "name",
+        r#"settled;  /not /not {"name":1} PropertyNames: PropertyNames of /0/a /not /not "name" FalseSchema: FalseSchema"#,
+    ),
+    (Observation::All, "", "open"),
+    (
+        Observation::All,
+        "null",
+        "open; /0/a /not /not null FalseSchema: FalseSchema; /0/b /items /items null FalseSchema: FalseSchema",
+    ),
+    (
+        Observation::All,
+        "null text",
+        r#"open; /0/a /not /not null FalseSchema: FalseSchema; /0/b /items /items null FalseSchema: FalseSchema; /0/a /not /not "name" FalseSchema: FalseSchema; /0/b /items /items "name" FalseSchema: FalseSchema"#,
+    ),
+    (
+        Observation::All,
+        "kinds",
+        "open;    null MinItems: MinItems;    null Pattern: Pattern;    null Types: Types;    null Not: Not",
+    ),
+];
+
+const VALUES: &str =
+    r#"{"null": null, "text": "name", "object": {"name": 1}, "types": ["null", "array"]}"#;
+
+fn value<'v>(rt: &impl Abort, values: &'v Value, name: &str) -> &'v Value {
+    values.get(name).expect(rt, "a value")
+}
+
+// A member of the first item is refused, by a keyword.
 fn refuse<'i>(
     rt: &impl Abort,
     alloc: Global,
@@ -17,62 +103,18 @@ fn refuse<'i>(
     instance: &'i Value,
     member: &str,
     keyword: &str,
-    roads: Roads<'_>,
 ) {
-    let value = roads.instance.push_name(member);
-    let schema = roads.schema.push_name(keyword);
-    let evaluation = roads.evaluation.push_name(keyword);
-    let at = Roads {
-        instance: &value,
-        schema: &schema,
-        reference: roads.reference,
-        evaluation: &evaluation,
+    let top = LazyLocation::new();
+    let item = top.push_index(0);
+    let roads = Roads {
+        instance: &item.push_name(member),
+        schema: &top.push_name(keyword),
+        reference: Reference::none(),
+        evaluation: &top.push_name(keyword),
     };
     observer
-        .tell(alloc, ValidationErrorKind::FalseSchema, instance, at)
+        .tell(alloc, ValidationErrorKind::FalseSchema, instance, roads)
         .expect(rt, "memory");
-}
-
-fn pointer(rt: &impl Abort, alloc: Global, path: &Path) -> String {
-    path.to_pointer(alloc).expect(rt, "memory")
-}
-
-// The path of item 2 of the member `a/b`, after a start.
-fn located(rt: &impl Abort, alloc: Global, start: Path) -> String {
-    let root = LazyLocation::new();
-    let list = root.push_name("a/b");
-    let item = list.push_index(2);
-    let path = item.write_onto(alloc, start).expect(rt, "memory");
-    pointer(rt, alloc, &path)
-}
-
-#[test]
-fn locations_go_on_from_paths(rt: HostRuntime) {
-    let start = Path::root()
-        .push_name(rt.alloc(), "x")
-        .expect(&rt, "memory");
-    assert_eq!(rt; located(&rt, rt.alloc(), start).as_str(), "/x/a~1b/2");
-}
-
-#[test]
-fn locations_are_paths(rt: HostRuntime) {
-    let root = LazyLocation::new();
-    let list = root.push_name("a/b");
-    let item = list.push_index(2);
-    let path = item.to_path(rt.alloc()).expect(&rt, "memory");
-    assert_eq!(rt; pointer(&rt, rt.alloc(), &path).as_str(), "/a~1b/2");
-}
-
-#[test]
-fn references_begin_paths(rt: HostRuntime) {
-    let path = Reference::followed("http://a.test/s#/$defs/a~1b/0")
-        .path(rt.alloc())
-        .expect(&rt, "memory");
-    assert_eq!(rt; pointer(&rt, rt.alloc(), &path).as_str(), "/$defs/a~1b/0");
-    let path = Reference::followed("#anchor").path(rt.alloc());
-    assert!(rt; path.expect(&rt, "memory").is_root());
-    let path = Reference::none().path(rt.alloc());
-    assert!(rt; path.expect(&rt, "memory").is_root());
 }
 
 fn refuse_twice<'i>(
@@ -81,113 +123,11 @@ fn refuse_twice<'i>(
     observer: &mut Observer<'i>,
     instance: &'i Value,
 ) {
-    let top = LazyLocation::new();
-    let item = top.push_index(0);
-    let schema = LazyLocation::new();
-    let evaluation = LazyLocation::new();
-    let roads = Roads {
-        instance: &item,
-        schema: &schema,
-        reference: Reference::none(),
-        evaluation: &evaluation,
-    };
-    refuse(rt, alloc, observer, instance, "a", "not", roads);
-    refuse(rt, alloc, observer, instance, "b", "items", roads);
+    refuse(rt, alloc, observer, instance, "a", "not");
+    refuse(rt, alloc, observer, instance, "b", "items");
 }
 
-fn accepts(observer: Observer<'_>) -> Option<bool> {
-    match observer {
-        Observer::Verdict(verdict) => Some(verdict.accepts()),
-        _ => None,
-    }
-}
-
-#[test]
-fn a_verdict_hears_of_any_fault(rt: HostRuntime) {
-    assert!(rt; Verdict::new().accepts());
-    let mut observer = Observer::Verdict(Verdict::new());
-    assert!(rt; !observer.is_settled());
-    refuse_twice(&rt, rt.alloc(), &mut observer, &Value::Null);
-    assert!(rt; observer.is_settled());
-    assert!(rt; !accepts(observer).expect(&rt, "a verdict"));
-}
-
-fn first_error<'i>(observer: Observer<'i>) -> Option<ValidationError<'i>> {
-    match observer {
-        Observer::First(first) => first.into_error(),
-        _ => None,
-    }
-}
-
-fn paths(rt: &impl Abort, alloc: Global, error: &ValidationError<'_>) -> String {
-    let instance = pointer(rt, alloc, error.instance_path());
-    let schema = pointer(rt, alloc, error.schema_path());
-    let evaluation = pointer(rt, alloc, error.evaluation_path());
-    format!(in alloc; "{instance} {schema} {evaluation}").expect(rt, "memory")
-}
-
-// The paths of an error, and the compact text of the value that it is told of.
-fn assert_error(
-    rt: &impl Abort,
-    alloc: Global,
-    error: &ValidationError<'_>,
-    want: &str,
-    value: &str,
-) {
-    assert_eq!(rt; paths(rt, alloc, error).as_str(), want);
-    let instance = error.instance().to_string(alloc).expect(rt, "memory");
-    assert_eq!(rt; instance.as_str(), value);
-}
-
-// The name of what is wrong, which is how the error is shown.
-fn assert_kind(rt: &impl Abort, alloc: Global, error: &ValidationError<'_>, want: &str) {
-    assert_eq!(rt; error.kind().as_str(), want);
-    let shown = format!(in alloc; "{error}").expect(rt, "memory");
-    assert_eq!(rt; shown.as_str(), want);
-}
-
-#[test]
-fn the_first_fault_is_kept(rt: HostRuntime) {
-    let mut observer = Observer::First(FirstFault::new());
-    assert!(rt; !observer.is_settled());
-    refuse_twice(&rt, rt.alloc(), &mut observer, &Value::Null);
-    assert!(rt; observer.is_settled());
-    let error = first_error(observer).expect(&rt, "an error");
-    assert_error(&rt, rt.alloc(), &error, "/0/a /not /not", "null");
-    assert_kind(&rt, rt.alloc(), &error, "FalseSchema");
-}
-
-fn all_errors<'i>(observer: Observer<'i>) -> Option<ErrorIterator<'i>> {
-    match observer {
-        Observer::All(all) => Some(ErrorIterator::of(all.into_errors())),
-        _ => None,
-    }
-}
-
-// The paths and the instance of each error.
-fn assert_errors(rt: &impl Abort, alloc: Global, observer: Observer<'_>, rows: &[(&str, &str)]) {
-    let mut errors = all_errors(observer).expect(rt, "all errors");
-    for (paths, instance) in rows {
-        let error = errors.next().expect(rt, "an error");
-        assert_error(rt, alloc, &error, paths, instance);
-    }
-    assert!(rt; errors.next().is_none());
-}
-
-#[test]
-fn all_faults_are_kept(rt: HostRuntime) {
-    let mut observer = Observer::All(AllFaults::new(rt.alloc()));
-    refuse_twice(&rt, rt.alloc(), &mut observer, &Value::Null);
-    assert!(rt; !observer.is_settled());
-    assert_errors(
-        &rt,
-        rt.alloc(),
-        observer,
-        &[("/0/a /not /not", "null"), ("/0/b /items /items", "null")],
-    );
-}
-
-// A text that goes when this returns is refused twice.
+// A text that goes when this returns is refused.
 fn refuse_a_text(rt: &impl Abort, alloc: Global, observer: &mut Observer<'_>) {
     let text = Value::String(String::from_str(alloc, "name").expect(rt, "memory"));
     let mut heard = observer.fresh(alloc);
@@ -195,42 +135,7 @@ fn refuse_a_text(rt: &impl Abort, alloc: Global, observer: &mut Observer<'_>) {
     observer.absorb(alloc, heard).expect(rt, "memory");
 }
 
-#[test]
-fn what_another_heard_comes_after(rt: HostRuntime) {
-    let mut observer = Observer::All(AllFaults::new(rt.alloc()));
-    refuse_twice(&rt, rt.alloc(), &mut observer, &Value::Null);
-    refuse_a_text(&rt, rt.alloc(), &mut observer);
-    assert_errors(
-        &rt,
-        rt.alloc(),
-        observer,
-        &[
-            ("/0/a /not /not", "null"),
-            ("/0/b /items /items", "null"),
-            ("/0/a /not /not", "\"name\""),
-            ("/0/b /items /items", "\"name\""),
-        ],
-    );
-}
-
-#[test]
-fn the_first_stays_where_another_heard_more(rt: HostRuntime) {
-    let mut observer = Observer::First(FirstFault::new());
-    refuse_a_text(&rt, rt.alloc(), &mut observer);
-    refuse_twice(&rt, rt.alloc(), &mut observer, &Value::Null);
-    refuse_a_text(&rt, rt.alloc(), &mut observer);
-    let error = first_error(observer).expect(&rt, "an error");
-    assert_error(&rt, rt.alloc(), &error, "/0/a /not /not", "\"name\"");
-}
-
-#[test]
-fn a_verdict_takes_what_another_heard(rt: HostRuntime) {
-    let mut observer = Observer::Verdict(Verdict::new());
-    refuse_a_text(&rt, rt.alloc(), &mut observer);
-    assert!(rt; !accepts(observer).expect(&rt, "a verdict"));
-}
-
-// A text is refused as a name of the object.
+// The text is refused as a name of the object.
 fn refuse_a_name<'i>(
     rt: &impl Abort,
     alloc: Global,
@@ -246,59 +151,160 @@ fn refuse_a_name<'i>(
         .expect(rt, "memory");
 }
 
-// The error of a name carries that of the name itself.
-fn assert_carries(rt: &impl Abort, alloc: Global, error: &ValidationError<'_>) {
-    let ValidationErrorKind::PropertyNames { error: carried } = error.kind() else {
-        panic!(rt; "another kind")
+// The instance is refused for this.
+fn refuse_for<'i>(
+    rt: &impl Abort,
+    alloc: Global,
+    observer: &mut Observer<'i>,
+    instance: &'i Value,
+    kind: ValidationErrorKind<'i>,
+) {
+    let top = LazyLocation::new();
+    let roads = Roads {
+        instance: &top,
+        schema: &top,
+        reference: Reference::none(),
+        evaluation: &top,
     };
-    assert_error(rt, alloc, carried, "/0/a /not /not", "\"name\"");
+    observer
+        .tell(alloc, kind, instance, roads)
+        .expect(rt, "memory");
 }
 
-#[test]
-fn errors_of_names_are_told_of_the_object(rt: HostRuntime) {
-    let alloc = rt.alloc();
-    let text = Value::String(String::from_str(alloc, "name").expect(&rt, "memory"));
-    let object = Value::from_str(alloc, "{\"name\": 1}").expect(&rt, "JSON");
-    let mut observer = Observer::First(FirstFault::new());
-    refuse_a_name(&rt, alloc, &mut observer, &text, &object);
-    let error = first_error(observer).expect(&rt, "an error");
-    assert_error(&rt, alloc, &error, " /not /not", "{\"name\":1}");
-    assert!(rt; error.instance().is_object());
-    assert_carries(&rt, alloc, &error);
-}
-
-fn names_in(rt: &impl Abort, alloc: Global, value: &Value) -> TypeNames {
-    let names = read(alloc, value).expect(rt, "memory");
-    names.expect(rt, "names")
-}
-
-fn name_of(kind: ValidationErrorKind<'_>) -> &'static str {
-    kind.as_str()
-}
-
-#[test]
-fn types_are_read(rt: HostRuntime) {
-    let value = Value::from_str(rt.alloc(), "[\"null\", \"array\"]").expect(&rt, "JSON");
-    let names = names_in(&rt, rt.alloc(), &value);
-    assert!(rt; names.accept(&value));
+fn refuse_by_kinds<'i>(
+    rt: &impl Abort,
+    alloc: Global,
+    observer: &mut Observer<'i>,
+    null: &'i Value,
+    types: &Value,
+) {
+    let kind = ValidationErrorKind::MinItems { limit: 3 };
+    refuse_for(rt, alloc, observer, null, kind);
+    let pattern = String::from_str(alloc, "^a").expect(rt, "memory");
+    let kind = ValidationErrorKind::Pattern { pattern };
+    refuse_for(rt, alloc, observer, null, kind);
+    let names = read(alloc, types).expect(rt, "memory").expect(rt, "names");
+    assert!(rt; names.accept(types));
     assert!(rt; !names.accept(&Value::Bool(true)));
-    assert_eq!(rt; name_of(ValidationErrorKind::Types { names }), "Types");
-}
-
-#[test]
-fn kinds_are_shown_by_names(rt: HostRuntime) {
-    let fewest = ValidationErrorKind::MinItems { limit: 3 };
-    let shown = format!(in rt.alloc(); "{fewest}").expect(&rt, "memory");
-    assert_eq!(rt; shown.as_str(), "MinItems");
-}
-
-#[test]
-fn kinds_have_names(rt: HostRuntime) {
-    let pattern = String::from_str(rt.alloc(), "^a").expect(&rt, "memory");
-    assert_eq!(rt;
-        name_of(ValidationErrorKind::Pattern { pattern }),
-        "Pattern"
+    refuse_for(
+        rt,
+        alloc,
+        observer,
+        null,
+        ValidationErrorKind::Types { names },
     );
-    let schema = Value::from_str(rt.alloc(), "[\"null\", \"array\"]").expect(&rt, "JSON");
-    assert_eq!(rt; name_of(ValidationErrorKind::Not { schema }), "Not");
+    let schema = types.clone().expect(rt, "memory");
+    refuse_for(
+        rt,
+        alloc,
+        observer,
+        null,
+        ValidationErrorKind::Not { schema },
+    );
+}
+
+fn tell<'i>(
+    rt: &impl Abort,
+    alloc: Global,
+    observer: &mut Observer<'i>,
+    told: &str,
+    values: &'i Value,
+) {
+    let null = value(rt, values, "null");
+    let text = value(rt, values, "text");
+    let object = value(rt, values, "object");
+    let types = value(rt, values, "types");
+    for word in told.split(' ') {
+        match word {
+            "null" => refuse_twice(rt, alloc, observer, null),
+            "text" => refuse_a_text(rt, alloc, observer),
+            "name" => refuse_a_name(rt, alloc, observer, text, object),
+            "kinds" => refuse_by_kinds(rt, alloc, observer, null, types),
+            _ => (),
+        }
+    }
+}
+
+fn write_state(rt: &impl Abort, output: &mut String, observer: &Observer<'_>) {
+    let state = if observer.is_settled() {
+        "settled"
+    } else {
+        "open"
+    };
+    output.push_str(state).expect(rt, "memory");
+    if let Observer::Verdict(verdict) = observer {
+        let told = if verdict.accepts() {
+            " accepted"
+        } else {
+            " refused"
+        };
+        output.push_str(told).expect(rt, "memory");
+    }
+}
+
+fn write_path(rt: &impl Abort, output: &mut String, path: &Path) {
+    output.push(' ').expect(rt, "memory");
+    path.write_to(output).expect(rt, "memory");
+}
+
+// The name of its kind is the text of an error.
+fn write_error(rt: &impl Abort, output: &mut String, error: &ValidationError<'_>) {
+    write_path(rt, output, error.instance_path());
+    write_path(rt, output, error.schema_path());
+    write_path(rt, output, error.evaluation_path());
+    let value = error.instance();
+    let kind = error.kind();
+    write!(output, " {value} {kind}: {error}").expect(rt, "memory");
+    assert!(rt; output.as_str().ends_with(kind.as_str()));
+}
+
+// The error of a name carries that of the name itself.
+fn write_errors(rt: &impl Abort, output: &mut String, errors: &[ValidationError<'_>]) {
+    for error in errors {
+        output.push(';').expect(rt, "memory");
+        write_error(rt, output, error);
+        if let ValidationErrorKind::PropertyNames { error: carried } = error.kind() {
+            output.push_str(" of").expect(rt, "memory");
+            write_error(rt, output, carried);
+        }
+    }
+}
+
+fn errors_of<'i>(
+    rt: &impl Abort,
+    alloc: Global,
+    observer: Observer<'i>,
+) -> Vec<ValidationError<'i>> {
+    let errors = match observer {
+        Observer::Verdict(_) => Ok(Vec::new(alloc)),
+        Observer::First(first) => first.into_error().into_iter().collect(alloc),
+        Observer::All(all) => ErrorIterator::of(all.into_errors()).collect(alloc),
+    };
+    errors.expect(rt, "memory")
+}
+
+fn observing<'i>(alloc: Global, kept: Observation) -> Observer<'i> {
+    match kept {
+        Observation::Verdict => Observer::Verdict(Verdict::new()),
+        Observation::First => Observer::First(FirstFault::new()),
+        Observation::All => Observer::All(AllFaults::new(alloc)),
+    }
+}
+
+fn heard(rt: &impl Abort, alloc: Global, kept: Observation, told: &str, values: &Value) -> String {
+    let mut output = String::new(alloc);
+    let mut observer = observing(alloc, kept);
+    tell(rt, alloc, &mut observer, told, values);
+    write_state(rt, &mut output, &observer);
+    write_errors(rt, &mut output, &errors_of(rt, alloc, observer));
+    output
+}
+
+#[test]
+fn observers_hear(rt: HostRuntime) {
+    let values = Value::from_str(rt.alloc(), VALUES).expect(&rt, "JSON");
+    for (kept, told, want) in &HEARD {
+        let found = heard(&rt, rt.alloc(), *kept, told, &values);
+        assert_text(&rt, told, found, want);
+    }
 }

@@ -1,10 +1,38 @@
-// Documents that are there, and others.
-
+// Documents that are given, and others, which are refused.
+use crate::rows::assert_text;
 use document_retrievers::{DefaultRetriever, MapRetriever, Retrieve};
 use serde_json::Value;
 use std::alloc::Global;
 use std::process::Abort;
 use uri_references::uri::from_str;
+
+// A URI, a document for it, and what is said where it is refused.
+const GIVEN: [(&str, &str, &str); 4] = [
+    ("HTTP://a.test/x#", "1", ""),
+    ("other.json", "2", ""),
+    ("http://a.test/%78", "3", ""),
+    ("http://a b", "null", "Invalid URI 'http://a b'"),
+];
+
+fn added(
+    rt: &impl Abort,
+    alloc: Global,
+    retriever: &mut MapRetriever,
+    uri: &str,
+    document: &str,
+) -> String {
+    let document = Value::from_str(alloc, document).expect(rt, "JSON");
+    match retriever.add(alloc, uri, document) {
+        Ok(()) => String::new(alloc),
+        Err(error) => format!(in alloc; "{error}").expect(rt, "memory"),
+    }
+}
+
+fn give(rt: &impl Abort, alloc: Global, retriever: &mut MapRetriever) {
+    for (uri, document, refusal) in &GIVEN {
+        assert_text(rt, uri, added(rt, alloc, retriever, uri, document), refusal);
+    }
+}
 
 fn answer<R: Retrieve>(rt: &impl Abort, alloc: Global, retriever: &R, uri: &str) -> String {
     match retriever.retrieve(alloc, &from_str(alloc, uri).expect(rt, "a URI")) {
@@ -13,37 +41,21 @@ fn answer<R: Retrieve>(rt: &impl Abort, alloc: Global, retriever: &R, uri: &str)
     }
 }
 
-fn retriever_of(rt: &impl Abort, alloc: Global, rows: &[(&str, &str)]) -> MapRetriever {
-    let mut retriever = MapRetriever::new(alloc);
-    for (uri, document) in rows {
-        retriever
-            .add(
-                alloc,
-                uri,
-                Value::from_str(alloc, document).expect(rt, "JSON"),
-            )
-            .expect(rt, "a document");
-    }
-    retriever
-}
-
-fn assert_answers(rt: &impl Abort, alloc: Global, retriever: &MapRetriever, rows: &[(&str, &str)]) {
+fn assert_answers<R: Retrieve>(
+    rt: &impl Abort,
+    alloc: Global,
+    retriever: &R,
+    rows: &[(&str, &str)],
+) {
     for (uri, want) in rows {
-        assert_eq!(rt; answer(rt, alloc, retriever, uri).as_str(), *want);
+        assert_text(rt, uri, answer(rt, alloc, retriever, uri), want);
     }
 }
 
 #[test]
-fn given_documents(rt: HostRuntime) {
-    let retriever = retriever_of(
-        &rt,
-        rt.alloc(),
-        &[
-            ("HTTP://a.test/x#", "1"),
-            ("other.json", "2"),
-            ("http://a.test/%78", "3"),
-        ],
-    );
+fn documents_are_answered(rt: HostRuntime) {
+    let mut retriever = MapRetriever::new(rt.alloc());
+    give(&rt, rt.alloc(), &mut retriever);
     assert_answers(
         &rt,
         rt.alloc(),
@@ -54,26 +66,10 @@ fn given_documents(rt: HostRuntime) {
             ("http://a.test/y", "Retrieving was refused"),
         ],
     );
-}
-
-#[test]
-fn no_uri(rt: HostRuntime) {
-    let alloc = rt.alloc();
-    let mut retriever = MapRetriever::new(alloc);
-    match retriever.add(alloc, "http://a b", Value::Null) {
-        Ok(()) => assert!(rt; false),
-        Err(error) => assert_eq!(rt;
-            format!(in alloc; "{error}").expect(&rt, "memory").as_str(),
-            "Invalid URI 'http://a b'"
-        ),
-    }
-}
-
-#[test]
-fn all_refused(rt: HostRuntime) {
-    let alloc = rt.alloc();
-    assert_eq!(rt;
-        answer(&rt, alloc, &DefaultRetriever, "http://a.test").as_str(),
-        "Retrieving was refused"
+    assert_answers(
+        &rt,
+        rt.alloc(),
+        &DefaultRetriever,
+        &[("http://a.test", "Retrieving was refused")],
     );
 }

@@ -1,5 +1,5 @@
 // Vocabularies by their URIs, sets of them, and keywords with and without their vocabulary.
-
+use crate::rows::{assert_answer, assert_text};
 use schema_drafts::draft::Draft;
 use schema_vocabularies::{
     Dialect, MetaSchemas, Vocabulary, VocabularySet, counts, find_vocabularies,
@@ -8,156 +8,185 @@ use serde_json::Value;
 use std::alloc::Global;
 use std::process::Abort;
 
-fn kind(rt: &impl Abort, alloc: Global, uri: &str) -> String {
-    let vocabulary = Vocabulary::parse(alloc, uri).expect(rt, "a URI");
-    format!(in alloc; "{vocabulary:?}").expect(rt, "memory")
-}
+// A text, and the vocabulary that it names, or what is said of a text that is no URI.
+const NAMED: [(&str, &str); 19] = [
+    ("https://json-schema.org/draft/2019-09/vocab/core", "Core"),
+    (
+        "https://json-schema.org/draft/2019-09/vocab/applicator",
+        "Applicator",
+    ),
+    (
+        "https://json-schema.org/draft/2019-09/vocab/validation",
+        "Validation",
+    ),
+    (
+        "https://json-schema.org/draft/2019-09/vocab/meta-data",
+        "Metadata",
+    ),
+    (
+        "https://json-schema.org/draft/2019-09/vocab/format",
+        "Format",
+    ),
+    (
+        "https://json-schema.org/draft/2019-09/vocab/content",
+        "Content",
+    ),
+    ("https://json-schema.org/draft/2020-12/vocab/core", "Core"),
+    (
+        "https://json-schema.org/draft/2020-12/vocab/applicator",
+        "Applicator",
+    ),
+    (
+        "https://json-schema.org/draft/2020-12/vocab/unevaluated",
+        "Unevaluated",
+    ),
+    (
+        "https://json-schema.org/draft/2020-12/vocab/validation",
+        "Validation",
+    ),
+    (
+        "https://json-schema.org/draft/2020-12/vocab/meta-data",
+        "Metadata",
+    ),
+    (
+        "https://json-schema.org/draft/2020-12/vocab/format-annotation",
+        "FormatAnnotation",
+    ),
+    (
+        "https://json-schema.org/draft/2020-12/vocab/format-assertion",
+        "FormatAssertion",
+    ),
+    (
+        "https://json-schema.org/draft/2020-12/vocab/content",
+        "Content",
+    ),
+    (
+        "https://example.com/vocab#",
+        r#"Custom("https://example.com/vocab#")"#,
+    ),
+    ("", "Invalid URI ''"),
+    ("vocab/core", "Invalid URI 'vocab/core'"),
+    ("//a.test/core", "Invalid URI '//a.test/core'"),
+    ("http://a b", "Invalid URI 'http://a b'"),
+];
 
-fn assert_kinds(rt: &impl Abort, alloc: Global, release: &str, rows: &[(&str, &str)]) {
-    for (name, want) in rows {
-        let uri = format!(in alloc; "https://json-schema.org/draft/{release}/vocab/{name}").expect(
-            rt, "memory",
-        );
-        assert_eq!(rt; kind(rt, alloc, uri.as_str()).as_str(), *want);
-    }
-}
-
-#[test]
-fn known_uris_of_2019(rt: HostRuntime) {
-    assert_kinds(
-        &rt,
-        rt.alloc(),
-        "2019-09",
-        &[
-            ("core", "Core"),
-            ("applicator", "Applicator"),
-            ("validation", "Validation"),
-            ("meta-data", "Metadata"),
-            ("format", "Format"),
-            ("content", "Content"),
-        ],
-    );
-}
-
-#[test]
-fn known_uris_of_2020(rt: HostRuntime) {
-    assert_kinds(
-        &rt,
-        rt.alloc(),
-        "2020-12",
-        &[
-            ("core", "Core"),
-            ("applicator", "Applicator"),
-            ("unevaluated", "Unevaluated"),
-            ("validation", "Validation"),
-            ("meta-data", "Metadata"),
-            ("format-annotation", "FormatAnnotation"),
-            ("format-assertion", "FormatAssertion"),
-            ("content", "Content"),
-        ],
-    );
-}
-
-#[test]
-fn other_uris(rt: HostRuntime) {
-    let alloc = rt.alloc();
-    let custom = Vocabulary::parse(alloc, "https://example.com/vocab#").expect(&rt, "a URI");
-    let want = Vocabulary::Custom(String::from_str(alloc, "https://example.com/vocab#").expect(
-        &rt, "memory",
-    ));
-    assert!(rt; custom == want);
-    assert!(rt; Vocabulary::Content < custom);
-}
-
-// What is said of a text that is no URI.
-fn refused(rt: &impl Abort, alloc: Global, text: &str) -> String {
+fn parsed(rt: &impl Abort, alloc: Global, text: &str) -> String {
     match Vocabulary::parse(alloc, text) {
-        Ok(_) => String::from_str(alloc, "a vocabulary").expect(rt, "memory"),
+        Ok(vocabulary) => format!(in alloc; "{vocabulary:?}").expect(rt, "memory"),
         Err(error) => format!(in alloc; "{error}").expect(rt, "memory"),
     }
 }
 
-fn assert_refused(rt: &impl Abort, alloc: Global, texts: &[&str]) {
-    for text in texts {
-        let want = format!(in alloc; "Invalid URI '{text}'").expect(rt, "memory");
-        assert_eq!(rt; refused(rt, alloc, text).as_str(), want.as_str());
+#[test]
+fn texts_name_vocabularies(rt: HostRuntime) {
+    for (text, want) in &NAMED {
+        assert_text(&rt, text, parsed(&rt, rt.alloc(), text), want);
     }
 }
 
 #[test]
-fn other_texts(rt: HostRuntime) {
-    assert_refused(
-        &rt,
-        rt.alloc(),
-        &["", "vocab/core", "//a.test/core", "http://a b"],
-    );
+fn custom_ones_come_last(rt: HostRuntime) {
+    let alloc = rt.alloc();
+    let custom = Vocabulary::parse(alloc, "https://example.com/vocab#").expect(&rt, "a URI");
+    let uri = String::from_str(alloc, "https://example.com/vocab#").expect(&rt, "memory");
+    assert!(rt; custom == Vocabulary::Custom(uri));
+    assert!(rt; Vocabulary::Content < custom);
 }
 
 fn named(rt: &impl Abort, alloc: Global, text: &str) -> Vocabulary {
     Vocabulary::named(alloc, text).expect(rt, "memory")
 }
 
-// Each vocabulary, and whether it is in the set.
 fn assert_known(rt: &impl Abort, set: &VocabularySet, rows: &[(Vocabulary, bool)]) {
     for (vocabulary, want) in rows {
-        assert_eq!(rt; set.contains(vocabulary), *want);
+        assert!(rt; set.contains(vocabulary) == *want, "{vocabulary:?}");
     }
 }
 
-// Each name of a vocabulary, and whether it is in the set.
 fn assert_named(rt: &impl Abort, alloc: Global, set: &VocabularySet, rows: &[(&str, bool)]) {
     for (text, want) in rows {
-        assert_eq!(rt; set.contains(&named(rt, alloc, text)), *want, "{text}");
+        assert_answer(rt, text, set.contains(&named(rt, alloc, text)), *want);
+    }
+}
+
+// Each draft, whether a reference is beside the keyword, the keyword, and whether it counts.
+fn assert_counts(rt: &impl Abort, set: &VocabularySet, rows: &[(Draft, bool, &str, bool)]) {
+    for (draft, beside_ref, name, want) in rows {
+        assert_answer(rt, name, counts(*draft, set, *beside_ref, name), *want);
     }
 }
 
 fn customs(rt: &impl Abort, alloc: Global, set: &VocabularySet) -> String {
-    let mut text = String::new(alloc);
+    let mut output = String::new(alloc);
     for uri in set.custom() {
-        text.push_str(uri.as_str()).expect(rt, "memory");
-        text.push(' ').expect(rt, "memory");
+        write!(output, "{uri} ").expect(rt, "memory");
     }
-    text
+    output
 }
 
-fn set_of(rt: &impl Abort, alloc: Global, texts: &[&str]) -> VocabularySet {
-    let mut set = VocabularySet::new(alloc);
-    for text in texts {
-        set.add(named(rt, alloc, text)).expect(rt, "memory");
-    }
-    set
+fn add(rt: &impl Abort, set: &mut VocabularySet, vocabulary: Vocabulary) {
+    set.add(vocabulary).expect(rt, "memory");
 }
+
+const COUNTED_BY_NONE: [(Draft, bool, &str, bool); 4] = [
+    (Draft::Draft202012, false, "type", false),
+    (Draft::Draft202012, false, "properties", false),
+    (Draft::Draft202012, false, "unevaluatedProperties", false),
+    (Draft::Draft202012, false, "$dynamicRef", true),
+];
+
+const COUNTED_BY_THREE: [(Draft, bool, &str, bool); 5] = [
+    (Draft::Draft202012, false, "unevaluatedProperties", true),
+    (Draft::Draft202012, false, "title", false),
+    (Draft::Draft202012, true, "type", true),
+    (Draft::Draft7, true, "type", false),
+    (Draft::Draft7, true, "$ref", true),
+];
 
 #[test]
-fn sets(rt: HostRuntime) {
+fn sets_grow(rt: HostRuntime) {
     let mut set = VocabularySet::new(rt.alloc());
+    assert_counts(&rt, &set, &COUNTED_BY_NONE);
+    add(&rt, &mut set, Vocabulary::Validation);
+    assert!(rt; counts(Draft::Draft202012, &set, false, "type"));
+    add(&rt, &mut set, Vocabulary::Applicator);
+    assert!(rt; counts(Draft::Draft202012, &set, false, "properties"));
+    add(&rt, &mut set, Vocabulary::Unevaluated);
+    assert_counts(&rt, &set, &COUNTED_BY_THREE);
+    for text in ["urn:b", "urn:a", "urn:b"] {
+        add(&rt, &mut set, named(&rt, rt.alloc(), text));
+    }
     assert!(rt; !set.contains(&Vocabulary::Core));
-    set.add(Vocabulary::Core).expect(&rt, "memory");
-    assert!(rt; set.contains(&Vocabulary::Core));
-    assert!(rt; !set.contains(&Vocabulary::Content));
+    add(&rt, &mut set, Vocabulary::Core);
+    assert_known(
+        &rt,
+        &set,
+        &[(Vocabulary::Core, true), (Vocabulary::Content, false)],
+    );
+    assert_named(&rt, rt.alloc(), &set, &[("urn:a", true), ("urn:c", false)]);
+    assert_text(
+        &rt,
+        "custom",
+        customs(&rt, rt.alloc(), &set),
+        "urn:a urn:b ",
+    );
 }
 
-#[test]
-fn sets_of_custom_ones(rt: HostRuntime) {
-    let alloc = rt.alloc();
-    let mut set = set_of(&rt, alloc, &["urn:b", "urn:a", "urn:b"]);
-    set.add(Vocabulary::Core).expect(&rt, "memory");
-    assert!(rt; set.contains(&Vocabulary::Core));
-    assert_named(&rt, alloc, &set, &[("urn:a", true), ("urn:c", false)]);
-    assert_eq!(rt; customs(&rt, alloc, &set).as_str(), "urn:a urn:b ");
-}
+// A draft, and a vocabulary that is in the set of those that it knows, or is not.
+const OF_DRAFTS: [(Draft, Vocabulary, bool); 5] = [
+    (Draft::Draft201909, Vocabulary::Format, true),
+    (Draft::Draft201909, Vocabulary::Unevaluated, false),
+    (Draft::Draft202012, Vocabulary::FormatAnnotation, true),
+    (Draft::Draft202012, Vocabulary::FormatAssertion, false),
+    (Draft::Draft7, Vocabulary::Core, false),
+];
 
 #[test]
 fn sets_of_drafts(rt: HostRuntime) {
-    let alloc = rt.alloc();
-    let set = VocabularySet::all_of(alloc, Draft::Draft201909);
-    assert!(rt; set.contains(&Vocabulary::Format));
-    assert!(rt; !set.contains(&Vocabulary::Unevaluated));
-    let set = VocabularySet::all_of(alloc, Draft::Draft202012);
-    assert!(rt; set.contains(&Vocabulary::FormatAnnotation));
-    assert!(rt; !set.contains(&Vocabulary::FormatAssertion));
-    let set = VocabularySet::all_of(alloc, Draft::Draft7);
-    assert!(rt; !set.contains(&Vocabulary::Core));
+    for (draft, vocabulary, want) in &OF_DRAFTS {
+        let set = VocabularySet::all_of(rt.alloc(), *draft);
+        assert!(rt; set.contains(vocabulary) == *want, "{draft:?}");
+    }
 }
 
 // The example of Core 8.1.2, with a custom vocabulary that is not required and a name that is no URI.
@@ -181,125 +210,59 @@ fn json(rt: &impl Abort, alloc: Global, text: &str) -> Value {
     Value::from_str(alloc, text).expect(rt, "JSON")
 }
 
-// Each draft and keyword, and whether it counts where no reference is beside it.
-fn assert_counts(rt: &impl Abort, set: &VocabularySet, rows: &[(Draft, &str, bool)]) {
-    for (draft, name, want) in rows {
-        assert_eq!(rt; counts(*draft, set, false, name), *want, "{name}");
-    }
+fn found(rt: &impl Abort, alloc: Global, text: &str) -> VocabularySet {
+    let contents = json(rt, alloc, text);
+    find_vocabularies(alloc, Draft::Draft202012, &contents).expect(rt, "memory")
 }
 
-#[test]
-fn found(rt: HostRuntime) {
-    let alloc = rt.alloc();
-    let set = find_vocabularies(alloc, Draft::Draft202012, &json(&rt, alloc, EXAMPLE)).expect(
-        &rt, "memory",
-    );
-    assert_known(
-        &rt,
-        &set,
-        &[
-            (Vocabulary::Core, true),
-            (Vocabulary::Applicator, true),
-            (Vocabulary::Validation, false),
-        ],
-    );
-    assert_named(
-        &rt,
-        alloc,
-        &set,
-        &[
-            ("https://example.com/vocab/example-vocab", true),
-            ("https://example.com/vocab/other", false),
-            ("no uri", true),
-        ],
-    );
-}
+const KNOWN_TO_EXAMPLE: [(Vocabulary, bool); 3] = [
+    (Vocabulary::Core, true),
+    (Vocabulary::Applicator, true),
+    (Vocabulary::Validation, false),
+];
+
+const NAMED_BY_EXAMPLE: [(&str, bool); 3] = [
+    ("https://example.com/vocab/example-vocab", true),
+    ("https://example.com/vocab/other", false),
+    ("no uri", true),
+];
+
+const COUNTED_BY_EXAMPLE: [(Draft, bool, &str, bool); 6] = [
+    (Draft::Draft202012, false, "items", true),
+    (Draft::Draft202012, false, "$ref", true),
+    (Draft::Draft202012, false, "minimum", false),
+    (Draft::Draft202012, false, "unevaluatedItems", false),
+    (Draft::Draft201909, false, "unevaluatedItems", true),
+    (Draft::Draft7, false, "minimum", true),
+];
 
 #[test]
-fn counting_by_what_is_found(rt: HostRuntime) {
-    let alloc = rt.alloc();
-    let set = find_vocabularies(alloc, Draft::Draft202012, &json(&rt, alloc, EXAMPLE)).expect(
-        &rt, "memory",
-    );
-    assert_counts(
-        &rt,
-        &set,
-        &[
-            (Draft::Draft202012, "items", true),
-            (Draft::Draft202012, "$ref", true),
-            (Draft::Draft202012, "minimum", false),
-            (Draft::Draft202012, "unevaluatedItems", false),
-            (Draft::Draft201909, "unevaluatedItems", true),
-            (Draft::Draft7, "minimum", true),
-        ],
-    );
-}
-
-#[test]
-fn none_found(rt: HostRuntime) {
-    let alloc = rt.alloc();
-    let absent = json(&rt, alloc, LISTED);
-    let whole = find_vocabularies(alloc, Draft::Draft202012, &absent).expect(&rt, "memory");
+fn sets_are_found(rt: HostRuntime) {
+    let example = found(&rt, rt.alloc(), EXAMPLE);
+    assert_known(&rt, &example, &KNOWN_TO_EXAMPLE);
+    assert_named(&rt, rt.alloc(), &example, &NAMED_BY_EXAMPLE);
+    assert_counts(&rt, &example, &COUNTED_BY_EXAMPLE);
+    let whole = found(&rt, rt.alloc(), LISTED);
     assert!(rt; whole.contains(&Vocabulary::Validation));
     assert!(rt; counts(Draft::Draft202012, &whole, false, "minimum"));
 }
 
-#[test]
-fn counting(rt: HostRuntime) {
-    let mut set = VocabularySet::new(rt.alloc());
-    assert_counts(
-        &rt,
-        &set,
-        &[
-            (Draft::Draft202012, "type", false),
-            (Draft::Draft202012, "properties", false),
-            (Draft::Draft202012, "unevaluatedProperties", false),
-            (Draft::Draft202012, "$dynamicRef", true),
-        ],
-    );
-    set.add(Vocabulary::Validation).expect(&rt, "memory");
-    assert!(rt; counts(Draft::Draft202012, &set, false, "type"));
-    set.add(Vocabulary::Applicator).expect(&rt, "memory");
-    assert!(rt; counts(Draft::Draft202012, &set, false, "properties"));
-    set.add(Vocabulary::Unevaluated).expect(&rt, "memory");
-    assert!(rt; counts(Draft::Draft202012, &set, false, "unevaluatedProperties"));
-    assert!(rt; !counts(Draft::Draft202012, &set, false, "title"));
-}
-
-#[test]
-fn counting_beside_a_reference(rt: HostRuntime) {
-    let mut set = VocabularySet::new(rt.alloc());
-    set.add(Vocabulary::Validation).expect(&rt, "memory");
-    set.add(Vocabulary::Applicator).expect(&rt, "memory");
-    set.add(Vocabulary::Unevaluated).expect(&rt, "memory");
-    assert!(rt; counts(Draft::Draft202012, &set, true, "type"));
-    assert!(rt; !counts(Draft::Draft7, &set, true, "type"));
-    assert!(rt; counts(Draft::Draft7, &set, true, "$ref"));
+fn dialect_of(rt: &impl Abort, alloc: Global, draft: Draft, text: &str) -> Dialect {
+    Dialect::by_meta_schema(draft, &json(rt, alloc, text))
 }
 
 #[test]
 fn dialects(rt: HostRuntime) {
-    let dialect = Dialect::by_meta_schema(Draft::Draft202012, &json(&rt, rt.alloc(), EXAMPLE));
+    let alloc = rt.alloc();
+    let dialect = dialect_of(&rt, alloc, Draft::Draft202012, EXAMPLE);
     assert!(rt; dialect.counts(false, "items"));
     assert!(rt; dialect.counts(false, "$ref"));
     assert!(rt; !dialect.counts(false, "minimum"));
     assert!(rt; !dialect.counts(false, "unevaluatedItems"));
     assert!(rt; dialect != Dialect::standard(Draft::Draft202012));
-}
-
-#[test]
-fn dialects_that_are_alike(rt: HostRuntime) {
-    let alloc = rt.alloc();
-    let dialect = Dialect::by_meta_schema(Draft::Draft202012, &json(&rt, alloc, EXAMPLE));
-    let alike = json(&rt, alloc, ALIKE);
-    assert!(rt; dialect == Dialect::by_meta_schema(Draft::Draft202012, &alike));
-    assert!(rt; dialect != Dialect::by_meta_schema(Draft::Draft201909, &alike));
-}
-
-#[test]
-fn dialects_of_a_draft(rt: HostRuntime) {
-    let absent = json(&rt, rt.alloc(), r#"{"$vocabulary": true}"#);
-    let whole = Dialect::by_meta_schema(Draft::Draft7, &absent);
+    assert!(rt; dialect == dialect_of(&rt, alloc, Draft::Draft202012, ALIKE));
+    assert!(rt; dialect != dialect_of(&rt, alloc, Draft::Draft201909, ALIKE));
+    let whole = dialect_of(&rt, alloc, Draft::Draft7, r#"{"$vocabulary": true}"#);
     assert!(rt; whole == Dialect::standard(Draft::Draft7));
     assert!(rt; !whole.counts(true, "type"));
     assert!(rt; whole.counts(true, "$ref"));
@@ -310,15 +273,14 @@ fn meta_schemas_by_their_uris(rt: HostRuntime) {
     let alloc = rt.alloc();
     let mut known = MetaSchemas::none(alloc);
     assert!(rt; known.get("urn:a").is_none());
-    known
-        .insert(alloc, "urn:a", Dialect::standard(Draft::Draft4))
-        .expect(&rt, "memory");
-    known
-        .insert(alloc, "urn:b", Dialect::standard(Draft::Draft6))
-        .expect(&rt, "memory");
-    known
-        .insert(alloc, "urn:a", Dialect::standard(Draft::Draft7))
-        .expect(&rt, "memory");
+    for (uri, draft) in [
+        ("urn:a", Draft::Draft4),
+        ("urn:b", Draft::Draft6),
+        ("urn:a", Draft::Draft7),
+    ] {
+        let dialect = Dialect::standard(draft);
+        known.insert(alloc, uri, dialect).expect(&rt, "memory");
+    }
     assert!(rt; known.get("urn:a") == Some(Dialect::standard(Draft::Draft7)));
     assert!(rt; known.get("urn:b") == Some(Dialect::standard(Draft::Draft6)));
     assert!(rt; known.get("urn:c").is_none());
