@@ -8,4 +8,6 @@ mod reached;
 #[cfg(test)]
 mod registries;
 #[cfg(test)]
+mod rows;
+#[cfg(test)]
 mod walks;
