@@ -179,6 +179,8 @@ fn refuse_by_kinds<'i>(
     types: &Value,
 ) {
     let kind = ValidationErrorKind::MinItems { limit: 3 };
+    let shown = kind.to_string(alloc).expect(rt, "memory");
+    assert_text(rt, "the kind", shown, "MinItems");
     refuse_for(rt, alloc, observer, null, kind);
     let pattern = String::from_str(alloc, "^a").expect(rt, "memory");
     let kind = ValidationErrorKind::Pattern { pattern };
@@ -253,9 +255,8 @@ fn write_error(rt: &impl Abort, output: &mut String, error: &ValidationError<'_>
     write_path(rt, output, error.schema_path());
     write_path(rt, output, error.evaluation_path());
     let value = error.instance();
-    let kind = error.kind();
+    let kind = error.kind().as_str();
     write!(output, " {value} {kind}: {error}").expect(rt, "memory");
-    assert!(rt; output.as_str().ends_with(kind.as_str()));
 }
 
 // The error of a name carries that of the name itself.
