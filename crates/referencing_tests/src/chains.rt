@@ -1,377 +1,139 @@
-// Chains of references, by the dynamic scope too: where the last one leads, and the base URI there.
-use crate::prepared::{prepared, reached, refusal};
+// Chains of references, by the dynamic scope too: where the last one leads, and the base URI there; and the keys of the scopes there.
+// The steps of a chain are `recursive`, `dynamic` and a reference, `enter` and a reference to a subschema, `itself` for the empty
+// reference, or any other.
+use crate::lookups::{Led, reached, told};
+use crate::registries::{assert_topics, prepared_alone};
+use crate::scripts::{assert_told, cut_word, text_of};
 use referencing::following::{Step, follow};
 use referencing::registry::Registry;
-use referencing::resolver::Resolved;
 use referencing::scope_key::ScopeKey;
-use referencing_errors::error::Error;
+use registry_laws::chains::{BothAnswers, follow_both};
 use schema_drafts::draft::Draft;
 use schema_drafts::resource::ResourceRef;
-use serde_json::Value;
 use std::alloc::Global;
 use std::process::Abort;
-use std::test::Fail;
 use uri_references::uri::from_str;
 
-const LIST: &str =
-    "{\"$id\":\"http://a.test/list\",\"$schema\":\"https://json-schema.org/draft/2020-12/schema\",\"type\":\"array\",
-    \"items\":{\"$dynamicRef\":\"#item\"},\"$defs\":{\"d\":{\"$dynamicAnchor\":\"item\"}}}";
-
-const STRINGS: &str =
-    "{\"$id\":\"http://a.test/strings\",\"$ref\":\"list\",\"$defs\":{\"s\":{\"$dynamicAnchor\":\"item\",\"type\":\"string\"}}}";
-
-const TREE: &str =
-    "{\"$schema\":\"https://json-schema.org/draft/2019-09/schema\",\"$id\":\"http://a.test/tree\",\"$recursiveAnchor\":true,
-    \"type\":\"object\",\"properties\":{\"data\":true,\"children\":{\"type\":\"array\",\"items\":{\"$recursiveRef\":\"#\"}}}}";
-
-const PLAIN: &str =
-    "{\"$schema\":\"https://json-schema.org/draft/2019-09/schema\",\"$id\":\"http://a.test/plain\"}";
-
-const STRICT: &str =
-    "{\"$schema\":\"https://json-schema.org/draft/2019-09/schema\",\"$id\":\"http://a.test/strict\",\"$recursiveAnchor\":true,\"$ref\":\"tree\"}";
-
-fn shown(alloc: Global, resolved: &Resolved<'_>) -> Result<String, Fail> {
-    let path = resolved.path().to_pointer(alloc)?;
-    let base = resolved.resolver().base_uri()?;
-    let document = resolved.document().as_str();
-    Ok(format!(in alloc; "{document}#{path} {}", base.as_str())?)
+// What is entered for a subschema of a document.
+fn entered<'r>(rt: &impl Abort, registry: &'r Registry<'_>, reference: &str) -> ResourceRef<'r> {
+    let subschema = reached(registry, reference, reference).expect(rt, reference);
+    ResourceRef::new(subschema.contents(), Draft::Draft202012)
 }
 
-// Where a chain leads from a base, or why it leads nowhere.
-fn led(registry: &Registry<'_>, base: &str, steps: &[Step<'_>]) -> Result<String, Fail> {
-    let alloc = registry.allocator();
-    match follow(registry, from_str(alloc, base)?, steps) {
-        Ok(Some(resolved)) => shown(alloc, &resolved),
-        Ok(None) => Ok(String::from_str(alloc, "nothing looked up")?),
-        Err(error) => refusal(alloc, Some(error)),
+fn step<'s>(rt: &impl Abort, registry: &'s Registry<'_>, text: &'s str) -> Step<'s> {
+    match cut_word(text) {
+        ("dynamic", reference) => Step::Dynamic(reference),
+        ("enter", reference) => Step::Enter(entered(rt, registry, reference)),
+        ("recursive", _) => Step::Recursive,
+        ("itself", _) => Step::Lookup(""),
+        _ => Step::Lookup(text),
     }
 }
 
-fn lists<'a>(alloc: Global) -> Result<Registry<'a>, Error> {
-    prepared(
-        alloc,
-        &[
-            ("http://a.test/list", LIST),
-            ("http://a.test/strings", STRINGS),
-        ],
-    )
-}
-
-// Where a chain leads that goes by the items of the list.
-fn led_by_items(
-    alloc: Global,
-    base: &str,
-    first: &'static str,
-    last: Step<'static>,
-) -> Result<String, Fail> {
-    let list = Value::from_str(alloc, LIST)?;
-    let items = ResourceRef::new(list.get("items").ok_or("items")?, Draft::Draft202012);
-    led(
-        &lists(alloc)?,
-        base,
-        &[Step::Lookup(first), Step::Enter(items), last],
-    )
-}
-
-#[test]
-fn references_of_items(rt: HostRuntime) -> Result<(), Fail> {
-    let led = led_by_items(
-        rt.alloc(),
-        "http://a.test/strings",
-        "list",
-        Step::Lookup("#item"),
-    )?;
-    assert_eq!(rt;
-        led.as_str(),
-        "http://a.test/list#/$defs/d http://a.test/list"
-    );
-    Ok(())
-}
-
-// Each base, reference and `$dynamicRef` of the items, and what is told of the chain.
-fn assert_dynamic(
-    rt: &impl Abort,
-    alloc: Global,
-    rows: &[(&str, &'static str, &'static str, &str)],
-) -> Result<(), Fail> {
-    for (base, first, last, want) in rows {
-        let led = led_by_items(alloc, base, *first, Step::Dynamic(*last))?;
-        assert_eq!(rt; led.as_str(), *want);
+fn steps<'s>(rt: &impl Abort, registry: &'s Registry<'_>, text: &'s str) -> Vec<Step<'s>> {
+    let mut steps = Vec::new(registry.allocator());
+    if !text.is_empty() {
+        for part in text.split(", ") {
+            steps.push(step(rt, registry, part)).expect(rt, "memory");
+        }
     }
-    Ok(())
+    steps
 }
+
+fn led<'r>(rt: &impl Abort, registry: &'r Registry<'_>, chain: &'r str) -> Led<'r> {
+    let (base, text) = cut_word(chain);
+    let base = from_str(registry.allocator(), base)?;
+    follow(registry, base, &steps(rt, registry, text))
+}
+
+// What a base and steps lead to.
+pub(crate) fn chain(rt: &impl Abort, registry: &Registry<'_>, text: &str) -> String {
+    told(rt, registry.allocator(), &led(rt, registry, text))
+}
+
+fn key(rt: &impl Abort, registry: &Registry<'_>, chain: &str) -> ScopeKey {
+    let found = led(rt, registry, chain).expect(rt, chain);
+    let there = found.expect(rt, chain);
+    there.resolver().scope_key().expect(rt, "memory")
+}
+
+// Whether the scopes that two chains lead to have one key.
+pub(crate) fn keys(rt: &impl Abort, registry: &Registry<'_>, chains: &str) -> String {
+    let (left, right) = chains.split_once(" | ").expect(rt, chains);
+    let is_one = key(rt, registry, left) == key(rt, registry, right);
+    text_of(rt, registry.allocator(), &is_one)
+}
+
+const CHAINS: &str = r##"
+document http://a.test/list {"$id":"http://a.test/list","$schema":"https://json-schema.org/draft/2020-12/schema","type":"array","items":{"$dynamicRef":"#item"},"$defs":{"d":{"$dynamicAnchor":"item"}}}
+document http://a.test/strings {"$id":"http://a.test/strings","$ref":"list","$defs":{"s":{"$dynamicAnchor":"item","type":"string"}}}
+chain http://a.test/strings list, enter http://a.test/list#/items, #item :: http://a.test/list#/$defs/d http://a.test/list {"$dynamicAnchor":"item"}
+chain http://a.test/strings list, enter http://a.test/list#/items, dynamic #item :: http://a.test/strings#/$defs/s http://a.test/strings {"$dynamicAnchor":"item","type":"string"}
+chain http://a.test/list itself, enter http://a.test/list#/items, dynamic #item :: http://a.test/list#/$defs/d http://a.test/list {"$dynamicAnchor":"item"}
+chain http://a.test/strings list, enter http://a.test/list#/items, dynamic #none :: Anchor 'none' does not exist
+lookup http://a.test/strings list, dynamic #item :: http://a.test/strings#/$defs/s http://a.test/strings {"$dynamicAnchor":"item","type":"string"}
+
+document http://a.test/tree {"$schema":"https://json-schema.org/draft/2019-09/schema","$id":"http://a.test/tree","$recursiveAnchor":true,"type":"object","properties":{"data":true,"children":{"type":"array","items":{"$recursiveRef":"#"}}}}
+document http://a.test/strict {"$schema":"https://json-schema.org/draft/2019-09/schema","$id":"http://a.test/strict","$recursiveAnchor":true,"$ref":"tree"}
+document http://a.test/plain {"$schema":"https://json-schema.org/draft/2019-09/schema","$id":"http://a.test/plain"}
+chain http://a.test/strict tree, recursive :: http://a.test/strict# http://a.test/strict {"$id":"http://a.test/strict","$recursiveAnchor":true,"$ref":"tree","$schema":"https://json-schema.org/draft/2019-09/schema"}
+chain http://a.test/strict plain, tree, recursive :: http://a.test/tree# http://a.test/tree {"$id":"http://a.test/tree","$recursiveAnchor":true,"$schema":"https://json-schema.org/draft/2019-09/schema","properties":{"children":{"items":{"$recursiveRef":"#"},"type":"array"},"data":true},"type":"object"}
+chain http://a.test/strict plain, recursive :: http://a.test/plain# http://a.test/plain {"$id":"http://a.test/plain","$schema":"https://json-schema.org/draft/2019-09/schema"}
+chain http://a.test/tree recursive :: http://a.test/tree# http://a.test/tree {"$id":"http://a.test/tree","$recursiveAnchor":true,"$schema":"https://json-schema.org/draft/2019-09/schema","properties":{"children":{"items":{"$recursiveRef":"#"},"type":"array"},"data":true},"type":"object"}
+chain http://a.test/none recursive :: Resource 'http://a.test/none' is not present and retrieving it failed
+lookup http://a.test/strict tree, recursive :: http://a.test/strict# http://a.test/strict {"$id":"http://a.test/strict","$recursiveAnchor":true,"$ref":"tree","$schema":"https://json-schema.org/draft/2019-09/schema"}
+keys http://a.test/plain tree, strict, itself | http://a.test/plain tree, plain, strict :: false
+keys http://a.test/plain tree, strict, itself | http://a.test/plain tree, strict, itself :: true
+
+document http://b.test/ {"$id":"http://a.test/m/"}
+chain http://b.test/ :: nothing looked up
+chain http://b.test/ itself :: http://b.test/# http://a.test/m/ {"$id":"http://a.test/m/"}
+
+document http://a.test/r {"$defs":{"d":{"$id":"d/"}}}
+chain http://a.test/r :: nothing looked up
+chain http://a.test/r d/ :: http://a.test/r#/$defs/d http://a.test/d/ {"$id":"d/"}
+
+document http://a.test/r {"a<b":{"c d":1}}
+chain http://a.test/r :: nothing looked up
+chain http://a.test/r #/a<b/c d :: http://a.test/r#/a<b/c d http://a.test/r 1
+chain http://a.test/r #/a%3Cb/c%20d :: http://a.test/r#/a<b/c d http://a.test/r 1
+
+document http://a.test/r {}
+chain http://a.test/r :: nothing looked up
+chain http://a.test/r #/a :: Pointer '/a' does not exist
+
+document http://a.test/list {"$id":"http://a.test/list","$schema":"https://json-schema.org/draft/2020-12/schema","type":"array","items":{"$dynamicRef":"#item"},"$defs":{"d":{"$dynamicAnchor":"item"}}}
+document http://a.test/tree {"$schema":"https://json-schema.org/draft/2019-09/schema","$id":"http://a.test/tree","$recursiveAnchor":true,"type":"object","properties":{"data":true,"children":{"type":"array","items":{"$recursiveRef":"#"}}}}
+document http://a.test/strings {"$id":"http://a.test/strings","$ref":"list","$defs":{"s":{"$dynamicAnchor":"item","type":"string"}}}
+keys http://a.test/strings list, itself, itself | http://a.test/strings list, strings, list :: true
+keys http://a.test/strings list, itself, itself | http://a.test/list itself, itself, itself :: false
+keys http://a.test/strings list, tree, itself | http://a.test/list strings, tree, itself :: false
+"##;
 
 #[test]
-fn dynamic_references(rt: HostRuntime) -> Result<(), Fail> {
-    assert_dynamic(
-        &rt,
-        rt.alloc(),
-        &[
-            (
-                "http://a.test/strings",
-                "list",
-                "#item",
-                "http://a.test/strings#/$defs/s http://a.test/strings",
-            ),
-            (
-                "http://a.test/list",
-                "",
-                "#item",
-                "http://a.test/list#/$defs/d http://a.test/list",
-            ),
-            (
-                "http://a.test/strings",
-                "list",
-                "#none",
-                "Anchor 'none' does not exist",
-            ),
-        ],
-    )
+fn chains_of_references(rt: HostRuntime) {
+    assert_topics(&rt, rt.alloc(), CHAINS);
 }
 
-fn led_to_item(registry: &Registry<'_>) -> Result<String, Fail> {
-    let there = reached(registry, "http://a.test/strings", "list")?;
-    shown(
-        registry.allocator(),
-        &there.resolver().lookup_dynamic_ref("#item")?,
-    )
+fn assert_both(rt: &impl Abort, alloc: Global, both: &BothAnswers<'_, '_>, want: &str) {
+    assert_told(rt, &told(rt, alloc, &both.left), want, "the left one");
+    assert_told(rt, &told(rt, alloc, &both.right), want, "the right one");
 }
+
+const IN_BOTH: [(&str, &str); 2] = [
+    ("#/e/0", "http://a.test/r#/$defs/d/e/0 http://a.test/d/ 7"),
+    ("#/e/1", "Pointer '/e/1' does not exist"),
+];
 
 #[test]
-fn dynamic_references_of_resolvers(rt: HostRuntime) -> Result<(), Fail> {
-    assert_eq!(rt;
-        led_to_item(&lists(rt.alloc())?)?.as_str(),
-        "http://a.test/strings#/$defs/s http://a.test/strings"
-    );
-    Ok(())
-}
-
-fn trees<'a>(alloc: Global) -> Result<Registry<'a>, Error> {
-    prepared(
-        alloc,
-        &[
-            ("http://a.test/tree", TREE),
-            ("http://a.test/strict", STRICT),
-            ("http://a.test/plain", PLAIN),
-        ],
-    )
-}
-
-// Where a chain of plain references leads that ends in `$recursiveRef`.
-fn led_recursively(alloc: Global, base: &str, references: &[&str]) -> Result<String, Fail> {
-    let mut steps = Vec::new(alloc);
-    for reference in references {
-        steps.push(Step::Lookup(*reference))?;
+fn chains_in_both(rt: HostRuntime) {
+    let alloc = rt.alloc();
+    let topic = r##"document http://a.test/r {"$defs":{"d":{"$id":"d/","e":[7]}}}"##;
+    let registry = prepared_alone(&rt, alloc, topic).expect(&rt, "a registry");
+    let base = from_str(alloc, "http://a.test/r").expect(&rt, "a URI");
+    for (reference, want) in IN_BOTH {
+        let steps = [Step::Lookup("d/"), Step::Lookup(reference)];
+        let both = follow_both(&registry, &registry, &base, &steps);
+        assert_both(&rt, alloc, &both, want);
     }
-    steps.push(Step::Recursive)?;
-    led(&trees(alloc)?, base, steps.as_slice())
-}
-
-fn assert_recursive(
-    rt: &impl Abort,
-    alloc: Global,
-    references: &[&str],
-    rows: &[(&str, &str)],
-) -> Result<(), Fail> {
-    for (base, want) in rows {
-        let led = led_recursively(alloc, base, references)?;
-        assert_eq!(rt; led.as_str(), *want);
-    }
-    Ok(())
-}
-
-#[test]
-fn recursive_references(rt: HostRuntime) -> Result<(), Fail> {
-    let (strict, alloc) = ("http://a.test/strict", rt.alloc());
-    assert_recursive(
-        &rt,
-        alloc,
-        &["tree"],
-        &[(strict, "http://a.test/strict# http://a.test/strict")],
-    )?;
-    assert_recursive(
-        &rt,
-        alloc,
-        &["plain", "tree"],
-        &[(strict, "http://a.test/tree# http://a.test/tree")],
-    )?;
-    assert_recursive(
-        &rt,
-        alloc,
-        &["plain"],
-        &[(strict, "http://a.test/plain# http://a.test/plain")],
-    )?;
-    assert_recursive(
-        &rt,
-        alloc,
-        &[],
-        &[
-            (
-                "http://a.test/tree",
-                "http://a.test/tree# http://a.test/tree",
-            ),
-            (
-                "http://a.test/none",
-                "Resource 'http://a.test/none' is not present and retrieving it failed",
-            ),
-        ],
-    )
-}
-
-fn led_to_end(registry: &Registry<'_>) -> Result<String, Fail> {
-    let there = reached(registry, "http://a.test/strict", "tree")?;
-    shown(
-        registry.allocator(),
-        &there.resolver().lookup_recursive_ref()?,
-    )
-}
-
-#[test]
-fn recursive_references_of_resolvers(rt: HostRuntime) -> Result<(), Fail> {
-    assert_eq!(rt;
-        led_to_end(&trees(rt.alloc())?)?.as_str(),
-        "http://a.test/strict# http://a.test/strict"
-    );
-    Ok(())
-}
-
-// Where a reference leads in a document that stands alone, and that no reference leads nowhere.
-fn assert_led_alone(
-    rt: &impl Abort,
-    registry: &Registry<'_>,
-    uri: &str,
-    reference: &str,
-    want: &str,
-) -> Result<(), Fail> {
-    assert_eq!(rt; led(registry, uri, &[])?.as_str(), "nothing looked up");
-    let there = led(registry, uri, &[Step::Lookup(reference)])?;
-    assert_eq!(rt; there.as_str(), want);
-    Ok(())
-}
-
-fn assert_led(
-    rt: &impl Abort,
-    alloc: Global,
-    rows: &[(&str, &str, &str, &str)],
-) -> Result<(), Fail> {
-    for (uri, text, reference, want) in rows {
-        let registry = prepared(alloc, &[(*uri, *text)])?;
-        assert_led_alone(rt, &registry, uri, reference, want)?;
-    }
-    Ok(())
-}
-
-#[test]
-fn chains_of_plain_references(rt: HostRuntime) -> Result<(), Fail> {
-    assert_led(
-        &rt,
-        rt.alloc(),
-        &[
-            (
-                "http://b.test/",
-                "{\"$id\":\"http://a.test/m/\"}",
-                "",
-                "http://b.test/# http://a.test/m/",
-            ),
-            (
-                "http://a.test/r",
-                "{\"$defs\":{\"d\":{\"$id\":\"d/\"}}}",
-                "d/",
-                "http://a.test/r#/$defs/d http://a.test/d/",
-            ),
-            (
-                "http://a.test/r",
-                "{\"a<b\":{\"c d\":1}}",
-                "#/a<b/c d",
-                "http://a.test/r#/a<b/c d http://a.test/r",
-            ),
-            (
-                "http://a.test/r",
-                "{\"a<b\":{\"c d\":1}}",
-                "#/a%3Cb/c%20d",
-                "http://a.test/r#/a<b/c d http://a.test/r",
-            ),
-            (
-                "http://a.test/r",
-                "{}",
-                "#/a",
-                "Pointer '/a' does not exist",
-            ),
-        ],
-    )
-}
-
-// The key of the scope that three references lead to from a base.
-fn key(registry: &Registry<'_>, base: &str, references: &[&str; 3]) -> Result<ScopeKey, Fail> {
-    let steps = [
-        Step::Lookup(references[0]),
-        Step::Lookup(references[1]),
-        Step::Lookup(references[2]),
-    ];
-    let found = follow(registry, from_str(registry.allocator(), base)?, &steps)?;
-    Ok(found.ok_or("nothing looked up")?.resolver().scope_key()?)
-}
-
-// Whether the scopes of what is reached from two bases have one key.
-fn have_one_key(
-    registry: &Registry<'_>,
-    left: (&str, &[&str; 3]),
-    right: (&str, &[&str; 3]),
-) -> Result<bool, Fail> {
-    let mine = key(registry, left.0, left.1)?;
-    Ok(mine == key(registry, right.0, right.1)?)
-}
-
-fn assert_keys(rt: &impl Abort, registry: &Registry<'_>) -> Result<(), Fail> {
-    // the same resources, one of them entered twice
-    assert!(rt;
-        have_one_key(
-            registry,
-            ("http://a.test/strings", &["list", "", ""]),
-            ("http://a.test/strings", &["list", "strings", "list"])
-        )?
-    );
-    // one innermost resource, other outer ones
-    assert!(rt;
-        !have_one_key(
-            registry,
-            ("http://a.test/strings", &["list", "", ""]),
-            ("http://a.test/list", &["", "", ""])
-        )?
-    );
-    // the same resources in another order
-    assert!(rt;
-        !have_one_key(
-            registry,
-            ("http://a.test/strings", &["list", "tree", ""]),
-            ("http://a.test/list", &["strings", "tree", ""])
-        )?
-    );
-    Ok(())
-}
-
-#[test]
-fn scope_keys(rt: HostRuntime) -> Result<(), Fail> {
-    let registry = prepared(
-        rt.alloc(),
-        &[
-            ("http://a.test/list", LIST),
-            ("http://a.test/tree", TREE),
-            ("http://a.test/strings", STRINGS),
-        ],
-    )?;
-    assert_keys(&rt, &registry)
-}
-
-fn assert_runs_told(rt: &impl Abort, registry: &Registry<'_>) -> Result<(), Fail> {
-    let run = ("http://a.test/plain", &["tree", "strict", ""]);
-    let broken = ("http://a.test/plain", &["tree", "plain", "strict"]);
-    assert!(rt; !have_one_key(registry, run, broken)?);
-    assert!(rt; have_one_key(registry, run, run)?);
-    Ok(())
-}
-
-#[test]
-fn scope_keys_tell_the_end_of_a_run(rt: HostRuntime) -> Result<(), Fail> {
-    assert_runs_told(&rt, &trees(rt.alloc())?)
 }

@@ -1,246 +1,150 @@
-// Documents, and which of their schema places bears a URI or an anchor.
+// Documents, and which of their schema places bears a URI or an anchor: the document's position, the place's pointer, base and draft.
+use crate::scripts::{assert_told, cut_word, document, documents_of, row, set_by, text_of};
 use document_index::answers::{anchored, bearer, dynamically_anchored, index_of};
 use document_index::document::{Contents, Document};
 use document_index::index::{Bearer, Index};
 use document_index::standing::standings;
-use schema_drafts::draft::Draft;
 use schema_vocabularies::MetaSchemas;
 use serde_json::Value;
 use std::alloc::Global;
 use std::process::Abort;
 use std::rc::Rc;
-use std::test::Fail;
-use uri_references::uri::Uri;
 
-const FIRST: &str = "{\"$id\": \"http://a.test/own/\", \"$anchor\": \"top\",
-    \"$defs\": {\"a\": {\"$id\": \"part\", \"$anchor\": \"twice\", \"$dynamicAnchor\": \"meta\", \"not\": {\"$anchor\": \"twice\"}},
-    \"b\": {\"$anchor\": \"twice\"}, \"c\": {\"$schema\": \"http://m.test/unknown\", \"$id\": \"http://c.test/\", \"$anchor\": \"c\"}}}";
-
-const SECOND: &str =
-    "{\"$schema\": \"http://json-schema.org/draft-07/schema#\", \"$anchor\": \"none\",
-    \"definitions\": {\"a\": {\"$id\": \"#name\"}, \"b\": {\"$id\": \"http://a.test/own/part\"}, \"c\": {\"$id\": \"#name\", \"$ref\": \"#\"}}}";
-
-fn document<'a>(alloc: Global, uri: &str, contents: Contents<'a>) -> Result<Document<'a>, Fail> {
-    Ok(Document {
-        uri: Rc::new(alloc, Uri::parse(alloc, uri)?)?,
-        contents,
-        default: Draft::Draft202012,
-    })
-}
-
-fn shown(alloc: Global, found: Option<&Bearer>) -> Result<String, Fail> {
+fn shown(rt: &impl Abort, alloc: Global, found: Option<&Bearer>) -> String {
     match found {
         Some(place) => {
-            let pointer = place.path.to_pointer(alloc)?;
-            Ok(format!(in alloc;
-                "{}#{pointer} {} {:?}",
-                place.document,
-                place.base.as_str(),
-                place.dialect.draft
-            )?)
+            let pointer = place.path.to_pointer(alloc).expect(rt, "memory");
+            let (base, draft) = (place.base.as_str(), place.dialect.draft);
+            format!(in alloc; "{}#{pointer} {base} {draft:?}", place.document).expect(rt, "memory")
         }
-        None => Ok(String::from_str(alloc, "none")?),
+        None => text_of(rt, alloc, &"none"),
     }
 }
 
-fn owned<'a>(alloc: Global, uri: &str, text: &str) -> Result<Document<'a>, Fail> {
-    document(alloc, uri, Contents::Owned(Value::from_str(alloc, text)?))
-}
-
-fn all_owned<'a>(alloc: Global, texts: &[(&str, &str)]) -> Result<Vec<Document<'a>>, Fail> {
-    let mut documents = Vec::new(alloc);
-    for (uri, text) in texts {
-        documents.push(owned(alloc, uri, text)?)?;
+fn found<'i>(rt: &impl Abort, index: &'i Index, question: &str) -> Option<&'i Bearer> {
+    let (word, rest) = cut_word(question);
+    let (base, name) = cut_word(rest);
+    match word {
+        "bearer" => index.bearer(base),
+        "anchored" => index.anchored(base, name),
+        "dynamic" => index.dynamically_anchored(base, name),
+        _ => panic!(rt; "no question: {question}"),
     }
-    Ok(documents)
 }
 
-// The index of documents without meta-schemas of their own.
-fn indexed(alloc: Global, documents: &[Document<'_>]) -> Result<Index, Fail> {
-    Ok(index_of(alloc, &MetaSchemas::none(alloc), documents)?)
+// What the index of the places of documents answers.
+fn by_index(rt: &impl Abort, alloc: Global, documents: &[Document<'_>], question: &str) -> String {
+    let places = standings(alloc, &MetaSchemas::none(alloc), documents).expect(rt, "memory");
+    let index = Index::of(alloc, &places).expect(rt, "memory");
+    shown(rt, alloc, found(rt, &index, question))
 }
 
-fn indexed_standing(alloc: Global, documents: &[Document<'_>]) -> Result<Index, Fail> {
-    let places = standings(alloc, &MetaSchemas::none(alloc), documents)?;
-    Ok(Index::of(alloc, &places)?)
+// A place of an answer, which is one of the document that comes with it.
+fn held<'i>(
+    rt: &impl Abort,
+    documents: &[Document<'_>],
+    answer: Option<(&Document<'_>, &'i Bearer)>,
+) -> Option<&'i Bearer> {
+    let (holder, place) = answer?;
+    let document = documents.get(place.document).expect(rt, "a document");
+    assert!(rt; holder.contents.value() == document.contents.value());
+    Some(place)
 }
 
-fn lent_and_shared<'a>(
-    alloc: Global,
-    lent: &'a Value,
-    shared: Rc<Value>,
-) -> Result<Vec<Document<'a>>, Fail> {
-    let second = document(alloc, "http://a.test/second", Contents::Shared(shared))?;
-    let first = document(alloc, "http://a.test/first", Contents::Lent(lent))?;
-    Ok(vec![in alloc; first, second]?)
-}
-
-fn assert_borne(
+// What documents answer by their index.
+fn by_documents(
     rt: &impl Abort,
     alloc: Global,
-    index: &Index,
-    rows: &[(&str, &str)],
-) -> Result<(), Fail> {
-    for (uri, want) in rows {
-        assert_eq!(rt; shown(alloc, index.bearer(uri))?.as_str(), *want);
+    documents: &[Document<'_>],
+    question: &str,
+) -> String {
+    let (word, rest) = cut_word(question);
+    let (base, name) = cut_word(rest);
+    let index = index_of(alloc, &MetaSchemas::none(alloc), documents).expect(rt, "memory");
+    let answer = match word {
+        "bearer" => bearer(documents, &index, base),
+        "anchored" => anchored(documents, &index, base, name),
+        _ => dynamically_anchored(documents, &index, base, name),
+    };
+    shown(rt, alloc, held(rt, documents, answer))
+}
+
+fn assert_indexed(rt: &impl Abort, alloc: Global, documents: &[Document<'_>], topic: &str) {
+    for line in topic.lines() {
+        if let Some((question, want)) = row(rt, line) {
+            assert_told(rt, &by_index(rt, alloc, documents, question), want, line);
+            assert_told(
+                rt,
+                &by_documents(rt, alloc, documents, question),
+                want,
+                line,
+            );
+        }
     }
-    Ok(())
 }
 
-#[test]
-fn the_last_bearer_of_a_uri(rt: HostRuntime) -> Result<(), Fail> {
-    let alloc = rt.alloc();
-    let shared = Rc::new(alloc, Value::from_str(alloc, SECOND)?)?;
-    let lent = Value::from_str(alloc, FIRST)?;
-    let documents = lent_and_shared(alloc, &lent, shared)?;
-    assert_borne(
-        &rt,
-        alloc,
-        &indexed_standing(alloc, &documents)?,
-        &[
-            ("http://a.test/first", "0# http://a.test/own/ Draft202012"),
-            ("http://a.test/own/", "0# http://a.test/own/ Draft202012"),
-            ("http://a.test/second", "1# http://a.test/second Draft7"),
-            (
-                "http://a.test/own/part",
-                "1#/definitions/b http://a.test/own/part Draft7",
-            ),
-            ("http://c.test/", "none"),
-            ("http://a.test/own", "none"),
-        ],
-    )
-}
-
-fn assert_anchored(
-    rt: &impl Abort,
-    alloc: Global,
-    index: &Index,
-    rows: &[(&str, &str, &str)],
-) -> Result<(), Fail> {
-    for (base, name, want) in rows {
-        assert_eq!(rt; shown(alloc, index.anchored(base, name))?.as_str(), *want);
-    }
-    Ok(())
-}
-
-const ANCHORED: [(&str, &str, &str); 9] = [
-    (
-        "http://a.test/own/",
-        "top",
-        "0# http://a.test/own/ Draft202012",
-    ),
-    (
-        "http://a.test/own/",
-        "twice",
-        "0#/$defs/b http://a.test/own/ Draft202012",
-    ),
-    (
-        "http://a.test/own/part",
-        "twice",
-        "0#/$defs/a/not http://a.test/own/part Draft202012",
-    ),
-    (
-        "http://a.test/own/part",
-        "meta",
-        "0#/$defs/a http://a.test/own/part Draft202012",
-    ),
-    ("http://a.test/own/", "meta", "none"),
-    ("http://a.test/first", "top", "none"),
-    ("http://a.test/own/", "c", "none"),
-    (
-        "http://a.test/second",
-        "name",
-        "1#/definitions/a http://a.test/second Draft7",
-    ),
-    ("http://a.test/second", "none", "none"),
-];
-
-#[test]
-fn the_last_bearer_of_an_anchor(rt: HostRuntime) -> Result<(), Fail> {
-    let alloc = rt.alloc();
-    let documents = all_owned(
-        alloc,
-        &[
-            ("http://a.test/first", FIRST),
-            ("http://a.test/second", SECOND),
-        ],
-    )?;
-    assert_anchored(&rt, alloc, &indexed(alloc, &documents)?, &ANCHORED)
-}
+const TWO: &str =
+    r##"document http://a.test/first {"$id":"http://a.test/own/","$anchor":"top","$defs":{"a":{"$id":"part","$anchor":"twice","$dynamicAnchor":"meta","not":{"$anchor":"twice"}},"b":{"$anchor":"twice"},"c":{"$schema":"http://m.test/unknown","$id":"http://c.test/","$anchor":"c"}}}
+document http://a.test/second {"$schema":"http://json-schema.org/draft-07/schema#","$anchor":"none","definitions":{"a":{"$id":"#name"},"b":{"$id":"http://a.test/own/part"},"c":{"$id":"#name","$ref":"#"}}}
+bearer http://a.test/first :: 0# http://a.test/own/ Draft202012
+bearer http://a.test/own/ :: 0# http://a.test/own/ Draft202012
+bearer http://a.test/second :: 1# http://a.test/second Draft7
+bearer http://a.test/own/part :: 1#/definitions/b http://a.test/own/part Draft7
+bearer http://c.test/ :: none
+bearer http://a.test/own :: none
+anchored http://a.test/own/ top :: 0# http://a.test/own/ Draft202012
+anchored http://a.test/own/ twice :: 0#/$defs/b http://a.test/own/ Draft202012
+anchored http://a.test/own/part twice :: 0#/$defs/a/not http://a.test/own/part Draft202012
+anchored http://a.test/own/part meta :: 0#/$defs/a http://a.test/own/part Draft202012
+anchored http://a.test/own/ meta :: none
+anchored http://a.test/first top :: none
+anchored http://a.test/own/ c :: none
+anchored http://a.test/second name :: 1#/definitions/a http://a.test/second Draft7
+anchored http://a.test/second none :: none"##;
 
 const DYNAMIC: &str =
-    "{\"$dynamicAnchor\": \"n\", \"$anchor\": \"plain\", \"$defs\": {\"a\": {\"$dynamicAnchor\": \"n\"},
-    \"b\": {\"$id\": \"part\", \"$dynamicAnchor\": \"n\"}, \"c\": {\"$anchor\": \"n\"},
-    \"d\": {\"$schema\": \"https://json-schema.org/draft/2019-09/schema\", \"$id\": \"old\", \"$dynamicAnchor\": \"n\"}}}";
+    r##"document http://a.test/d {"$dynamicAnchor":"n","$anchor":"plain","$defs":{"a":{"$dynamicAnchor":"n"},"b":{"$id":"part","$dynamicAnchor":"n"},"c":{"$anchor":"n"},"d":{"$schema":"https://json-schema.org/draft/2019-09/schema","$id":"old","$dynamicAnchor":"n"}}}
+dynamic http://a.test/d n :: 0#/$defs/a http://a.test/d Draft202012
+dynamic http://a.test/part n :: 0#/$defs/b http://a.test/part Draft202012
+dynamic http://a.test/d plain :: none
+dynamic http://a.test/old n :: none"##;
 
-fn assert_dynamically_anchored(
+const ONE_URI: &str = r##"document http://a.test/ {"$anchor":"x"}
+document http://a.test/ {"$dynamicAnchor":"y"}
+bearer http://a.test/ :: 1# http://a.test/ Draft202012
+anchored http://a.test/ x :: 0# http://a.test/ Draft202012
+bearer http://b.test/ :: none"##;
+
+#[test]
+fn places_of_documents(rt: HostRuntime) {
+    for topic in [TWO, DYNAMIC, ONE_URI] {
+        assert_indexed(
+            &rt,
+            rt.alloc(),
+            &documents_of(&rt, rt.alloc(), topic),
+            topic,
+        );
+    }
+}
+
+// The same two documents, one lent and one shared.
+fn lent_and_shared<'a>(
     rt: &impl Abort,
     alloc: Global,
-    index: &Index,
-    rows: &[(&str, &str, &str)],
-) -> Result<(), Fail> {
-    for (base, name, want) in rows {
-        let found = index.dynamically_anchored(base, name);
-        assert_eq!(rt; shown(alloc, found)?.as_str(), *want);
-    }
-    Ok(())
-}
-
-// That an answer is a place of a document with a keyword at its root.
-fn assert_answer(
-    rt: &impl Abort,
-    answer: Option<(&Document<'_>, &Bearer)>,
-    position: usize,
-    keyword: &str,
-) {
-    let (held, place) = answer.expect(rt, "an answer");
-    assert_eq!(rt; place.document, position);
-    assert!(rt; held.contents.value().get(keyword).is_some());
+    lent: &'a Value,
+    shared: Value,
+) -> Vec<Document<'a>> {
+    let shared = Contents::Shared(Rc::new(alloc, shared).expect(rt, "memory"));
+    let first = document(rt, alloc, "http://a.test/first", Contents::Lent(lent));
+    let second = document(rt, alloc, "http://a.test/second", shared);
+    vec![in alloc; first, second].expect(rt, "memory")
 }
 
 #[test]
-fn the_last_bearer_of_a_dynamic_anchor(rt: HostRuntime) -> Result<(), Fail> {
+fn places_of_lent_and_shared_documents(rt: HostRuntime) {
     let alloc = rt.alloc();
-    let documents = all_owned(alloc, &[("http://a.test/d", DYNAMIC)])?;
-    let index = index_of(alloc, &MetaSchemas::none(alloc), &documents).expect(&rt, "memory");
-    let found = dynamically_anchored(&documents, &index, "http://a.test/part", "n");
-    assert_answer(&rt, found, 0, "$dynamicAnchor");
-    assert_dynamically_anchored(
-        &rt,
-        alloc,
-        &index,
-        &[
-            (
-                "http://a.test/d",
-                "n",
-                "0#/$defs/a http://a.test/d Draft202012",
-            ),
-            (
-                "http://a.test/part",
-                "n",
-                "0#/$defs/b http://a.test/part Draft202012",
-            ),
-            ("http://a.test/d", "plain", "none"),
-            ("http://a.test/old", "n", "none"),
-        ],
-    )
-}
-
-#[test]
-fn answers_have_the_document(rt: HostRuntime) -> Result<(), Fail> {
-    let alloc = rt.alloc();
-    let documents = all_owned(
-        alloc,
-        &[
-            ("http://a.test/", "{\"$anchor\": \"x\"}"),
-            ("http://a.test/", "{\"$dynamicAnchor\": \"y\"}"),
-        ],
-    )?;
-    let index = index_of(alloc, &MetaSchemas::none(alloc), &documents).expect(&rt, "memory");
-    let borne = bearer(&documents, &index, "http://a.test/");
-    assert_answer(&rt, borne, 1, "$dynamicAnchor");
-    let named = anchored(&documents, &index, "http://a.test/", "x");
-    assert_answer(&rt, named, 0, "$anchor");
-    assert!(rt; bearer(&documents, &index, "http://b.test/").is_none());
-    Ok(())
+    let mut pairs = set_by(&rt, alloc, TWO, "document");
+    let (_, shared) = pairs.pop().expect(&rt, "a document");
+    let (_, lent) = pairs.pop().expect(&rt, "a document");
+    assert_indexed(&rt, alloc, &lent_and_shared(&rt, alloc, &lent, shared), TWO);
 }

@@ -6,22 +6,18 @@ mod adding;
 #[cfg(test)]
 mod asking;
 #[cfg(test)]
-mod both_answers;
-#[cfg(test)]
 mod chains;
 #[cfg(test)]
 mod indexes;
 #[cfg(test)]
 mod lookups;
 #[cfg(test)]
-mod own_meta_schemas;
-#[cfg(test)]
-mod prepared;
-#[cfg(test)]
 mod refusals;
+#[cfg(test)]
+mod registries;
 #[cfg(test)]
 mod retrieving;
 #[cfg(test)]
-mod rounds;
+mod scripts;
 #[cfg(test)]
 mod stages;

@@ -1,200 +1,139 @@
 // Documents that are retrieved, and registries that begin with the documents of another.
-
-use crate::prepared::{reached, refusal, retriever_of};
-use document_retrievers::Retrieve;
+use crate::registries::{Prepared, assert_asked, assert_retrieved, assert_rows, prepared_with};
+use crate::scripts::{assert_last_row, documents_of, limit, set_by, text_of, topics};
+use document_retrieval::rounds::retrieve_wanted;
+use document_retrievers::{DefaultRetriever, MapRetriever, Retrieve};
 use referencing::registry::Registry;
-use referencing_errors::error::{Error, RetrieveError};
+use referencing_errors::error::RetrieveError;
 use schema_drafts::draft::Draft;
 use serde_json::Value;
 use std::alloc::Global;
 use std::cell::Cell;
 use std::process::Abort;
-use std::test::Fail;
+use std::rc::Rc;
 use uri_references::uri::Uri;
 
-const TWO_REFERENCES: &str =
-    "{\"properties\":{\"x\":{\"$ref\":\"http://a.test/x\"},\"y\":{\"$ref\":\"http://a.test/y\"}}}";
-
-fn prepared<'a, R: Retrieve + Drop>(
-    alloc: Global,
-    document: Value,
-    retriever: R,
-    limit: u64,
-) -> Result<Registry<'a>, Error> {
-    let builder = Registry::new(alloc)
-        .retriever(retriever)
-        .retrieval_limit(limit)
-        .add("http://a.test/r", document)?;
-    builder.prepare()
-}
-
-fn uris(alloc: Global, registry: &Registry<'_>) -> Result<String, Fail> {
-    let mut text = String::new(alloc);
-    for uri in registry.retrieved() {
-        text.push_str(uri.as_str())?;
-        text.push(' ')?;
+// The retriever of the answers of a topic.
+pub(crate) fn retriever_of(rt: &impl Abort, alloc: Global, topic: &str) -> MapRetriever {
+    let mut retriever = MapRetriever::new(alloc);
+    for (uri, document) in set_by(rt, alloc, topic, "answer") {
+        retriever.add(alloc, uri, document).expect(rt, uri);
     }
-    Ok(text)
+    retriever
 }
 
-// The URIs that were answered, or the error.
-fn retrieved(
-    alloc: Global,
-    text: &str,
-    pairs: &[(&str, &str)],
-    limit: u64,
-) -> Result<String, Fail> {
-    let document = Value::from_str(alloc, text)?;
-    match prepared(alloc, document, retriever_of(alloc, pairs)?, limit) {
-        Ok(registry) => uris(alloc, &registry),
-        Err(error) => refusal(alloc, Some(error)),
+// URIs in their order.
+pub(crate) fn uris(rt: &impl Abort, alloc: Global, uris: &[Rc<Uri>]) -> String {
+    let mut line = String::new(alloc);
+    for uri in uris {
+        write!(line, "{} ", uri.as_str()).expect(rt, "memory");
     }
+    line
 }
 
-fn assert_retrieved(
+// That the answer of the last row of a topic is told of what is gathered for its documents: the URIs that were answered, or the error.
+pub(crate) fn assert_gathered<R: Retrieve>(
     rt: &impl Abort,
     alloc: Global,
-    pairs: &[(&str, &str)],
-    rows: &[(&str, u64, &str)],
-) -> Result<(), Fail> {
-    for (text, limit, want) in rows {
-        assert_eq!(rt; retrieved(alloc, text, pairs, *limit)?.as_str(), *want);
+    topic: &str,
+    retriever: &R,
+) {
+    let documents = documents_of(rt, alloc, topic);
+    let limit = limit(rt, topic);
+    let told = match retrieve_wanted(alloc, documents, Draft::Draft202012, retriever, limit) {
+        Ok(retrieved) => uris(rt, alloc, &retrieved.uris),
+        Err(error) => text_of(rt, alloc, &error),
+    };
+    assert_last_row(rt, topic, &told);
+}
+
+const RETRIEVED: &str = r##"
+document http://a.test/r {"properties":{"x":{"$ref":"http://a.test/x"},"y":{"$ref":"http://a.test/y"}}}
+answer http://a.test/x true
+answer http://a.test/y true
+limit 1
+refused :: More than 1 documents wanted
+
+document http://a.test/r {"properties":{"x":{"$ref":"http://a.test/x"},"y":{"$ref":"http://a.test/y"}}}
+answer http://a.test/x true
+answer http://a.test/y true
+limit 2
+retrieved :: http://a.test/x http://a.test/y
+
+document http://a.test/r {"properties":{"x":{"$ref":"http://a.test/x"},"y":{"$ref":"http://a.test/y"},"z":{"$ref":"HTTP://a.test/x#/a"}}}
+answer http://a.test/x true
+answer http://a.test/y true
+limit 1
+refused :: More than 1 documents wanted
+
+document http://a.test/r {"properties":{"x":{"$ref":"http://a.test/x"},"y":{"$ref":"http://a.test/y"},"z":{"$ref":"HTTP://a.test/x#/a"}}}
+answer http://a.test/x true
+answer http://a.test/y true
+limit 2
+retrieved :: http://a.test/x http://a.test/y
+
+document http://a.test/r {"$ref":"#/a"}
+answer http://a.test/x true
+answer http://a.test/y true
+limit 0
+retrieved ::
+
+document http://a.test/r {"properties":{"x":{"$ref":"http://a.test/x"},"y":{"$ref":"http://a.test/y"}}}
+answer http://a.test/x {"$defs":{"y":{"$id":"http://a.test/y"}}}
+refused :: Resource 'http://a.test/y' is not present and retrieving it failed
+
+document http://a.test/r {"properties":{"x":{"$ref":"http://a.test/x"},"y":{"$ref":"http://a.test/y"},"z":{"$ref":"HTTP://a.test/x#/a"}}}
+answer http://a.test/x {"$defs":{"y":{"$id":"http://a.test/y"}}}
+refused :: Resource 'http://a.test/y' is not present and retrieving it failed
+
+document http://a.test/r {"$ref":"b"}
+answer http://a.test/b {"$ref":"c"}
+answer http://a.test/c {"items":{"$ref":"b"},"not":{"$ref":"r"}}
+retrieved :: http://a.test/b http://a.test/c
+
+document http://a.test/r {"$schema":"http://a.test/m"}
+answer http://a.test/m {"$schema":"http://json-schema.org/draft-07/schema#"}
+dialect http://a.test/r :: Draft7 items type
+retrieved :: http://a.test/m
+
+document http://a.test/r {"$schema":"http://a.test/m","definitions":{"a":{"$ref":"http://a.test/x"}},"$defs":{"b":{"$ref":"http://a.test/y"}}}
+answer http://a.test/m {"$schema":"http://json-schema.org/draft-07/schema#"}
+answer http://a.test/x true
+retrieved :: http://a.test/m http://a.test/x
+
+document http://a.test/r {"$schema":"http://a.test/m","$ref":"x"}
+answer http://a.test/m {"$schema":"http://a.test/n"}
+refused :: Unknown meta-schema 'http://a.test/n'
+"##;
+
+const CAUSES_OF_ANSWERS: &str = r##"document http://a.test/r {"$ref":"x"}
+answer http://a.test/x {"$id":"a b"}
+refused :: Invalid URI 'a b'"##;
+
+const NOT_RETRIEVED: &str = r##"
+document http://a.test/r {"$ref":"#/a"}
+limit 0
+retrieved ::
+
+document http://a.test/r {"$schema":"http://a.test/m"}
+refused :: Unknown meta-schema 'http://a.test/m'
+"##;
+
+#[test]
+fn documents_retrieved(rt: HostRuntime) {
+    for topic in topics(RETRIEVED) {
+        assert_retrieved(&rt, rt.alloc(), topic);
+        assert_gathered(
+            &rt,
+            rt.alloc(),
+            topic,
+            &retriever_of(&rt, rt.alloc(), topic),
+        );
     }
-    Ok(())
-}
-
-#[test]
-fn limits_of_retrieval(rt: HostRuntime) -> Result<(), Fail> {
-    assert_retrieved(
-        &rt,
-        rt.alloc(),
-        &[("http://a.test/x", "true"), ("http://a.test/y", "true")],
-        &[
-            (TWO_REFERENCES, 1, "More than 1 documents wanted"),
-            (TWO_REFERENCES, 2, "http://a.test/x http://a.test/y "),
-            ("{\"$ref\": \"#/a\"}", 0, ""),
-        ],
-    )
-}
-
-#[test]
-fn asked_in_one_round(rt: HostRuntime) -> Result<(), Fail> {
-    assert_retrieved(
-        &rt,
-        rt.alloc(),
-        &[(
-            "http://a.test/x",
-            "{\"$defs\":{\"y\":{\"$id\":\"http://a.test/y\"}}}",
-        )],
-        &[(
-            TWO_REFERENCES,
-            256,
-            "Resource 'http://a.test/y' is not present and retrieving it failed",
-        )],
-    )
-}
-
-#[test]
-fn causes_of_answers(rt: HostRuntime) -> Result<(), Fail> {
-    assert_retrieved(
-        &rt,
-        rt.alloc(),
-        &[("http://a.test/x", "{\"$id\":\"a b\"}")],
-        &[("{\"$ref\":\"x\"}", 256, "Invalid URI 'a b'")],
-    )
-}
-
-fn answered<'a>(alloc: Global, text: &str, pairs: &[(&str, &str)]) -> Result<Registry<'a>, Fail> {
-    let document = Value::from_str(alloc, text)?;
-    let retriever = retriever_of(alloc, pairs)?;
-    Ok(prepared(alloc, document, retriever, 256)?)
-}
-
-#[test]
-fn meta_schema_retrieved(rt: HostRuntime) -> Result<(), Fail> {
-    let registry = answered(
-        rt.alloc(),
-        "{\"$schema\":\"http://a.test/m\"}",
-        &[(
-            "http://a.test/m",
-            "{\"$schema\":\"http://json-schema.org/draft-07/schema#\"}",
-        )],
-    )?;
-    let there = reached(&registry, "http://a.test/r", "").expect(&rt, "a document");
-    assert!(rt; there.draft() == Draft::Draft7);
-    Ok(())
-}
-
-// The contents of the document of a URI.
-fn document(registry: &Registry<'_>, uri: &str) -> Result<String, Fail> {
-    let contents = reached(registry, uri, "")?.contents();
-    Ok(contents.to_string(registry.allocator())?)
-}
-
-fn assert_documents(
-    rt: &impl Abort,
-    registry: &Registry<'_>,
-    rows: &[(&str, &str)],
-) -> Result<(), Fail> {
-    for (uri, want) in rows {
-        assert_eq!(rt; document(registry, uri)?.as_str(), *want);
+    assert_retrieved(&rt, rt.alloc(), CAUSES_OF_ANSWERS);
+    for topic in topics(NOT_RETRIEVED) {
+        assert_gathered(&rt, rt.alloc(), topic, &DefaultRetriever);
     }
-    Ok(())
-}
-
-fn with_null<'a>(parent: &Registry<'a>) -> Result<Registry<'a>, Error> {
-    parent.add("http://a.test/z", Value::Null)?.prepare()
-}
-
-// A child with a document of the parent's again.
-fn added_again<'a>(alloc: Global, parent: &Registry<'a>) -> Result<Registry<'a>, Fail> {
-    let pairs = vec![in alloc;
-        ("http://a.test/x", Value::Bool(true)),
-        ("http://a.test/w", Value::Bool(false)),
-    ]?;
-    Ok(parent.extend(pairs)?.prepare()?)
-}
-
-fn assert_grandchild(rt: &impl Abort, registry: &Registry<'_>) -> Result<(), Fail> {
-    assert_documents(
-        rt,
-        registry,
-        &[
-            ("http://a.test/x", "true"),
-            ("http://a.test/w", "false"),
-            ("http://a.test/z", "null"),
-        ],
-    )
-}
-
-fn assert_child(rt: &impl Abort, parent: &Registry<'_>, child: &Registry<'_>) -> Result<(), Fail> {
-    assert_eq!(rt; child.retrieved().len(), 0);
-    assert_documents(
-        rt,
-        child,
-        &[
-            ("http://a.test/r", "{\"$ref\":\"x\"}"),
-            ("http://a.test/x", "[1]"),
-            ("http://a.test/z", "null"),
-        ],
-    )?;
-    assert_grandchild(rt, &added_again(child.allocator(), child)?)?;
-    assert_documents(rt, parent, &[("http://a.test/x", "[1]")])
-}
-
-fn assert_children(rt: &impl Abort, parent: &Registry<'_>) -> Result<(), Fail> {
-    let child = with_null(parent).expect(rt, "a registry");
-    assert_child(rt, parent, &child)
-}
-
-#[test]
-fn children_of_registries(rt: HostRuntime) -> Result<(), Fail> {
-    let parent = answered(
-        rt.alloc(),
-        "{\"$ref\":\"x\"}",
-        &[("http://a.test/x", "[1]")],
-    )?;
-    assert_children(&rt, &parent)
 }
 
 // Answers each URI with a document that refers to a further one.
@@ -217,17 +156,9 @@ impl Retrieve for Web {
     }
 }
 
-#[test]
-fn web_beyond_the_limit(rt: HostRuntime) -> Result<(), Fail> {
-    let alloc = rt.alloc();
-    let document = Value::from_str(alloc, "{\"$ref\":\"x\"}")?;
-    let error = prepared(alloc, document, Web, 3).err();
-    assert_eq!(rt;
-        refusal(alloc, error)?.as_str(),
-        "More than 3 documents wanted"
-    );
-    Ok(())
-}
+const WEB: &str = r##"document http://a.test/r {"$ref":"x"}
+limit 3
+refused :: More than 3 documents wanted"##;
 
 // Answers `true` once, and `false` from then on.
 #[derive(Drop)]
@@ -247,16 +178,61 @@ impl Retrieve for Changing {
     }
 }
 
+const TWICE: &str =
+    r##"document http://a.test/r {"properties":{"x":{"$ref":"x"},"y":{"$ref":"http://A.test/x#"}}}
+retrieved :: http://a.test/x
+lookup http://a.test/x :: http://a.test/x# http://a.test/x true"##;
+
 #[test]
-fn asked_once_for_a_uri(rt: HostRuntime) -> Result<(), Fail> {
-    let root = Value::from_str(
-        rt.alloc(),
-        "{\"properties\":{\"x\":{\"$ref\":\"x\"},\"y\":{\"$ref\":\"http://A.test/x#\"}}}",
-    )?;
-    let retriever = Changing {
-        asked: Cell::new(false),
-    };
-    let registry = prepared(rt.alloc(), root, retriever, 256)?;
-    assert_eq!(rt; registry.retrieved().len(), 1);
-    assert_documents(&rt, &registry, &[("http://a.test/x", "true")])
+fn a_web_and_a_change(rt: HostRuntime) {
+    let (alloc, asked) = (rt.alloc(), Cell::new(false));
+    assert_asked(&rt, alloc, &prepared_with(&rt, alloc, WEB, Web), WEB);
+    let changing = Changing { asked };
+    assert_asked(
+        &rt,
+        alloc,
+        &prepared_with(&rt, alloc, TWICE, changing),
+        TWICE,
+    );
+}
+
+const PARENT: &str = r##"document http://a.test/r {"$ref":"x"}
+answer http://a.test/x [1]"##;
+
+const CHILD: &str = r##"retrieved ::
+lookup http://a.test/r :: http://a.test/r# http://a.test/r {"$ref":"x"}
+lookup http://a.test/x :: http://a.test/x# http://a.test/x [1]
+lookup http://a.test/z :: http://a.test/z# http://a.test/z null"##;
+
+// One document of the child's again, and one more.
+const GRANDCHILD: &str = r##"document http://a.test/x true
+document http://a.test/w false
+lookup http://a.test/x :: http://a.test/x# http://a.test/x true
+lookup http://a.test/w :: http://a.test/w# http://a.test/w false
+lookup http://a.test/z :: http://a.test/z# http://a.test/z null"##;
+
+const AFTERWARDS: &str = r##"lookup http://a.test/x :: http://a.test/x# http://a.test/x [1]"##;
+
+fn with_null<'a>(parent: &Registry<'a>) -> Prepared<'a> {
+    parent.add("http://a.test/z", Value::Null)?.prepare()
+}
+
+fn with_pairs<'a>(rt: &impl Abort, parent: &Registry<'a>) -> Prepared<'a> {
+    let pairs = set_by(rt, parent.allocator(), GRANDCHILD, "document");
+    parent.extend(pairs)?.prepare()
+}
+
+fn assert_children(rt: &impl Abort, parent: &Registry<'_>) {
+    let child = with_null(parent).expect(rt, "a registry");
+    assert_rows(rt, &child, CHILD);
+    let grandchild = with_pairs(rt, &child).expect(rt, "a registry");
+    assert_rows(rt, &grandchild, GRANDCHILD);
+    assert_rows(rt, parent, AFTERWARDS);
+}
+
+#[test]
+fn children_of_registries(rt: HostRuntime) {
+    let retriever = retriever_of(&rt, rt.alloc(), PARENT);
+    let parent = prepared_with(&rt, rt.alloc(), PARENT, retriever).expect(&rt, "a registry");
+    assert_children(&rt, &parent);
 }
