@@ -1,257 +1,194 @@
 // What refuses a build, by the texts of the errors.
-use crate::subject::{documents_of, options_at, outcome_of, validator_or_why, verdict_of};
-use json_schema_validator::{Draft, RegexMaker, SchemaRegistry, ValidationOptions, Validator};
-use serde_json::Value;
+use crate::answers::outcome;
+use crate::cases::assert_cases;
+use crate::given::{documents_of, options_of};
+use json_schema_validator::{BuildError, Draft, Validator};
 use std::alloc::Global;
 use std::process::Abort;
 
-// What comes of documents under `http://a.test/r` and `http://a.test/s`, with the first as the root.
-fn outcome(rt: &impl Abort, alloc: Global, root: &str, other: &str) -> String {
-    let texts = [("http://a.test/r", root), ("http://a.test/s", other)];
-    let documents = documents_of(rt, alloc, &texts);
-    let options = options_at(rt, alloc, "http://a.test/r");
-    outcome_of(rt, alloc, options.build(&documents, ""))
-}
+const BESIDE_A_NUMBER: &str = r##"base http://a.test/r
+document <http://a.test/s> {"a":5}
+"##;
 
-// Holds what comes of each pair of these against what is wanted.
-pub(crate) fn assert_outcomes(rt: &impl Abort, alloc: Global, rows: &[(&str, &str, &str)]) {
-    for (root, other, want) in rows {
-        assert_eq!(rt; outcome(rt, alloc, root, other).as_str(), *want);
-    }
-}
+const REACHED: &str = r##"
+document <http://a.test/r> {"$ref":"#/$defs/none"}
+build => Pointer '/$defs/none' does not exist
 
-const REACHED: [(&str, &str, &str); 12] = [
-    (
-        "{\"$ref\":\"#/$defs/none\"}",
-        "{\"a\":5}",
-        "Pointer '/$defs/none' does not exist",
-    ),
-    ("{\"$defs\":{\"u\":{\"type\":5}}}", "{\"a\":5}", "built"),
-    (
-        "{\"$ref\":\"#/$defs/u\",\"$defs\":{\"u\":{\"type\":5}}}",
-        "{\"a\":5}",
-        "Keyword value at 'http://a.test/r#/$defs/u/type': expected type name",
-    ),
-    (
-        "{\"$ref\":\"s#/a\"}",
-        "{\"a\":5}",
-        "Keyword value at 'http://a.test/s#/a': expected schema",
-    ),
-    (
-        "{\"properties\":{\"x\":{\"minItems\":\"1\"}}}",
-        "{\"a\":5}",
-        "Keyword value at 'http://a.test/r#/properties/x/minItems': expected count",
-    ),
-    (
-        "{\"properties\":{\"x\":5}}",
-        "{\"a\":5}",
-        "Keyword value at 'http://a.test/r#/properties/x': expected schema",
-    ),
-    (
-        "{\"unevaluatedItems\":false}",
-        "{\"a\":5}",
-        "Keyword at 'http://a.test/r#/unevaluatedItems' is left out",
-    ),
-    (
-        "{\"not\":{\"unevaluatedProperties\":false}}",
-        "{\"a\":5}",
-        "Keyword at 'http://a.test/r#/not/unevaluatedProperties' is left out",
-    ),
-    (
-        "{\"items\":{\"propertyNames\":{\"items\":5}}}",
-        "{\"a\":5}",
-        "Keyword value at 'http://a.test/r#/items/propertyNames/items': expected schema",
-    ),
-    (
-        "{\"$dynamicRef\":5}",
-        "{\"a\":5}",
-        "Keyword value at 'http://a.test/r#/$dynamicRef': expected text",
-    ),
-    (
-        "{\"$dynamicRef\":\"#none\"}",
-        "{\"a\":5}",
-        "Anchor 'none' does not exist",
-    ),
-    (
-        "5",
-        "{\"a\":5}",
-        "Keyword value at 'http://a.test/r#': expected schema",
-    ),
-];
+document <http://a.test/r> {"$defs":{"u":{"type":5}}}
+build => built
+
+document <http://a.test/r> {"$ref":"#/$defs/u","$defs":{"u":{"type":5}}}
+build => Keyword value at 'http://a.test/r#/$defs/u/type': expected type name
+
+document <http://a.test/r> {"$ref":"s#/a"}
+build => Keyword value at 'http://a.test/s#/a': expected schema
+
+document <http://a.test/r> {"properties":{"x":{"minItems":"1"}}}
+build => Keyword value at 'http://a.test/r#/properties/x/minItems': expected count
+
+document <http://a.test/r> {"properties":{"x":5}}
+build => Keyword value at 'http://a.test/r#/properties/x': expected schema
+
+document <http://a.test/r> {"unevaluatedItems":false}
+build => Keyword at 'http://a.test/r#/unevaluatedItems' is left out
+
+document <http://a.test/r> {"not":{"unevaluatedProperties":false}}
+build => Keyword at 'http://a.test/r#/not/unevaluatedProperties' is left out
+
+document <http://a.test/r> {"items":{"propertyNames":{"items":5}}}
+build => Keyword value at 'http://a.test/r#/items/propertyNames/items': expected schema
+
+document <http://a.test/r> {"$dynamicRef":5}
+build => Keyword value at 'http://a.test/r#/$dynamicRef': expected text
+
+document <http://a.test/r> {"$dynamicRef":"#none"}
+build => Anchor 'none' does not exist
+
+document <http://a.test/r> 5
+build => Keyword value at 'http://a.test/r#': expected schema
+"##;
 
 #[test]
 fn by_what_is_reached(rt: HostRuntime) {
-    assert_outcomes(&rt, rt.alloc(), &REACHED);
+    assert_cases(&rt, rt.alloc(), BESIDE_A_NUMBER, REACHED);
 }
 
-const IN_DOCUMENTS: [(&str, &str, &str); 3] = [
-    (
-        "{\"$defs\":{\"u\":{\"$ref\":\"http://b.test/\"}}}",
-        "true",
-        "Resource 'http://b.test/' is not present and retrieving it failed",
-    ),
-    (
-        "{\"$defs\":{\"u\":{\"$id\":\"http://a.test/%zz\"}}}",
-        "true",
-        "Invalid URI 'http://a.test/%zz'",
-    ),
-    (
-        "{\"$schema\":\"http://a.test/m\"}",
-        "true",
-        "Unknown meta-schema 'http://a.test/m'",
-    ),
-];
+const BESIDE_TRUE: &str = r##"base http://a.test/r
+document <http://a.test/s> true
+"##;
+
+const IN_DOCUMENTS: &str = r##"
+document <http://a.test/r> {"$defs":{"u":{"$ref":"http://b.test/"}}}
+build => Resource 'http://b.test/' is not present and retrieving it failed
+
+document <http://a.test/r> {"$defs":{"u":{"$id":"http://a.test/%zz"}}}
+build => Invalid URI 'http://a.test/%zz'
+
+document <http://a.test/r> {"$schema":"http://a.test/m"}
+build => Unknown meta-schema 'http://a.test/m'
+"##;
+
+const BY_OLDER_DRAFTS: &str = r##"
+document <http://a.test/r> {"$schema":"https://json-schema.org/draft/2019-09/schema","$recursiveRef":"#/x"}
+build => Keyword value at 'http://a.test/r#/$recursiveRef': expected text #
+
+document <http://a.test/r> {"$schema":"http://json-schema.org/draft-07/schema#","$recursiveRef":"#/x"}
+build => built
+
+document <http://a.test/r> {"$schema":"http://json-schema.org/draft-07/schema#","items":[true]}
+build => built
+
+document <http://a.test/r> {"$schema":"http://json-schema.org/draft-04/schema#","items":5}
+build => Keyword value at 'http://a.test/r#/items': expected schema or list
+
+document <http://a.test/r> {"items":[true]}
+build => Keyword value at 'http://a.test/r#/items': expected schema
+
+document <http://a.test/r> {"$schema":"http://json-schema.org/draft-06/schema#","$ref":"s","type":5}
+build => built
+"##;
 
 #[test]
 fn by_what_documents_have(rt: HostRuntime) {
-    assert_outcomes(&rt, rt.alloc(), &IN_DOCUMENTS);
+    assert_cases(&rt, rt.alloc(), BESIDE_TRUE, IN_DOCUMENTS);
+    assert_cases(&rt, rt.alloc(), BESIDE_TRUE, BY_OLDER_DRAFTS);
 }
 
-const BY_META_SCHEMAS: [(&str, &str, &str); 5] = [
-    (
-        "{\"$schema\":\"http://a.test/s\"}",
-        "{\"$schema\":\"http://a.test/r\"}",
-        "Circular meta-schema 'http://a.test/r'",
-    ),
-    (
-        "{\"$schema\":\"http://a.test/s\"}",
-        "{\"$schema\":\"http://a.test/none\"}",
-        "Unknown meta-schema 'http://a.test/none'",
-    ),
-    (
-        "{\"$defs\":{\"u\":{\"$id\":\"u\",\"$schema\":\"s\"}}}",
-        "true",
-        "Unknown meta-schema 'json-schema:///s'",
-    ),
-    (
-        "{\"$schema\":\"http://a.test/s\",\"minimum\":1,\"type\":5}",
-        "{\"$vocabulary\":{\"https://json-schema.org/draft/2020-12/vocab/core\":true}}",
-        "built",
-    ),
-    (
-        "{\"$schema\":\"http://a.test/s\",\"unevaluatedItems\":false}",
-        "{\"$vocabulary\":{\"https://json-schema.org/draft/2020-12/vocab/unevaluated\":true}}",
-        "Keyword at 'http://a.test/r#/unevaluatedItems' is left out",
-    ),
-];
+const AT_R: &str = r##"base http://a.test/r
+"##;
+
+const BY_META_SCHEMAS: &str = r##"
+document <http://a.test/r> {"$schema":"http://a.test/s"}
+document <http://a.test/s> {"$schema":"http://a.test/r"}
+build => Circular meta-schema 'http://a.test/r'
+
+document <http://a.test/r> {"$schema":"http://a.test/s"}
+document <http://a.test/s> {"$schema":"http://a.test/none"}
+build => Unknown meta-schema 'http://a.test/none'
+
+document <http://a.test/r> {"$defs":{"u":{"$id":"u","$schema":"s"}}}
+document <http://a.test/s> true
+build => Unknown meta-schema 'json-schema:///s'
+
+document <http://a.test/r> {"$schema":"http://a.test/s","minimum":1,"type":5}
+document <http://a.test/s> {"$vocabulary":{"https://json-schema.org/draft/2020-12/vocab/core":true}}
+build => built
+
+document <http://a.test/r> {"$schema":"http://a.test/s","unevaluatedItems":false}
+document <http://a.test/s> {"$vocabulary":{"https://json-schema.org/draft/2020-12/vocab/unevaluated":true}}
+build => Keyword at 'http://a.test/r#/unevaluatedItems' is left out
+"##;
 
 #[test]
 fn by_meta_schemas(rt: HostRuntime) {
-    assert_outcomes(&rt, rt.alloc(), &BY_META_SCHEMAS);
+    assert_cases(&rt, rt.alloc(), AT_R, BY_META_SCHEMAS);
 }
 
-// Whether 1 is valid by the schema at a URI, which has the draft of the options.
-fn is_one_valid(
-    rt: &impl Abort,
-    alloc: Global,
-    options: &ValidationOptions,
-    registry: &SchemaRegistry,
-    uri: &str,
-) -> bool {
-    let validator = options.build_on(registry, uri).expect(rt, "a validator");
-    assert!(rt; validator.draft() == Draft::Draft202012);
-    let value = Value::from_str(alloc, "1").expect(rt, "JSON");
-    validator.is_valid(&value).expect(rt, "memory")
+const BY_OPTIONS: &str = r##"
+document <> {"$dynamicRef":5}
+build => Keyword value at 'json-schema:///#/$dynamicRef': expected text
+
+document <> {"$dynamicRef":5}
+dialect http://json-schema.org/draft-07/schema#
+build => built
+"##;
+
+const BY_ONE_SCHEMA: &str = r##"
+document <> {"type":"integer"}
+alone 1 => true
+alone "a" => false
+
+document <> {"$ref":"#/$defs/a","$defs":{"a":{"minimum":2}}}
+alone 2 => true
+
+document <> {"type":5}
+alone 1 => Keyword value at 'json-schema:///#/type': expected type name
+
+document <> {"pattern":"a("}
+alone 1 => Pattern at 'json-schema:///#/pattern' is refused
+
+document <> {"pattern":"a.c"}
+alone "ac" => false
+
+document <> {"minimum":1.5}
+alone 1 => Number at 'json-schema:///#/minimum' is no whole number of 64 bits
+"##;
+
+#[test]
+fn by_options(rt: HostRuntime) {
+    assert_cases(&rt, rt.alloc(), "", BY_OPTIONS);
+    assert_cases(&rt, rt.alloc(), "", BY_ONE_SCHEMA);
+}
+
+const ON_ONE: &str = r##"dialect https://json-schema.org/draft/2020-12/schema
+document <http://a.test/r> {"$defs":{"a":{"type":"null"}}}
+"##;
+
+const ROOTS: [(&str, &str); 3] = [
+    ("http://a.test/r", "true"),
+    ("http://a.test/r#/$defs/a", "false"),
+    (
+        "",
+        "Resource 'json-schema:///' is not present and retrieving it failed",
+    ),
+];
+
+// Whether 1 is valid by a validator, which has the newest draft, or why there is none.
+fn outcome_of_one(rt: &impl Abort, alloc: Global, built: Result<Validator, BuildError>) -> String {
+    if let Ok(validator) = &built {
+        assert!(rt; validator.draft() == Draft::Draft202012);
+    }
+    outcome(rt, alloc, built, "1")
 }
 
 #[test]
 fn on_one_registry(rt: HostRuntime) {
     let alloc = rt.alloc();
-    let texts = [("http://a.test/r", "{\"$defs\":{\"a\":{\"type\":\"null\"}}}")];
-    let documents = documents_of(&rt, alloc, &texts);
-    let options = Validator::options(alloc)
-        .expect(&rt, "memory")
-        .with_draft(Draft::Draft202012);
+    let options = options_of(&rt, alloc, ON_ONE);
+    let documents = documents_of(&rt, alloc, ON_ONE, "document <");
     let registry = options.prepare(&documents).expect(&rt, "a registry");
-    assert!(rt; is_one_valid(&rt, alloc, &options, &registry, "http://a.test/r"));
-    assert!(rt; !is_one_valid(&rt, alloc, &options, &registry, "http://a.test/r#/$defs/a"));
-    let elsewhere = validator_or_why(&rt, alloc, options.build_on(&registry, ""));
-    assert!(rt; elsewhere.is_err());
-}
-
-const BY_OLDER_DRAFTS: [(&str, &str, &str); 6] = [
-    (
-        "{\"$schema\":\"https://json-schema.org/draft/2019-09/schema\",\"$recursiveRef\":\"#/x\"}",
-        "true",
-        "Keyword value at 'http://a.test/r#/$recursiveRef': expected text #",
-    ),
-    (
-        "{\"$schema\":\"http://json-schema.org/draft-07/schema#\",\"$recursiveRef\":\"#/x\"}",
-        "true",
-        "built",
-    ),
-    (
-        "{\"$schema\":\"http://json-schema.org/draft-07/schema#\",\"items\":[true]}",
-        "true",
-        "built",
-    ),
-    (
-        "{\"$schema\":\"http://json-schema.org/draft-04/schema#\",\"items\":5}",
-        "true",
-        "Keyword value at 'http://a.test/r#/items': expected schema or list",
-    ),
-    (
-        "{\"items\":[true]}",
-        "true",
-        "Keyword value at 'http://a.test/r#/items': expected schema",
-    ),
-    (
-        "{\"$schema\":\"http://json-schema.org/draft-06/schema#\",\"$ref\":\"s\",\"type\":5}",
-        "true",
-        "built",
-    ),
-];
-
-#[test]
-fn by_older_drafts(rt: HostRuntime) {
-    assert_outcomes(&rt, rt.alloc(), &BY_OLDER_DRAFTS);
-}
-
-#[test]
-fn by_the_draft_of_the_options(rt: HostRuntime) {
-    let alloc = rt.alloc();
-    let documents = documents_of(&rt, alloc, &[("", "{\"$dynamicRef\":5}")]);
-    let newest = Validator::options(alloc).expect(&rt, "memory");
-    assert!(rt; validator_or_why(&rt, alloc, newest.build(&documents, "")).is_err());
-    let old = newest.with_draft(Draft::Draft7);
-    assert!(rt; validator_or_why(&rt, alloc, old.build(&documents, "")).is_ok());
-}
-
-// The verdict of a schema alone, or why it is refused.
-fn by_schema(rt: &impl Abort, alloc: Global, schema: &str, instance: &str) -> String {
-    let schema = Value::from_str(alloc, schema).expect(rt, "JSON");
-    let built = Validator::new(alloc, schema, RegexMaker);
-    verdict_of(rt, alloc, built, instance)
-}
-
-#[test]
-fn by_one_schema(rt: HostRuntime) {
-    let alloc = rt.alloc();
-    for (schema, value, want) in [
-        ("{\"type\":\"integer\"}", "1", "true"),
-        ("{\"type\":\"integer\"}", "\"a\"", "false"),
-        (
-            "{\"$ref\":\"#/$defs/a\",\"$defs\":{\"a\":{\"minimum\":2}}}",
-            "2",
-            "true",
-        ),
-        (
-            "{\"type\":5}",
-            "1",
-            "Keyword value at 'json-schema:///#/type': expected type name",
-        ),
-        (
-            "{\"pattern\":\"a(\"}",
-            "1",
-            "Pattern at 'json-schema:///#/pattern' is refused",
-        ),
-        ("{\"pattern\":\"a.c\"}", "\"ac\"", "false"),
-        (
-            "{\"minimum\":1.5}",
-            "1",
-            "Number at 'json-schema:///#/minimum' is no whole number of 64 bits",
-        ),
-    ] {
-        assert_eq!(rt; by_schema(&rt, alloc, schema, value).as_str(), want);
+    for (root, want) in ROOTS {
+        let found = outcome_of_one(&rt, alloc, options.build_on(&registry, root));
+        assert_eq!(rt; found.as_str(), want, "{root}");
     }
 }

@@ -2,15 +2,21 @@
 #![tactic(auto)]
 
 #[cfg(test)]
+mod answers;
+#[cfg(test)]
 mod applying;
 #[cfg(test)]
 mod building;
+#[cfg(test)]
+mod cases;
 #[cfg(test)]
 mod dialects;
 #[cfg(test)]
 mod drafts;
 #[cfg(test)]
 mod faults;
+#[cfg(test)]
+mod given;
 #[cfg(test)]
 mod limits;
 #[cfg(test)]
@@ -21,5 +27,3 @@ mod options;
 mod patterns;
 #[cfg(test)]
 mod references;
-#[cfg(test)]
-mod subject;

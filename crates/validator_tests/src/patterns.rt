@@ -2,99 +2,69 @@
 
 ghost use Rattle.regex_patterns.specs.Searches.{is_regex, searched};
 
-use crate::subject::{documents_of, lines, validator_or_why};
+use crate::answers::faults;
+use crate::cases::assert_cases;
+use crate::given::{documents_of, named, setting};
 use json_schema_validator::{
     PatternError, PatternMaker, RegexMaker, RegexMatcher, ValidationOptions, Validator,
 };
-use schema_patterns::PatternMatcher;
 use schema_patterns::bench::ScriptedMaker;
 use serde_json::Value;
 use std::alloc::Global;
 use std::cell::Cell;
 use std::process::Abort;
 
-const MEMBERS: &str =
-    "{\"additionalProperties\":false,\"properties\":{\"foo\":{\"type\":\"string\"}},\"patternProperties\":{\"^bar\":{\"minimum\":5},\"spam$\":{\"maximum\":10}}}";
-
-const FAULTY: &str = "{\"bar\":4,\"spam\":11,\"foo\":3,\"faz\":1}";
-
-const SHARED: &str =
-    "{\"$defs\":{\"s\":{\"pattern\":\"a.c\"}},\"properties\":{\"x\":{\"$ref\":\"#/$defs/s\"},\"y\":{\"$ref\":\"#/$defs/s\"}}}";
-
-fn told<M: PatternMatcher>(
-    rt: &impl Abort,
-    alloc: Global,
-    validator: &Validator<M>,
-    instance: &str,
-) -> String {
-    let value = Value::from_str(alloc, instance).expect(rt, "JSON");
-    let errors = validator.iter_errors(&value).expect(rt, "memory");
-    lines(rt, alloc, errors)
-}
-
-// A script that matches one pattern in one text.
-fn script_of(rt: &impl Abort, alloc: Global, pattern: &str, text: &str) -> ScriptedMaker {
+fn script_of(rt: &impl Abort, alloc: Global, case: &str) -> ScriptedMaker {
     let mut maker = ScriptedMaker::new(alloc);
-    maker.add_match(alloc, pattern, text).expect(rt, "memory");
+    if let Some(pattern) = setting(case, "refuse ") {
+        maker.refuse(alloc, pattern).expect(rt, "memory");
+    }
+    for line in case.lines() {
+        if let Some((pattern, text)) = named(line, "match <") {
+            maker.add_match(alloc, pattern, text).expect(rt, "memory");
+        }
+    }
     maker
 }
 
-fn by_script(rt: &impl Abort, alloc: Global, maker: ScriptedMaker, schema: &str) -> String {
-    let schema = Value::from_str(alloc, schema).expect(rt, "JSON");
-    match validator_or_why(rt, alloc, Validator::new(alloc, schema, maker)) {
-        Ok(validator) => told(rt, alloc, &validator, FAULTY),
-        Err(why) => why,
+pub(crate) fn scripted(rt: &impl Abort, alloc: Global, case: &str, input: &str) -> String {
+    let text = setting(case, "document <> ").expect(rt, "a schema");
+    let schema = Value::from_str(alloc, text).expect(rt, "JSON");
+    let value = Value::from_str(alloc, input).expect(rt, "JSON");
+    match Validator::new(alloc, schema, script_of(rt, alloc, case)) {
+        Ok(validator) => faults(
+            rt,
+            alloc,
+            validator.iter_errors(&value).expect(rt, "memory"),
+        ),
+        Err(error) => format!(in alloc; "{error}").expect(rt, "memory"),
     }
 }
+
+const BY_A_SCRIPT: &str = r##"
+match <spam$> spam
+document <> {"additionalProperties":false,"properties":{"foo":{"type":"string"}},"patternProperties":{"^bar":{"minimum":5},"spam$":{"maximum":10}}}
+scripted {"bar":4,"spam":11,"foo":3,"faz":1} => # #/additionalProperties, #/bar #/patternProperties/^bar/minimum, #/spam #/patternProperties/spam$/maximum, #/foo #/properties/foo/type
+
+document <> {"patternProperties":{"spam$":{"maximum":10}}}
+scripted {"bar":4,"spam":11,"foo":3,"faz":1} => valid
+
+match <spam$> spam
+document <> {"patternProperties":{"spam$":{"maximum":10}}}
+scripted {"bar":4,"spam":11,"foo":3,"faz":1} => #/spam #/patternProperties/spam$/maximum
+
+refuse spam$
+document <> {"patternProperties":{"^bar":true,"spam$":true}}
+scripted {"bar":4,"spam":11,"foo":3,"faz":1} => Pattern at 'json-schema:///#/patternProperties/spam$' is refused
+
+refuse ^bar
+document <> {"patternProperties":{"^bar":true,"spam$":true}}
+scripted {"bar":4,"spam":11,"foo":3,"faz":1} => valid
+"##;
 
 #[test]
 fn by_a_script(rt: HostRuntime) {
-    let alloc = rt.alloc();
-    let found = by_script(&rt, alloc, script_of(&rt, alloc, "spam$", "spam"), MEMBERS);
-    let mut wanted = 0;
-    for line in [
-        " /additionalProperties\n",
-        "/bar /patternProperties/^bar/minimum\n",
-        "/foo /properties/foo/type\n",
-        "/spam /patternProperties/spam$/maximum\n",
-    ] {
-        assert!(rt; found.as_str().contains(line), "{line}");
-        wanted = line.len().wrapping_add(wanted);
-    }
-    assert_eq!(rt; found.len(), wanted);
-}
-
-#[test]
-fn by_a_script_that_matches_nothing(rt: HostRuntime) {
-    let alloc = rt.alloc();
-    let schema = "{\"patternProperties\":{\"spam$\":{\"maximum\":10}}}";
-    assert_eq!(rt;
-        by_script(&rt, alloc, ScriptedMaker::new(alloc), schema).as_str(),
-        ""
-    );
-    let found = by_script(&rt, alloc, script_of(&rt, alloc, "spam$", "spam"), schema);
-    assert_eq!(rt; found.as_str(), "/spam /patternProperties/spam$/maximum\n");
-}
-
-#[test]
-fn by_a_script_that_refuses(rt: HostRuntime) {
-    let alloc = rt.alloc();
-    for (pattern, want) in [
-        (
-            "spam$",
-            "Pattern at 'json-schema:///#/patternProperties/spam$' is refused",
-        ),
-        ("^bar", ""),
-    ] {
-        let mut maker = ScriptedMaker::new(alloc);
-        maker.refuse(alloc, pattern).expect(&rt, "memory");
-        let schema = "{\"patternProperties\":{\"^bar\":true,\"spam$\":true}}";
-        assert_eq!(rt;
-            by_script(&rt, alloc, maker, schema).as_str(),
-            want,
-            "{pattern}"
-        );
-    }
+    assert_cases(&rt, rt.alloc(), "", BY_A_SCRIPT);
 }
 
 // Counts how often it is asked.
@@ -116,26 +86,36 @@ impl PatternMaker for CountingMaker<'_> {
     }
 }
 
-fn assert_accepts(rt: &impl Abort, alloc: Global, validator: &Validator, instance: &str) {
+fn told(rt: &impl Abort, alloc: Global, validator: &Validator, instance: &str) -> String {
     let value = Value::from_str(alloc, instance).expect(rt, "JSON");
-    assert!(rt; validator.is_valid(&value).expect(rt, "memory"));
-    assert!(rt; validator.validate(&value).expect(rt, "memory").is_ok());
+    let is_valid = validator.is_valid(&value).expect(rt, "memory");
+    let verdict = validator.validate(&value).expect(rt, "memory");
+    assert!(rt; verdict.is_ok() == is_valid, "{instance}");
+    faults(
+        rt,
+        alloc,
+        validator.iter_errors(&value).expect(rt, "memory"),
+    )
 }
+
+const SHARED: &str =
+    r##"document <> {"$defs":{"s":{"pattern":"a.c"}},"properties":{"x":{"$ref":"#/$defs/s"},"y":{"$ref":"#/$defs/s"}}}"##;
 
 #[test]
 fn makes_each_text_once(rt: HostRuntime) {
     let alloc = rt.alloc();
     let asked = Cell::new(0);
-    let documents = documents_of(&rt, alloc, &[("", SHARED)]);
     let options: ValidationOptions<CountingMaker<'_>> = Validator::options(alloc)
         .expect(&rt, "memory")
         .with_pattern_maker(CountingMaker { asked: &asked });
+    let documents = documents_of(&rt, alloc, SHARED, "document <");
     let registry = options.prepare(&documents).expect(&rt, "a registry");
     assert_eq!(rt; asked.get(), 0);
     let validator = options.build_on(&registry, "").expect(&rt, "a validator");
     assert_eq!(rt; asked.get(), 1);
-    let found = told(&rt, alloc, &validator, "{\"x\":\"abc\",\"y\":\"b\"}");
-    assert_eq!(rt; found.as_str(), "/y /properties/y/$ref/pattern\n");
-    assert_accepts(&rt, alloc, &validator, "{\"x\":\"abc\"}");
+    let found = told(&rt, alloc, &validator, r#"{"x":"abc","y":"b"}"#);
+    assert_eq!(rt; found.as_str(), "#/y #/properties/y/$ref/pattern");
+    let found = told(&rt, alloc, &validator, r#"{"x":"abc"}"#);
+    assert_eq!(rt; found.as_str(), "valid");
     assert_eq!(rt; asked.get(), 1);
 }

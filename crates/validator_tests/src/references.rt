@@ -1,97 +1,55 @@
 // References by the dynamic scope (2020-12, Core 8.2.3.2; 2019-09, Core 8.2.4.2).
-use crate::subject::{assert_told, built_of};
-use std::alloc::Global;
-use std::process::Abort;
+use crate::cases::assert_cases;
 
-const LIST: &str =
-    "{\"$id\":\"http://a.test/list\",\"type\":\"array\",\"items\":{\"$dynamicRef\":\"#item\"},\"$defs\":{\"d\":{\"$dynamicAnchor\":\"item\"}}}";
+const DYNAMIC: &str =
+    r##"document <http://a.test/list> {"$id":"http://a.test/list","type":"array","items":{"$dynamicRef":"#item"},"$defs":{"d":{"$dynamicAnchor":"item"}}}
+document <http://a.test/strings> {"$id":"http://a.test/strings","$ref":"list","$defs":{"s":{"$dynamicAnchor":"item","type":"string"}}}
+document <http://a.test/both> {"properties":{"l":{"$ref":"list"},"s":{"$ref":"strings"}}}
+"##;
 
-const STRINGS: &str =
-    "{\"$id\":\"http://a.test/strings\",\"$ref\":\"list\",\"$defs\":{\"s\":{\"$dynamicAnchor\":\"item\",\"type\":\"string\"}}}";
+const BY_DYNAMIC_SCOPE: &str = r##"
+base http://a.test/strings
+told ["a",1] => #/1 #/$ref/items/$dynamicRef/type
 
-const BOTH: &str = "{\"properties\":{\"l\":{\"$ref\":\"list\"},\"s\":{\"$ref\":\"strings\"}}}";
+base http://a.test/list
+told ["a",1] => valid
+told 1 => # #/type
 
-// Each a root among documents, an instance and the lines that are wanted.
-fn assert_all_from(
-    rt: &impl Abort,
-    alloc: Global,
-    documents: &[(&str, &str)],
-    rows: &[(&str, &str, &str)],
-) {
-    for (root, instance, want) in rows {
-        let subject = built_of(rt, alloc, documents, root);
-        assert_told(rt, alloc, &subject, instance, want);
-    }
-}
-
-const DYNAMIC: [(&str, &str); 3] = [
-    ("http://a.test/list", LIST),
-    ("http://a.test/strings", STRINGS),
-    ("http://a.test/both", BOTH),
-];
-
-const BY_DYNAMIC_SCOPE: [(&str, &str, &str); 4] = [
-    (
-        "http://a.test/strings",
-        "[\"a\",1]",
-        "/1 /$ref/items/$dynamicRef/type\n",
-    ),
-    ("http://a.test/list", "[\"a\",1]", ""),
-    ("http://a.test/list", "1", " /type\n"),
-    (
-        "http://a.test/both",
-        "{\"l\":[1],\"s\":[1]}",
-        "/s/0 /properties/s/$ref/$ref/items/$dynamicRef/type\n",
-    ),
-];
+base http://a.test/both
+told {"l":[1],"s":[1]} => #/s/0 #/properties/s/$ref/$ref/items/$dynamicRef/type
+"##;
 
 #[test]
 fn dynamic_ones(rt: HostRuntime) {
-    assert_all_from(&rt, rt.alloc(), &DYNAMIC, &BY_DYNAMIC_SCOPE);
+    assert_cases(&rt, rt.alloc(), DYNAMIC, BY_DYNAMIC_SCOPE);
 }
 
-const TREE: &str =
-    "{\"$schema\":\"https://json-schema.org/draft/2019-09/schema\",\"$id\":\"http://a.test/tree\",\"$recursiveAnchor\":true,\"properties\":{\"c\":{\"items\":{\"$recursiveRef\":\"#\"}}}}";
+const RECURSIVE: &str =
+    r##"document <http://a.test/tree> {"$schema":"https://json-schema.org/draft/2019-09/schema","$id":"http://a.test/tree","$recursiveAnchor":true,"properties":{"c":{"items":{"$recursiveRef":"#"}}}}
+document <http://a.test/strict> {"$schema":"https://json-schema.org/draft/2019-09/schema","$id":"http://a.test/strict","$recursiveAnchor":true,"$ref":"tree","type":"object"}
+document <http://a.test/open> {"$schema":"https://json-schema.org/draft/2019-09/schema","$id":"http://a.test/open","$ref":"tree","type":"object"}
+document <http://a.test/needing> {"$schema":"https://json-schema.org/draft/2019-09/schema","$id":"http://a.test/needing","$recursiveAnchor":true,"$ref":"tree","required":["v"]}
+"##;
 
-// One that is recursive too, and one that is not.
-const STRICT: &str =
-    "{\"$schema\":\"https://json-schema.org/draft/2019-09/schema\",\"$id\":\"http://a.test/strict\",\"$recursiveAnchor\":true,\"$ref\":\"tree\",\"type\":\"object\"}";
+const BY_RECURSIVE_SCOPE: &str = r##"
+base http://a.test/strict
+told {"c":[1]} => #/c/0 #/$ref/properties/c/items/$recursiveRef/type
 
-const OPEN: &str =
-    "{\"$schema\":\"https://json-schema.org/draft/2019-09/schema\",\"$id\":\"http://a.test/open\",\"$ref\":\"tree\",\"type\":\"object\"}";
+base http://a.test/needing
+told {"v":1,"c":[{}]} => #/c/0 #/$ref/properties/c/items/$recursiveRef/required
 
-const NEEDING: &str =
-    "{\"$schema\":\"https://json-schema.org/draft/2019-09/schema\",\"$id\":\"http://a.test/needing\",\"$recursiveAnchor\":true,\"$ref\":\"tree\",\"required\":[\"v\"]}";
+base http://a.test/tree
+told {"v":1,"c":[{}]} => valid
+told {"c":[1]} => valid
 
-const RECURSIVE: [(&str, &str); 4] = [
-    ("http://a.test/tree", TREE),
-    ("http://a.test/strict", STRICT),
-    ("http://a.test/open", OPEN),
-    ("http://a.test/needing", NEEDING),
-];
+base http://a.test/open
+told {"c":[1]} => valid
 
-const BY_RECURSIVE_SCOPE: [(&str, &str, &str); 6] = [
-    (
-        "http://a.test/strict",
-        "{\"c\":[1]}",
-        "/c/0 /$ref/properties/c/items/$recursiveRef/type\n",
-    ),
-    (
-        "http://a.test/needing",
-        "{\"v\":1,\"c\":[{}]}",
-        "/c/0 /$ref/properties/c/items/$recursiveRef/required\n",
-    ),
-    ("http://a.test/tree", "{\"v\":1,\"c\":[{}]}", ""),
-    ("http://a.test/tree", "{\"c\":[1]}", ""),
-    ("http://a.test/open", "{\"c\":[1]}", ""),
-    (
-        "http://a.test/strict",
-        "{\"c\":[{\"c\":[1]}]}",
-        "/c/0/c/0 /$ref/properties/c/items/$recursiveRef/$ref/properties/c/items/$recursiveRef/type\n",
-    ),
-];
+base http://a.test/strict
+told {"c":[{"c":[1]}]} => #/c/0/c/0 #/$ref/properties/c/items/$recursiveRef/$ref/properties/c/items/$recursiveRef/type
+"##;
 
 #[test]
 fn recursive_ones(rt: HostRuntime) {
-    assert_all_from(&rt, rt.alloc(), &RECURSIVE, &BY_RECURSIVE_SCOPE);
+    assert_cases(&rt, rt.alloc(), RECURSIVE, BY_RECURSIVE_SCOPE);
 }
