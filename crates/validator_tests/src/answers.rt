@@ -1,58 +1,86 @@
 // What validators answer, as text.
 use crate::given::{Subject, built, documents_of, options_of, setting, subject_of};
 use json_schema_validator::{
-    BuildError, CheckAnswer, ErrorIterator, RegexMaker, ValidationError, Validator, check_error,
+    BuildError, CheckAnswer, ErrorIterator, RegexMaker, SchemaRegistry, ValidationError, Validator,
+    check_error,
 };
 use serde_json::Value;
 use std::alloc::Global;
 use std::process::Abort;
 
+fn write_fault(rt: &impl Abort, text: &mut String, error: &ValidationError<'_>) {
+    let between = if text.is_empty() { "#" } else { ", #" };
+    text.push_str(between).expect(rt, "memory");
+    error.instance_path().write_to(text).expect(rt, "memory");
+    text.push_str(" #").expect(rt, "memory");
+    error.evaluation_path().write_to(text).expect(rt, "memory");
+}
+
 // The instance path and the evaluation path of each error, or that there is none.
-pub(crate) fn faults(rt: &impl Abort, alloc: Global, errors: ErrorIterator<'_>) -> String {
+fn written(rt: &impl Abort, alloc: Global, errors: &[ValidationError<'_>]) -> String {
+    if errors.is_empty() {
+        return String::from_str(alloc, "valid").expect(rt, "memory");
+    }
     let mut text = String::new(alloc);
     for error in errors {
-        let instance = error.instance_path().to_pointer(alloc).expect(rt, "memory");
-        let evaluation = error
-            .evaluation_path()
-            .to_pointer(alloc)
-            .expect(rt, "memory");
-        let between = if text.is_empty() { "" } else { ", " };
-        write!(text, "{between}#{instance} #{evaluation}").expect(rt, "memory");
-    }
-    if text.is_empty() {
-        text.push_str("valid").expect(rt, "memory");
+        write_fault(rt, &mut text, error);
     }
     text
 }
 
+fn listed<'i>(
+    rt: &impl Abort,
+    alloc: Global,
+    errors: ErrorIterator<'i>,
+) -> Vec<ValidationError<'i>> {
+    errors.collect(alloc).expect(rt, "memory")
+}
+
+pub(crate) fn faults(rt: &impl Abort, alloc: Global, errors: ErrorIterator<'_>) -> String {
+    written(rt, alloc, listed(rt, alloc, errors).as_slice())
+}
+
 // Holds each fault of a value against the check, which has to accept it.
-fn assert_accepted(rt: &impl Abort, alloc: Global, subject: &Subject, value: &Value) {
-    for error in subject.validator.iter_errors(value).expect(rt, "memory") {
-        let answer = check_error(alloc, &subject.registry, "", &RegexMaker, value, &error);
+fn assert_accepted(
+    rt: &impl Abort,
+    alloc: Global,
+    registry: &SchemaRegistry,
+    value: &Value,
+    errors: &[ValidationError<'_>],
+) {
+    for error in errors {
+        let answer = check_error(alloc, registry, "", &RegexMaker, value, error);
         match answer.expect(rt, "memory") {
             CheckAnswer::Accepted => {}
-            _ => panic!(rt; "a fault is not accepted"),
+            _ => panic!(rt; "a fault of {value} is not accepted"),
         }
     }
 }
 
+fn has_no_first(rt: &impl Abort, validator: &Validator, value: &Value) -> bool {
+    validator.validate(value).expect(rt, "memory").is_ok()
+}
+
+// Holds the other two observers against whether there are no errors.
+pub(crate) fn assert_agreed(rt: &impl Abort, validator: &Validator, value: &Value, is_valid: bool) {
+    let found = validator.is_valid(value).expect(rt, "memory");
+    assert!(rt; found == is_valid, "another verdict on {value}");
+    let found = has_no_first(rt, validator, value);
+    assert!(rt; found == is_valid, "another first fault of {value}");
+}
+
 // The faults of a value, on which the three observers have to agree, and the check to accept each.
-fn agreed(rt: &impl Abort, alloc: Global, subject: &Subject, value: &Value) -> String {
+fn told_by(rt: &impl Abort, alloc: Global, subject: &Subject, value: &Value) -> String {
     let errors = subject.validator.iter_errors(value).expect(rt, "memory");
-    let text = faults(rt, alloc, errors);
-    let is_valid = subject.validator.is_valid(value).expect(rt, "memory");
-    let verdict = subject.validator.validate(value).expect(rt, "memory");
-    assert!(rt;
-        is_valid == (text.as_str() == "valid") && verdict.is_ok() == is_valid,
-        "the observers differ on {value}"
-    );
-    assert_accepted(rt, alloc, subject, value);
-    text
+    let errors = listed(rt, alloc, errors);
+    assert_agreed(rt, &subject.validator, value, errors.is_empty());
+    assert_accepted(rt, alloc, &subject.registry, value, errors.as_slice());
+    written(rt, alloc, errors.as_slice())
 }
 
 pub(crate) fn told(rt: &impl Abort, alloc: Global, case: &str, input: &str) -> String {
     let value = Value::from_str(alloc, input).expect(rt, "JSON");
-    agreed(rt, alloc, &subject_of(rt, alloc, case), &value)
+    told_by(rt, alloc, &subject_of(rt, alloc, case), &value)
 }
 
 fn described(rt: &impl Abort, alloc: Global, error: &ValidationError<'_>) -> String {
@@ -61,34 +89,43 @@ fn described(rt: &impl Abort, alloc: Global, error: &ValidationError<'_>) -> Str
         .evaluation_path()
         .to_pointer(alloc)
         .expect(rt, "memory");
-    let instance = error.instance().to_string(alloc).expect(rt, "memory");
+    let instance = error.instance();
     let kind = error.kind().as_str();
     format!(in alloc; "#{schema} #{evaluation} {instance} {kind}").expect(rt, "memory")
 }
 
-pub(crate) fn first(rt: &impl Abort, alloc: Global, case: &str, input: &str) -> String {
-    let value = Value::from_str(alloc, input).expect(rt, "JSON");
-    let subject = subject_of(rt, alloc, case);
-    let verdict = subject.validator.validate(&value).expect(rt, "memory");
-    described(rt, alloc, &verdict.expect_err(rt, "an error"))
+fn first_by(rt: &impl Abort, alloc: Global, validator: &Validator, value: &Value) -> String {
+    match &validator.validate(value).expect(rt, "memory") {
+        Err(error) => described(rt, alloc, error),
+        Ok(()) => panic!(rt; "no fault of {value}"),
+    }
 }
 
-pub(crate) fn draft(rt: &impl Abort, alloc: Global, case: &str) -> String {
-    let draft = subject_of(rt, alloc, case).validator.draft();
-    format!(in alloc; "{draft:?}").expect(rt, "memory")
+pub(crate) fn first(rt: &impl Abort, alloc: Global, case: &str, input: &str) -> String {
+    let value = Value::from_str(alloc, input).expect(rt, "JSON");
+    first_by(rt, alloc, &subject_of(rt, alloc, case).validator, &value)
 }
 
 // Whether a value is valid; that there is a validator, where there is no value.
-fn verdict(rt: &impl Abort, alloc: Global, validator: &Validator, input: &str) -> String {
+fn verdict(rt: &impl Abort, alloc: Global, validator: &Validator, input: &str) -> &'static str {
     if input.is_empty() {
-        return String::from_str(alloc, "built").expect(rt, "memory");
+        return "built";
     }
     let value = Value::from_str(alloc, input).expect(rt, "JSON");
-    let is_valid = validator.is_valid(&value).expect(rt, "memory");
-    format!(in alloc; "{is_valid}").expect(rt, "memory")
+    if validator.is_valid(&value).expect(rt, "memory") {
+        "true"
+    } else {
+        "false"
+    }
 }
 
-// The same, or why there is no validator.
+pub(crate) fn why(rt: &impl Abort, alloc: Global, error: BuildError) -> String {
+    let text = error.to_string(alloc).expect(rt, "memory");
+    drop(error);
+    text
+}
+
+// The verdict on a value, or why there is no validator.
 pub(crate) fn outcome(
     rt: &impl Abort,
     alloc: Global,
@@ -96,8 +133,10 @@ pub(crate) fn outcome(
     input: &str,
 ) -> String {
     match built {
-        Ok(validator) => verdict(rt, alloc, &validator, input),
-        Err(error) => format!(in alloc; "{error}").expect(rt, "memory"),
+        Ok(validator) => {
+            String::from_str(alloc, verdict(rt, alloc, &validator, input)).expect(rt, "memory")
+        }
+        Err(error) => why(rt, alloc, error),
     }
 }
 

@@ -20,7 +20,6 @@
 //   within NUMBER           the same with no value, by that limit of schema nodes
 //   alone VALUE             the same, of a document by itself, without options
 //   scripted VALUE          the faults by the script's patterns, or why there is no validator
-//   draft                   the draft of the root
 //   keys                    the pointers of the map of validators, or why there is none
 //   has <POINTER>           whether the map has it
 //   at <POINTER> VALUE      the faults by the map's validator there
@@ -52,7 +51,6 @@ fn answer(rt: &impl Abort, alloc: Global, case: &str, word: &str, input: &str) -
         "within" => answers::within(rt, alloc, case, input),
         "alone" => answers::alone(rt, alloc, case, input),
         "scripted" => scripted(rt, alloc, case, input),
-        "draft" => answers::draft(rt, alloc, case),
         _ => map_answer(rt, alloc, case, word, input),
     }
 }

@@ -1,5 +1,7 @@
 // Meta-schemas of one's own: the draft and the vocabularies that they give (Core 8.1.1, 8.1.2).
 use crate::cases::assert_cases;
+use crate::given::subject_of;
+use json_schema_validator::Draft;
 
 const BESIDE: &str = r##"base http://a.test/r
 # it requires what schemas hold, and nothing that asserts
@@ -36,7 +38,6 @@ const OLD: &str = r##"
 document <http://a.test/r> {"$schema":"http://a.test/old","properties":{"x":{"$ref":"#/definitions/s","minItems":3}},"definitions":{"s":{"type":"array"}}}
 told {"x":[]} => valid
 told {"x":1} => #/x #/properties/x/$ref/type
-draft => Draft7
 "##;
 
 const INSIDE: &str = r##"
@@ -68,4 +69,15 @@ fn vocabularies_and_drafts(rt: HostRuntime) {
 #[test]
 fn of_schemas_inside_others(rt: HostRuntime) {
     assert_cases(&rt, rt.alloc(), BESIDE, INSIDE);
+}
+
+const OF_DRAFT_7: &str = r##"base http://a.test/r
+document <http://a.test/old> {"$schema":"http://json-schema.org/draft-07/schema#","$id":"http://a.test/old"}
+document <http://a.test/r> {"$schema":"http://a.test/old","properties":{"x":{"$ref":"#/definitions/s","minItems":3}},"definitions":{"s":{"type":"array"}}}
+"##;
+
+#[test]
+fn the_draft_of_the_root(rt: HostRuntime) {
+    let subject = subject_of(&rt, rt.alloc(), OF_DRAFT_7);
+    assert!(rt; subject.validator.draft() == Draft::Draft7);
 }

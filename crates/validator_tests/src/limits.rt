@@ -1,7 +1,7 @@
 // How many compile keys schemas lead to: as many are allowed, and one fewer refuses the build.
 use crate::cases::assert_cases;
 use crate::given::built;
-use json_schema_validator::{BuildCause, BuildError};
+use json_schema_validator::{BuildCause, BuildError, Validator};
 
 const FROM_R: &str = r##"base http://a.test/
 root r
@@ -116,11 +116,18 @@ const OF_ONE: &str = r##"limit 1
 document <> {"items":true}
 "##;
 
+// The limit that was met.
+fn limit_of(built: &Result<Validator, BuildError>) -> Option<usize> {
+    match built {
+        Err(BuildError::Schema(BuildCause::NodeLimit { limit })) => Some(*limit),
+        _ => None,
+    }
+}
+
 #[test]
 fn by_name(rt: HostRuntime) {
-    let limit = match built(&rt, rt.alloc(), OF_ONE) {
-        Err(BuildError::Schema(BuildCause::NodeLimit { limit })) => Some(limit),
-        _ => None,
-    };
+    let built = built(&rt, rt.alloc(), OF_ONE);
+    let limit = limit_of(&built);
+    drop(built);
     assert_eq!(rt; limit, Some(1));
 }

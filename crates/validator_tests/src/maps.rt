@@ -1,5 +1,5 @@
 // Validators for each schema of a document, by their JSON Pointers.
-use crate::answers::faults;
+use crate::answers::{faults, why};
 use crate::cases::assert_cases;
 use crate::given::{documents_of, named, options_of, setting};
 use json_schema_validator::{BuildError, ValidatorMap};
@@ -29,13 +29,6 @@ fn pointers(rt: &impl Abort, alloc: Global, map: &ValidatorMap) -> String {
     text
 }
 
-fn keys(rt: &impl Abort, alloc: Global, built: Result<ValidatorMap, BuildError>) -> String {
-    match built {
-        Ok(map) => pointers(rt, alloc, &map),
-        Err(error) => format!(in alloc; "{error}").expect(rt, "memory"),
-    }
-}
-
 fn has(rt: &impl Abort, alloc: Global, map: &ValidatorMap, input: &str) -> String {
     let pointer = input.trim_start_matches('<').trim_end_matches('>');
     let has = map.contains_key(pointer);
@@ -51,6 +44,22 @@ fn at(rt: &impl Abort, alloc: Global, map: &ValidatorMap, input: &str) -> String
     faults(rt, alloc, errors)
 }
 
+fn answer_by(
+    rt: &impl Abort,
+    alloc: Global,
+    map: &ValidatorMap,
+    word: &str,
+    input: &str,
+) -> String {
+    match word {
+        "keys" => pointers(rt, alloc, map),
+        "has" => has(rt, alloc, map, input),
+        "at" => at(rt, alloc, map, input),
+        _ => panic!(rt; "no question is {word}"),
+    }
+}
+
+// The answer of the map of a case, or why there is none.
 pub(crate) fn map_answer(
     rt: &impl Abort,
     alloc: Global,
@@ -58,12 +67,9 @@ pub(crate) fn map_answer(
     word: &str,
     input: &str,
 ) -> String {
-    let map = map_of(rt, alloc, case);
-    match word {
-        "keys" => keys(rt, alloc, map),
-        "has" => has(rt, alloc, &map.expect(rt, "a map"), input),
-        "at" => at(rt, alloc, &map.expect(rt, "a map"), input),
-        _ => panic!(rt; "no question is {word}"),
+    match map_of(rt, alloc, case) {
+        Ok(map) => answer_by(rt, alloc, &map, word, input),
+        Err(error) => why(rt, alloc, error),
     }
 }
 
