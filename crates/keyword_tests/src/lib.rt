@@ -1,4 +1,4 @@
-//! Tests of keywords by validators: what they refuse in a build, and what they tell of values.
+//! Tests of keywords by validators: what they refuse in a build, what they tell of values, and which paths the check takes for a fault's.
 #![tactic(auto)]
 
 #[cfg(test)]
@@ -8,11 +8,15 @@ mod branching;
 #[cfg(test)]
 mod carrying;
 #[cfg(test)]
+mod certificates;
+#[cfg(test)]
 mod choosing;
 #[cfg(test)]
 mod counting;
 #[cfg(test)]
 mod depending;
+#[cfg(test)]
+mod details;
 #[cfg(test)]
 mod examples;
 #[cfg(test)]
@@ -21,5 +25,7 @@ mod naming;
 mod others;
 #[cfg(test)]
 mod patterns;
+#[cfg(test)]
+mod refusals;
 #[cfg(test)]
 mod subject;

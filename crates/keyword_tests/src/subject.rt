@@ -1,136 +1,156 @@
-// What is told of values by schemas, and why schemas are refused.
+// What is told of values by schemas, held against rows.
+use crate::details::write_details;
 use json_schema_validator::{
-    BuildError, CheckAnswer, Documents, ErrorIterator, RegexMaker, SchemaRegistry, ValidationError,
-    Validator, check_error,
+    CheckAnswer, Documents, ErrorIterator, RegexMaker, SchemaRegistry, ValidationError,
+    ValidationOptions, Validator, check_error,
 };
 use serde_json::Value;
 use std::alloc::Global;
 use std::process::Abort;
 use uri_references::uri::from_str;
 
-// A validator with the registry that it was built on.
-#[derive(Drop)]
-pub(crate) struct Subject {
-    pub registry: SchemaRegistry,
-    pub validator: Validator,
+pub(crate) fn value_of(rt: &impl Abort, alloc: Global, text: &str) -> Value {
+    Value::from_str(alloc, text).expect(rt, "JSON")
 }
 
-pub(crate) fn built(rt: &impl Abort, alloc: Global, text: &str) -> Subject {
+pub(crate) fn documents_of(rt: &impl Abort, alloc: Global, uri: &str, text: &str) -> Documents {
     let mut documents = Documents::new(alloc);
     documents
-        .add_text("", text.as_bytes())
+        .add_text(uri, text.as_bytes())
         .expect(rt, "a document");
-    let options = Validator::options(alloc).expect(rt, "memory");
-    let registry = options.prepare(&documents).expect(rt, "a registry");
-    let validator = options.build_on(&registry, "").expect(rt, "a validator");
-    Subject {
-        registry,
-        validator,
-    }
+    documents
 }
 
-fn write_line(rt: &impl Abort, alloc: Global, text: &mut String, error: &ValidationError<'_>) {
+pub(crate) fn options_at(rt: &impl Abort, alloc: Global, base: &str) -> ValidationOptions {
+    let base = from_str(alloc, base).expect(rt, "a URI");
+    let options = Validator::options(alloc).expect(rt, "memory");
+    options.with_base(base)
+}
+
+fn registry_of(rt: &impl Abort, alloc: Global, schema: &str) -> SchemaRegistry {
+    let documents = documents_of(rt, alloc, "", schema);
+    let options = Validator::options(alloc).expect(rt, "memory");
+    options.prepare(&documents).expect(rt, "a registry")
+}
+
+fn validator_on(rt: &impl Abort, alloc: Global, registry: &SchemaRegistry) -> Validator {
+    let options = Validator::options(alloc).expect(rt, "memory");
+    options.build_on(registry, "").expect(rt, "a validator")
+}
+
+fn write_paths(rt: &impl Abort, alloc: Global, text: &mut String, error: &ValidationError<'_>) {
     let instance = error.instance_path().to_pointer(alloc).expect(rt, "memory");
     let evaluation = error
         .evaluation_path()
         .to_pointer(alloc)
         .expect(rt, "memory");
-    write!(text, "{instance} {evaluation}\n").expect(rt, "memory");
+    write!(text, "#{instance} #{evaluation}; ").expect(rt, "memory");
 }
 
-fn lines(rt: &impl Abort, alloc: Global, errors: ErrorIterator<'_>) -> String {
+fn assert_accepted(
+    rt: &impl Abort,
+    alloc: Global,
+    registry: &SchemaRegistry,
+    value: &Value,
+    error: &ValidationError<'_>,
+) {
+    let answer = check_error(alloc, registry, "", &RegexMaker, value, error);
+    assert_eq!(rt;
+        answer.expect(rt, "memory"),
+        CheckAnswer::Accepted,
+        "{value}"
+    );
+}
+
+fn errors_of<'v>(rt: &impl Abort, validator: &Validator, value: &'v Value) -> ErrorIterator<'v> {
+    validator.iter_errors(value).expect(rt, "memory")
+}
+
+// The faults of a value, each of which the check has to accept.
+fn told(
+    rt: &impl Abort,
+    alloc: Global,
+    registry: &SchemaRegistry,
+    value: &Value,
+    errors: ErrorIterator<'_>,
+    is_detailed: bool,
+) -> String {
     let mut text = String::new(alloc);
     for error in errors {
-        write_line(rt, alloc, &mut text, &error);
+        assert_accepted(rt, alloc, registry, value, &error);
+        if is_detailed {
+            write_details(rt, alloc, &mut text, &error);
+        } else {
+            write_paths(rt, alloc, &mut text, &error);
+        }
     }
     text
 }
 
-// Whether the check accepts each fault of a value.
-fn are_accepted(rt: &impl Abort, alloc: Global, subject: &Subject, value: &Value) -> bool {
-    let mut accepted = true;
-    for error in subject.validator.iter_errors(value).expect(rt, "memory") {
-        let answer = check_error(alloc, &subject.registry, "", &RegexMaker, value, &error);
-        accepted &= answer.expect(rt, "memory") == CheckAnswer::Accepted;
-    }
-    accepted
+// The other two observers have to agree.
+fn assert_verdict(rt: &impl Abort, validator: &Validator, value: &Value, is_valid: bool) {
+    let answer = validator.validate(value).expect(rt, "memory");
+    let accepts = validator.is_valid(value).expect(rt, "memory");
+    assert!(rt;
+        answer.is_ok() == is_valid && accepts == is_valid,
+        "{value}"
+    );
 }
 
-// Whether the two other observers say the same of a value.
-fn observers_agree(rt: &impl Abort, subject: &Subject, value: &Value, is_valid: bool) -> bool {
-    let answer = subject.validator.validate(value).expect(rt, "memory");
-    let accepts = subject.validator.is_valid(value).expect(rt, "memory");
-    answer.is_ok() == is_valid && accepts == is_valid
+// What is told of a value by the three observers, and by the check of each fault.
+fn told_on(
+    rt: &impl Abort,
+    alloc: Global,
+    registry: &SchemaRegistry,
+    value: &Value,
+    is_detailed: bool,
+) -> String {
+    let validator = validator_on(rt, alloc, registry);
+    let errors = errors_of(rt, &validator, value);
+    let text = told(rt, alloc, registry, value, errors, is_detailed);
+    assert_verdict(rt, &validator, value, text.is_empty());
+    text
 }
 
-// The lines of a value, where the three observers agree on it and the check accepts each fault.
-fn told(rt: &impl Abort, alloc: Global, subject: &Subject, instance: &str) -> String {
-    let value = Value::from_str(alloc, instance).expect(rt, "JSON");
-    let errors = subject.validator.iter_errors(&value).expect(rt, "memory");
-    let text = lines(rt, alloc, errors);
-    if !are_accepted(rt, alloc, subject, &value) {
-        String::from_str(alloc, "a fault is not accepted").expect(rt, "memory")
-    } else if observers_agree(rt, subject, &value, text.is_empty()) {
-        text
+fn told_by(rt: &impl Abort, alloc: Global, schema: &str, value: &str, is_detailed: bool) -> String {
+    let registry = registry_of(rt, alloc, schema);
+    let value = value_of(rt, alloc, value);
+    told_on(rt, alloc, &registry, &value, is_detailed)
+}
+
+fn assert_row(rt: &impl Abort, alloc: Global, schema: &str, row: &str, is_detailed: bool) {
+    let (value, want) = row.split_once(" :: ").expect(rt, "a value and its faults");
+    let text = told_by(rt, alloc, schema, value, is_detailed);
+    let found = if text.is_empty() {
+        "valid"
     } else {
-        String::from_str(alloc, "the observers differ").expect(rt, "memory")
+        text.trim()
+    };
+    assert_eq!(rt; found, want, "{schema} of {row}");
+}
+
+// A schema with its rows below it.
+fn assert_block(rt: &impl Abort, alloc: Global, block: &str, is_detailed: bool) {
+    let (schema, rows) = block.split_once('\n').expect(rt, "a schema with rows");
+    for row in rows.lines() {
+        assert_row(rt, alloc, schema, row.trim(), is_detailed);
     }
 }
 
-// The rows, each a schema, a value and the lines wanted, of which anything else is told.
-fn told_otherwise(rt: &impl Abort, alloc: Global, rows: &[(&str, &str, &str)]) -> String {
-    let mut text = String::new(alloc);
-    for (schema, value, want) in rows {
-        let found = told(rt, alloc, &built(rt, alloc, schema), value);
-        if found.as_str() != *want {
-            write!(text, "{schema} of {value}: {found}").expect(rt, "memory");
-        }
-    }
-    text
-}
-
-pub(crate) fn assert_told(rt: &impl Abort, alloc: Global, rows: &[(&str, &str, &str)]) {
-    assert_eq!(rt; told_otherwise(rt, alloc, rows).as_str(), "");
-}
-
-// What the build of a schema under `http://a.test/r` answers.
-fn build(rt: &impl Abort, alloc: Global, schema: &str) -> Result<Validator, BuildError> {
-    let mut documents = Documents::new(alloc);
-    documents
-        .add_text("http://a.test/r", schema.as_bytes())
-        .expect(rt, "a document");
-    let base = from_str(alloc, "http://a.test/r").expect(rt, "a URI");
-    let options = Validator::options(alloc).expect(rt, "memory");
-    options.with_base(base).build(&documents, "")
-}
-
-fn shown(rt: &impl Abort, alloc: Global, built: &Result<Validator, BuildError>) -> String {
-    match built {
-        Ok(_) => String::from_str(alloc, "built").expect(rt, "memory"),
-        Err(error) => format!(in alloc; "{error}").expect(rt, "memory"),
+fn assert_blocks(rt: &impl Abort, alloc: Global, blocks: &str, is_detailed: bool) {
+    let blocks = blocks.trim().strip_prefix("- ").expect(rt, "a schema");
+    for block in blocks.split("\n- ") {
+        assert_block(rt, alloc, block, is_detailed);
     }
 }
 
-// What is said of that schema: built, or why not.
-pub(crate) fn outcome(rt: &impl Abort, alloc: Global, schema: &str) -> String {
-    shown(rt, alloc, &build(rt, alloc, schema))
+// Schemas, each behind a dash, with rows of a value and its faults below it. A fault is the paths of the value and of evaluation, each
+// behind a #, and ends with a semicolon.
+pub(crate) fn assert_told(rt: &impl Abort, alloc: Global, blocks: &str) {
+    assert_blocks(rt, alloc, blocks, false);
 }
 
-// The rows, each a schema, a place in it and what is expected there, that are refused otherwise.
-fn refused_otherwise(rt: &impl Abort, alloc: Global, rows: &[(&str, &str, &str)]) -> String {
-    let mut text = String::new(alloc);
-    for (schema, place, expected) in rows {
-        let want = format!(in alloc;
-            "Keyword value at 'http://a.test/r#/{place}': expected {expected}"
-        ).expect(rt, "memory");
-        let found = outcome(rt, alloc, schema);
-        if found.as_str() != want.as_str() {
-            write!(text, "{schema}: {found}\n").expect(rt, "memory");
-        }
-    }
-    text
-}
-
-pub(crate) fn assert_refused(rt: &impl Abort, alloc: Global, rows: &[(&str, &str, &str)]) {
-    assert_eq!(rt; refused_otherwise(rt, alloc, rows).as_str(), "");
+// The same with all that is told of each fault.
+pub(crate) fn assert_detailed(rt: &impl Abort, alloc: Global, blocks: &str) {
+    assert_blocks(rt, alloc, blocks, true);
 }

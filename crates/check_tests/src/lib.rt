@@ -1,7 +1,0 @@
-//! Tests of checks of faults by the documents alone: which paths are certificates.
-#![tactic(auto)]
-
-#[cfg(test)]
-mod checks;
-#[cfg(test)]
-mod leading;
