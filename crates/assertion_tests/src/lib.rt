@@ -2,10 +2,10 @@
 #![tactic(auto)]
 
 #[cfg(test)]
-mod accepting;
+mod keywords;
 #[cfg(test)]
-mod faults;
+mod observing;
 #[cfg(test)]
 mod orders;
 #[cfg(test)]
-mod patterns;
+mod rows;
