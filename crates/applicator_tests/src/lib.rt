@@ -5,6 +5,8 @@
 #[cfg(test)]
 mod applying;
 #[cfg(test)]
-mod paths;
+mod asking;
 #[cfg(test)]
 mod reading;
+#[cfg(test)]
+mod rows;
