@@ -9,30 +9,7 @@ use uri_resolution::resolution::resolve;
 use uri_resolution::triplets::normalize_triplets;
 use uri_resolution::writing::write_guarded;
 
-/// Section 5.2.4.
-#[test]
-fn removes_dot_segments(rt: HostRuntime) {
-    let path = remove_dot_segments(rt.alloc(), "/a/b/c/./../../g").expect(&rt, "memory");
-    assert_eq!(rt; path.as_str(), "/a/g");
-    let path = remove_dot_segments(rt.alloc(), "mid/content=5/../6").expect(&rt, "memory");
-    assert_eq!(rt; path.as_str(), "mid/6");
-}
-
-fn assert_resolved(rt: &impl Abort, alloc: Global, base: &str, rows: &[(&str, &str)]) {
-    let base = split_reference(base);
-    for (reference, want) in rows {
-        let target = resolve(alloc, &base, &split_reference(reference)).expect(rt, "memory");
-        assert_eq!(rt; target.as_str(), *want, "{reference}");
-    }
-}
-
-/// Sections 5.4.1 and 5.4.2, against `http://a/b/c/d;p?q`.
-#[test]
-fn resolves(rt: HostRuntime) {
-    assert_resolved(&rt, rt.alloc(), "http://a/b/c/d;p?q", &EXAMPLES);
-}
-
-/// References against `http://a/b/c/d;p?q`, and what they lead to.
+/// Sections 5.4.1 and 5.4.2: references against `http://a/b/c/d;p?q`, and what they lead to.
 pub const EXAMPLES: [(&str, &str); 42] = [
     ("g:h", "g:h"),
     ("g", "http://a/b/c/g"),
@@ -78,35 +55,61 @@ pub const EXAMPLES: [(&str, &str); 42] = [
     ("http:g", "http:g"),
 ];
 
-fn assert_normal(rt: &impl Abort, alloc: Global, rows: &[(&str, &str)]) {
-    for (text, want) in rows {
-        let normal = normalize(alloc, &split_reference(text)).expect(rt, "memory");
-        assert_eq!(rt; normal.as_str(), *want, "{text}");
+/// Section 5.2.4.
+const PATHS: [(&str, &str); 2] = [
+    ("/a/b/c/./../../g", "/a/g"),
+    ("mid/content=5/../6", "mid/6"),
+];
+
+/// Section 6.2.2.
+const NORMAL_FORMS: [(&str, &str); 4] = [
+    ("example://a/b/c/%7Bfoo%7D", "example://a/b/c/%7Bfoo%7D"),
+    (
+        "eXAMPLE://a/./b/../b/%63/%7bfoo%7d",
+        "example://a/b/c/%7Bfoo%7D",
+    ),
+    ("HTTP://www.EXAMPLE.com/", "http://www.example.com/"),
+    ("a://U%73er@H:80/%3a", "a://User@h:80/%3A"),
+];
+
+pub(crate) fn assert_text(rt: &impl Abort, row: &str, found: String, want: &str) {
+    assert!(rt; found.as_str() == want, "{row}: {found}");
+}
+
+fn target(rt: &impl Abort, alloc: Global, text: &str) -> String {
+    let base = split_reference("http://a/b/c/d;p?q");
+    resolve(alloc, &base, &split_reference(text)).expect(rt, "memory")
+}
+
+#[test]
+fn resolves(rt: HostRuntime) {
+    for (text, want) in &EXAMPLES {
+        assert_text(&rt, text, target(&rt, rt.alloc(), text), want);
     }
 }
 
-/// Section 6.2.2.
+fn without_dots(rt: &impl Abort, alloc: Global, path: &str) -> String {
+    remove_dot_segments(alloc, path).expect(rt, "memory")
+}
+
+fn normal(rt: &impl Abort, alloc: Global, text: &str) -> String {
+    normalize(alloc, &split_reference(text)).expect(rt, "memory")
+}
+
 #[test]
 fn normalizes(rt: HostRuntime) {
-    assert_normal(
-        &rt,
-        rt.alloc(),
-        &[
-            ("example://a/b/c/%7Bfoo%7D", "example://a/b/c/%7Bfoo%7D"),
-            (
-                "eXAMPLE://a/./b/../b/%63/%7bfoo%7d",
-                "example://a/b/c/%7Bfoo%7D",
-            ),
-            ("HTTP://www.EXAMPLE.com/", "http://www.example.com/"),
-            ("a://U%73er@H:80/%3a", "a://User@h:80/%3A"),
-        ],
-    );
+    for (path, want) in &PATHS {
+        assert_text(&rt, path, without_dots(&rt, rt.alloc(), path), want);
+    }
+    for (text, want) in &NORMAL_FORMS {
+        assert_text(&rt, text, normal(&rt, rt.alloc(), text), want);
+    }
 }
 
 #[test]
 fn normalizes_triplets(rt: HostRuntime) {
     let triplets = normalize_triplets(rt.alloc(), "%41%c3%bc%2E%").expect(&rt, "memory");
-    assert_eq!(rt; triplets.as_str(), "A%C3%BC.%");
+    assert_text(&rt, "triplets", triplets, "A%C3%BC.%");
 }
 
 /// A path that would be read as an authority.
@@ -120,5 +123,5 @@ fn guards(rt: HostRuntime) {
         fragment: None,
     };
     let text = write_guarded(rt.alloc(), &parts).expect(&rt, "memory");
-    assert_eq!(rt; text.as_str(), "a:/.//b?c");
+    assert_text(&rt, "guarded", text, "a:/.//b?c");
 }
