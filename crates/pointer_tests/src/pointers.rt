@@ -1,7 +1,7 @@
 // The tables of RFC 6901.
 use json_pointers::{
-    JsonPointerNode, JsonPointerSegment, PointerError, locate, parse_index, pointer, step,
-    unescape_segment, write_escaped_str, write_index,
+    JsonPointerNode, JsonPointerSegment, locate, parse_index, pointer, step, unescape_segment,
+    write_escaped_str, write_index,
 };
 use serde_json::Value;
 use std::alloc::Global;
@@ -10,125 +10,53 @@ use std::process::Abort;
 
 // Section 5, the document.
 const DOCUMENT: &str =
-    "{\"foo\": [\"bar\", \"baz\"], \"\": 0, \"a/b\": 1, \"c%d\": 2, \"e^f\": 3, \"g|h\": 4, \"i\\\\j\": 5, \"k\\\"l\": 6, \" \": 7, \"m~n\": 8}";
+    r#"{"foo": ["bar", "baz"], "": 0, "a/b": 1, "c%d": 2, "e^f": 3, "g|h": 4, "i\\j": 5, "k\"l": 6, " ": 7, "m~n": 8}"#;
 
-// Section 5, the pointers, and the compact text of each value.
-const LEADS: [(&str, &str); 11] = [
-    ("/foo", "[\"bar\",\"baz\"]"),
-    ("/foo/0", "\"bar\""),
+// Section 5: each pointer, and the compact text of its value, or why there is none.
+const LEADS: [(&str, &str); 23] = [
+    (
+        "",
+        r#"{"":0," ":7,"a/b":1,"c%d":2,"e^f":3,"foo":["bar","baz"],"g|h":4,"i\\j":5,"k\"l":6,"m~n":8}"#,
+    ),
+    ("/foo", r#"["bar","baz"]"#),
+    ("/foo/0", r#""bar""#),
     ("/", "0"),
     ("/a~1b", "1"),
     ("/c%d", "2"),
     ("/e^f", "3"),
     ("/g|h", "4"),
-    ("/i\\j", "5"),
-    ("/k\"l", "6"),
+    (r#"/i\j"#, "5"),
+    (r#"/k"l"#, "6"),
     ("/ ", "7"),
     ("/m~0n", "8"),
+    ("/bar", "no value there"),
+    ("/foo/2", "no value there"),
+    ("/foo/0/x", "no value there"),
+    ("//", "no value there"),
+    ("/m~n/0", "no value there"),
+    ("/foo/18446744073709551616", "no value there"),
+    ("/foo/01", "`01` is no array index"),
+    ("/foo/-", "`-` is no array index"),
+    ("/foo/", "`` is no array index"),
+    ("/foo/~00/x", "`~00` is no array index"),
+    ("foo", "not a JSON pointer"),
 ];
 
-fn text_at(rt: &impl Abort, alloc: Global, document: &Value, text: &str) -> String {
-    let found = pointer(document, text).expect(rt, "a value");
-    found.to_string(alloc).expect(rt, "memory")
-}
-
-fn assert_leads(rt: &impl Abort, alloc: Global, document: &Value, rows: &[(&str, &str)]) {
-    for (text, want) in rows {
-        assert_eq!(rt; text_at(rt, alloc, document, text).as_str(), *want);
-        assert!(rt; locate(document, text).is_ok());
-    }
-}
-
-#[test]
-fn section_5(rt: HostRuntime) {
-    let alloc = rt.alloc();
-    let document = Value::from_str(alloc, DOCUMENT).expect(&rt, "JSON");
-    let whole = document.to_string(alloc).expect(&rt, "memory");
-    assert_eq!(rt; text_at(&rt, alloc, &document, "").as_str(), whole.as_str());
-    assert_leads(&rt, alloc, &document, &LEADS);
-}
-
-fn assert_nowhere(rt: &impl Abort, document: &Value, texts: &[&str]) {
-    for text in texts {
-        assert!(rt;
-            matches!(locate(document, text), Err(PointerError::Nowhere)),
-            "at {text}"
-        );
-    }
-}
-
-// Each pointer, and the part that is no index.
-fn assert_no_index(rt: &impl Abort, document: &Value, rows: &[(&str, &str)]) {
-    for (text, index) in rows {
-        match locate(document, text) {
-            Err(PointerError::InvalidArrayIndex(token)) => assert_eq!(rt; token, *index),
-            _ => assert!(rt; false, "at {text}"),
-        }
-    }
-}
-
-#[test]
-fn refused(rt: HostRuntime) {
-    let document = Value::from_str(rt.alloc(), DOCUMENT).expect(&rt, "JSON");
-    assert_nowhere(
-        &rt,
-        &document,
-        &[
-            "/bar",
-            "/foo/2",
-            "/foo/0/x",
-            "//",
-            "/m~n/0",
-            "/foo/18446744073709551616",
-        ],
-    );
-    assert_no_index(
-        &rt,
-        &document,
-        &[
-            ("/foo/01", "01"),
-            ("/foo/-", "-"),
-            ("/foo/", ""),
-            ("/foo/~00/x", "~00"),
-        ],
-    );
-    assert!(rt; matches!(locate(&document, "foo"), Err(PointerError::NotAPointer)));
-    assert!(rt; pointer(&document, "foo").is_none());
-    let shown = format!(in rt.alloc(); "{}", PointerError::InvalidArrayIndex("01")).expect(
-        &rt, "memory",
-    );
-    assert_eq!(rt; shown.as_str(), "`01` is no array index");
-}
-
-fn assert_no_indexes(rt: &impl Abort, texts: &[&str]) {
-    for text in texts {
-        assert_eq!(rt; parse_index(text), None, "at {text}");
-    }
-}
-
-#[test]
-fn indexes(rt: HostRuntime) {
-    assert_eq!(rt; parse_index("0"), Some(0));
-    assert_eq!(rt; parse_index("1"), Some(1));
-    assert_eq!(rt;
-        parse_index("18446744073709551615"),
-        Some(18446744073709551615)
-    );
-    assert_no_indexes(
-        &rt,
-        &[
-            "",
-            "01",
-            "00",
-            "-",
-            "-1",
-            "+1",
-            " 1",
-            "1a",
-            "18446744073709551616",
-        ],
-    );
-}
+// Each text, and the index that it is, if any.
+const INDEXES: [(&str, Option<usize>); 12] = [
+    ("0", Some(0)),
+    ("1", Some(1)),
+    ("18446744073709551615", Some(18446744073709551615)),
+    ("", None),
+    ("01", None),
+    ("00", None),
+    ("-", None),
+    ("-1", None),
+    ("+1", None),
+    (" 1", None),
+    ("1a", None),
+    ("18446744073709551616", None),
+];
 
 // A text, and how it is written as a part.
 const ESCAPES: [(&str, &str); 6] = [
@@ -140,32 +68,36 @@ const ESCAPES: [(&str, &str); 6] = [
     ("/~/", "~1~0~1"),
 ];
 
-fn assert_escaped(rt: &impl Abort, alloc: Global, rows: &[(&str, &str)]) {
-    for (text, escaped) in rows {
-        let mut buffer = String::from_str(alloc, "/").expect(rt, "memory");
-        write_escaped_str(&mut buffer, text).expect(rt, "memory");
-        assert_eq!(rt; buffer.as_str().strip_prefix('/'), Some(*escaped));
-        let back = unescape_segment(alloc, escaped).expect(rt, "memory");
-        assert_eq!(rt; back.as_str(), *text);
-        assert_eq!(rt; matches!(back, CowStr::Borrowed(_)), !escaped.contains('~'));
+// A text that a part stands for, and the part.
+const UNESCAPES: [(&str, &str); 4] = [("~/", "~~1"), ("~2", "~2"), ("a~", "a~"), ("/0", "~10")];
+
+// What a pointer leads to, or why it leads nowhere.
+fn told(rt: &impl Abort, alloc: Global, document: &Value, text: &str) -> String {
+    match (pointer(document, text), locate(document, text)) {
+        (Some(value), Ok(_)) => value.to_string(alloc).expect(rt, "memory"),
+        (None, Err(error)) => format!(in alloc; "{error}").expect(rt, "memory"),
+        _ => String::new(alloc),
     }
 }
 
-fn assert_unescaped(rt: &impl Abort, alloc: Global, rows: &[(&str, &str)]) {
-    for (segment, text) in rows {
-        let back = unescape_segment(alloc, segment).expect(rt, "memory");
-        assert_eq!(rt; back.as_str(), *text);
+fn assert_text(rt: &impl Abort, row: &str, found: String, want: &str) {
+    assert!(rt; found.as_str() == want, "{row}: {found}");
+}
+
+#[test]
+fn pointers_lead(rt: HostRuntime) {
+    let document = Value::from_str(rt.alloc(), DOCUMENT).expect(&rt, "JSON");
+    for (text, want) in &LEADS {
+        let found = told(&rt, rt.alloc(), &document, text);
+        assert_text(&rt, text, found, want);
     }
 }
 
 #[test]
-fn escapes(rt: HostRuntime) {
-    assert_escaped(&rt, rt.alloc(), &ESCAPES);
-    assert_unescaped(
-        &rt,
-        rt.alloc(),
-        &[("~~1", "~/"), ("~2", "~2"), ("a~", "a~"), ("~10", "/0")],
-    );
+fn indexes(rt: HostRuntime) {
+    for (text, want) in &INDEXES {
+        assert!(rt; parse_index(text) == *want, "{text}");
+    }
 }
 
 #[test]
@@ -173,40 +105,91 @@ fn digits(rt: HostRuntime) {
     let mut digits = String::new(rt.alloc());
     write_index(&mut digits, 0).expect(&rt, "memory");
     write_index(&mut digits, 18446744073709551615).expect(&rt, "memory");
-    assert_eq!(rt; digits.as_str(), "018446744073709551615");
+    assert_text(&rt, "digits", digits, "018446744073709551615");
+}
+
+// A part behind a slash that is there.
+fn assert_escaped(rt: &impl Abort, alloc: Global, text: &str, want: &str) {
+    let mut buffer = String::from_str(alloc, "/").expect(rt, "memory");
+    write_escaped_str(&mut buffer, text).expect(rt, "memory");
+    assert!(rt; buffer.as_str().strip_prefix('/') == Some(want), "{text}");
+}
+
+fn assert_unescaped(rt: &impl Abort, alloc: Global, segment: &str, want: &str) {
+    let text = unescape_segment(alloc, segment).expect(rt, "memory");
+    let is_lent = matches!(text, CowStr::Borrowed(_));
+    assert!(rt; text.as_str() == want, "{segment}");
+    assert!(rt; is_lent != segment.contains('~'), "{segment}");
+}
+
+#[test]
+fn escapes(rt: HostRuntime) {
+    for (text, part) in &ESCAPES {
+        assert_escaped(&rt, rt.alloc(), text, part);
+        assert_unescaped(&rt, rt.alloc(), part, text);
+    }
+    for (text, part) in &UNESCAPES {
+        assert_unescaped(&rt, rt.alloc(), part, text);
+    }
+}
+
+fn assert_item(rt: &impl Abort, alloc: Global, item: &JsonPointerNode<'_, '_>) {
+    let mut text = String::from_str(alloc, "#").expect(rt, "memory");
+    item.write_to(&mut text).expect(rt, "memory");
+    assert_text(rt, "item", text, "#/a~1b/0");
+    assert!(rt; matches!(item.segment(), JsonPointerSegment::Index(0)));
+    assert!(rt; item.parent().is_some());
+}
+
+fn assert_pointer(rt: &impl Abort, alloc: Global, member: &JsonPointerNode<'_, '_>) {
+    let text = member.to_pointer(alloc).expect(rt, "memory");
+    assert_text(rt, "member", text, "/a~1b/0/m~0n");
+}
+
+fn assert_found(
+    rt: &impl Abort,
+    alloc: Global,
+    document: &Value,
+    member: &JsonPointerNode<'_, '_>,
+) {
+    let found = member.find_in(document).expect(rt, "a value");
+    assert!(rt; found.as_bool() == Some(true));
+    let found = member.find_by_text(alloc, document).expect(rt, "memory");
+    assert!(rt; found.expect(rt, "a value").as_bool() == Some(true));
+}
+
+fn assert_none_below(
+    rt: &impl Abort,
+    alloc: Global,
+    document: &Value,
+    member: &JsonPointerNode<'_, '_>,
+) {
+    let name = String::from_str(alloc, "x").expect(rt, "memory");
+    let below = member.push(CowStr::Owned(name));
+    assert!(rt; below.find_in(document).is_none());
+}
+
+fn assert_member(rt: &impl Abort, alloc: Global, document: &Value, item: &JsonPointerNode<'_, '_>) {
+    let member = item.push("m~n");
+    assert_found(rt, alloc, document, &member);
+    assert_none_below(rt, alloc, document, &member);
+}
+
+fn assert_paths(rt: &impl Abort, alloc: Global, document: &Value, name: &String) {
+    let root = JsonPointerNode::new();
+    let object = root.push("a/b");
+    let item = object.push(0);
+    assert_item(rt, alloc, &item);
+    assert_member(rt, alloc, document, &item);
+    let named = item.push(name);
+    assert_pointer(rt, alloc, &named);
 }
 
 #[test]
 fn paths(rt: HostRuntime) {
+    let document = Value::from_str(rt.alloc(), r#"{"a/b": [{"m~n": true}]}"#).expect(&rt, "JSON");
     let name = String::from_str(rt.alloc(), "m~n").expect(&rt, "memory");
-    let root = JsonPointerNode::new();
-    let object = root.push("a/b");
-    let item = object.push(0);
-    let member = item.push(&name);
-    let text = member.to_pointer(rt.alloc()).expect(&rt, "memory");
-    assert_eq!(rt; text.as_str(), "/a~1b/0/m~0n");
-    let mut buffer = String::from_str(rt.alloc(), "#").expect(&rt, "memory");
-    item.write_to(&mut buffer).expect(&rt, "memory");
-    assert_eq!(rt; buffer.as_str(), "#/a~1b/0");
-    assert!(rt; matches!(item.segment(), JsonPointerSegment::Index(0)));
-    assert!(rt; item.parent().is_some());
-    assert!(rt; JsonPointerNode::default().parent().is_none());
-}
-
-#[test]
-fn paths_lead_to_values(rt: HostRuntime) {
-    let alloc = rt.alloc();
-    let document = Value::from_str(alloc, "{\"a/b\": [{\"m~n\": true}]}").expect(&rt, "JSON");
-    let root = JsonPointerNode::new();
-    let object = root.push("a/b");
-    let item = object.push(0);
-    let member = item.push("m~n");
-    let found = member.find_in(&document).expect(&rt, "a value");
-    assert_eq!(rt; found.as_bool(), Some(true));
-    let again = member.find_by_text(alloc, &document).expect(&rt, "memory");
-    assert_eq!(rt; again.expect(&rt, "a value").as_bool(), Some(true));
-    let owned: CowStr<'_> = CowStr::Owned(String::from_str(alloc, "x").expect(&rt, "memory"));
-    let below = member.push(owned);
-    assert!(rt; below.find_in(&document).is_none());
+    assert_paths(&rt, rt.alloc(), &document, &name);
     assert!(rt; matches!(step(&document, "a~1b"), Ok(Value::Array(_))));
+    assert!(rt; JsonPointerNode::default().parent().is_none());
 }

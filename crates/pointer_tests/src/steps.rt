@@ -4,94 +4,121 @@ use serde_json::Value;
 use std::alloc::Global;
 use std::process::Abort;
 
-const DOCUMENT: &str = "{\"foo\": [\"bar\", \"baz\"], \"\": 0, \"a/b\": 1, \"m~n\": 8}";
+const DOCUMENT: &str = r#"{"foo": ["bar", "baz"], "": 0, "a/b": 1, "m~n": 8}"#;
 
-// Each name, the pointer of its path, and the compact text of its value.
-fn assert_named(rt: &impl Abort, alloc: Global, document: &Value, rows: &[(&str, &str, &str)]) {
-    for (name, pointer, want) in rows {
-        let path = Path::root().push_name(alloc, name).expect(rt, "memory");
-        assert_eq!(rt; text_at(rt, alloc, &path, document).as_str(), *want);
-        assert_eq!(rt; pointer_of(rt, alloc, &path).as_str(), *pointer);
+// The steps of a path, a name behind a `.` and an index behind a `#`; its pointer; and the compact text of its value, if there is one.
+const PATHS: [(&str, &str, &str); 7] = [
+    (".foo", "/foo", r#"["bar","baz"]"#),
+    (".", "/", "0"),
+    (".a/b", "/a~1b", "1"),
+    (".m~n", "/m~0n", "8"),
+    (".foo #1", "/foo/1", r#""baz""#),
+    (".foo #2", "/foo/2", "none"),
+    (".foo .1", "/foo/1", "none"),
+];
+
+fn pushed(rt: &impl Abort, alloc: Global, path: &Path, step: &str) -> Path {
+    match step.strip_prefix('#') {
+        Some(index) => path
+            .push_item(alloc, index.parse().expect(rt, step))
+            .expect(rt, "memory"),
+        None => path
+            .push_name(alloc, step.strip_prefix('.').expect(rt, step))
+            .expect(rt, "memory"),
     }
 }
 
+fn path_of(rt: &impl Abort, alloc: Global, steps: &str) -> Path {
+    match steps.split_once(' ') {
+        Some((first, last)) => {
+            let path = pushed(rt, alloc, &Path::root(), first);
+            pushed(rt, alloc, &path, last)
+        }
+        None => pushed(rt, alloc, &Path::default(), steps),
+    }
+}
+
+fn assert_text(rt: &impl Abort, row: &str, found: String, want: &str) {
+    assert!(rt; found.as_str() == want, "{row}: {found}");
+}
+
+fn assert_found(rt: &impl Abort, alloc: Global, path: &Path, document: &Value, want: &str) {
+    match path.find_in(document) {
+        Some(value) => {
+            let found = value.to_string(alloc).expect(rt, "memory");
+            assert_text(rt, "value", found, want);
+        }
+        None => assert!(rt; want == "none", "{want}"),
+    }
+}
+
+fn written(rt: &impl Abort, alloc: Global, path: &Path) -> String {
+    let mut text = String::from_str(alloc, "#").expect(rt, "memory");
+    path.write_to(&mut text).expect(rt, "memory");
+    text
+}
+
+fn assert_written(rt: &impl Abort, found: String, want: &str) {
+    assert!(rt; found.as_str().strip_prefix('#') == Some(want), "{found}");
+}
+
+fn assert_pointer(rt: &impl Abort, alloc: Global, path: &Path, want: &str) {
+    assert_written(rt, written(rt, alloc, path), want);
+    let text = path.to_pointer(alloc).expect(rt, "memory");
+    assert_text(rt, "pointer", text, want);
+}
+
 #[test]
-fn names_lead_to_members(rt: HostRuntime) {
+fn paths_lead(rt: HostRuntime) {
     let document = Value::from_str(rt.alloc(), DOCUMENT).expect(&rt, "JSON");
-    assert_named(
-        &rt,
-        rt.alloc(),
-        &document,
-        &[
-            ("foo", "/foo", "[\"bar\",\"baz\"]"),
-            ("", "/", "0"),
-            ("a/b", "/a~1b", "1"),
-            ("m~n", "/m~0n", "8"),
-        ],
-    );
+    for (steps, pointer, want) in &PATHS {
+        let path = path_of(&rt, rt.alloc(), steps);
+        assert_pointer(&rt, rt.alloc(), &path, pointer);
+        assert_found(&rt, rt.alloc(), &path, &document, want);
+    }
 }
 
-#[test]
-fn items_lead_to_items(rt: HostRuntime) {
-    let document = Value::from_str(rt.alloc(), DOCUMENT).expect(&rt, "JSON");
-    let path = items(&rt, rt.alloc(), 1);
-    assert_eq!(rt;
-        text_at(&rt, rt.alloc(), &path, &document).as_str(),
-        "\"baz\""
-    );
-    let mut text = String::from_str(rt.alloc(), "#").expect(&rt, "memory");
-    path.write_to(&mut text).expect(&rt, "memory");
-    assert_eq!(rt; text.as_str(), "#/foo/1");
-    assert!(rt; items(&rt, rt.alloc(), 2).find_in(&document).is_none());
+fn is_same(rt: &impl Abort, alloc: Global, path: &Path, steps: &str) -> bool {
+    path_of(rt, alloc, steps) == *path
 }
 
-// The path of the member `1` of `foo`.
-fn members(rt: &impl Abort, alloc: Global) -> Path {
-    let path = Path::default().push_name(alloc, "foo").expect(rt, "memory");
-    path.push_name(alloc, "1").expect(rt, "memory")
-}
-
-#[test]
-fn copies_are_equal(rt: HostRuntime) {
-    let item = items(&rt, rt.alloc(), 1);
-    assert!(rt; item.clone().expect(&rt, "memory") == item);
+fn is_copied(rt: &impl Abort, path: &Path) -> bool {
+    path.clone().expect(rt, "memory") == *path
 }
 
 #[test]
 fn a_name_is_no_index(rt: HostRuntime) {
-    let member = members(&rt, rt.alloc());
-    assert!(rt; items(&rt, rt.alloc(), 1) != member);
-    assert_eq!(rt; pointer_of(&rt, rt.alloc(), &member).as_str(), "/foo/1");
-    let document = Value::from_str(rt.alloc(), DOCUMENT).expect(&rt, "JSON");
-    assert!(rt; member.find_in(&document).is_none());
+    let item = path_of(&rt, rt.alloc(), ".foo #1");
+    assert!(rt; is_copied(&rt, &item));
+    assert!(rt; is_same(&rt, rt.alloc(), &item, ".foo #1"));
+    assert!(rt; !is_same(&rt, rt.alloc(), &item, ".foo .1"));
+}
+
+fn copied(rt: &impl Abort, step: &Step) -> Step {
+    step.clone().expect(rt, "memory")
+}
+
+fn assert_last(rt: &impl Abort, path: &Path) {
+    let last = path.steps().next().expect(rt, "a step");
+    assert!(rt; copied(rt, last) == Step::Item(7));
+}
+
+fn assert_shown(rt: &impl Abort, alloc: Global, root: &Path, path: &Path) {
+    let text = format!(in alloc; "{root:?} {path:?}").expect(rt, "memory");
+    let want = "Path { steps: [] } Path { steps: [Item(7)] }";
+    assert_text(rt, "shown", text, want);
+}
+
+fn assert_pushed(rt: &impl Abort, alloc: Global, root: &Path, path: &Path) {
+    assert!(rt; root.is_root());
+    assert!(rt; !path.is_root());
+    assert_last(rt, path);
+    assert_shown(rt, alloc, root, path);
 }
 
 #[test]
 fn a_root_stays_empty(rt: HostRuntime) {
     let root = Path::root();
     let path = root.push(rt.alloc(), Step::Item(7)).expect(&rt, "memory");
-    assert!(rt; root.is_root());
-    assert!(rt; !path.is_root());
-    let last = path.steps().next().expect(&rt, "a step");
-    assert!(rt; last.clone().expect(&rt, "memory") == Step::Item(7));
-    assert_eq!(rt;
-        format!(in rt.alloc(); "{root:?} {path:?}")
-            .expect(&rt, "memory")
-            .as_str(),
-        "Path { steps: [] } Path { steps: [Item(7)] }"
-    );
-}
-
-fn items(rt: &impl Abort, alloc: Global, position: usize) -> Path {
-    let path = Path::root().push_name(alloc, "foo").expect(rt, "memory");
-    path.push_item(alloc, position).expect(rt, "memory")
-}
-
-fn text_at(rt: &impl Abort, alloc: Global, path: &Path, document: &Value) -> String {
-    let found = path.find_in(document).expect(rt, "a value");
-    found.to_string(alloc).expect(rt, "memory")
-}
-
-fn pointer_of(rt: &impl Abort, alloc: Global, path: &Path) -> String {
-    path.to_pointer(alloc).expect(rt, "memory")
+    assert_pushed(&rt, rt.alloc(), &root, &path);
 }
