@@ -80,7 +80,7 @@ fn told(rt: &impl Abort, alloc: Global, document: &Value, text: &str) -> String 
     }
 }
 
-fn assert_text(rt: &impl Abort, row: &str, found: String, want: &str) {
+pub(crate) fn assert_text(rt: &impl Abort, row: &str, found: String, want: &str) {
     assert!(rt; found.as_str() == want, "{row}: {found}");
 }
 
@@ -115,21 +115,27 @@ fn assert_escaped(rt: &impl Abort, alloc: Global, text: &str, want: &str) {
     assert!(rt; buffer.as_str().strip_prefix('/') == Some(want), "{text}");
 }
 
-fn assert_unescaped(rt: &impl Abort, alloc: Global, segment: &str, want: &str) {
-    let text = unescape_segment(alloc, segment).expect(rt, "memory");
-    let is_lent = matches!(text, CowStr::Borrowed(_));
-    assert!(rt; text.as_str() == want, "{segment}");
-    assert!(rt; is_lent != segment.contains('~'), "{segment}");
+fn unescaped<'t>(rt: &impl Abort, alloc: Global, part: &'t str) -> CowStr<'t> {
+    unescape_segment(alloc, part).expect(rt, "memory")
+}
+
+// A part without a `~` is lent.
+fn assert_unescaped(rt: &impl Abort, part: &str, found: CowStr<'_>, want: &str) {
+    assert!(rt; found.as_str() == want, "{part}");
+    assert!(rt;
+        matches!(found, CowStr::Borrowed(_)) != part.contains('~'),
+        "{part}"
+    );
 }
 
 #[test]
 fn escapes(rt: HostRuntime) {
     for (text, part) in &ESCAPES {
         assert_escaped(&rt, rt.alloc(), text, part);
-        assert_unescaped(&rt, rt.alloc(), part, text);
+        assert_unescaped(&rt, part, unescaped(&rt, rt.alloc(), part), text);
     }
     for (text, part) in &UNESCAPES {
-        assert_unescaped(&rt, rt.alloc(), part, text);
+        assert_unescaped(&rt, part, unescaped(&rt, rt.alloc(), part), text);
     }
 }
 
@@ -158,15 +164,8 @@ fn assert_found(
     assert!(rt; found.expect(rt, "a value").as_bool() == Some(true));
 }
 
-fn assert_none_below(
-    rt: &impl Abort,
-    alloc: Global,
-    document: &Value,
-    member: &JsonPointerNode<'_, '_>,
-) {
-    let name = String::from_str(alloc, "x").expect(rt, "memory");
-    let below = member.push(CowStr::Owned(name));
-    assert!(rt; below.find_in(document).is_none());
+fn owned<'t>(rt: &impl Abort, alloc: Global, text: &str) -> CowStr<'t> {
+    CowStr::Owned(String::from_str(alloc, text).expect(rt, "memory"))
 }
 
 fn assert_member(rt: &impl Abort, alloc: Global, document: &Value, item: &JsonPointerNode<'_, '_>) {
@@ -175,14 +174,43 @@ fn assert_member(rt: &impl Abort, alloc: Global, document: &Value, item: &JsonPo
     assert_none_below(rt, alloc, document, &member);
 }
 
-fn assert_paths(rt: &impl Abort, alloc: Global, document: &Value, name: &String) {
-    let root = JsonPointerNode::new();
-    let object = root.push("a/b");
+fn assert_none_below(
+    rt: &impl Abort,
+    alloc: Global,
+    document: &Value,
+    member: &JsonPointerNode<'_, '_>,
+) {
+    let below = member.push(owned(rt, alloc, "x"));
+    assert!(rt; below.find_in(document).is_none());
+}
+
+fn assert_named<'a>(
+    rt: &impl Abort,
+    alloc: Global,
+    item: &JsonPointerNode<'a, '_>,
+    name: &'a String,
+) {
+    let named = item.push(name);
+    assert_pointer(rt, alloc, &named);
+}
+
+fn assert_below<'a>(
+    rt: &impl Abort,
+    alloc: Global,
+    document: &Value,
+    object: &JsonPointerNode<'a, '_>,
+    name: &'a String,
+) {
     let item = object.push(0);
     assert_item(rt, alloc, &item);
     assert_member(rt, alloc, document, &item);
-    let named = item.push(name);
-    assert_pointer(rt, alloc, &named);
+    assert_named(rt, alloc, &item, name);
+}
+
+fn assert_paths(rt: &impl Abort, alloc: Global, document: &Value, name: &String) {
+    let root = JsonPointerNode::new();
+    let object = root.push("a/b");
+    assert_below(rt, alloc, document, &object, name);
 }
 
 #[test]

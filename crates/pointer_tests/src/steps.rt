@@ -1,4 +1,5 @@
 // Paths in the document of RFC 6901, section 5.
+use crate::pointers::assert_text;
 use schema_steps::{Path, Step};
 use serde_json::Value;
 use std::alloc::Global;
@@ -6,15 +7,16 @@ use std::process::Abort;
 
 const DOCUMENT: &str = r#"{"foo": ["bar", "baz"], "": 0, "a/b": 1, "m~n": 8}"#;
 
-// The steps of a path, a name behind a `.` and an index behind a `#`; its pointer; and the compact text of its value, if there is one.
+// The steps of a path, a name behind a `.` and an index behind a `#`; its pointer behind a `#`; and the compact text of its value, or
+// `none`.
 const PATHS: [(&str, &str, &str); 7] = [
-    (".foo", "/foo", r#"["bar","baz"]"#),
-    (".", "/", "0"),
-    (".a/b", "/a~1b", "1"),
-    (".m~n", "/m~0n", "8"),
-    (".foo #1", "/foo/1", r#""baz""#),
-    (".foo #2", "/foo/2", "none"),
-    (".foo .1", "/foo/1", "none"),
+    (".foo", "#/foo", r#"["bar","baz"]"#),
+    (".", "#/", "0"),
+    (".a/b", "#/a~1b", "1"),
+    (".m~n", "#/m~0n", "8"),
+    (".foo #1", "#/foo/1", r#""baz""#),
+    (".foo #2", "#/foo/2", "none"),
+    (".foo .1", "#/foo/1", "none"),
 ];
 
 fn pushed(rt: &impl Abort, alloc: Global, path: &Path, step: &str) -> Path {
@@ -38,15 +40,11 @@ fn path_of(rt: &impl Abort, alloc: Global, steps: &str) -> Path {
     }
 }
 
-fn assert_text(rt: &impl Abort, row: &str, found: String, want: &str) {
-    assert!(rt; found.as_str() == want, "{row}: {found}");
-}
-
 fn assert_found(rt: &impl Abort, alloc: Global, path: &Path, document: &Value, want: &str) {
     match path.find_in(document) {
         Some(value) => {
             let found = value.to_string(alloc).expect(rt, "memory");
-            assert_text(rt, "value", found, want);
+            assert_text(rt, want, found, want);
         }
         None => assert!(rt; want == "none", "{want}"),
     }
@@ -58,14 +56,10 @@ fn written(rt: &impl Abort, alloc: Global, path: &Path) -> String {
     text
 }
 
-fn assert_written(rt: &impl Abort, found: String, want: &str) {
-    assert!(rt; found.as_str().strip_prefix('#') == Some(want), "{found}");
-}
-
 fn assert_pointer(rt: &impl Abort, alloc: Global, path: &Path, want: &str) {
-    assert_written(rt, written(rt, alloc, path), want);
+    assert_text(rt, want, written(rt, alloc, path), want);
     let text = path.to_pointer(alloc).expect(rt, "memory");
-    assert_text(rt, "pointer", text, want);
+    assert_text(rt, want, text, want.strip_prefix('#').expect(rt, want));
 }
 
 #[test]
