@@ -1,6 +1,7 @@
 // Pointers, and how they are written as URI fragments.
 use percent_encoding::percent_decode_str;
 use std::alloc::Global;
+use std::borrow::CowStr;
 use std::process::Abort;
 use uri_fragments::FragmentBuffer;
 
@@ -36,11 +37,14 @@ fn assert_pushed(rt: &impl Abort, buffer: &mut FragmentBuffer, piece: &str, want
     assert!(rt; buffer.as_str() == want, "{piece}");
 }
 
-fn assert_decoded(rt: &impl Abort, alloc: Global, fragment: &str, want: &str) {
-    let text = percent_decode_str(fragment)
+fn decoded<'t>(rt: &impl Abort, alloc: Global, fragment: &'t str) -> CowStr<'t> {
+    percent_decode_str(fragment)
         .decode_utf8(alloc)
-        .expect(rt, "text");
-    assert!(rt; text.as_str() == want, "{fragment}");
+        .expect(rt, "text")
+}
+
+fn assert_decoded(rt: &impl Abort, fragment: &str, found: CowStr<'_>, want: &str) {
+    assert!(rt; found.as_str() == want, "{fragment}");
 }
 
 #[test]
@@ -48,7 +52,8 @@ fn pointers_as_fragments(rt: HostRuntime) {
     for (pointer, fragment) in &FRAGMENTS {
         let mut buffer = FragmentBuffer::new(rt.alloc());
         assert_pushed(&rt, &mut buffer, pointer, fragment);
-        assert_decoded(&rt, rt.alloc(), fragment, pointer);
+        let text = decoded(&rt, rt.alloc(), fragment);
+        assert_decoded(&rt, fragment, text, pointer);
     }
 }
 

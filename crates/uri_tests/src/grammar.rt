@@ -1,5 +1,6 @@
 //! Examples of RFC 3986, and texts that its grammar refuses.
 
+use crate::resolution::assert_text;
 use std::alloc::Global;
 use std::process::Abort;
 use uri_grammar::components::{Components, split_reference, write_components};
@@ -59,7 +60,7 @@ const EXAMPLE: &str = "foo://example.com:8042/over/there?name=ferret#nose";
 
 fn assert_written(rt: &impl Abort, alloc: Global, parts: &Components<'_>) {
     let text = write_components(alloc, parts).expect(rt, "memory");
-    assert_eq!(rt; text.as_str(), EXAMPLE);
+    assert_text(rt, "written", text, EXAMPLE);
 }
 
 /// Components are parts of the text, and give it back.

@@ -3,6 +3,7 @@
 use crate::resolution::{EXAMPLES, assert_text};
 use std::alloc::Global;
 use std::cmp::Ordering;
+use std::fmt::{Debug, Display};
 use std::hash::{DefaultHasher, Hash, Hasher};
 use std::process::Abort;
 use uri_references::error::Error;
@@ -141,6 +142,10 @@ fn compares_copies(rt: HostRuntime) {
     assert_absolute(&rt, rt.alloc(), &uri, &copy);
 }
 
+fn shown<T: Display + Debug>(rt: &impl Abort, alloc: Global, value: &T) -> String {
+    format!(in alloc; "{value} {value:?}").expect(rt, "memory")
+}
+
 fn assert_lent(rt: &impl Abort, alloc: Global, reference: &UriRef<'_>) {
     assert!(rt; reference.has_scheme());
     let other = reference
@@ -154,8 +159,9 @@ fn lends_references(rt: HostRuntime) {
     let uri = uri(&rt, rt.alloc(), "a:b#d/e");
     let reference = uri.as_uri_ref();
     assert_lent(&rt, rt.alloc(), &reference);
-    let text = format!(in rt.alloc(); "{uri} {uri:?} {reference}").expect(&rt, "memory");
-    assert_text(&rt, "shown", text, "a:b#d/e \"a:b#d/e\" a:b#d/e");
+    let want = r#"a:b#d/e "a:b#d/e""#;
+    assert_text(&rt, "URI", shown(&rt, rt.alloc(), &uri), want);
+    assert_text(&rt, "lent", shown(&rt, rt.alloc(), &reference), want);
 }
 
 fn assert_stripped(rt: &impl Abort, reference: &UriRef<'_>, want: &UriRef<'_>) {
@@ -175,20 +181,14 @@ fn compares_references(rt: HostRuntime) {
     assert!(rt; first.has_fragment());
     assert!(rt; !first.has_scheme());
     assert_stripped(&rt, &first, &reference(&rt, rt.alloc(), "a?b"));
-    let text = format!(in rt.alloc(); "{first} {first:?}").expect(&rt, "memory");
-    assert_text(&rt, "shown", text, "a?b#c \"a?b#c\"");
-}
-
-fn shown(rt: &impl Abort, alloc: Global, error: Error) -> String {
-    let text = format!(in alloc; "{error} {error:?}").expect(rt, "memory");
-    drop(error);
-    text
+    let text = shown(&rt, rt.alloc(), &first);
+    assert_text(&rt, "shown", text, r#"a?b#c "a?b#c""#);
 }
 
 /// What is said of a text that is no reference.
 fn refused_reference(rt: &impl Abort, alloc: Global, text: &str) -> String {
     match UriRef::parse(alloc, text) {
-        Err(error) => shown(rt, alloc, error),
+        Err(error) => shown(rt, alloc, &error),
         Ok(_) => String::new(alloc),
     }
 }
@@ -196,7 +196,7 @@ fn refused_reference(rt: &impl Abort, alloc: Global, text: &str) -> String {
 /// What is said of a text that is no URI.
 fn refused_uri(rt: &impl Abort, alloc: Global, text: &str) -> String {
     match Uri::parse(alloc, text) {
-        Err(error) => shown(rt, alloc, error),
+        Err(error) => shown(rt, alloc, &error),
         Ok(_) => String::new(alloc),
     }
 }
@@ -226,6 +226,6 @@ fn shows_errors(rt: HostRuntime) {
     let found = refused_uri(&rt, rt.alloc(), "a/b");
     let want = r#"Invalid URI 'a/b' InvalidUri(Parse { uri: "a/b" })"#;
     assert_text(&rt, "a/b", found, want);
-    let found = shown(&rt, rt.alloc(), Error::Memory);
+    let found = shown(&rt, rt.alloc(), &Error::Memory);
     assert_text(&rt, "memory", found, "No memory Memory");
 }
