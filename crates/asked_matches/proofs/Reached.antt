@@ -1,11 +1,11 @@
 -- Where chains of questions lead is reached.
-use Rattle.std.proofs.Common.{◌≡◌, ℕ, List, [], ◌∷◌, Bool, true, false, refl}
+use Rattle.std.proofs.Common.{ℕ, List, Bool}
 use Rattle.std.specs.List.{AllByRecursion}
 use Rattle.serde_json.specs.Data.{Data}
 use Rattle.schema_meaning.specs.Members.{In}
 use Rattle.schema_meaning.specs.Places.{Spot, Key, whole}
-use Rattle.schema_meaning.specs.Questions.{Question, asked_at}
-use Rattle.schema_meaning.specs.Keywords.{Shape, rule}
+use Rattle.schema_meaning.specs.Questions.{Question}
+use Rattle.schema_meaning.specs.Keywords.{rule}
 use Rattle.schema_meaning.specs.Rules.{asks}
 use Rattle.schema_meaning.specs.Readings.{Asks, rules}
 use Rattle.schema_meaning.specs.Circular.{Leads, starts, inside, follows}

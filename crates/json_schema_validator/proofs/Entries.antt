@@ -1,11 +1,10 @@
 -- Maps of validators, by what was checked of their places.
-use Rattle.std.proofs.Common.{◌≡◌, ◌∙◌, ℕ, zero, suc, List, [], ◌∷◌, ◌++◌, Bool, true, false, true≢false, Option, Some, None, String, Global, bytes_eq, string_bytes, is_some, map, take, slice_get, append-nil, length, inl, inr, refl, sym, ap, subst}
+use Rattle.std.proofs.Common.{◌≡◌, ◌∙◌, ℕ, zero, suc, List, [], ◌∷◌, ◌++◌, Bool, true, false, Option, Some, None, String, Global, bytes_eq, string_bytes, is_some, map, take, slice_get, append-nil, length, inl, inr, refl, sym, ap, subst}
 use Rattle.std.specs.Bool.{Decides}
 use Rattle.std.specs.List.{AllByRecursion, AllZip, IsDistinct}
 use Rattle.std.specs.Map.{lookup}
 use Rattle.std.specs.Prelude.{if◌then◌else◌}
 use Rattle.std.proofs.lemmas.Bool.{false≢true, false_from_ne_true}
-use Rattle.std.proofs.lemmas.List.{map-append}
 use Rattle.std.proofs.lemmas.Slice.Eq.{bytes_eq-Decides}
 use Rattle.schema_meaning.specs.Members.{In, first, later}
 use Rattle.schema_documents.specs.Bearers.{Document}
@@ -16,14 +15,13 @@ use Rattle.root_checks.specs.Starts.{sites_from}
 use Rattle.schema_roots.specs.Matched.{HoldsPatterns}
 use Rattle.schema_patterns.specs.Tables.{texts_of_table}
 use Rattle.schema_patterns.specs.declared.table.PatternTable.{PatternTable}
-use Rattle.schema_roots.specs.Roots.{Root, Patterns, IsSound, IsSoundBySome}
-use Rattle.root_checks.specs.Checks.{root_from, AreDecided, IsChecked}
+use Rattle.schema_roots.specs.Roots.{Patterns, IsSound, IsSoundBySome}
+use Rattle.root_checks.specs.Checks.{AreDecided, IsChecked}
 use Rattle.root_checks.specs.declared.checking.Checked.{Checked}
 use Rattle.json_schema_validator.specs.Maps as maps
 use Rattle.json_schema_validator.specs.Maps.{keys_of, entries_in, entry_at, place_root, SortsOut, ReadsPlace, IsMapOf, StandsAtPlace, PutsPlace, Enters, ArePlacesExceeded}
 use Rattle.json_schema_validator.specs.Refused.{IsOfPlaces}
 use Rattle.json_schema_validator.specs.declared.error.BuildError.{BuildError}
-use Rattle.json_schema_validator.specs.Seen.{root_in}
 use Rattle.json_schema_validator.specs.declared.validator.Validator.{Validator}
 use Rattle.json_schema_validator.specs.declared.validator_map.ValidatorMap.{ValidatorMap}
 use Rattle.json_schema_validator.proofs.Placing.{shared_made}

@@ -1,5 +1,5 @@
 -- The document in which a root lies.
-use Rattle.std.proofs.Common.{◌≡◌, ◌∙◌, ◌⊎◌, inl, inr, ℕ, List, [], ◌∷◌, Bool, true, Option, Result, Ok, Err, IfOk, IfErr, refl, sym, ap, subst}
+use Rattle.std.proofs.Common.{◌≡◌, inr, ℕ, List, [], ◌∷◌, Bool, true, Option, Result, Ok, Err, IfOk, IfErr, refl, sym, subst}
 use Rattle.schema_documents.specs.Bearers.{Document}
 use Rattle.schema_documents.specs.Lookup.{Target}
 use Rattle.schema_meaning.specs.Members.{In, first, later}

@@ -11,7 +11,6 @@ ghost use Rattle.json_schema_validator.specs.Maps.{entries_in, entry_at, place_r
 use crate::error::BuildError;
 use crate::validator::Validator;
 use crate::validator_map::ValidatorMap;
-use indexmap::IndexMap;
 use place_pointers::{pointers_in, reference_to};
 use root_checks::checking::check_each;
 use schema_patterns::{PatternMaker, PatternMatcher, PatternTable};

@@ -1,20 +1,17 @@
 -- A reading by other matches, which are the same wherever a chain of questions leads.
-use Rattle.std.proofs.Common.{◌≡◌, ◌*◌, ℕ, zero, suc, List, [], ◌∷◌, map, Bool, true, false, Option, Some, None, option_map, refl, sym, ap, ap₂, ◌∙◌, subst}
-use Rattle.serde_json.specs.Data.{Data}
+use Rattle.std.proofs.Common.{◌≡◌, ◌*◌, ℕ, zero, suc, List, [], ◌∷◌, map, Bool, true, false, Option, None, option_map, refl, sym, ap, ◌∙◌, subst}
 use Rattle.json_paths.specs.Parts.{Part}
 use Rattle.schema_meaning.specs.Members.{In, all_known}
 use Rattle.schema_meaning.specs.Places.{Spot, Key}
 use Rattle.schema_meaning.specs.Questions.{Question, asked_at}
 use Rattle.schema_meaning.specs.Rules.{Rule, asks}
-use Rattle.schema_meaning.specs.Keywords.{Shape, rule}
 use Rattle.schema_meaning.specs.Readings.{Reading, rules, Telling, Asks, tell_one, tell, by_kind, asked, through, told, verdicts}
 use Rattle.schema_meaning.specs.Circular.{key_at, Leads, starts, inside, follows, IsCircular}
 use Rattle.schema_meaning.specs.Cut.{cut, left}
 use Rattle.schema_meaning.specs.Certificates.{AreAnswers, Certificate, ends, leads}
-use Rattle.meaning_laws.specs.Laws.{AreAlike}
 use Rattle.meaning_laws.proofs.Known.{map_in}
 use Rattle.meaning_laws.proofs.Obliged.{obliged_in}
-use Rattle.match_laws.specs.Laws.{MatchAlike, matching, SameMatches, SameOnTheWay, CutByOtherMatches, ToldByOtherMatches, CircularByOtherMatches, CertifiedByOtherMatches}
+use Rattle.match_laws.specs.Laws.{matching, SameOnTheWay, CutByOtherMatches, ToldByOtherMatches, CircularByOtherMatches, CertifiedByOtherMatches}
 use Rattle.match_laws.proofs.Alike.{rules_read, cut_by_matches}
 
 module _ {S A : Type 0} (t : Telling S A) (r : Reading S) where

@@ -1,24 +1,23 @@
 -- References that begin, one by one.
-use Rattle.std.proofs.Common.{◌≡◌, ◌∙◌, ◌⊎◌, ◌≤◌, ◌<◌, ℕ, List, [], ◌∷◌, ◌++◌, Bool, true, false, Option, Some, None, Ok, Err, is_ok, refl, sym, ap, subst, inl, inr, append-nil, append_assoc, length, slice_get, arith}
-use Rattle.std.specs.Bool.{Decides}
-use Rattle.std.specs.List.{AllZip, list_all}
+use Rattle.std.proofs.Common.{◌≡◌, ◌∙◌, ◌⊎◌, ℕ, List, [], ◌∷◌, ◌++◌, Bool, true, false, Option, Some, None, Ok, Err, refl, sym, ap, subst, inl, inr, append-nil, append_assoc, arith}
+use Rattle.std.specs.List.{list_all}
 use Rattle.schema_meaning.specs.Members.{In, first, later}
 use Rattle.schema_documents.specs.Bearers.{Document}
-use Rattle.schema_documents.specs.Lookup.{LookupCause, Target, lookup}
+use Rattle.schema_documents.specs.Lookup.{lookup}
 use Rattle.schema_reading.specs.BuildCauses.{at_root}
 use Rattle.schema_reading.specs.Sites.{Site, root_site}
 use Rattle.target_laws.specs.Laws.{are_apart, contents_rise, by_reference}
 use Rattle.key_laws.proofs.Lying.{Lies}
 use Rattle.key_laws.proofs.One.{root_lies}
 use Rattle.reached_sites.specs.Filed.{Filed}
-use Rattle.reached_sites.specs.Growing.{AddsOne, StandsAt, Apart, none}
+use Rattle.reached_sites.specs.Growing.{Apart, none}
 use Rattle.reached_sites.specs.declared.visited.Visited.{Visited}
-use Rattle.reached_sites.specs.Visits.{Met, Belongs}
+use Rattle.reached_sites.specs.Visits.{Belongs}
 use Rattle.reached_sites.specs.declared.visit.Visit.{Visit}
 use Rattle.reached_sites.proofs.Listing.{in-before, in-behind, in-either, in-one, none-in}
 use Rattle.root_checks.specs.Graphs.{IsVisited, IsReachedFrom, IsGraph}
 use Rattle.root_checks.specs.Linked.{Extends}
-use Rattle.root_checks.specs.Starts.{site_of_answer, sites_from, LeadsNowhere, Starts, StartsAt, Start, Begins, StartsOne}
+use Rattle.root_checks.specs.Starts.{site_of_answer, sites_from, Starts, StartsAt, Start, Begins, StartsOne}
 use Rattle.root_checks.proofs.Growing.{visited-later}
 use Rattle.root_checks.proofs.Edges.{extends-none, extends-more}
 use Rattle.root_checks.proofs.Positions.{in-place, zip-push}

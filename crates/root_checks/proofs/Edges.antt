@@ -1,5 +1,5 @@
 -- Visits that are put behind others one by one, with the edges to them.
-use Rattle.std.proofs.Common.{◌≡◌, ◌⊎◌, ◌∙◌, ℕ, List, [], ◌∷◌, ◌++◌, Some, refl, sym, ap, subst, inl, inr, append-nil, append_assoc, slice_get}
+use Rattle.std.proofs.Common.{◌≡◌, ◌⊎◌, ◌∙◌, ℕ, List, [], ◌∷◌, ◌++◌, sym, ap, subst, inl, inr, append-nil, append_assoc}
 use Rattle.schema_meaning.specs.Members.{In, first, later}
 use Rattle.marked_nodes.specs.declared.graph.Edge.{Edge}
 use Rattle.reached_sites.specs.Filed.{Filed}

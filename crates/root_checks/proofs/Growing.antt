@@ -1,5 +1,5 @@
 -- A graph of visits that grows by what the next one leads to.
-use Rattle.std.proofs.Common.{◌≡◌, ◌∙◌, ◌⊎◌, ◌<◌, ◌≤◌, ◌+◌, ℕ, zero, suc, List, [], ◌∷◌, ◌++◌, Bool, true, false, Some, refl, sym, ap, subst, inl, inr, arith, length, slice_get}
+use Rattle.std.proofs.Common.{◌≡◌, ◌⊎◌, ◌<◌, ◌+◌, ℕ, zero, suc, List, [], ◌∷◌, ◌++◌, Bool, true, false, Some, refl, sym, ap, subst, inl, inr, arith, length, slice_get}
 use Rattle.std.specs.Prelude.{if◌then◌else◌}
 use Rattle.schema_meaning.specs.Members.{In, first}
 use Rattle.schema_documents.specs.Bearers.{Document}
@@ -16,7 +16,7 @@ use Rattle.reached_sites.specs.declared.visit.Visit.{Visit}
 use Rattle.reached_sites.proofs.Filling.{holds-too}
 use Rattle.reached_sites.proofs.Listing.{in-before, in-behind, in-either, in-one, in-some}
 use Rattle.reached_sites.proofs.Matching.{visit-of, site-of, belongs-of}
-use Rattle.root_checks.specs.Graphs.{IsVisited, led_from, IsReachedFrom, LeadsToVisit, IsEdge, IsReachedBy, IsRead, IsWrongAt, IsGraph}
+use Rattle.root_checks.specs.Graphs.{IsVisited, led_from, IsReachedFrom, IsEdge, IsReachedBy, IsRead, IsWrongAt, IsGraph}
 use Rattle.root_checks.specs.Led.{IsLed}
 use Rattle.root_checks.specs.Linked.{LeadsOn, Links}
 use Rattle.root_checks.specs.Walked.{Notes}

@@ -2,31 +2,26 @@
 use Rattle.std.proofs.Common.{◌≡◌, ◌∙◌, ◌⊎◌, ℕ, List, [], ◌∷◌, ◌++◌, Bool, true, false, ◌&&◌, true≢false, refl, sym, ap, subst, inl, inr}
 use Rattle.std.proofs.lemmas.Bool.{false≢true}
 use Rattle.serde_json.specs.Data.{Data, Members, no_members, member}
-use Rattle.json_paths.specs.Parts.{Part}
-use Rattle.schema_meaning.specs.Members.{In, first, later, is_listed}
-use Rattle.schema_documents.specs.Bearers.{Document}
-use Rattle.schema_documents.specs.Places.{Dialect}
+use Rattle.schema_meaning.specs.Members.{In, is_listed}
 use Rattle.schema_reading.specs.Sites.{Site}
 use Rattle.schema_reading.specs.Rows as rows
-use Rattle.schema_reading.specs.Rows.{Place, Row, Context, rows_of, bad_pattern, keyword_value, left_out, bad_reference}
+use Rattle.schema_reading.specs.Rows.{Row, Context, rows_of}
 use Rattle.row_laws.proofs.Rows.{wrong-leads-nowhere}
 use Rattle.applicators.specs.Made.{is_made_by, AreMade}
 use Rattle.schema_patterns.specs.Tables.{texts_of_table}
 use Rattle.schema_patterns.specs.declared.table.PatternTable.{PatternTable}
 use Rattle.schema_sites.specs.Seen.{documents_at}
-use Rattle.schema_sites.specs.Read.{row_of, leads_of, patterns_in, pattern_parts, IsRowOf}
+use Rattle.schema_sites.specs.Read.{leads_of, patterns_in, pattern_parts, IsRowOf}
 use Rattle.schema_sites.specs.Refused.{Refuses}
 use Rattle.schema_sites.specs.declared.keyword.Keyword.{Keyword}
 use Rattle.schema_sites.specs.declared.keyword.Refusal.{Refusal}
 use Rattle.schema_sites.specs.declared.keyword.Refusal.TheVariants as refusal
 use Rattle.reached_sites.specs.Led.{leads_in, causes_in}
-use Rattle.reached_sites.specs.Members.{context_in}
-use Rattle.reached_sites.specs.Patterns.{text_of, texts_of, written_members, Puts, Holds, IsFilled, RefusesPattern}
+use Rattle.reached_sites.specs.Patterns.{text_of, texts_of, written_members, Puts, Holds, RefusesPattern}
 use Rattle.reached_sites.specs.Places.{place_in}
 use Rattle.reached_sites.specs.Visits.{site_of, Adds, Matches}
 use Rattle.reached_sites.specs.declared.pattern.Pattern.{Pattern}
 use Rattle.reached_sites.specs.declared.visit.Visit.{Visit}
-use Rattle.reached_sites.proofs.Filling.{holds-too, in-listed}
 use Rattle.reached_sites.proofs.Listing.{in-before, in-behind, in-either, none-in}
 use Rattle.reached_sites.proofs.Matching.{adds-none, adds-both}
 use Rattle.reached_sites.proofs.Putting.{in-texts}
@@ -35,7 +30,7 @@ use Rattle.reached_sites.proofs.Writing.{every_text, all-made, member-shown}
 use Rattle.walk_laws.proofs.Named.{listed_in}
 use Rattle.reached_sites.specs.declared.cause.BuildCause.{BuildCause}
 use Rattle.root_checks.specs.Memory.{wants_memory, refuses_memory}
-use Rattle.root_checks.specs.Led.{Tells, row_in, written_at, MemberLed, MembersLed}
+use Rattle.root_checks.specs.Led.{Tells, written_at, MemberLed, MembersLed}
 
 -- ---- one member
 

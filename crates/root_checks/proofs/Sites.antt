@@ -1,16 +1,14 @@
 -- What is read at a site holds at those that are alike.
-use Rattle.std.proofs.Common.{◌≡◌, ◌∙◌, ℕ, List, [], ◌∷◌, ◌++◌, Bool, true, false, Some, None, option_map, is_some, refl, sym, ap, ap₂, subst}
-use Rattle.std.specs.List.{AllZip}
+use Rattle.std.proofs.Common.{◌≡◌, ◌∙◌, ℕ, List, [], ◌∷◌, Bool, true, false, None, is_some, refl, sym, subst}
 use Rattle.serde_json.specs.Data.{Data, boolean, object, Members}
 use Rattle.serde_json.specs.Find.{as_object, as_bool}
 use Rattle.serde_json.specs.View.{view}
 use Rattle.schema_meaning.specs.Members.{In, first}
-use Rattle.schema_documents.specs.Bearers.{Document, Documents}
-use Rattle.schema_reading.specs.Rows.{BuildCause, Row, keyword_value, rows_at}
+use Rattle.schema_documents.specs.Bearers.{Document}
+use Rattle.schema_reading.specs.Rows.{Row, rows_at}
 use Rattle.schema_reading.specs.Sites.{Site}
-use Rattle.site_laws.proofs.Alike.{turned}
 use Rattle.site_laws.proofs.Reading.{read_alike}
-use Rattle.site_laws.specs.Laws.{AreAlike, RowsAgree}
+use Rattle.site_laws.specs.Laws.{AreAlike}
 use Rattle.reached_sites.specs.Led.{leads_in, causes_in}
 use Rattle.reached_sites.specs.Patterns.{written}
 use Rattle.reached_sites.specs.Visits.{site_of, Met, Matches, none}

@@ -1,16 +1,15 @@
 -- Which roots may be read, by the graph of what is reached from them.
-use Rattle.std.proofs.Common.{◌≡◌, ◌∙◌, ◌<◌, ℕ, List, [], ◌∷◌, Bool, true, false, true≢false, Option, Some, None, Ok, Err, IfSome, is_ok, refl, sym, ap, subst, length}
+use Rattle.std.proofs.Common.{◌≡◌, ◌∙◌, ◌<◌, ℕ, List, [], ◌∷◌, Bool, true, false, true≢false, Option, Some, None, is_ok, refl, sym, ap, subst, length}
 use Rattle.std.specs.Bool.{Decides}
-use Rattle.std.specs.List.{All, AllZip, list_all}
+use Rattle.std.specs.List.{All, AllZip}
 use Rattle.schema_documents.specs.Bearers.{Document}
-use Rattle.schema_documents.specs.Lookup.{Target, lookup}
+use Rattle.schema_documents.specs.Lookup.{Target}
 use Rattle.schema_meaning.specs.Members.{In, first, later}
 use Rattle.schema_reading.specs.BuildCauses.{IsCauseOf}
 use Rattle.schema_reading.specs.Rows as rows
 use Rattle.schema_reading.specs.Sites.{root_site}
 use Rattle.schema_patterns.specs.Tables.{AreMadeBy, texts_of_table}
-use Rattle.target_laws.specs.Laws.{are_apart, contents_rise}
-use Rattle.schema_roots.specs.Roots.{Root, Patterns, Finds, IsSound}
+use Rattle.schema_roots.specs.Roots.{Patterns, IsSound}
 use Rattle.schema_roots.specs.Matched.{HoldsPatterns}
 use Rattle.schema_roots.proofs.Found.{finds_one}
 use Rattle.asked_matches.specs.Asked.{AreAmong}
@@ -19,10 +18,10 @@ use Rattle.marked_nodes.specs.Sources.{IsWithin}
 use Rattle.marked_nodes.specs.declared.graph.Edge.{Edge}
 use Rattle.reached_sites.specs.declared.visit.Visit.{Visit}
 use Rattle.root_checks.specs.Checks.{root_from, AreDecided, IsChecked}
-use Rattle.root_checks.specs.Graphs.{IsVisited, IsGraph}
+use Rattle.root_checks.specs.Graphs.{IsGraph}
 use Rattle.root_checks.specs.Marked.{IsNode, AreNodes, IsClear}
 use Rattle.root_checks.specs.Starts.{sites_from, LeadsNowhere, Starts, StartsAt, Start}
-use Rattle.root_checks.specs.Walked.{Notes, IsWalked}
+use Rattle.root_checks.specs.Walked.{IsWalked}
 use Rattle.root_checks.specs.declared.graph.Graph.{Graph}
 use Rattle.root_checks.specs.declared.checking.Checked.{Checked}
 use Rattle.root_checks.proofs.Begun.{sites-visited}

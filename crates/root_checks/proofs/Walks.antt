@@ -1,9 +1,8 @@
 -- A walk from several roots.
-use Rattle.std.proofs.Common.{◌≡◌, ◌∙◌, ◌⊎◌, ◌<◌, ◌≤◌, ◌+◌, ℕ, List, [], ◌∷◌, ◌++◌, Bool, true, false, Option, Some, sym, ap, subst, inl, inr, arith, length, get_or, slice_get}
+use Rattle.std.proofs.Common.{◌≡◌, ◌∙◌, ◌⊎◌, ◌<◌, ◌≤◌, ◌+◌, ℕ, List, [], ◌∷◌, ◌++◌, Bool, true, Option, Some, sym, ap, subst, inl, inr, arith, length, slice_get}
 use Rattle.std.specs.List.{list_all}
 use Rattle.std.proofs.lemmas.List.{length-append}
 use Rattle.schema_documents.specs.Bearers.{Document}
-use Rattle.schema_meaning.specs.Members.{In}
 use Rattle.schema_reading.specs.Sites.{Site}
 use Rattle.schema_patterns.specs.Tables.{entries_of, texts_of_table}
 use Rattle.schema_patterns.specs.declared.table.PatternTable.{PatternTable}

@@ -11,7 +11,7 @@ ghost use Rattle.root_checks.specs.Checks.{IsChecked};
 ghost use Rattle.root_checks.specs.Marked.{IsMarked, IsNode, AreNodes, IsClear};
 ghost use Rattle.root_checks.specs.Starts.{sites_from};
 
-use crate::graph::{Graph, walk};
+use crate::graph::walk;
 use marked_nodes::{Edge, leading_to};
 use reached_sites::cause::BuildCause;
 use referencing::{Registry, Resolver};

@@ -17,7 +17,7 @@ use reached_sites::visit::Visit;
 use referencing::Resolver;
 use schema_matches::matches::Matches;
 use schema_patterns::{PatternMaker, PatternTable};
-use std::alloc::{AllocError, Global};
+use std::alloc::Global;
 
 /// Visits, the edges from each to those that it leads to, the positions of those with a cause of their own, the patterns of the others, and
 /// where each reference begins.

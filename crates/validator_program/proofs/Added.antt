@@ -1,5 +1,5 @@
 -- Files added in their turn.
-use Rattle.std.proofs.Common.{◌≡◌, ◌<◌, ◌≤◌, ℕ, suc, List, [], ◌∷◌, sym, refl, subst, map, drop, length, drop-cons, drop_of_length-le}
+use Rattle.std.proofs.Common.{◌<◌, ◌≤◌, ℕ, suc, List, [], ◌∷◌, sym, refl, subst, map, drop, length, drop-cons, drop_of_length-le}
 use Rattle.std.specs.List.{slice_index_or}
 use Rattle.given_documents.specs.Given.{Given}
 use Rattle.program_files.specs.Held.{Held}

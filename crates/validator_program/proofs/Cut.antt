@@ -1,5 +1,5 @@
 -- Words cut in their turn.
-use Rattle.std.proofs.Common.{◌≡◌, ◌<◌, ◌≤◌, ◌∙◌, ◌++◌, ℕ, suc, List, [], ◌∷◌, Some, ap, sym, refl, subst, map, drop, length, drop-cons, drop_of_length-le, append-nil, append_assoc}
+use Rattle.std.proofs.Common.{◌≡◌, ◌<◌, ◌≤◌, ◌∙◌, ◌++◌, ℕ, suc, List, [], ◌∷◌, Some, ap, sym, subst, map, drop, length, drop-cons, drop_of_length-le, append-nil, append_assoc}
 use Rattle.std.specs.List.{slice_index_or}
 use Rattle.std.specs.Borrow.{Bor}
 use Rattle.std.proofs.lemmas.List.{map-append}

@@ -1,6 +1,6 @@
 -- Runs of the validator that the words name.
-use Rattle.std.proofs.Common.{ℕ, List, [], Option, codes, option_map, unwrap_or, if◌then◌else◌, refl, subst}
-use Rattle.clap.specs.Words.{Row, first_of, all_of}
+use Rattle.std.proofs.Common.{ℕ, List, Option, codes, option_map, if◌then◌else◌, refl, subst}
+use Rattle.clap.specs.Words.{Row, first_of}
 use Rattle.clap.specs.Walk.{texts}
 use Rattle.program_words.specs.Read.{HasWordsOf}
 use Rattle.program_words.specs.declared.words.ProgramWords.{ProgramWords}

@@ -1,4 +1,4 @@
-use Rattle.std.proofs.Common.{◌≡◌, ◌∙◌, sym, ap, map, string_bytes}
+use Rattle.std.proofs.Common.{◌≡◌, ◌∙◌, ap, map, string_bytes}
 use Rattle.place_pointers.specs.Pointers.{reference_to}
 use Rattle.schema_roots.specs.Passed.{documents_shared}
 use Rattle.schema_roots.specs.Roots.{patterns_by}

@@ -1,4 +1,4 @@
-use Rattle.std.proofs.Common.{◌≡◌, ◌∙◌, List, ℕ, sym, ap, subst}
+use Rattle.std.proofs.Common.{◌∙◌, List, ℕ, sym, ap, subst}
 use Rattle.schema_patterns.proofs.Tables.{entries_grown}
 use Rattle.schema_roots.specs.Passed.{documents_shared}
 use Rattle.schema_roots.specs.Roots.{IsSoundBySome}

@@ -1,5 +1,5 @@
 use Rattle.std.proofs.Common.{◌≡◌, ◌∙◌, ◌∷◌, List, Some, slice_get, refl, sym, ap, subst, length, inl, inr, bytes_eq, if◌then◌else◌}
-use Rattle.reached_sites.specs.Filed.{place_text, positions_under, Filed, RepeatedAt, RepeatedAmong}
+use Rattle.reached_sites.specs.Filed.{place_text, positions_under, Filed, RepeatedAmong}
 use Rattle.reached_sites.specs.Growing.{Apart, one_more}
 use Rattle.reached_sites.specs.Places.{place_in}
 use Rattle.reached_sites.specs.Visits.{Known}

@@ -1,4 +1,4 @@
-use Rattle.std.proofs.Common.{◌≡◌, ◌∷◌, [], List, map, string_bytes, length, refl, ◌∙◌}
+use Rattle.std.proofs.Common.{map, string_bytes, refl, ◌∙◌}
 use Rattle.referencing.specs.Resolved.{base_of, documents_in}
 use Rattle.schema_roots.specs.Roots.{patterns_by}
 use Rattle.root_checks.proofs.Sorting.{nodes-below, are-checked}

@@ -1,8 +1,6 @@
-use Rattle.std.proofs.Common.{◌≡◌, ◌<◌, ◌≤◌, ◌∙◌, refl, sym, subst, inl, inr, arith, length, List, slice_get, Some, map, string_bytes}
+use Rattle.std.proofs.Common.{◌<◌, ◌≤◌, refl, inl, arith, length, map, string_bytes}
 use Rattle.std.proofs.lemmas.Option.{slice_get_read}
-use Rattle.schema_documents.specs.Bearers.{Document}
 use Rattle.referencing.specs.Resolved.{base_of, documents_in}
-use Rattle.root_checks.specs.Led.{IsLed}
 use Rattle.root_checks.proofs.Ending.{keys-exceed}
 use Rattle.root_checks.proofs.Walks.{walking-begins, walking-goes, few-at-end, read-through, all-read, all-noted}
 use Rattle.root_checks.specs.Starts.{sites_from}

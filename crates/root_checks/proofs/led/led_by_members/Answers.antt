@@ -1,4 +1,4 @@
-use Rattle.std.proofs.Common.{◌≡◌, ◌∙◌, List, ℕ, Bool, true, ◌&&◌, sym, ap, subst, string_bytes, refl}
+use Rattle.std.proofs.Common.{◌≡◌, List, ℕ, true, sym, subst, string_bytes}
 use Rattle.serde_json.specs.View.{view, members_view}
 use Rattle.schema_patterns.specs.Tables.{texts_of_table}
 use Rattle.reached_sites.specs.Patterns.{Holds}

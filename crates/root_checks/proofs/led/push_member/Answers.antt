@@ -1,7 +1,6 @@
-use Rattle.std.proofs.Common.{◌≡◌, ◌∙◌, List, ℕ, Bool, true, false, not, true≢false, refl, sym, ap, subst, string_bytes}
+use Rattle.std.proofs.Common.{◌∙◌, List, ℕ, true, false, not, refl, sym, subst}
 use Rattle.serde_json.specs.View.{view, members_view}
 use Rattle.schema_meaning.specs.Members.{In}
-use Rattle.schema_sites.specs.Read.{IsRowOf, patterns_in}
 use Rattle.reached_sites.specs.Patterns.{Holds, texts_of}
 use Rattle.reached_sites.specs.Visits.{site_of}
 use Rattle.reached_sites.specs.declared.pattern.Pattern.{Pattern}

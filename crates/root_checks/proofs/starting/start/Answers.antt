@@ -1,4 +1,4 @@
-use Rattle.std.proofs.Common.{◌≡◌, ◌∙◌, ◌∷◌, ◌++◌, ◌+◌, [], List, ℕ, sym, ap, subst, map, take, string_bytes}
+use Rattle.std.proofs.Common.{◌≡◌, ◌∙◌, ◌∷◌, ◌++◌, ◌+◌, [], sym, ap, subst, map, take, string_bytes}
 use Rattle.std.proofs.lemmas.List.{take_more, take_all, map-append}
 use Rattle.referencing.specs.Resolved.{base_of, documents_in}
 use Rattle.root_checks.specs.Starts.{sites_from, Start, StartsOne}

@@ -1,5 +1,4 @@
-use Rattle.std.proofs.Common.{rules, ◌≡◌, MatchOption, Some, None, ap, lit<}
-use Rattle.uri_grammar.specs.Texts.{cut_at_last}
+use Rattle.std.proofs.Common.{ap, lit<}
 use Rattle.uri_grammar.proofs.Lasts.{last_some, last_none}
 use Rattle.validator_program.proofs.documents.cut.Goals as goal
 

@@ -1,4 +1,4 @@
-use Rattle.std.proofs.Common.{rules, arith, ◌≤◌, length}
+use Rattle.std.proofs.Common.{arith, ◌≤◌, length}
 use Rattle.validator_program.proofs.Cut.{all_cut}
 use Rattle.validator_program.proofs.documents.cut_words.Goals as goal
 
