@@ -12,7 +12,7 @@ use Rattle.schema_meaning.specs.Questions as asking
 use Rattle.schema_meaning.specs.Rules.{every}
 use Rattle.schema_meaning.specs.Keywords.{properties, rule}
 use Rattle.schema_reading.specs.Sites.{Site}
-use Rattle.place_laws.specs.Rising.{are_rising}
+use Rattle.schema_values.specs.Rising.{are_rising}
 use Rattle.keyword_refusals.proofs.Passed.{Child}
 use Rattle.schema_reading.specs.PathTexts.{path_text}
 use Rattle.check_laws.specs.Spelled.{AreSpelled, AreSpelledBy}

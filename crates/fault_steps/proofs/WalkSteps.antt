@@ -22,7 +22,7 @@ use Rattle.keyword_refusals.specs.Passed.{Refuses}
 use Rattle.keyword_refusals.specs.Passed.{Keyword}
 use Rattle.keyword_refusals.specs.Passed.{Refusal}
 use Rattle.keyword_refusals.specs.PassedRefusals as refusal
-use Rattle.place_laws.specs.Rising.{are_rising}
+use Rattle.schema_values.specs.Rising.{are_rising}
 use Rattle.schema_reading.specs.PathTexts.{path_text}
 use Rattle.check_laws.specs.Spelled.{AreSpelled, AreSpelledBy, refuses}
 use Rattle.check_laws.proofs.Steps.{from_step}

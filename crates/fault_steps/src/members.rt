@@ -7,12 +7,12 @@ ghost use Rattle.keyword_refusals.specs.Rows.{properties_row};
 ghost use Rattle.fault_steps.specs.Steps.{PassesThrough, IsMore, IsNotLonger};
 
 use crate::walk::{Step, Walk};
-use keyword_refusals::members::names_rise;
 use keyword_refusals::road::RoadPart;
 use path_parts::members::member_at;
 use path_parts::parts::first_part;
 use serde_json::{Map, Value};
 use std::alloc::{AllocError, Global};
+use value_checks::rising::entries_rise;
 
 // The step to the member that both paths go on with.
 fn to_member<'r, 'i, 'p>(
@@ -30,7 +30,7 @@ fn to_member<'r, 'i, 'p>(
     ensures passes { IfOk result (PassesThrough walk.entry (properties_row (members_view schemas.now.entries)) after.entry) }
     ensures shorter { IfOk result (IsNotLonger after.entry) }
 {
-    names_rise(schemas);
+    entries_rise(schemas);
     let (token, evaluation) = first_part(declared);
     let (other, instance) = first_part(there);
     if token != other {
@@ -69,7 +69,7 @@ fn to_declared<'r, 'i, 'p>(
     ensures passes { IfOk result (PassesThrough walk.entry (properties_row (members_view schemas.now.entries)) after.entry) }
     ensures shorter { IfOk result (IsNotLonger after.entry) }
 {
-    names_rise(schemas);
+    entries_rise(schemas);
     match after {
         None => Ok(Step::Answered(false)),
         Some(declared) => to_member(alloc, walk, schemas, there, declared, after),
@@ -88,7 +88,7 @@ pub fn through_properties<'r, 'i, 'p>(
     ensures passes { IfOk result (PassesThrough walk.entry (properties_row (members_view schemas.now.entries)) after.entry) }
     ensures shorter { IfOk result (IsNotLonger after.entry) }
 {
-    names_rise(schemas);
+    entries_rise(schemas);
     match walk.instance {
         None => Ok(Step::Answered(false)),
         Some(there) => to_declared(alloc, walk, schemas, there, after),

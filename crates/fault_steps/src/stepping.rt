@@ -15,7 +15,6 @@ use crate::items::through_items;
 use crate::members::through_properties;
 use crate::names::{bears, member_of};
 use crate::walk::{Step, Walk};
-use keyword_refusals::members::names_rise;
 use keyword_refusals::refusing::refuses;
 use keyword_refusals::{
     Keyword, ReferenceKeyword, Refusal, Resolved, at_target, keyword as read_keyword,
@@ -25,6 +24,7 @@ use path_parts::parts::first_part;
 use schema_reports::{LazyLocation, Reference};
 use serde_json::Value;
 use std::alloc::{AllocError, Global};
+use value_checks::rising::entries_rise;
 
 // The step by a reference, to its target.
 fn through_reference<'r, 'i, 'p>(
@@ -174,7 +174,7 @@ fn by_name<'r, 'i, 'p>(
     let Value::Object(members) = walk.site.contents else {
         return Ok(Step::Answered(false));
     };
-    names_rise(members);
+    entries_rise(members);
     let member = member_of(&walk.site, name);
     let Some(part) = member_named(members, member) else {
         return Ok(Step::Answered(false));

@@ -9,7 +9,7 @@ use Rattle.schema_meaning.specs.Members.{In, first, later}
 use Rattle.schema_documents.specs.Bearers.{Document}
 use Rattle.schema_documents.specs.Lookup.{Target}
 use Rattle.schema_reading.specs.Sites.{Site, root_site}
-use Rattle.place_laws.specs.Rising.{rises}
+use Rattle.schema_values.specs.Rising.{rises}
 use Rattle.target_laws.specs.Laws.{are_apart, contents_rise, IsTarget}
 use Rattle.target_laws.proofs.Looked.{target_comes_of}
 use Rattle.key_laws.specs.Laws.{ReachedContentsAreOne}

@@ -22,7 +22,7 @@ use Rattle.plain_reader.specs.Passed.{Resolved}
 use Rattle.plain_reader.specs.Passed.{documents_at}
 use Rattle.plain_reader.specs.Passed.{row_of}
 use Rattle.plain_reader.specs.Passed.{Keyword}
-use Rattle.place_laws.specs.Rising.{are_rising}
+use Rattle.schema_values.specs.Rising.{are_rising}
 use Rattle.plain_reader.specs.Passed as code
 use Rattle.plain_reader.proofs.ItemTelling.{Child}
 use Rattle.keyword_refusals.specs.Scenes.{Scene, reading_of, Meets, Stage}

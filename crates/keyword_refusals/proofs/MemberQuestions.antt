@@ -11,7 +11,7 @@ use Rattle.schema_documents.specs.Bearers.{Documents}
 use Rattle.schema_reading.specs.Sites.{Site, below}
 use Rattle.schema_reading.specs.Rows.{sites_named}
 use Rattle.plain_reader.specs.Passed.{each_below}
-use Rattle.place_laws.specs.Rising.{are_rising}
+use Rattle.schema_values.specs.Rising.{are_rising}
 use Rattle.walk_laws.proofs.Listed.{declared_question, declared_asked}
 use Rattle.keyword_refusals.specs.Scenes.{Scene}
 use Rattle.keyword_refusals.specs.Rows.{property_site, declared_in, properties_questions}

@@ -7,7 +7,7 @@ use Rattle.schema_values.proofs.Names.{get_same, get_other, found_at}
 use Rattle.schema_values.proofs.Kept.{first_rise, behind_none}
 use Rattle.schema_meaning.specs.Members.{In, first, later}
 use Rattle.schema_meaning.specs.Questions.{listed_members}
-use Rattle.place_laws.specs.Rising.{are_rising}
+use Rattle.schema_values.specs.Rising.{are_rising}
 
 rising_rest : (k : List ℕ) (ms : Members) → rises_from k ms ≡ true → are_rising ms ≡ true
 rising_rest k no_members h = refl

@@ -15,7 +15,7 @@ use Rattle.schema_meaning.specs.Readings.{Reading, verdicts, IsTold}
 use Rattle.schema_meaning.specs.Certificates.{AreAnswers}
 use Rattle.schema_reading.specs.Sites.{Site, below}
 use Rattle.schema_reading.specs.Rows.{Row}
-use Rattle.place_laws.specs.Rising.{are_rising}
+use Rattle.schema_values.specs.Rising.{are_rising}
 use Rattle.plain_reader.specs.Passed.{shapes_of, row_of, site_at, FindsTarget}
 use Rattle.plain_reader.specs.Passed as code
 use Rattle.plain_reader.specs.Passed.{Keyword}

@@ -7,7 +7,7 @@ ghost use Rattle.schema_reading.specs.Sites.{path_of_reference};
 ghost use Rattle.plain_reader.specs.Passed.{documents_at};
 ghost use Rattle.schema_reports.specs.Locations.{location_of};
 ghost use Rattle.schema_reports.specs.References.{text_of};
-ghost use Rattle.place_laws.specs.Rising.{are_rising};
+ghost use Rattle.schema_values.specs.Rising.{are_rising};
 ghost use Rattle.keyword_refusals.specs.Rows.{properties_row, properties_questions};
 ghost use Rattle.keyword_refusals.specs.Verdicts.{AreRefused, IsMemberRefused};
 
@@ -16,13 +16,7 @@ use plain_reader::Site;
 use schema_reports::{LazyLocation, Reference};
 use serde_json::{Map, Value};
 use std::alloc::{AllocError, Global};
-
-/// The names of a map rise. It does nothing.
-pub fn names_rise(members: &Map<String, Value>)
-    ensures { are_rising (members_view members.now.entries) ≡ true }
-{
-    let _count = members.len();
-}
+use value_checks::rising::entries_rise;
 
 // Whether a member is refused by the schema of its name.
 fn is_member_refused<'a, 'r>(
@@ -57,7 +51,7 @@ pub fn some_member_refused<'a, 'r>(
     requires inside { depth (object (members_view schemas.now.entries)) < depth (view site.now.contents.now) }
     ensures { IfOk result (AreRefused site.now (location_of schema.now ++ path_of_reference (text_of reference.entry)) (view value.now) (properties_row (members_view schemas.now.entries)) (properties_questions (members_view schemas.now.entries) (view value.now))) }
 {
-    names_rise(schemas);
+    entries_rise(schemas);
     for (name, part) in schemas.iter() {
         if let Some(member) = value.get(name.as_str()) {
             if is_member_refused(

@@ -7,7 +7,7 @@ use Rattle.serde_json.specs.Data.{Data, object, Members, no_members, member}
 use Rattle.serde_json.specs.Find.{get, get_member}
 use Rattle.schema_values.specs.Equality.{rises_from}
 use Rattle.schema_values.proofs.Kept.{first_rise, rises_before}
-use Rattle.place_laws.specs.Rising.{are_rising}
+use Rattle.schema_values.specs.Rising.{are_rising}
 use Rattle.member_walks.specs.Found.{AreFound}
 
 -- before the first member

@@ -7,7 +7,7 @@ use Rattle.serde_json.specs.Data.{Data, Members, member}
 use Rattle.serde_json.specs.Find.{get_member}
 use Rattle.schema_values.proofs.Names.{name_same, get_same, get_less, get_greater}
 use Rattle.schema_values.proofs.Kept.{behind_none, rises_before}
-use Rattle.place_laws.specs.Rising.{are_rising}
+use Rattle.schema_values.specs.Rising.{are_rising}
 use Rattle.member_walks.specs.Left.{led}
 use Rattle.member_walks.proofs.Found.{rest_rises}
 

@@ -1,5 +1,4 @@
 pub mod Lists
-pub mod Walked
 pub mod Leading
 pub mod Unmoved
 pub mod Alone

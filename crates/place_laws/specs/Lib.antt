@@ -1,4 +1,3 @@
-pub mod Rising
 pub mod Laws
 pub mod Agreeing
 pub mod Subschemas

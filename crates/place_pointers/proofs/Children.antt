@@ -12,7 +12,7 @@ use Rattle.schema_values.proofs.Kept.{first_rise, behind_none}
 use Rattle.schema_drafts.specs.Subschemas.{Holds, nothing, one, several, one_or_several, by_name, held_by}
 use Rattle.schema_documents.specs.Identifiers.{is_hidden}
 use Rattle.schema_documents.specs.Places.{Dialect, SchemaPlace, Named, settled, awaited, by_schema, schema_in_force, placed, entered, if_schema, each_item, each_member, in_list, in_map, held, children_of, children_in, children}
-use Rattle.place_laws.specs.Rising.{rises, are_rising, items_rise, members_rise}
+use Rattle.schema_values.specs.Rising.{rises, are_rising, items_rise, members_rise}
 use Rattle.place_laws.proofs.Lists.{joined, unless}
 use Rattle.place_pointers.proofs.Lists.{each_implied, pairs_joined}
 use Rattle.place_pointers.proofs.Levels.{PathsPart, PathsApart, IsChild}

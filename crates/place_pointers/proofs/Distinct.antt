@@ -16,7 +16,7 @@ use Rattle.schema_drafts.specs.declared.draft.Draft.{Draft}
 use Rattle.schema_documents.specs.Places.{Dialect, SchemaPlace, Named, settled, awaited, standard, by_schema, schema_in_force, placed, root_place, children, places}
 use Rattle.schema_documents.specs.Bearers.{Document}
 use Rattle.walk_laws.proofs.Cuts.{NotSlash, escape_no_slash, index_no_slash, rest_of, cuts_first, cut_is}
-use Rattle.place_laws.specs.Rising.{rises}
+use Rattle.schema_values.specs.Rising.{rises}
 use Rattle.place_laws.specs.Laws.{Leads}
 use Rattle.place_laws.proofs.Leading.{places_lead}
 use Rattle.place_pointers.specs.Pointers.{pointer_of, pointers_under}

@@ -7,7 +7,7 @@ use Rattle.std.specs.List.{list_all, list_any}
 use Rattle.std.specs.Prelude.{bytes_eq, if◌then◌else◌}
 use Rattle.schema_meaning.specs.Members.{In, first, later}
 use Rattle.schema_documents.specs.Bearers.{Document}
-use Rattle.place_laws.specs.Rising.{rises}
+use Rattle.schema_values.specs.Rising.{rises}
 use Rattle.target_laws.specs.Laws.{are_apart, contents_rise}
 use Rattle.place_pointers.specs.Pointers.{document_at, IsDocumentAt}
 

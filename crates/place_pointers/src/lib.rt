@@ -5,7 +5,7 @@ ghost use Rattle.std.specs.Prelude.{◌≡◌, [], true, None, map, option_map, 
 ghost use Rattle.std.specs.List.{IsDistinct};
 ghost use Rattle.schema_documents.specs.Bearers as bearers;
 ghost use Rattle.schema_vocabularies.specs.Dialects.{dialects_in};
-ghost use Rattle.place_laws.specs.Rising.{rises};
+ghost use Rattle.schema_values.specs.Rising.{rises};
 ghost use Rattle.document_index.specs.Seen.{document_of};
 ghost use Rattle.referencing.specs.Seen.{documents_of};
 ghost use Rattle.place_pointers.specs.Pointers as spec;

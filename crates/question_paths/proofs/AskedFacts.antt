@@ -14,7 +14,7 @@ use Rattle.schema_meaning.specs.Members.{In, first, later}
 use Rattle.schema_meaning.specs.Places.{stay, to_item, to_member}
 use Rattle.schema_meaning.specs.Questions.{Question, question, at, at_name, at_index, each_branch, item_by_item, listed_members, members_of, if_member, each_matching, each_member, each_triggered}
 use Rattle.schema_reading.specs.Sites.{Site}
-use Rattle.place_laws.specs.Rising.{are_rising}
+use Rattle.schema_values.specs.Rising.{are_rising}
 use Rattle.walk_laws.proofs.Listed.{in_some, in_mapped}
 use Rattle.applicators.specs.Shapes.{sites_of_list, sites_of_map, dependency_at, dependencies_in}
 use Rattle.question_paths.specs.Laws.{MembersRise}

@@ -11,7 +11,7 @@ use Rattle.schema_meaning.specs.Questions.{Question, question, at, at_name, at_i
 use Rattle.schema_meaning.specs.Rules.{asks}
 use Rattle.schema_meaning.specs.Keywords.{counting, rule, Dependency, applies}
 use Rattle.schema_reading.specs.Sites.{Site}
-use Rattle.place_laws.specs.Rising.{are_rising}
+use Rattle.schema_values.specs.Rising.{are_rising}
 use Rattle.walk_laws.proofs.Listed.{item_question, item_further, declared_question}
 use Rattle.path_parts.specs.Found.{IsIndexed}
 use Rattle.path_parts.proofs.ItemFacts.{at_items, some_one}

@@ -10,7 +10,7 @@ use Rattle.schema_meaning.specs.Places.{path_after}
 use Rattle.schema_meaning.specs.Questions as told
 use Rattle.schema_meaning.specs.Rules.{asks}
 use Rattle.schema_meaning.specs.Keywords.{rule}
-use Rattle.place_laws.specs.Rising.{are_rising}
+use Rattle.schema_values.specs.Rising.{are_rising}
 use Rattle.walk_laws.specs.Words.{IsRest}
 use Rattle.applicators.specs.Shapes.{shape_of}
 use Rattle.applicators.specs.Combined.{asks_values}

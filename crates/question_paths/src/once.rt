@@ -1,18 +1,13 @@
 //! Of the questions of an applicator, paths lead to one at most.
 ghost use Rattle.std.specs.Prelude.{◌≡◌, ◌<◌, ◌^◌, length, true};
 ghost use Rattle.serde_json.specs.View.{view, members_view};
-ghost use Rattle.place_laws.specs.Rising.{are_rising};
+ghost use Rattle.schema_values.specs.Rising.{are_rising};
 ghost use Rattle.question_paths.specs.Laws.{NamesRise, BranchesFit, MembersRise, OneAhead};
 
 use applicators::applicator::Applicator;
 use path_parts::items::indexes_fit;
-use serde_json::{Map, Value};
-
-fn names_rise(members: &Map<String, Value>)
-    ensures { are_rising (members_view members.now.entries) ≡ true }
-{
-    let _count = members.len();
-}
+use serde_json::Value;
+use value_checks::rising::entries_rise;
 
 fn list_fits(schemas: &[Value])
     ensures { length schemas.now < 2 ^ 64 }
@@ -26,10 +21,10 @@ fn schemas_stand(applicator: &Applicator<'_>)
     ensures branches { BranchesFit applicator.now }
 {
     match *applicator {
-        Applicator::Properties(schemas) => names_rise(schemas),
-        Applicator::PatternProperties(schemas) => names_rise(schemas),
-        Applicator::DependentSchemas(schemas) => names_rise(schemas),
-        Applicator::Dependencies(entries) => names_rise(entries),
+        Applicator::Properties(schemas) => entries_rise(schemas),
+        Applicator::PatternProperties(schemas) => entries_rise(schemas),
+        Applicator::DependentSchemas(schemas) => entries_rise(schemas),
+        Applicator::Dependencies(entries) => entries_rise(entries),
         Applicator::AllOf(schemas) => list_fits(schemas),
         Applicator::AnyOf(schemas) => list_fits(schemas),
         Applicator::OneOf(schemas) => list_fits(schemas),
@@ -41,7 +36,7 @@ fn members_rise(value: &Value)
     ensures { MembersRise (view value.now) }
 {
     if let Value::Object(members) = value {
-        names_rise(members);
+        entries_rise(members);
     }
 }
 

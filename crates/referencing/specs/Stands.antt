@@ -9,7 +9,7 @@ use Rattle.schema_vocabularies.specs.declared.meta_schemas.MetaSchemas.{MetaSche
 use Rattle.document_index.specs.Located.{located_standings}
 use Rattle.document_index.specs.Indexes.{Indexes}
 use Rattle.document_index.specs.declared.index.Index.{Index}
-use Rattle.place_laws.specs.Rising.{rises}
+use Rattle.schema_values.specs.Rising.{rises}
 
 abbrev pub contents_rise : Document → Bool
 contents_rise d = rises d.contents

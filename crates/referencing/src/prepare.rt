@@ -12,7 +12,7 @@ use crate::registry::Registry;
 use document_causes::prepared;
 use document_causes::prepared::Prepared;
 use document_index::document::Document;
-use place_laws::places::names_rise;
+use value_checks::rising::names_rise;
 use referencing_errors::error::Error;
 use std::alloc::Global;
 use std::rc::Rc;

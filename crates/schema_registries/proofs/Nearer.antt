@@ -14,7 +14,7 @@ use Rattle.schema_values.specs.Equality.{rises_from}
 use Rattle.schema_values.proofs.Names.{get_same}
 use Rattle.schema_values.proofs.Kept.{behind_none}
 use Rattle.place_laws.proofs.Leading.{further}
-use Rattle.place_laws.specs.Rising.{are_rising}
+use Rattle.schema_values.specs.Rising.{are_rising}
 use Rattle.schema_registries.proofs.Trees.{rest_rises}
 use Rattle.schema_registries.specs.Whole.{only_whole, members_only_whole, IsNearer}
 

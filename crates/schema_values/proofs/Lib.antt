@@ -8,3 +8,4 @@ pub mod Products
 pub mod Characters
 pub mod Marks
 pub mod LawProofs
+pub mod Walked

@@ -4,3 +4,4 @@ pub mod Numbers
 pub mod Texts
 pub mod Patterns
 pub mod Laws
+pub mod Rising

@@ -10,7 +10,7 @@ use Rattle.schema_values.proofs.Names.{get_same, get_other, found_at}
 use Rattle.schema_values.proofs.Kept.{first_rise, behind_none}
 use Rattle.schema_meaning.specs.Members.{In, first, later}
 use Rattle.schema_reading.specs.AllKeys.{paths_in, paths_of_items, paths_of_members}
-use Rattle.place_laws.specs.Rising.{rises, are_rising, items_rise, members_rise}
+use Rattle.schema_values.specs.Rising.{rises, are_rising, items_rise, members_rise}
 use Rattle.place_laws.proofs.Leading.{further}
 use Rattle.target_laws.proofs.Listed.{in_first, in_second}
 

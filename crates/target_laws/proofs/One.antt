@@ -9,7 +9,7 @@ use Rattle.json_paths.specs.Pointers.{value_at}
 use Rattle.schema_meaning.specs.Members.{In, first, later}
 use Rattle.schema_documents.specs.Bearers.{Document}
 use Rattle.schema_documents.specs.Lookup.{Target}
-use Rattle.place_laws.specs.Rising.{rises}
+use Rattle.schema_values.specs.Rising.{rises}
 use Rattle.target_laws.specs.Laws.{are_apart, contents_rise, ContentsAreOne}
 use Rattle.target_laws.proofs.Origins.{Comes}
 use Rattle.target_laws.proofs.Looked.{target_comes_of}

@@ -13,7 +13,7 @@ use Rattle.schema_documents.specs.Lookup.{Target, lookup}
 use Rattle.schema_documents.specs.Scopes.{dynamic_lookup, recursive_lookup}
 use Rattle.schema_reading.specs.AllKeys.{places_of}
 use Rattle.schema_reading.specs.Plain.{deepest}
-use Rattle.place_laws.specs.Rising.{rises}
+use Rattle.schema_values.specs.Rising.{rises}
 
 abbrev pub place_of : Target → SchemaPlace
 place_of t = record { document = t.document; path = t.path }

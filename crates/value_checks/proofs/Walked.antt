@@ -15,6 +15,7 @@ use Rattle.serde_json.specs.Events.{items_len, members_len}
 use Rattle.serde_json.specs.Find.{get_member}
 use Rattle.serde_json.specs.View.{members_view}
 use Rattle.schema_values.specs.Equality.{equal, equal_items, equal_members, names_in, has_name, found_and, rises_from}
+use Rattle.schema_values.specs.Rising.{are_rising}
 use Rattle.schema_values.proofs.Names.{both, get_same, get_greater}
 use Rattle.schema_values.proofs.Kept.{first_rise, rises_before, members_less, names_less, first_names}
 
@@ -38,11 +39,6 @@ in_step (member k d ms) (member l e ns) = bytes_eq k l && equal d e && in_step m
 
 abbrev pub are_same : Members → Members → Bool
 are_same ms ns = equal_members ms ns && names_in ns ms
-
--- the names rise
-abbrev pub are_rising : Members → Bool
-are_rising no_members = true
-are_rising (member k d ms) = rises_from k ms
 
 pub rising_rest : (k : List ℕ) (ms : Members) → rises_from k ms ≡ true → are_rising ms ≡ true
 rising_rest k no_members h = refl
@@ -118,13 +114,6 @@ other_counts (member k d ms) (member l e ns) h = after (bytes_eq k l && equal d 
     after : (b : Bool) → in_step ms ns ≡ false → (b && in_step ms ns) ≡ false
     after true e = e
     after false e = refl
-
--- a map's entries rise
-pub entries_rise : (es : List Entry) → IsStrictlySortedBy string_cmp (keys_of es) → are_rising (members_view es) ≡ true
-unfolding IsStrictlySortedBy
-entries_rise [] h = refl
-entries_rise (e ∷ []) h = refl
-entries_rise (e ∷ f ∷ es) h = both (is_lt (slice_cmp nat_cmp (string_bytes e.0) (string_bytes f.0))) (rises_from (string_bytes f.0) (members_view es)) (ap is_lt h.0.0) (entries_rise (f ∷ es) h.1)
 
 pub names_differ : (k l : List ℕ) (d e : Data) (ms ns : Members) → bytes_eq k l ≡ false → in_step (member k d ms) (member l e ns) ≡ false
 names_differ k l d e ms ns h = rw h refl

@@ -5,4 +5,5 @@ pub mod equality;
 pub mod json_types;
 pub mod numbers;
 pub mod patterns;
+pub mod rising;
 pub mod texts;

@@ -10,7 +10,7 @@ use Rattle.serde_json.specs.Data.{Data}
 use Rattle.serde_json.specs.View.{view, items_view}
 use Rattle.schema_values.specs.Equality.{equal, is_tree, is_among, all_distinct}
 use Rattle.schema_values.proofs.Names.{both}
-use Rattle.place_laws.specs.Rising.{rises, items_rise}
+use Rattle.schema_values.specs.Rising.{rises, items_rise}
 use Rattle.value_order.proofs.Keys.{order_is_total}
 use Rattle.value_order.proofs.Ties.{ties_are_equal}
 use Rattle.value_order.proofs.Trees.{equal_back}

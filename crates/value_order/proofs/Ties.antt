@@ -13,7 +13,7 @@ use Rattle.serde_json.specs.Find.{as_integer}
 use Rattle.schema_values.specs.Equality.{equal, equal_items, same_bool, same_whole, has_name, is_tree, are_trees, are_member_trees, rises_from}
 use Rattle.schema_values.proofs.Kept.{behind_none}
 use Rattle.value_checks.proofs.Walked.{in_step, same_in_step, rising_rest}
-use Rattle.place_laws.specs.Rising.{rises, items_rise, members_rise, are_rising}
+use Rattle.schema_values.specs.Rising.{rises, items_rise, members_rise, are_rising}
 use Rattle.value_order.specs.Order.{order, items_order, members_order, whole_order}
 
 bools : (b c : Bool) → same_bool b c ≡ (is_eq (bool_cmp b c) && true)

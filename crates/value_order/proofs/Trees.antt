@@ -11,7 +11,7 @@ use Rattle.schema_values.proofs.Inversion.{null_equal, boolean_equal, number_equ
 use Rattle.schema_values.proofs.Kept.{behind_none}
 use Rattle.schema_values.proofs.Names.{both}
 use Rattle.value_checks.proofs.Walked.{in_step, same_in_step, rising_rest}
-use Rattle.place_laws.specs.Rising.{rises, items_rise, members_rise, are_rising}
+use Rattle.schema_values.specs.Rising.{rises, items_rise, members_rise, are_rising}
 
 whole_other : (y z : Option ℤ) → same_whole y z ≡ true → is_some z ≡ true
 whole_other None z h = cc

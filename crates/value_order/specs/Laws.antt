@@ -4,7 +4,7 @@ use Rattle.std.specs.Cmp.{IsTotalOrder}
 use Rattle.std.specs.Ordering.{is_eq}
 use Rattle.serde_json.specs.Data.{Data}
 use Rattle.schema_values.specs.Equality.{equal, is_tree}
-use Rattle.place_laws.specs.Rising.{rises}
+use Rattle.schema_values.specs.Rising.{rises}
 use Rattle.value_order.specs.Order.{order}
 
 abbrev pub OrderIsTotal : Type 0

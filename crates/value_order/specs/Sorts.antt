@@ -6,7 +6,7 @@ use Rattle.std.specs.List.Sorted.{IsPermutation, IsSortedBy}
 use Rattle.serde_json.specs.declared.value.Value.{Value}
 use Rattle.serde_json.specs.View.{view, items_view}
 use Rattle.schema_values.specs.Equality.{equal}
-use Rattle.place_laws.specs.Rising.{items_rise}
+use Rattle.schema_values.specs.Rising.{items_rise}
 use Rattle.value_order.specs.Order.{order}
 
 -- the first comes before the second

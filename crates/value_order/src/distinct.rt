@@ -5,7 +5,7 @@ ghost use Rattle.serde_json.specs.View.{items_view};
 ghost use Rattle.value_order.specs.Sorts.{Sorts, values_of, some_neighbours_equal};
 
 use crate::order::compare;
-use place_laws::places::names_rise;
+use value_checks::rising::names_rise;
 use serde_json::Value;
 use std::alloc::{AllocError, Global};
 use value_checks::equality::equal;

@@ -6,12 +6,12 @@ ghost use Rattle.std.specs.List.{list_any};
 ghost use Rattle.std.specs.List.Sorted.{IsSortedBy};
 ghost use Rattle.serde_json.specs.Data.{Data};
 ghost use Rattle.schema_values.specs.Equality.{equal as are_equal};
-ghost use Rattle.place_laws.specs.Rising.{items_rise};
+ghost use Rattle.schema_values.specs.Rising.{items_rise};
 ghost use Rattle.value_order.specs.Sorts.{is_before, values_of};
 
 use crate::distinct::sort_references;
 use crate::order::compare;
-use place_laws::places::names_rise;
+use value_checks::rising::names_rise;
 use serde_json::Value;
 use std::alloc::{AllocError, Global};
 use value_checks::equality::equal;

@@ -28,10 +28,10 @@ use Rattle.serde_json.specs.declared.value.Value.{Value, the_lemmas}
 use Rattle.serde_json.specs.declared.value.Value.TheVariants as json
 use Rattle.schema_reading.specs.AllKeys.{spots_in, spots_of_items}
 use Rattle.plain_reader.proofs.ItemTelling.{Child, Where, child_falls, child_shallow, item_within, member_within, drop-items, no_items_told, items_init, items_settled, items_step, items_done, item_asked, member_asked, property_told, declared_init, declared_settled, declared_absent, none_declared, declared_step, declared_done}
-use Rattle.place_laws.specs.Rising.{are_rising}
+use Rattle.schema_values.specs.Rising.{are_rising}
 use Rattle.schema_values.specs.Equality.{rises_from}
 use Rattle.serde_json.specs.Find.{get, get_member}
-use Rattle.place_laws.proofs.Walked.{entries_rise}
+use Rattle.schema_values.proofs.Walked.{entries_rise}
 use Rattle.member_walks.specs.Left.{left_in}
 use Rattle.member_walks.specs.Found.{AreFound}
 use Rattle.member_walks.proofs.Found.{all_found, still_found, rest_rises}

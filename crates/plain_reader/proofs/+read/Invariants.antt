@@ -7,7 +7,7 @@ use Rattle.schema_reports.specs.RoadPaths.{instance_in}
 use Rattle.plain_reader.specs.Keys.{keys_in}
 use Rattle.plain_reader.specs.Tellings.{room}
 use Rattle.plain_reader.proofs.Left.{MembersLeft, ItemsLeft, QuestionsLeft, NamedLeft, DeclaredLeft, CountLeft, BranchesLeft}
-use Rattle.place_laws.specs.Rising.{are_rising}
+use Rattle.schema_values.specs.Rising.{are_rising}
 use Rattle.member_walks.specs.Left.{left_in}
 use Rattle.member_walks.specs.Found.{AreFound}
 use Rattle.plain_reader.proofs.+read.Given as goal

@@ -18,13 +18,13 @@ use Rattle.fault_steps.proofs.members.to_member.Goals as goal
 pub returns-then-ne-clause-passes : goal.returns-then-ne-clause-passes
 returns-then-ne-clause-passes c =
     members_apart c.args.walk (members_view c.args.schemas.now.entries) c.args.after c.args.there.now c.args.declared.now c.first_part.result.0.now c.first_part-2.result.0.now c.first_part.result.1 c.first_part-2.result.1
-    c.names_rise.ensures c.requires.more (record { at_instance = c.requires.there; on_evaluation = c.requires.declared; cut = c.first_part.ensures; cut_there = c.first_part-2.ensures })
+    c.entries_rise.ensures c.requires.more (record { at_instance = c.requires.there; on_evaluation = c.requires.declared; cut = c.first_part.ensures; cut_there = c.first_part-2.ensures })
     (apart_by _ _ c.ne.result c.ne.ensures c.if-ne.true)
 
 pub returns-in-None-clause-passes : goal.returns-in-None-clause-passes
 returns-in-None-clause-passes c =
     members_no_member c.args.walk (members_view c.args.schemas.now.entries) c.args.after c.args.there.now c.args.declared.now c.first_part.result.0.now c.first_part-2.result.0.now c.first_part.result.1 c.first_part-2.result.1
-    c.names_rise.ensures c.requires.more (record { at_instance = c.requires.there; on_evaluation = c.requires.declared; cut = c.first_part.ensures; cut_there = c.first_part-2.ensures })
+    c.entries_rise.ensures c.requires.more (record { at_instance = c.requires.there; on_evaluation = c.requires.declared; cut = c.first_part.ensures; cut_there = c.first_part-2.ensures })
     (subst (FindsMember (members_view c.args.schemas.now.entries) (view c.args.walk.value.now) c.first_part.result.0.now) c.in-None.is c.in_ok-member_at.ensures)
 
 pub invariant_of-result : goal.invariant_of-result
@@ -51,7 +51,7 @@ returns-clause-passes c =
     } in
     let path = ap (λ (p : List Part). p ++ path_of_reference (text_of c.args.walk.reference)) (behind_twice c.args.walk.parts.items _ _ _ _ c.in_ok-push-in-Some.ensures.items c.in_ok-push-in-Some-2.ensures.items) in
     members_on c.args.walk _ (members_view c.args.schemas.now.entries) c.args.after c.args.there.now c.args.declared.now c.first_part.result.0.now c.first_part-2.result.0.now (cow_str_bytes c.in-Some.name) (view c.in-Some.part.now)
-    c.names_rise.ensures c.requires.more (record { at_instance = c.requires.there; on_evaluation = c.requires.declared; cut = c.first_part.ensures; cut_there = c.first_part-2.ensures })
+    c.entries_rise.ensures c.requires.more (record { at_instance = c.requires.there; on_evaluation = c.requires.declared; cut = c.first_part.ensures; cut_there = c.first_part-2.ensures })
     (same_by _ _ c.ne.result c.ne.ensures c.if-ne.false) (subst (FindsMember (members_view c.args.schemas.now.entries) (view c.args.walk.value.now) c.first_part.result.0.now) c.in-Some.is c.in_ok-member_at.ensures) child path
 
 pub returns-clause-shorter : goal.returns-clause-shorter

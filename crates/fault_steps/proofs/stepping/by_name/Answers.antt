@@ -16,7 +16,7 @@ returns-in_default-clause-passes c = no_members c.args.walk c.args.text.now c.re
 pub returns-in_default-member_named-clause-passes : goal.returns-in_default-member_named-clause-passes
 returns-in_default-member_named-clause-passes c =
     let contents = ap view c.in-Object.is ∙ view-Object c.in-Object.members in
-    no_such_member c.args.walk c.args.text.now c.requires.text (members_view c.in-Object.members.entries) c.first_part.result.0.now c.member_of-member.result.now c.first_part.result.1 contents c.names_rise.ensures c.member_of-member.ensures c.first_part.ensures
+    no_such_member c.args.walk c.args.text.now c.requires.text (members_view c.in-Object.members.entries) c.first_part.result.0.now c.member_of-member.result.now c.first_part.result.1 contents c.entries_rise.ensures c.member_of-member.ensures c.first_part.ensures
     (sym c.in_default-member_named.ensures)
 
 pub by_member-requires : goal.by_member-requires
@@ -33,7 +33,7 @@ pub returns-in-Ok-clause-passes : goal.returns-in-Ok-clause-passes
 returns-in-Ok-clause-passes c =
     let contents = ap view c.in-Object.is ∙ view-Object c.in-Object.members in
     IfOk-weaker c.by_member.result _ _
-    (λ st h. walking.by_member c.args.walk c.args.text.now c.requires.text (members_view c.in-Object.members.entries) c.first_part.result.0.now c.member_of-member.result.now c.first_part.result.1 contents c.names_rise.ensures c.member_of-member.ensures c.first_part.ensures
+    (λ st h. walking.by_member c.args.walk c.args.text.now c.requires.text (members_view c.in-Object.members.entries) c.first_part.result.0.now c.member_of-member.result.now c.first_part.result.1 contents c.entries_rise.ensures c.member_of-member.ensures c.first_part.ensures
     (view c.in-Some.part.now) c.in-Ok.keyword (sym c.in-Some.ensures) c.in-Ok.ensures.read st h)
     c.by_member.ensures.passes
 
@@ -44,5 +44,5 @@ returns-in-Ok-clause-shorter c =
 pub returns-clause-passes : goal.returns-clause-passes
 returns-clause-passes c =
     let contents = ap view c.in-Object.is ∙ view-Object c.in-Object.members in
-    refused_member c.args.walk c.args.text.now c.requires.text (members_view c.in-Object.members.entries) c.first_part.result.0.now c.member_of-member.result.now c.first_part.result.1 contents c.names_rise.ensures c.member_of-member.ensures c.first_part.ensures
+    refused_member c.args.walk c.args.text.now c.requires.text (members_view c.in-Object.members.entries) c.first_part.result.0.now c.member_of-member.result.now c.first_part.result.1 contents c.entries_rise.ensures c.member_of-member.ensures c.first_part.ensures
     (view c.in-Some.part.now) c.in-Err.refusal (sym c.in-Some.ensures) c.in_default-refusal.not-Memory c.in-Err.ensures.refused

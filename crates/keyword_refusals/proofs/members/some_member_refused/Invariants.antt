@@ -3,7 +3,7 @@ use Rattle.serde_json.specs.View.{view, members_view}
 use Rattle.schema_reading.specs.Sites.{path_of_reference}
 use Rattle.schema_reports.specs.Locations.{location_of}
 use Rattle.schema_reports.specs.References.{text_of}
-use Rattle.place_laws.specs.Rising.{are_rising}
+use Rattle.schema_values.specs.Rising.{are_rising}
 use Rattle.keyword_refusals.proofs.Gathered.{Left}
 use Rattle.keyword_refusals.proofs.members.some_member_refused.Given as goal
 

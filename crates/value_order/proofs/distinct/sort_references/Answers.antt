@@ -6,7 +6,7 @@ use Rattle.std.specs.List.Sorted.{IsPermutation}
 use Rattle.std.specs.Ordering.{is_lt}
 use Rattle.serde_json.specs.declared.value.Value.{Value}
 use Rattle.serde_json.specs.View.{view, items_view}
-use Rattle.place_laws.specs.Rising.{items_rise}
+use Rattle.schema_values.specs.Rising.{items_rise}
 use Rattle.value_order.specs.Sorts.{is_before, values_of}
 use Rattle.value_order.proofs.Keys.{order_is_total}
 use Rattle.value_order.proofs.distinct.sort_references.Goals as goal

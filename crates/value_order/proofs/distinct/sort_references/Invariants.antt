@@ -1,6 +1,6 @@
 use Rattle.std.proofs.Common.{◌≡◌, drop, take}
 use Rattle.serde_json.specs.View.{items_view}
-use Rattle.place_laws.specs.Rising.{items_rise}
+use Rattle.schema_values.specs.Rising.{items_rise}
 use Rattle.value_order.specs.Sorts.{values_of}
 use Rattle.value_order.proofs.distinct.sort_references.Given as goal
 

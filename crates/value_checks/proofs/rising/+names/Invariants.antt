@@ -1,7 +1,7 @@
 use Rattle.std.proofs.Common.{◌≡◌, drop}
 use Rattle.serde_json.specs.View.{items_view, members_view}
-use Rattle.place_laws.specs.Rising.{items_rise, members_rise}
-use Rattle.place_laws.proofs.places.+names.Given as goal
+use Rattle.schema_values.specs.Rising.{items_rise, members_rise}
+use Rattle.value_checks.proofs.rising.+names.Given as goal
 
 abbrev pub invariant-items_rise-loop-item : goal.invariant-items_rise-loop-item
 invariant-items_rise-loop-item l = items_rise (items_view l.items) ≡ items_rise (items_view (drop l.item-index l.items))

@@ -9,7 +9,7 @@ use Rattle.serde_json.proofs.Views.{Entry}
 use Rattle.serde_json.specs.View.{members_view}
 use Rattle.schema_values.specs.Equality.{rises_from}
 use Rattle.schema_values.proofs.Names.{both}
-use Rattle.place_laws.specs.Rising.{are_rising}
+use Rattle.schema_values.specs.Rising.{are_rising}
 
 -- a map's entries rise
 pub entries_rise : (es : List Entry) → IsStrictlySortedBy string_cmp (keys_of es) → are_rising (members_view es) ≡ true

@@ -1,5 +1,0 @@
-use Rattle.place_laws.proofs.Walked.{entries_rise}
-use Rattle.keyword_refusals.proofs.members.names_rise.Goals as goal
-
-pub returns : goal.returns
-returns c = entries_rise c.args.members.now.entries c.len-count.ensures.ordered
