@@ -3,13 +3,13 @@ use Rattle.std.proofs.Common.{◌≡◌, ◌∙◌, ℕ, zero, suc, List, [], �
 use Rattle.std.proofs.lemmas.Slice.Eq.{bytes_eq-Decides}
 use Rattle.std.specs.List.{flat_map, AllByRecursion}
 use Rattle.serde_json.specs.Data.{Data, depth}
-use Rattle.json_paths.specs.Parts.{Part}
+use Rattle.json_values.specs.Parts.{Part}
 use Rattle.schema_drafts.specs.declared.draft.Draft.{Draft}
-use Rattle.schema_documents.specs.Words.{or, or_else, last_that, has_text, levels}
-use Rattle.schema_documents.specs.Identifiers.{resolved, identifier}
-use Rattle.schema_documents.specs.Places.{Dialect, SchemaPlace, standard, Named, settled, awaited, by_schema, schema_in_force, placed, root_place, children_in, children, places}
-use Rattle.schema_documents.specs.Bearers.{Document, Documents, Standing, standing_in, standings, is_root, bears, bears_anchor, last_standing}
-use Rattle.place_laws.proofs.Lists.{joined, first_part, second_part}
+use Rattle.schema_definitions.specs.Words.{or, or_else, last_that, has_text, levels}
+use Rattle.schema_definitions.specs.Identifiers.{resolved, identifier}
+use Rattle.schema_definitions.specs.Places.{Dialect, SchemaPlace, standard, Named, settled, awaited, by_schema, schema_in_force, placed, root_place, children_in, children, places}
+use Rattle.schema_definitions.specs.Bearers.{Document, Documents, Standing, standing_in, standings, is_root, bears, bears_anchor, last_standing}
+use Rattle.document_laws.proofs.Lists.{joined, first_part, second_part}
 use Rattle.added_documents.proofs.Lists.{of_each, neither, none_passes, none_found, found}
 use Rattle.added_documents.proofs.Named.{all_named}
 use Rattle.added_documents.proofs.Children.{IsEntered, inside_entered}

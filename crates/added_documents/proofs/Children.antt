@@ -3,13 +3,13 @@ use Rattle.std.proofs.Common.{◌≡◌, ℕ, suc, List, [], ◌∷◌, Bool, tr
 use Rattle.std.specs.List.{AllByRecursion}
 use Rattle.std.specs.Prelude.{is_some}
 use Rattle.serde_json.specs.Data.{Data, null, boolean, number, string, array, object, Items, no_items, item, Members, no_members, member, depth}
-use Rattle.json_paths.specs.Parts.{Part, name, index}
+use Rattle.json_values.specs.Parts.{Part, name, index}
 use Rattle.schema_drafts.specs.Subschemas.{Holds, nothing, one, several, one_or_several, by_name, held_by}
 use Rattle.schema_drafts.specs.declared.draft.Draft.{Draft}
-use Rattle.schema_documents.specs.Identifiers.{is_hidden}
-use Rattle.schema_documents.specs.Places.{Dialect, SchemaPlace, standard, by_schema, schema_in_force, entered, root_place, if_schema, each_item, each_member, in_list, in_map, held, children_of, children_in, children, places}
-use Rattle.place_laws.proofs.Lists.{joined, unless, by_levels}
-use Rattle.place_laws.proofs.Depths.{placed_contents}
+use Rattle.schema_definitions.specs.Identifiers.{is_hidden}
+use Rattle.schema_definitions.specs.Places.{Dialect, SchemaPlace, standard, by_schema, schema_in_force, entered, root_place, if_schema, each_item, each_member, in_list, in_map, held, children_of, children_in, children, places}
+use Rattle.document_laws.proofs.Lists.{joined, unless, by_levels}
+use Rattle.document_laws.proofs.Depths.{placed_contents}
 use Rattle.added_documents.specs.Added.{EachNamed, EachNamedIn, EachNamedAmong}
 
 module _ (P : List ℕ → Type 0) (meta : List ℕ → Option Dialect) (p : SchemaPlace) where

@@ -5,11 +5,11 @@ use Rattle.std.specs.Prelude.{IfSome}
 use Rattle.serde_json.specs.Data.{Data, null, boolean, number, string, array, object, Items, no_items, item, Members, no_members, member}
 use Rattle.schema_drafts.specs.Drafts.{draft_named}
 use Rattle.schema_drafts.specs.declared.draft.Draft.{Draft}
-use Rattle.schema_documents.specs.Words.{text_at}
-use Rattle.schema_documents.specs.Places.{Dialect, uri_named}
-use Rattle.schema_documents.specs.Bearers.{Document, Documents}
+use Rattle.schema_definitions.specs.Words.{text_at}
+use Rattle.schema_definitions.specs.Places.{Dialect, uri_named}
+use Rattle.schema_definitions.specs.Bearers.{Document, Documents}
 use Rattle.added_documents.specs.Added.{EachNamed, EachNamedIn, EachNamedAmong, EachNamedBy, IsToldAlike, NamesDraft}
-use Rattle.added_documents.specs.Laws.{DraftsAreToldAlike}
+use Rattle.added_documents.specs.DocumentLaws.{DraftsAreToldAlike}
 
 module _ (P Q : List ℕ → Type 0) (follows : (t : List ℕ) → P t → Q t) where
   if_named : (o : Option (List ℕ)) → IfSome o P → IfSome o Q

@@ -1,9 +1,9 @@
 -- The last standing that passes, where none of an added document does.
 use Rattle.std.proofs.Common.{◌≡◌, ◌∙◌, ℕ, List, Bool, Option, None, refl, sym, ap, ap₂}
 use Rattle.std.specs.List.{flat_map}
-use Rattle.schema_documents.specs.Words.{or_else, last_that}
-use Rattle.schema_documents.specs.Places.{Dialect}
-use Rattle.schema_documents.specs.Bearers.{Document, Documents, Standing, standing_in, standings, last_standing}
+use Rattle.schema_definitions.specs.Words.{or_else, last_that}
+use Rattle.schema_definitions.specs.Places.{Dialect}
+use Rattle.schema_definitions.specs.Bearers.{Document, Documents, Standing, standing_in, standings, last_standing}
 use Rattle.added_documents.specs.Added.{Mixed, neither as none_left, one_kept, one_added, Joined, none, mixed, added}
 use Rattle.added_documents.proofs.Lists.{or_else_none, neither, last_of_both}
 

@@ -7,3 +7,7 @@ pub mod Joining
 pub mod Walking
 pub mod Targets
 pub mod Stages
+pub mod Rows
+pub mod Sites
+pub mod Readings
+pub mod Computed

@@ -3,7 +3,7 @@ use Rattle.std.proofs.Common.{◌≡◌, ◌∙◌, List, [], ◌∷◌, ◌++�
 use Rattle.std.specs.List.{AllByRecursion}
 use Rattle.std.specs.Prelude.{if◌then◌else◌}
 use Rattle.schema_meaning.specs.Members.{In, first, later}
-use Rattle.schema_documents.specs.Words.{or_else, last_that}
+use Rattle.schema_definitions.specs.Words.{or_else, last_that}
 
 module _ {A : Type 0} where
   pub of_each : (P : A → Type 0) (xs : List A) → AllByRecursion P xs → (x : A) → In x xs → P x

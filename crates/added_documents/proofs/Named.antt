@@ -3,8 +3,8 @@ use Rattle.std.proofs.Common.{◌≡◌, ℕ, zero, suc, List, inl, inr, Option,
 use Rattle.std.specs.Prelude.{IfSome}
 use Rattle.serde_json.specs.Data.{Data, null, boolean, number, string, array, object, Items, no_items, item, Members, no_members, member}
 use Rattle.serde_json.specs.Find.{get_member, get_item}
-use Rattle.schema_values.proofs.Names.{found_at}
-use Rattle.schema_documents.specs.Words.{text_at}
+use Rattle.json_values.proofs.Names.{found_at}
+use Rattle.schema_definitions.specs.Words.{text_at}
 use Rattle.added_documents.specs.Added.{EachNamed, EachNamedIn, EachNamedAmong}
 
 module _ (P : List ℕ → Type 0) where

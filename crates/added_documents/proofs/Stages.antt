@@ -1,12 +1,12 @@
 -- The stages of documents to which others are added.
 use Rattle.std.proofs.Common.{◌≡◌, ◌≤◌, ◌∙◌, ℕ, zero, suc, List, [], option_map, refl, sym, ap, arith}
-use Rattle.schema_documents.specs.Bearers.{Document, Documents, bears, dialect_by, dialects, schemas_of_each, how_many, meta}
-use Rattle.schema_documents.specs.DocumentCauses.{told_anew}
-use Rattle.dialect_laws.specs.Stages.{AtRest}
-use Rattle.dialect_laws.proofs.Resting.{rest_stays}
-use Rattle.dialect_laws.proofs.Told.{only_rest_tells_none_anew}
+use Rattle.schema_definitions.specs.Bearers.{Document, Documents, bears, dialect_by, dialects, schemas_of_each, how_many, meta}
+use Rattle.schema_definitions.specs.DocumentCauses.{told_anew}
+use Rattle.document_laws.specs.Stages.{AtRest}
+use Rattle.document_laws.proofs.Resting.{rest_stays}
+use Rattle.document_laws.proofs.Told.{only_rest_tells_none_anew}
 use Rattle.added_documents.specs.Added.{Mixed, neither, one_kept, one_added, Joined, none, mixed, added, EachNamedBy, IsToldAlike}
-use Rattle.added_documents.specs.Laws.{IsNeverAdded, DialectsStay}
+use Rattle.added_documents.specs.DocumentLaws.{IsNeverAdded, DialectsStay}
 use Rattle.added_documents.proofs.Drafts.{all_follow}
 use Rattle.added_documents.proofs.Joining.{joined_last}
 use Rattle.added_documents.proofs.Walking.{same_last}

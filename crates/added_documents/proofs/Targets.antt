@@ -8,16 +8,16 @@ use Rattle.serde_json.specs.Data.{Data}
 use Rattle.serde_json.specs.Find.{get, as_bool}
 use Rattle.uri_grammar.specs.Texts.{cut_at, has, pieces}
 use Rattle.schema_drafts.specs.declared.draft.Draft.{Draft}
-use Rattle.schema_documents.specs.Words.{or, or_else, last_that, has_text, result_map, ok_or, and_then}
-use Rattle.schema_documents.specs.Identifiers.{resolved, is_name, anchors, dynamic_anchors}
-use Rattle.schema_documents.specs.Places.{Dialect}
-use Rattle.schema_documents.specs.Bearers.{Documents, Standing, meta, bears, bears_anchor, last_standing, bearer, anchored_under, dynamically_anchored}
-use Rattle.schema_documents.specs.Lookup.{LookupCause, unretrievable, invalid_percent_encoding, no_such_anchor, invalid_anchor, invalid_uri, Target, Walk, at_place, walk, ended, behind_first, by_pointer, target_of, by_anchor, by_fragment, lookup_under, lookup}
-use Rattle.schema_documents.specs.Scopes.{outermost, dynamic_lookup, recurs, end_of_run, recursive_lookup}
-use Rattle.place_laws.proofs.Lists.{of_last}
-use Rattle.target_laws.proofs.Results.{ok_map, ok_some, some_next, of_ok}
+use Rattle.schema_definitions.specs.Words.{or, or_else, last_that, has_text, result_map, ok_or, and_then}
+use Rattle.schema_definitions.specs.Identifiers.{resolved, is_name, anchors, dynamic_anchors}
+use Rattle.schema_definitions.specs.Places.{Dialect}
+use Rattle.schema_definitions.specs.Bearers.{Documents, Standing, meta, bears, bears_anchor, last_standing, bearer, anchored_under, dynamically_anchored}
+use Rattle.schema_definitions.specs.Lookup.{LookupCause, unretrievable, invalid_percent_encoding, no_such_anchor, invalid_anchor, invalid_uri, Target, Walk, at_place, walk, ended, behind_first, by_pointer, target_of, by_anchor, by_fragment, lookup_under, lookup}
+use Rattle.schema_definitions.specs.Scopes.{outermost, dynamic_lookup, recurs, end_of_run, recursive_lookup}
+use Rattle.document_laws.proofs.Lists.{of_last}
+use Rattle.document_laws.proofs.Results.{ok_map, ok_some, some_next, of_ok}
 use Rattle.added_documents.specs.Added.{IsFree, LeftAlone}
-use Rattle.added_documents.specs.Laws.{TargetsStay}
+use Rattle.added_documents.specs.DocumentLaws.{TargetsStay}
 use Rattle.added_documents.proofs.Bases.{none_anchored, found_passes, base_borne}
 use Rattle.added_documents.proofs.Joining.{joined_last}
 use Rattle.added_documents.proofs.Walking.{Alike, AlikeAt, last_alike, same_last, SameStep, same_walk}

@@ -3,18 +3,18 @@ use Rattle.std.proofs.Common.{◌≡◌, ◌∙◌, ℕ, List, [], ◌∷◌, Bo
 use Rattle.std.specs.List.{flat_map, AllByRecursion}
 use Rattle.serde_json.specs.Data.{Data, null, boolean, number, string, array, object, Items}
 use Rattle.serde_json.specs.Find.{get_member, get_item, unescape}
-use Rattle.json_paths.specs.Parts.{Part, name, index}
-use Rattle.json_paths.specs.Pointers.{index_of}
+use Rattle.json_values.specs.Parts.{Part, name, index}
+use Rattle.json_values.specs.Pointers.{index_of}
 use Rattle.schema_drafts.specs.Drafts.{draft_named}
 use Rattle.schema_drafts.specs.Subschemas.{Holds}
-use Rattle.schema_documents.specs.Words.{text_at, or_else, last_that, result_map, ok_or, and_then}
-use Rattle.schema_documents.specs.Identifiers.{identifier}
-use Rattle.schema_documents.specs.Places.{Dialect, SchemaPlace, uri_named, draft_beside, schema_in_force, placed, entered, places}
-use Rattle.schema_documents.specs.Bearers.{Document, Documents, Standing, standing_in, standings, is_root, last_standing}
-use Rattle.schema_documents.specs.Lookup.{LookupCause, pointer_to_nowhere, Walk, at_place, part_of, holds_schema, in_element, in_member, arrived, item_at, step_to, walk}
-use Rattle.place_laws.specs.Agreeing.{Agrees}
-use Rattle.place_laws.proofs.Lists.{joined, of_last}
-use Rattle.place_laws.proofs.Agreeing.{by_text, agreeing_tell_places}
+use Rattle.schema_definitions.specs.Words.{text_at, or_else, last_that, result_map, ok_or, and_then}
+use Rattle.schema_definitions.specs.Identifiers.{identifier}
+use Rattle.schema_definitions.specs.Places.{Dialect, SchemaPlace, uri_named, draft_beside, schema_in_force, placed, entered, places}
+use Rattle.schema_definitions.specs.Bearers.{Document, Documents, Standing, standing_in, standings, is_root, last_standing}
+use Rattle.schema_definitions.specs.Lookup.{LookupCause, pointer_to_nowhere, Walk, at_place, part_of, holds_schema, in_element, in_member, arrived, item_at, step_to, walk}
+use Rattle.document_laws.specs.Agreeing.{Agrees}
+use Rattle.document_laws.proofs.Lists.{joined, of_last}
+use Rattle.document_laws.proofs.Agreeing.{by_text, agreeing_tell_places}
 use Rattle.added_documents.specs.Added.{EachNamed, EachNamedBy, IsToldAlike}
 use Rattle.added_documents.proofs.Named.{item_named, member_named}
 use Rattle.added_documents.proofs.Children.{NamedAt, places_named}

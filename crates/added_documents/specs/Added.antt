@@ -3,9 +3,9 @@ use Rattle.std.specs.Prelude.{ℕ, ◌≡◌, List, [], ◌∷◌, true, codes, 
 use Rattle.std.specs.List.{AllByRecursion}
 use Rattle.serde_json.specs.Data.{Data, null, boolean, number, string, array, object, Items, no_items, item, Members, no_members, member}
 use Rattle.schema_drafts.specs.Drafts.{draft_named}
-use Rattle.schema_documents.specs.Words.{text_at}
-use Rattle.schema_documents.specs.Places.{Dialect, uri_named}
-use Rattle.schema_documents.specs.Bearers.{Document, Documents, meta, bearer_under, bearer}
+use Rattle.schema_definitions.specs.Words.{text_at}
+use Rattle.schema_definitions.specs.Places.{Dialect, uri_named}
+use Rattle.schema_definitions.specs.Bearers.{Document, Documents, meta, bearer_under, bearer}
 
 -- a list of documents, others, and both together: each keep their order
 pub data Mixed : List Document → List Document → List Document → Type 0 where

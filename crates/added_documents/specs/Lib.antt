@@ -1,2 +1,4 @@
 pub mod Added
-pub mod Laws
+pub mod DocumentLaws
+pub mod ReadingLaws
+pub mod Needed

@@ -5,13 +5,13 @@ use Rattle.serde_json.specs.Data.{Data, null, boolean, number, string, array, ob
 use Rattle.serde_json.specs.Find.{as_bool}
 use Rattle.serde_json.specs.View.{view}
 use Rattle.serde_json.specs.declared.value.Value.{Value}
-use Rattle.schema_documents.specs.Places.{is_schema}
-use Rattle.schema_values.specs.Texts.{count_items}
+use Rattle.schema_definitions.specs.Places.{is_schema}
+use Rattle.json_values.specs.Texts.{count_items}
 use Rattle.schema_meaning.specs.Questions.{Declared}
 use Rattle.schema_meaning.specs.Keywords.{Shape, items, item_list, additional_items, no_additional_items, additional_properties, no_additional_properties, no_properties, condition}
-use Rattle.schema_reading.specs.Sites.{Site}
-use Rattle.schema_reading.specs.Values.{count_of}
-use Rattle.schema_reading.specs.Rows.{Row, nothing_read, reads, bad_value, keyword_value, place_at, at, Context, beside, subschema, one_schema, schema_list, length_of_list, takes_list, items_row, is_false, behind_items, asserted, bound_row, names_of_object, declared_beside, is_alone, refuses_others, additional_properties_row, schema_beside, if_row, consequent_row}
+use Rattle.schema_definitions.specs.Sites.{Site}
+use Rattle.schema_definitions.specs.Values.{count_of}
+use Rattle.schema_definitions.specs.Rows.{Row, nothing_read, reads, bad_value, keyword_value, place_at, at, Context, beside, subschema, one_schema, schema_list, length_of_list, takes_list, items_row, is_false, behind_items, asserted, bound_row, names_of_object, declared_beside, is_alone, refuses_others, additional_properties_row, schema_beside, if_row, consequent_row}
 use Rattle.applicators.specs.Shapes.{site_of, shape_of, leads_of, declared_by}
 use Rattle.applicators.specs.declared.applicator.Applicator.{Applicator}
 use Rattle.applicators.specs.declared.declared.Declared as beside_all

@@ -3,15 +3,15 @@ use Rattle.std.proofs.Common.{◌≡◌, ◌∙◌, ℕ, List, [], ◌∷◌, Bo
 use Rattle.std.specs.Prelude.{if◌then◌else◌, Result, Ok, Err}
 use Rattle.serde_json.specs.Data.{Data, Items, Members, no_members, member}
 use Rattle.serde_json.specs.Find.{as_array, as_object}
-use Rattle.json_paths.specs.Parts.{name}
-use Rattle.schema_documents.specs.Words.{result_map}
-use Rattle.schema_documents.specs.Places.{is_schema}
+use Rattle.json_values.specs.Parts.{name}
+use Rattle.schema_definitions.specs.Words.{result_map}
+use Rattle.schema_definitions.specs.Places.{is_schema}
 use Rattle.schema_meaning.specs.Keywords.{Shape, Dependency, needs, applies}
 use Rattle.schema_meaning.specs.Keywords as told
 use Rattle.schema_meaning.specs.Members.{first}
-use Rattle.schema_reading.specs.Sites.{Site}
-use Rattle.schema_reading.specs.Values.{names_in}
-use Rattle.schema_reading.specs.Rows.{Row, BuildCause, row_of, reads, expected, bad_value, keyword_value, place_at, at, Context, and_more, subschema, sites_applied, entry_names, dependency_entry, dependency_entries, dependencies_row}
+use Rattle.schema_definitions.specs.Sites.{Site}
+use Rattle.schema_definitions.specs.Values.{names_in}
+use Rattle.schema_definitions.specs.Rows.{Row, BuildCause, row_of, reads, expected, bad_value, keyword_value, place_at, at, Context, and_more, subschema, sites_applied, entry_names, dependency_entry, dependency_entries, dependencies_row}
 use Rattle.assertions.specs.Texts.{texts_of}
 use Rattle.assertions.specs.Reads.{IsNameList}
 use Rattle.assertions.specs.declared.names.NameList.TheVariants as list

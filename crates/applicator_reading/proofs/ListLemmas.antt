@@ -3,12 +3,12 @@ use Rattle.std.proofs.Common.{◌≡◌, ℕ, suc, List, [], ◌∷◌, ◌++◌
 use Rattle.std.specs.Prelude.{if◌then◌else◌, Result, Ok, Err}
 use Rattle.serde_json.specs.Data.{Data, null, boolean, number, string, array, object, Items, no_items, item, Members, no_members, member}
 use Rattle.serde_json.specs.Find.{as_array, as_object}
-use Rattle.json_paths.specs.Parts.{name, index}
-use Rattle.schema_documents.specs.Places.{is_schema}
+use Rattle.json_values.specs.Parts.{name, index}
+use Rattle.schema_definitions.specs.Places.{is_schema}
 use Rattle.schema_meaning.specs.Keywords.{Shape}
 use Rattle.schema_meaning.specs.Members.{In, first, later}
-use Rattle.schema_reading.specs.Sites.{Site}
-use Rattle.schema_reading.specs.Rows.{Row, BuildCause, row_of, reads, bad_value, keyword_value, place_at, at, Context, and_more, each_subschema, each_named, in_list, in_object}
+use Rattle.schema_definitions.specs.Sites.{Site}
+use Rattle.schema_definitions.specs.Rows.{Row, BuildCause, row_of, reads, bad_value, keyword_value, place_at, at, Context, and_more, each_subschema, each_named, in_list, in_object}
 use Rattle.applicators.specs.Shapes.{sites_of_list, sites_of_map, shape_of, leads_of}
 use Rattle.applicator_reading.proofs.RowLemmas.{value-cause}
 use Rattle.applicator_reading.specs.Arms.{list_name, list_word, list_shape, list_row}

@@ -3,10 +3,10 @@ use Rattle.std.proofs.Common.{◌≡◌, ℕ, List, [], ◌∷◌, ◌++◌, Boo
 use Rattle.std.specs.Prelude.{if◌then◌else◌, option_map}
 use Rattle.serde_json.specs.Data.{Data, Members}
 use Rattle.serde_json.specs.Find.{as_object}
-use Rattle.json_paths.specs.Parts.{name}
-use Rattle.schema_documents.specs.Words.{or}
+use Rattle.json_values.specs.Parts.{name}
+use Rattle.schema_definitions.specs.Words.{or}
 use Rattle.schema_meaning.specs.Members.{In, first, later}
-use Rattle.schema_reading.specs.Rows.{Row, BuildCause, row_of, reads, bad_value, keyword_value, bad_pattern, place_at, at, Context, each_named, sites_named, is_made, member_names, names_of_object, patterns_wrong, with_causes, schema_map}
+use Rattle.schema_definitions.specs.Rows.{Row, BuildCause, row_of, reads, bad_value, keyword_value, bad_pattern, place_at, at, Context, each_named, sites_named, is_made, member_names, names_of_object, patterns_wrong, with_causes, schema_map}
 use Rattle.applicators.specs.Made.{is_made_by, patterns_in}
 use Rattle.applicators.specs.Shapes.{sites_of_map, shape_of, leads_of}
 use Rattle.applicators.specs.declared.applicator.Applicator.{Applicator}

@@ -2,7 +2,7 @@
 use Rattle.std.proofs.Common.{◌≡◌, ℕ, List, true, false, true≢false, sym, ap, ◌∙◌, subst}
 use Rattle.serde_json.specs.Data.{Data}
 use Rattle.schema_meaning.specs.Members.{is_listed}
-use Rattle.schema_reading.specs.Rows.{Context, readers, read_among}
+use Rattle.schema_definitions.specs.Rows.{Context, readers, read_among}
 use Rattle.applicator_reading.specs.Beside.{Surrounds}
 use Rattle.applicator_reading.specs.Names.{applicator_names, valued_names}
 use Rattle.applicator_reading.specs.Reads.{ReadsAs}

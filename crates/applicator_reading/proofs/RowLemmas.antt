@@ -5,11 +5,11 @@ use Rattle.serde_json.specs.Data.{Data, Members}
 use Rattle.serde_json.specs.Find.{get_member}
 use Rattle.serde_json.specs.View.{members_view}
 use Rattle.schema_drafts.specs.Counts.{counts}
-use Rattle.schema_documents.specs.Places.{Dialect, is_schema}
+use Rattle.schema_definitions.specs.Places.{Dialect, is_schema}
 use Rattle.schema_meaning.specs.Keywords.{Shape}
 use Rattle.schema_meaning.specs.Members.{In, first}
-use Rattle.schema_reading.specs.Sites.{Site}
-use Rattle.schema_reading.specs.Rows.{Row, row_of, reads, expected, bad_value, keyword_value, place_at, at, Context, has_reference, beside, one_schema}
+use Rattle.schema_definitions.specs.Sites.{Site}
+use Rattle.schema_definitions.specs.Rows.{Row, row_of, reads, expected, bad_value, keyword_value, place_at, at, Context, has_reference, beside, one_schema}
 use Rattle.applicators.specs.Shapes.{shape_of, leads_of}
 use Rattle.applicators.specs.Made.{patterns_in}
 use Rattle.applicators.specs.declared.applicator.Applicator.{Applicator}

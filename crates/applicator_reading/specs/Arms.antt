@@ -2,8 +2,8 @@
 use Rattle.std.specs.Prelude.{ℕ, List, [], codes}
 use Rattle.serde_json.specs.Data.{Data, Members}
 use Rattle.schema_meaning.specs.Keywords.{Shape, item_list, prefix_items, properties, pattern_properties, dependent_schemas, all_of, any_of, one_of}
-use Rattle.schema_reading.specs.Sites.{Site}
-use Rattle.schema_reading.specs.Rows.{Context, Row, schema_list, schema_map, pattern_properties_row, member_names}
+use Rattle.schema_definitions.specs.Sites.{Site}
+use Rattle.schema_definitions.specs.Rows.{Context, Row, schema_list, schema_map, pattern_properties_row, member_names}
 use Rattle.applicator_reading.specs.declared.keyword.ListKeyword.{ListKeyword}
 use Rattle.applicator_reading.specs.declared.keyword.ListKeyword.TheVariants.{ItemList, PrefixItems, AllOf, AnyOf, OneOf}
 use Rattle.applicator_reading.specs.declared.keyword.MapKeyword.{MapKeyword}

@@ -4,10 +4,10 @@ use Rattle.serde_json.specs.Data.{Data, Items}
 use Rattle.serde_json.specs.Find.{get_member, as_array}
 use Rattle.serde_json.specs.View.{members_view}
 use Rattle.schema_drafts.specs.Counts.{counts}
-use Rattle.schema_documents.specs.Places.{is_schema}
+use Rattle.schema_definitions.specs.Places.{is_schema}
 use Rattle.schema_meaning.specs.Questions.{Declared}
-use Rattle.schema_vocabularies.specs.Dialects.{dialect_of}
-use Rattle.schema_reading.specs.Rows.{Context, has_reference, names_of_object}
+use Rattle.schema_dialects.specs.Dialects.{dialect_of}
+use Rattle.schema_definitions.specs.Rows.{Context, has_reference, names_of_object}
 use Rattle.applicator_reading.specs.declared.neighbours.Neighbours.{Neighbours}
 
 abbrev pub counts_in : Neighbours → List ℕ → Bool

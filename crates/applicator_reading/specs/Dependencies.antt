@@ -1,7 +1,7 @@
 -- What is wrong with the entries of `dependencies`.
 use Rattle.std.specs.Prelude.{◌∷◌, List, [], codes, Result}
-use Rattle.json_paths.specs.Parts.{name}
-use Rattle.schema_reading.specs.Rows.{BuildCause, keyword_value, Context, place_at, at}
+use Rattle.json_values.specs.Parts.{name}
+use Rattle.schema_definitions.specs.Rows.{BuildCause, keyword_value, Context, place_at, at}
 use Rattle.applicator_reading.specs.Reads.{IsRefusedFor}
 use Rattle.applicator_reading.specs.declared.reading.Reading.{Reading}
 use Rattle.applicator_reading.specs.declared.reading.Reading.TheVariants as reading

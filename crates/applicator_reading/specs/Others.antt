@@ -1,7 +1,7 @@
 -- The first of the items or members that is no schema.
 use Rattle.std.specs.Prelude.{ℕ, suc, List, Option, Some, None, if◌then◌else◌}
 use Rattle.serde_json.specs.Data.{Items, no_items, item, Members, no_members, member}
-use Rattle.schema_documents.specs.Places.{is_schema}
+use Rattle.schema_definitions.specs.Places.{is_schema}
 
 -- its index, where the first item has index i
 abbrev pub first_other_item : ℕ → Items → Option ℕ

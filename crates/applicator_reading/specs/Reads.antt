@@ -2,10 +2,10 @@
 use Rattle.std.specs.Prelude.{◌≡◌, ℕ, List, [], ◌∷◌, true, false, Result, Ok, Err}
 use Rattle.serde_json.specs.Data.{Data}
 use Rattle.serde_json.specs.View.{view}
-use Rattle.json_paths.specs.Parts.{Part, name, index}
+use Rattle.json_values.specs.Parts.{Part, name, index}
 use Rattle.schema_meaning.specs.Members.{In}
-use Rattle.schema_reading.specs.Sites.{Site, below}
-use Rattle.schema_reading.specs.Rows.{Row, BuildCause, keyword_value, bad_pattern, Context, place_at, at, reads}
+use Rattle.schema_definitions.specs.Sites.{Site, below}
+use Rattle.schema_definitions.specs.Rows.{Row, BuildCause, keyword_value, bad_pattern, Context, place_at, at, reads}
 use Rattle.applicators.specs.Shapes.{shape_of, leads_of}
 use Rattle.applicators.specs.Combined.{is_by_answers}
 use Rattle.applicators.specs.Made.{is_made_by, AreMade, patterns_in}

@@ -1,9 +1,9 @@
 //! The keyword `dependencies`: for each name a list of names, or a schema.
 ghost use Rattle.std.specs.Prelude.{◌≡◌, ◌∷◌, [], IfOk, IfSome, IfNone, Ok, codes};
 ghost use Rattle.serde_json.specs.View.{view, items_view, members_view};
-ghost use Rattle.json_paths.specs.Parts.{name as named};
-ghost use Rattle.schema_reading.specs.Rows as rows;
-ghost use Rattle.schema_reading.specs.Values.{names_in};
+ghost use Rattle.json_values.specs.Parts.{name as named};
+ghost use Rattle.schema_definitions.specs.Rows as rows;
+ghost use Rattle.schema_definitions.specs.Values.{names_in};
 ghost use Rattle.assertions.specs.Texts.{texts_of};
 ghost use Rattle.applicators.specs.Shapes.{dependency_at, dependencies_in};
 ghost use Rattle.applicator_reading.specs.Dependencies.{IsWrong};

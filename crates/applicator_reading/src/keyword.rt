@@ -2,9 +2,9 @@
 ghost use Rattle.std.specs.Prelude.{◌≡◌, List, [], true};
 ghost use Rattle.serde_json.specs.Data.{Data};
 ghost use Rattle.serde_json.specs.View.{items_view, members_view};
-ghost use Rattle.json_paths.specs.Parts.{Part};
-ghost use Rattle.schema_reading.specs.Sites.{Site};
-ghost use Rattle.schema_reading.specs.Rows.{sites_named};
+ghost use Rattle.json_values.specs.Parts.{Part};
+ghost use Rattle.schema_definitions.specs.Sites.{Site};
+ghost use Rattle.schema_definitions.specs.Rows.{sites_named};
 ghost use Rattle.applicators.specs.Shapes.{shape_of, leads_of, sites_of_list, sites_of_map};
 ghost use Rattle.applicators.specs.Combined.{is_by_answers};
 ghost use Rattle.applicators.specs.Made.{patterns_in};

@@ -2,15 +2,15 @@
 ghost use Rattle.std.specs.Prelude.{◌≡◌, ◌&&◌, ◌||◌, not, codes, Some, is_some, option_map, option_and_then};
 ghost use Rattle.serde_json.specs.Find.{get_member, as_array};
 ghost use Rattle.serde_json.specs.View.{view, members_view};
-ghost use Rattle.schema_values.specs.Texts.{count_items};
-ghost use Rattle.schema_reading.specs.Values.{count_of};
-ghost use Rattle.schema_reading.specs.Rows as rows;
+ghost use Rattle.json_values.specs.Texts.{count_items};
+ghost use Rattle.schema_definitions.specs.Values.{count_of};
+ghost use Rattle.schema_definitions.specs.Rows as rows;
 ghost use Rattle.applicators.specs.Shapes.{names_declared, declared_by};
 ghost use Rattle.applicator_reading.specs.Beside.{beside_in, declared_in, schema_in, list_in};
 
 use applicators::declared::Declared;
+use schema_dialects::Dialect;
 use schema_places::place::is_schema;
-use schema_vocabularies::Dialect;
 use serde_json::{Map, Value};
 
 /// What a member of a schema is read beside: the dialect, by which keywords count, and the members of its schema.

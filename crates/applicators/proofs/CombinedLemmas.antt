@@ -3,11 +3,11 @@ use Rattle.std.proofs.lemmas.Bool.Decides.{nat_tests}
 use Rattle.std.proofs.Common.{◌≡◌, ◌==◌, ◌≤◌, ◌∙◌, ◌&&◌, ℕ, nat_lt, List, [], ◌∷◌, Bool, true, false, not, length, Option, Bor, refl, sym, ap, arith, ◌++◌, codes, ap₂}
 use Rattle.serde_json.specs.Data.{Data, null, boolean, number, string, array, object, Members, no_members, member}
 use Rattle.serde_json.specs.declared.value.Value.{Value}
-use Rattle.json_paths.specs.Parts.{Part}
+use Rattle.json_values.specs.Parts.{Part}
 use Rattle.schema_meaning.specs.Members.{all_true, some_true, count_true}
 use Rattle.schema_meaning.specs.Rules.{accepts, is_enough, is_few, Note, every}
 use Rattle.schema_meaning.specs.Keywords.{rule, missing, missing_beside, needed}
-use Rattle.schema_reading.specs.Sites.{Site}
+use Rattle.schema_definitions.specs.Sites.{Site}
 use Rattle.applicators.specs.Combined.{is_every, IsEvery, decided, Decides}
 use Rattle.applicators.specs.Shapes.{shape_of, dependency_at, dependencies_in}
 use Rattle.std.specs.List.{flat_map}

@@ -2,7 +2,7 @@
 use Rattle.std.proofs.Common.{◌≡◌, List, [], ◌∷◌, ◌++◌, Bool, refl, sym, ap, ◌∙◌, append_assoc}
 use Rattle.schema_meaning.specs.Questions.{Question}
 use Rattle.schema_meaning.specs.Rules.{consequents}
-use Rattle.schema_reading.specs.Sites.{Site}
+use Rattle.schema_definitions.specs.Sites.{Site}
 
 abbrev Consequents : Type 0
 Consequents = List (Bool × Question Site)

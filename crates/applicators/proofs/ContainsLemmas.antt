@@ -4,7 +4,7 @@ use Rattle.serde_json.specs.Data.{Data, null, boolean, number, string, array, ob
 use Rattle.schema_meaning.specs.Questions.{each_item, items_of, items_from}
 use Rattle.schema_meaning.specs.Rules.{asks}
 use Rattle.schema_meaning.specs.Keywords.{counting}
-use Rattle.schema_reading.specs.Sites.{Site}
+use Rattle.schema_definitions.specs.Sites.{Site}
 
 pub contains_asks : (d : Data) (s : Site) (least most : Option ℕ)
     → each_item (codes "contains") s 0 (items_from 0 (items_of d)) ≡ asks (counting d least most (each_item (codes "contains") s 0 (items_of d)))

@@ -6,7 +6,7 @@ use Rattle.std.specs.Ordering.{match_ordering}
 use Rattle.serde_json.specs.Data.{Data, Members, no_members, member}
 use Rattle.serde_json.specs.Find.{get_member}
 use Rattle.schema_meaning.specs.Members.{is_listed}
-use Rattle.schema_reading.specs.Rows.{member_names}
+use Rattle.schema_definitions.specs.Rows.{member_names}
 
 here_or : (o : Ordering) (e : Data) (rest : Option Data) (b : Bool) → is_some rest ≡ b → is_some (match_ordering o rest (Some e) rest) ≡ (is_eq o || b)
 here_or Less e rest b h = h

@@ -5,7 +5,7 @@ use Rattle.serde_json.specs.View.{view, items_view}
 use Rattle.serde_json.specs.declared.value.Value.{Value}
 use Rattle.schema_meaning.specs.Places.{to_item}
 use Rattle.schema_meaning.specs.Questions.{Question, question, at, items_from, each_item}
-use Rattle.schema_reading.specs.Sites.{Site}
+use Rattle.schema_definitions.specs.Sites.{Site}
 
 drop-items : (start : ℕ) (vs : List Value) → items_view (drop start vs) ≡ items_from start (items_view vs)
 drop-items zero [] = refl

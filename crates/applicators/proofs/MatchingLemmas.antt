@@ -3,7 +3,7 @@ use Rattle.std.proofs.Common.{◌≡◌, ◌++◌, ◌∙◌, ℕ, List, [], ◌
 use Rattle.std.specs.List.{filter}
 use Rattle.serde_json.specs.Data.{Data, null, boolean, number, string, array, object, Members}
 use Rattle.serde_json.specs.Find.{as_object}
-use Rattle.schema_values.specs.Patterns.{matched}
+use Rattle.json_values.specs.Patterns.{matched}
 use Rattle.schema_meaning.specs.Places.{to_member}
 use Rattle.schema_meaning.specs.Questions.{Question, question, at, at_name, listed_members, members_of, Declared, is_declared, each_member}
 use Rattle.applicators.specs.Shapes.{others_among}

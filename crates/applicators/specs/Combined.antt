@@ -3,8 +3,8 @@ use Rattle.std.specs.Prelude.{◌≡◌, ◌==◌, ℕ, nat_lt, List, [], Bool, 
 use Rattle.serde_json.specs.Data.{Data}
 use Rattle.serde_json.specs.Find.{as_array}
 use Rattle.serde_json.specs.View.{members_view}
-use Rattle.json_paths.specs.Parts.{Part}
-use Rattle.schema_reading.specs.Sites.{Site}
+use Rattle.json_values.specs.Parts.{Part}
+use Rattle.schema_definitions.specs.Sites.{Site}
 use Rattle.schema_meaning.specs.Members.{count_true}
 use Rattle.schema_meaning.specs.Questions.{at}
 use Rattle.schema_meaning.specs.Rules.{every, asks, accepts, is_enough, is_few, count_refused_at, Note}

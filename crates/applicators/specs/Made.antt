@@ -1,9 +1,9 @@
 -- Patterns that have to be made where a keyword is read.
 use Rattle.std.specs.Prelude.{◌≡◌, ℕ, List, [], Bool, true, ◌||◌, is_some}
 use Rattle.serde_json.specs.View.{members_view}
-use Rattle.schema_values.specs.Patterns.{literal_of}
+use Rattle.json_values.specs.Patterns.{literal_of}
 use Rattle.schema_meaning.specs.Members.{In}
-use Rattle.schema_reading.specs.Rows.{member_names}
+use Rattle.schema_definitions.specs.Rows.{member_names}
 use Rattle.applicators.specs.declared.applicator.Applicator.{Applicator}
 use Rattle.applicators.specs.declared.applicator.Applicator.TheVariants as code
 

@@ -2,7 +2,7 @@
 use Rattle.std.specs.Prelude.{ℕ, List, map, Bool, codes}
 use Rattle.std.specs.List.{filter, flat_map}
 use Rattle.serde_json.specs.Data.{Data}
-use Rattle.schema_values.specs.Patterns.{matched}
+use Rattle.json_values.specs.Patterns.{matched}
 use Rattle.schema_meaning.specs.Places.{to_member}
 use Rattle.schema_meaning.specs.Questions.{Question, question, at_name}
 

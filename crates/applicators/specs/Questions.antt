@@ -4,8 +4,8 @@ use Rattle.std.specs.List.{flat_map}
 use Rattle.serde_json.specs.Data.{Data}
 use Rattle.serde_json.specs.Find.{get}
 use Rattle.serde_json.specs.View.{view}
-use Rattle.json_paths.specs.Parts.{Part}
-use Rattle.schema_reading.specs.Sites.{Site}
+use Rattle.json_values.specs.Parts.{Part}
+use Rattle.schema_definitions.specs.Sites.{Site}
 use Rattle.schema_meaning.specs.Places.{Step, stay, to_item, to_member, to_name}
 use Rattle.schema_meaning.specs.Questions as told
 use Rattle.schema_meaning.specs.Keywords.{Dependency, applied}

@@ -6,10 +6,10 @@ use Rattle.std.specs.Borrow.{Bor}
 use Rattle.std.specs.List.{filter}
 use Rattle.serde_json.specs.Data.{Data, Items, no_items, item, Members, no_members, member}
 use Rattle.serde_json.specs.View.{view, items_view, members_view}
-use Rattle.json_paths.specs.Parts.{Part}
-use Rattle.schema_reading.specs.Sites.{Site}
+use Rattle.json_values.specs.Parts.{Part}
+use Rattle.schema_definitions.specs.Sites.{Site}
 use Rattle.serde_json.specs.declared.value.Value.{Value}
-use Rattle.schema_reading.specs.Rows.{sites_named, member_names, in_list, sites_applied}
+use Rattle.schema_definitions.specs.Rows.{sites_named, member_names, in_list, sites_applied}
 use Rattle.schema_meaning.specs.Questions.{at, at_name, at_index, Declared, is_declared}
 use Rattle.schema_meaning.specs.Keywords.{Shape, items, item_list, prefix_items, additional_items, no_additional_items, contains, properties, pattern_properties, additional_properties, no_additional_properties, no_properties, property_names, no_property_names, dependent_schemas, all_of, any_of, one_of, negation, condition, Dependency, needs, applies, dependencies}
 use Rattle.assertions.specs.Texts.{texts_of}

@@ -2,14 +2,14 @@
 ghost use Rattle.std.specs.Prelude.{◌≡◌, IfOk, map, string_bytes};
 ghost use Rattle.std.specs.List.{list_any, filter};
 ghost use Rattle.serde_json.specs.View.{view, members_view};
-ghost use Rattle.schema_values.specs.Patterns.{matched};
+ghost use Rattle.json_values.specs.Patterns.{matched};
 ghost use Rattle.schema_meaning.specs.Members.{is_listed};
 ghost use Rattle.schema_meaning.specs.Questions.{is_declared as is_among, listed_members, other_members};
-ghost use Rattle.schema_reading.specs.Rows.{member_names};
-ghost use Rattle.schema_matches.specs.Read.{reads};
+ghost use Rattle.schema_definitions.specs.Rows.{member_names};
+ghost use Rattle.schema_patterns.specs.Read.{reads};
 ghost use Rattle.applicators.specs.Shapes.{names_declared, declared_by, others_among};
 
-use schema_matches::matches::Matches;
+use schema_patterns::matches::Matches;
 use serde_json::{Map, Value};
 use std::alloc::{AllocError, Global};
 

@@ -3,17 +3,17 @@
 ghost use Rattle.std.specs.Prelude.{◌≡◌, ◌++◌, List, OnOk, codes};
 ghost use Rattle.serde_json.specs.Data.{Data};
 ghost use Rattle.serde_json.specs.View.{view, members_view};
-ghost use Rattle.json_paths.specs.Parts.{Part};
-ghost use Rattle.schema_reading.specs.Sites.{Site};
+ghost use Rattle.json_values.specs.Parts.{Part};
+ghost use Rattle.schema_definitions.specs.Sites.{Site};
 ghost use Rattle.schema_meaning.specs.Questions.{at_name, listed_members, members_of};
 ghost use Rattle.applicators.specs.Shapes.{sites_of_map};
 ghost use Rattle.applicators.specs.Questions.{questions_of};
-ghost use Rattle.schema_matches.specs.Read.{reads};
+ghost use Rattle.schema_patterns.specs.Read.{reads};
 ghost use Rattle.applicators.specs.Matching.{matching_members, by_patterns};
 
 use crate::question::{Asked, Question};
 use crate::subschema::{Entry, Subschema};
-use schema_matches::matches::Matches;
+use schema_patterns::matches::Matches;
 use serde_json::{Map, Value};
 use std::alloc::{AllocError, Global};
 

@@ -3,13 +3,13 @@ ghost use Rattle.std.specs.Prelude.{◌≡◌, ◌++◌, ℕ, List, [], ◌∷�
 ghost use Rattle.serde_json.specs.Data.{Data};
 ghost use Rattle.serde_json.specs.View.{view, items_view, members_view};
 ghost use Rattle.serde_json.specs.Find.{get, get_member};
-ghost use Rattle.json_paths.specs.Parts.{Part};
-ghost use Rattle.schema_reading.specs.Sites.{Site};
+ghost use Rattle.json_values.specs.Parts.{Part};
+ghost use Rattle.schema_definitions.specs.Sites.{Site};
 ghost use Rattle.schema_meaning.specs.Places.{to_member};
 ghost use Rattle.schema_meaning.specs.Questions.{question, at, here, each_branch, items_of, items_from, each_item, item_by_item, listed_members, members_of, other_members, names_of, if_member, each_declared, each_member, each_name, each_triggered};
 ghost use Rattle.schema_meaning.specs.Rules.{asks, consequents};
 ghost use Rattle.schema_meaning.specs.Keywords.{rule, consequent, applied};
-ghost use Rattle.schema_matches.specs.Read.{reads};
+ghost use Rattle.schema_patterns.specs.Read.{reads};
 ghost use Rattle.applicators.specs.Shapes.{site_of, sites_of_list, sites_of_map, declared_by, others_among, shape_of, dependency_at, dependencies_in};
 ghost use Rattle.applicators.specs.Questions.{step_of, questions_of, each_dependency};
 
@@ -18,7 +18,7 @@ use crate::declared::{Declared, is_declared};
 use crate::patterns::push_patterns;
 use crate::question::{Asked, Question};
 use crate::subschema::{Entry, Subschema};
-use schema_matches::matches::Matches;
+use schema_patterns::matches::Matches;
 use serde_json::{Map, Value};
 use std::alloc::{AllocError, Global};
 

@@ -2,9 +2,9 @@
 ghost use Rattle.std.specs.Prelude.{◌≡◌, ◌++◌, List, [], ◌∷◌, IfOk, OnOk, map};
 ghost use Rattle.serde_json.specs.Data.{Data};
 ghost use Rattle.serde_json.specs.View.{view, items_view, members_view};
-ghost use Rattle.json_paths.specs.Parts.{Part};
-ghost use Rattle.schema_reading.specs.Sites.{Site};
-ghost use Rattle.schema_reading.specs.Rows.{sites_named, sites_applied};
+ghost use Rattle.json_values.specs.Parts.{Part};
+ghost use Rattle.schema_definitions.specs.Sites.{Site};
+ghost use Rattle.schema_definitions.specs.Rows.{sites_named, sites_applied};
 ghost use Rattle.applicators.specs.Shapes.{place_of, site_of, sites_of_list, sites_of_map, dependency_at, dependencies_in, leads_of};
 
 use crate::applicator::Applicator;

@@ -2,14 +2,14 @@
 use Rattle.std.proofs.Common.{◌≡◌, ℕ, List, [], ◌∷◌, Bool, false, Option, Bor, length, codes, refl, arith, String, Global}
 use Rattle.serde_json.specs.Data.{Data, null, boolean, number, string, array, object}
 use Rattle.serde_json.specs.declared.value.Value.{Value}
-use Rattle.json_paths.specs.Parts.{Part}
+use Rattle.json_values.specs.Parts.{Part}
 use Rattle.schema_meaning.specs.Members.{count_true}
 use Rattle.schema_meaning.specs.Places.{Spot}
 use Rattle.schema_meaning.specs.Faults.{Fault, Faults, Contains}
 use Rattle.schema_meaning.specs.Questions.{at}
 use Rattle.schema_meaning.specs.Rules.{Rule, every, accepts, asks, faults, one_fault, own_fault, verdicts_of}
 use Rattle.schema_meaning.specs.Keywords.{rule}
-use Rattle.schema_reading.specs.Sites.{Site}
+use Rattle.schema_definitions.specs.Sites.{Site}
 use Rattle.applicators.specs.Shapes.{shape_of}
 use Rattle.applicators.specs.Combined.{refused_name, is_every, has_notes, notes_by}
 use Rattle.std.specs.BTreeMap.{BTreeMap}

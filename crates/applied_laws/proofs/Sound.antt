@@ -5,19 +5,19 @@ use Rattle.std.specs.Prelude.{⊤}
 use Rattle.serde_json.specs.Data.{Data, null, boolean, number, string, array, object, Items, no_items, item}
 use Rattle.serde_json.specs.Find.{get}
 use Rattle.serde_json.specs.View.{view, items_view, members_view}
-use Rattle.schema_values.specs.Patterns.{matched}
-use Rattle.json_paths.specs.Parts.{Part}
+use Rattle.json_values.specs.Patterns.{matched}
+use Rattle.json_values.specs.Parts.{Part}
 use Rattle.schema_meaning.specs.Members.{In, first, later}
 use Rattle.schema_meaning.specs.Places.{Step, stay, to_member, to_name, path_after, called_after}
 use Rattle.schema_meaning.specs.Questions.{Question, question, at, at_name, each_branch, items_of, items_from, each_item, item_by_item, if_member, each_declared, each_matching, members_of, other_members, each_member, each_name, each_triggered}
 use Rattle.schema_meaning.specs.Rules.{asks}
 use Rattle.schema_meaning.specs.Keywords.{counting, rule, Dependency, needs, applies, applied}
-use Rattle.schema_reading.specs.Sites.{Site}
-use Rattle.schema_reading.specs.Rows.{sites_applied}
-use Rattle.schema_reading.specs.AllKeys.{spots_in}
-use Rattle.plain_laws.proofs.Steps.{Keeps, first_spot}
-use Rattle.plain_laws.proofs.Elements.{each_in, each_laid_flat, in_mapped}
-use Rattle.plain_laws.proofs.Asked.{Holds, Sound, all_sound, IsApplied}
+use Rattle.schema_definitions.specs.Sites.{Site}
+use Rattle.schema_definitions.specs.Rows.{sites_applied}
+use Rattle.schema_definitions.specs.AllKeys.{spots_in}
+use Rattle.reading_laws.proofs.Steps.{Keeps, first_spot}
+use Rattle.reading_laws.proofs.Elements.{each_in, each_laid_flat, in_mapped}
+use Rattle.reading_laws.proofs.Asked.{Holds, Sound, all_sound, IsApplied}
 use Rattle.applicators.specs.Shapes.{shape_of, leads_of, site_of, declared_by, sites_of_list, sites_of_map, dependencies_in}
 use Rattle.applicators.specs.Questions.{each_dependency}
 use Rattle.applicators.specs.Combined.{is_by_answers}

@@ -1,14 +1,14 @@
 -- What a question of a keyword with subschemas asks, and where its subschema stands.
 use Rattle.std.specs.Prelude.{◌≡◌, ℕ, List, Bool, true, false, Option, Some}
 use Rattle.serde_json.specs.Data.{Data}
-use Rattle.json_paths.specs.Parts.{Part}
+use Rattle.json_values.specs.Parts.{Part}
 use Rattle.schema_meaning.specs.Members.{In}
 use Rattle.schema_meaning.specs.Places.{to_name, value_after, path_after}
 use Rattle.schema_meaning.specs.Questions.{Question}
 use Rattle.schema_meaning.specs.Rules.{asks}
 use Rattle.schema_meaning.specs.Keywords.{rule}
-use Rattle.schema_reading.specs.Sites.{Site}
-use Rattle.schema_reading.specs.AllKeys.{spots_in}
+use Rattle.schema_definitions.specs.Sites.{Site}
+use Rattle.schema_definitions.specs.AllKeys.{spots_in}
 use Rattle.applicators.specs.Shapes.{shape_of, leads_of}
 use Rattle.applicators.specs.Combined.{is_by_answers}
 use Rattle.applicators.specs.declared.applicator.Applicator.{Applicator}

@@ -2,14 +2,14 @@
 use Rattle.std.specs.Prelude.{◌≡◌, ℕ, List, map, Bool, true, false, length}
 use Rattle.serde_json.specs.Data.{Data}
 use Rattle.serde_json.specs.View.{view}
-use Rattle.json_paths.specs.Parts.{Part}
+use Rattle.json_values.specs.Parts.{Part}
 use Rattle.schema_meaning.specs.Members.{count_true}
 use Rattle.schema_meaning.specs.Places.{Spot}
 use Rattle.schema_meaning.specs.Faults.{Kind, AdditionalItems, AdditionalProperties, AnyOf, Contains, FalseSchema, Not, Faults, branches_of}
 use Rattle.schema_meaning.specs.Questions.{at, members_of, other_members}
 use Rattle.schema_meaning.specs.Rules.{accepts, asks, faults, one_fault, one_of_kind, own_fault, verdicts_of}
 use Rattle.schema_meaning.specs.Keywords.{rule, first_value}
-use Rattle.schema_reading.specs.Sites.{Site}
+use Rattle.schema_definitions.specs.Sites.{Site}
 use Rattle.applicators.specs.Shapes.{shape_of, declared_by}
 use Rattle.applicators.specs.Combined.{refused_name, is_every, is_by_answers, is_each_named}
 use Rattle.applicators.specs.declared.applicator.Applicator.{Applicator}

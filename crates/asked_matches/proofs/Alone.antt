@@ -3,13 +3,13 @@ use Rattle.std.proofs.Common.{◌≡◌, ℕ, List, [], ◌∷◌, Bool, Option,
 use Rattle.std.specs.List.{AllByRecursion}
 use Rattle.serde_json.specs.Data.{Data, null, boolean, number, string, array, object, Items, no_items, item, Members, no_members, member}
 use Rattle.schema_meaning.specs.Members.{In}
-use Rattle.schema_documents.specs.Places.{Dialect}
-use Rattle.schema_documents.specs.Bearers.{Document, Documents, standings, meta, bearer_under}
-use Rattle.schema_reading.specs.Sites.{Site}
-use Rattle.schema_reading.specs.Rows.{Row, rows_at}
-use Rattle.plain_laws.proofs.Asked.{Holds}
-use Rattle.added_readings.specs.Passed.{Mixed, neither, one_kept, Joined, none, mixed, EachNamed, EachNamedIn, EachNamedAmong, EachNamedBy, IsToldAlike, IsFree, LeftAlone}
-use Rattle.added_readings.proofs.Sites.{in_same}
+use Rattle.schema_definitions.specs.Places.{Dialect}
+use Rattle.schema_definitions.specs.Bearers.{Document, Documents, standings, meta, bearer_under}
+use Rattle.schema_definitions.specs.Sites.{Site}
+use Rattle.schema_definitions.specs.Rows.{Row, rows_at}
+use Rattle.reading_laws.proofs.Asked.{Holds}
+use Rattle.added_documents.specs.Added.{Mixed, neither, one_kept, Joined, none, mixed, EachNamed, EachNamedIn, EachNamedAmong, EachNamedBy, IsToldAlike, IsFree, LeftAlone}
+use Rattle.added_documents.proofs.Sites.{in_same}
 
 if_any : {A : Type 0} (P : A → Type 0) → ((x : A) → P x) → (o : Option A) → IfSome o P
 if_any P h None = tt

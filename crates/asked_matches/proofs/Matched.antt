@@ -3,15 +3,15 @@ use Rattle.std.proofs.Common.{◌≡◌, ℕ, List, [], ◌∷◌, ◌++◌, ◌
 use Rattle.std.specs.List.{flat_map}
 use Rattle.std.proofs.lemmas.Slice.Eq.{bytes_eq-Decides}
 use Rattle.serde_json.specs.Data.{Data, null, boolean, number, string, array, object, Members, no_members, member}
-use Rattle.schema_values.specs.Patterns.{matched, known}
+use Rattle.json_values.specs.Patterns.{matched, known}
 use Rattle.schema_meaning.specs.Members.{In, first, later, is_listed}
 use Rattle.schema_meaning.specs.Places.{whole}
 use Rattle.schema_meaning.specs.Questions.{listed_members, names_of}
 use Rattle.schema_meaning.specs.Keywords.{Assertion, types, constant, enumeration, multiple_of, maximum, exclusive_maximum, minimum, exclusive_minimum, maximum_of_draft_4, minimum_of_draft_4, max_length, min_length, pattern, max_items, min_items, unique_items, max_properties, min_properties, required, dependent_required, Shape, never, asserts, items, item_list, prefix_items, additional_items, no_additional_items, contains, properties, pattern_properties, additional_properties, no_additional_properties, no_properties, property_names, no_property_names, dependent_schemas, dependencies, all_of, any_of, one_of, negation, condition, reference}
 use Rattle.schema_meaning.specs.Matches.{of_text, of_names, asserted_matches, match_sites}
-use Rattle.plain_laws.proofs.Elements.{in_rest}
-use Rattle.schema_matches.specs.Texts.{texts_in, texts_of_members}
-use Rattle.schema_matches.specs.Read.{reads, leaves, IsRead}
+use Rattle.reading_laws.proofs.Elements.{in_rest}
+use Rattle.schema_patterns.specs.Texts.{texts_in, texts_of_members}
+use Rattle.schema_patterns.specs.Read.{reads, leaves, IsRead}
 use Rattle.asked_matches.specs.Asked.{pattern_in, patterns_of, IsAsked}
 use Rattle.asked_matches.specs.Laws.{AskedMatchesAreKnown, MatchesAreRead}
 use Rattle.asked_matches.proofs.Reached.{led_is_reached, led_texts}

@@ -9,14 +9,14 @@ use Rattle.schema_meaning.specs.Keywords.{rule}
 use Rattle.schema_meaning.specs.Rules.{asks}
 use Rattle.schema_meaning.specs.Readings.{Asks, rules}
 use Rattle.schema_meaning.specs.Circular.{Leads, starts, inside, follows}
-use Rattle.schema_documents.specs.Bearers.{Documents}
-use Rattle.schema_reading.specs.Sites.{Site}
-use Rattle.schema_reading.specs.Rows.{rows_at}
-use Rattle.schema_reading.specs.BuildCauses.{Reached, at_root, by_keyword}
-use Rattle.schema_reading.specs.Plain.{keywords_at, plain}
-use Rattle.schema_matches.specs.Texts.{texts_in}
-use Rattle.plain_laws.proofs.Elements.{each_in, each_mapped, each_laid_flat}
-use Rattle.plain_laws.proofs.Asked.{Holds, Sound, all_sound}
+use Rattle.schema_definitions.specs.Bearers.{Documents}
+use Rattle.schema_definitions.specs.Sites.{Site}
+use Rattle.schema_definitions.specs.Rows.{rows_at}
+use Rattle.schema_definitions.specs.BuildCauses.{Reached, at_root, by_keyword}
+use Rattle.schema_definitions.specs.Plain.{keywords_at, plain}
+use Rattle.schema_patterns.specs.Texts.{texts_in}
+use Rattle.reading_laws.proofs.Elements.{each_in, each_mapped, each_laid_flat}
+use Rattle.reading_laws.proofs.Asked.{Holds, Sound, all_sound}
 use Rattle.asked_matches.specs.Laws.{LedIsReached}
 use Rattle.asked_matches.proofs.Alone.{shapes_hold}
 

@@ -1,17 +1,17 @@
 -- The patterns of keywords, and what is known of the matches that they ask for.
 use Rattle.std.specs.Prelude.{◌≡◌, ℕ, List, [], ◌∷◌, map, Bool, true, Option, Some}
 use Rattle.serde_json.specs.Data.{Data}
-use Rattle.schema_values.specs.Patterns.{matched, known}
+use Rattle.json_values.specs.Patterns.{matched, known}
 use Rattle.schema_meaning.specs.Members.{In, is_listed}
 use Rattle.schema_meaning.specs.Places.{Spot, Key, whole}
 use Rattle.schema_meaning.specs.Keywords.{Assertion, types, constant, enumeration, multiple_of, maximum, exclusive_maximum, minimum, exclusive_minimum, maximum_of_draft_4, minimum_of_draft_4, max_length, min_length, pattern, max_items, min_items, unique_items, max_properties, min_properties, required, dependent_required, Shape, never, asserts, items, item_list, prefix_items, additional_items, no_additional_items, contains, properties, pattern_properties, additional_properties, no_additional_properties, no_properties, property_names, no_property_names, dependent_schemas, dependencies, all_of, any_of, one_of, negation, condition, reference}
 use Rattle.schema_meaning.specs.Matches.{match_sites}
 use Rattle.schema_meaning.specs.Circular.{Leads}
-use Rattle.schema_documents.specs.Bearers.{Documents}
-use Rattle.schema_reading.specs.Sites.{Site}
-use Rattle.schema_reading.specs.BuildCauses.{Reached}
-use Rattle.schema_reading.specs.Plain.{keywords_at, plain}
-use Rattle.schema_matches.specs.Texts.{texts_in}
+use Rattle.schema_definitions.specs.Bearers.{Documents}
+use Rattle.schema_definitions.specs.Sites.{Site}
+use Rattle.schema_definitions.specs.BuildCauses.{Reached}
+use Rattle.schema_definitions.specs.Plain.{keywords_at, plain}
+use Rattle.schema_patterns.specs.Texts.{texts_in}
 
 abbrev pub pattern_in : Assertion → List (List ℕ)
 pattern_in (types ts) = []

@@ -3,14 +3,14 @@ use Rattle.std.specs.Prelude.{ℕ, List, Bool, Option}
 use Rattle.serde_json.specs.Data.{Data}
 use Rattle.schema_meaning.specs.Places.{Spot, Key, whole}
 use Rattle.schema_meaning.specs.Circular.{Leads}
-use Rattle.schema_documents.specs.Bearers.{Documents}
-use Rattle.schema_reading.specs.Sites.{Site}
-use Rattle.schema_reading.specs.BuildCauses.{Reached}
-use Rattle.schema_reading.specs.Plain.{plain}
-use Rattle.match_laws.specs.Laws.{SameOnTheWay}
-use Rattle.schema_matches.specs.Texts.{texts_in}
-use Rattle.schema_matches.specs.Read.{reads, IsReadBy}
-use Rattle.schema_matches.specs.declared.matches.Matches.{Matches}
+use Rattle.schema_definitions.specs.Bearers.{Documents}
+use Rattle.schema_definitions.specs.Sites.{Site}
+use Rattle.schema_definitions.specs.BuildCauses.{Reached}
+use Rattle.schema_definitions.specs.Plain.{plain}
+use Rattle.meaning_laws.specs.MatchLaws.{SameOnTheWay}
+use Rattle.schema_patterns.specs.Texts.{texts_in}
+use Rattle.schema_patterns.specs.Read.{reads, IsReadBy}
+use Rattle.schema_patterns.specs.declared.matches.Matches.{Matches}
 use Rattle.asked_matches.specs.Asked.{AreAmong, IsAsked, IsOf, AreFinished}
 
 abbrev pub LedIsReached : Type 0

@@ -1,7 +1,7 @@
 -- What an observer is told of a value that keywords refuse.
 use Rattle.std.specs.Prelude.{◌∷◌, ℕ, List, None, Bool, codes}
 use Rattle.serde_json.specs.Data.{Data}
-use Rattle.json_paths.specs.Parts.{name}
+use Rattle.json_values.specs.Parts.{name}
 use Rattle.schema_meaning.specs.Places.{Spot}
 use Rattle.schema_meaning.specs.Faults.{Kind, Fault, fault, Faults, none, also, joined}
 use Rattle.schema_meaning.specs.Rules.{Note, own_faults}

@@ -2,12 +2,12 @@
 ghost use Rattle.std.specs.Prelude.{OnOk, codes};
 ghost use Rattle.serde_json.specs.View.{view};
 ghost use Rattle.schema_meaning.specs.Faults as told;
-ghost use Rattle.schema_matches.specs.Read.{reads};
+ghost use Rattle.schema_patterns.specs.Read.{reads};
 ghost use Rattle.assertion_faults.specs.Tellings.{TellsOne, TellsPattern};
 
 use crate::telling::tell_kind;
-use matched_keywords::pattern::accepts_text;
-use schema_matches::matches::Matches;
+use schema_patterns::matches::Matches;
+use schema_patterns::pattern::accepts_text;
 use schema_reports::{Observer, Roads, ValidationErrorKind};
 use serde_json::Value;
 use std::alloc::{AllocError, Global};

@@ -3,12 +3,12 @@ use Rattle.std.proofs.Common.{◌≡◌, ℕ, List, [], ◌∷◌, ◌++◌, Boo
 use Rattle.std.specs.Prelude.{Result, Ok, Err, IfSome, IfNone, if◌then◌else◌}
 use Rattle.serde_json.specs.Data.{Data, Items, no_items, Members, member}
 use Rattle.serde_json.specs.Find.{as_array, as_object}
-use Rattle.json_paths.specs.Parts.{name}
-use Rattle.schema_documents.specs.Words.{or, result_map}
+use Rattle.json_values.specs.Parts.{name}
+use Rattle.schema_definitions.specs.Words.{or, result_map}
 use Rattle.schema_meaning.specs.Keywords as told
 use Rattle.schema_meaning.specs.Members.{In, first, later}
-use Rattle.schema_reading.specs.Rows.{Row, BuildCause, Context, keyword_value, place_at, at, expected, entry_names, assertion, reads, bad_value, row_of, required_entry, required_entries, and_more, dependent_required_row}
-use Rattle.schema_reading.specs.Values.{names_in, none_twice}
+use Rattle.schema_definitions.specs.Rows.{Row, BuildCause, Context, keyword_value, place_at, at, expected, entry_names, assertion, reads, bad_value, row_of, required_entry, required_entries, and_more, dependent_required_row}
+use Rattle.schema_definitions.specs.Values.{names_in, none_twice}
 use Rattle.assertions.proofs.ReadLemmas.{refused-value}
 use Rattle.assertions.proofs.NameLemmas.{list-there, no-list, object-there, no-object}
 use Rattle.assertions.specs.Texts.{texts_of, texts_in, entries_of}

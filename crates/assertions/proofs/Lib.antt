@@ -3,3 +3,4 @@ pub mod WrongLemmas
 pub mod ReadLemmas
 pub mod NameLemmas
 pub mod EntryLemmas
+pub mod TypeLemmas

@@ -5,7 +5,7 @@ use Rattle.std.specs.Prelude.{option_and_then, if◌then◌else◌, Result, Ok, 
 use Rattle.std.specs.declared.alloc.AllocError.{AllocError}
 use Rattle.serde_json.specs.Data.{Data, object, Items, no_items, item, Members}
 use Rattle.serde_json.specs.Find.{as_str, get_member}
-use Rattle.schema_documents.specs.Words.{listed}
+use Rattle.schema_definitions.specs.Words.{listed}
 use Rattle.schema_meaning.specs.Keywords.{none_there, missing}
 use Rattle.assertions.specs.Texts.{texts_of}
 use Rattle.assertions.specs.Wrong.{head, missing_in, note_of_name, notes_of}

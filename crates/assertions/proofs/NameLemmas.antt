@@ -6,11 +6,11 @@ use Rattle.serde_json.specs.declared.value.Value.{Value}
 use Rattle.serde_json.specs.Data.{Data, null, boolean, number, string, array, object, Items, no_items, item, Members}
 use Rattle.serde_json.specs.Find.{as_str, as_array, as_object}
 use Rattle.serde_json.specs.View.{view, items_view}
-use Rattle.schema_documents.specs.Words.{listed}
+use Rattle.schema_definitions.specs.Words.{listed}
 use Rattle.schema_meaning.specs.Keywords as told
-use Rattle.schema_values.specs.Equality.{is_among, all_distinct}
-use Rattle.schema_reading.specs.Rows.{Row, Context, asserted, assertion, reads, unless_empty, in_list, in_object}
-use Rattle.schema_reading.specs.Values.{first_and, names_in, none_twice, if_none_twice, unique_names}
+use Rattle.json_values.specs.Equality.{is_among, all_distinct}
+use Rattle.schema_definitions.specs.Rows.{Row, Context, asserted, assertion, reads, unless_empty, in_list, in_object}
+use Rattle.schema_definitions.specs.Values.{first_and, names_in, none_twice, if_none_twice, unique_names}
 use Rattle.assertions.proofs.ReadLemmas.{refused-value}
 use Rattle.assertions.specs.Texts.{texts_of, are_texts}
 use Rattle.assertions.specs.Reads.{ReadsAs, Makes, IsNameList, required_names_row}

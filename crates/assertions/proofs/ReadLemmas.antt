@@ -6,9 +6,9 @@ use Rattle.serde_json.specs.Data.{Data}
 use Rattle.schema_drafts.specs.declared.draft.Draft.{Draft}
 use Rattle.schema_meaning.specs.Keywords as told
 use Rattle.schema_meaning.specs.Members.{first, is_listed}
-use Rattle.schema_reading.specs.Rows.{Row, Context, asserted, assertion, reads, bad_value, keyword_value, place_at, at, beside, is_draft_4, is_true, nothing_read, readers, read_among, unique_row}
+use Rattle.schema_definitions.specs.Rows.{Row, Context, asserted, assertion, reads, bad_value, keyword_value, place_at, at, beside, is_draft_4, is_true, nothing_read, readers, read_among, unique_row}
 use Rattle.serde_json.specs.Find.{as_bool}
-use Rattle.schema_reading.specs.Values.{whole_number}
+use Rattle.schema_definitions.specs.Values.{whole_number}
 use Rattle.assertions.specs.Arms.{row_of, limit_row, strict_row}
 use Rattle.assertions.specs.Names.{name_of, limit_name, strict_name, assertion_names}
 use Rattle.assertions.specs.Reads.{ReadsAs, Makes, Surrounds, IsCause}

@@ -1,7 +1,7 @@
 -- Keywords of which one thing at most is wrong.
 use Rattle.std.proofs.Common.{◌≡◌, ℕ, ℤ, List, [], ◌∷◌, Bool, true, false, Option, Some, None, option_map, refl, sym, ap, ◌∙◌}
 use Rattle.serde_json.specs.Data.{Data}
-use Rattle.schema_documents.specs.Words.{listed}
+use Rattle.schema_definitions.specs.Words.{listed}
 use Rattle.schema_meaning.specs.Faults.{Kind}
 use Rattle.schema_meaning.specs.Keywords.{wrong, unless}
 use Rattle.schema_meaning.specs.Members.{is_empty}

@@ -3,8 +3,8 @@ use Rattle.std.specs.Prelude.{[], codes}
 use Rattle.serde_json.specs.Data.{Data}
 use Rattle.serde_json.specs.Find.{as_array, as_bool}
 use Rattle.schema_meaning.specs.Keywords as told
-use Rattle.schema_reading.specs.Rows.{Context, Row, asserted, assertion, reads, counted, limit, strict_limit, unique_row, unless_empty, dependent_required_row}
-use Rattle.schema_reading.specs.Values.{type_names, positive_of, unique_names}
+use Rattle.schema_definitions.specs.Rows.{Context, Row, asserted, assertion, reads, counted, limit, strict_limit, unique_row, unless_empty, dependent_required_row}
+use Rattle.schema_definitions.specs.Values.{type_names, positive_of, unique_names}
 use Rattle.assertions.specs.Names.{count_name}
 use Rattle.assertions.specs.Shapes.{count_assertion}
 use Rattle.assertions.specs.declared.keyword.Limit.{Limit}

@@ -4,3 +4,4 @@ pub mod Wrong
 pub mod Texts
 pub mod Arms
 pub mod Reads
+pub mod Named

@@ -1,11 +1,11 @@
 -- What a reading says of a member of a schema.
 use Rattle.std.specs.Prelude.{◌≡◌, ℕ, List, [], ◌∷◌, Option, codes, Some, None, true, false, option_and_then, Result, Ok, Err}
 use Rattle.serde_json.specs.Data.{Data, Items}
-use Rattle.json_paths.specs.Parts.{name}
+use Rattle.json_values.specs.Parts.{name}
 use Rattle.schema_drafts.specs.declared.draft.Draft.{Draft}
 use Rattle.schema_meaning.specs.Members.{In}
-use Rattle.schema_reading.specs.Rows.{Row, BuildCause, keyword_value, Context, place_at, at, beside, reads, assertion, asserted, unless_empty}
-use Rattle.schema_reading.specs.Values.{names_in, none_twice, if_none_twice}
+use Rattle.schema_definitions.specs.Rows.{Row, BuildCause, keyword_value, Context, place_at, at, beside, reads, assertion, asserted, unless_empty}
+use Rattle.schema_definitions.specs.Values.{names_in, none_twice, if_none_twice}
 use Rattle.assertions.specs.Texts.{texts_of}
 use Rattle.assertions.specs.declared.names.NameList.{NameList}
 use Rattle.assertions.specs.declared.names.NameList.TheVariants as list

@@ -2,7 +2,7 @@
 use Rattle.std.specs.Prelude.{ℕ, ℤ, Bool}
 use Rattle.serde_json.specs.View.{view, items_view, members_view}
 use Rattle.schema_meaning.specs.Keywords as told
-use Rattle.schema_types.specs.Named.{names_in}
+use Rattle.assertions.specs.Named.{names_in}
 use Rattle.assertions.specs.Texts.{texts_of, entries_of}
 use Rattle.assertions.specs.declared.keyword.Count.{Count}
 use Rattle.assertions.specs.declared.keyword.Count.TheVariants as count

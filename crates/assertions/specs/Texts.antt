@@ -2,7 +2,7 @@
 use Rattle.std.specs.Prelude.{ℕ, List, [], ◌∷◌, ◌++◌, Bool, true, ◌&&◌, is_some}
 use Rattle.serde_json.specs.Data.{Data, Items, no_items, item, Members, no_members, member}
 use Rattle.serde_json.specs.Find.{as_str, as_array}
-use Rattle.schema_documents.specs.Words.{or, listed}
+use Rattle.schema_definitions.specs.Words.{or, listed}
 
 -- the items that are texts
 abbrev pub texts_of : Items → List (List ℕ)

@@ -3,12 +3,12 @@ use Rattle.std.specs.Prelude.{ℕ, ℤ, List, [], ◌∷◌, ◌++◌, map, Bool
 use Rattle.serde_json.specs.Data.{Data, Items, no_items, item, Members}
 use Rattle.serde_json.specs.Find.{as_str, get_member}
 use Rattle.serde_json.specs.View.{view, items_view}
-use Rattle.schema_documents.specs.Words.{listed}
+use Rattle.schema_definitions.specs.Words.{listed}
 use Rattle.schema_meaning.specs.Faults as told
 use Rattle.schema_meaning.specs.Rules.{Note}
 use Rattle.schema_meaning.specs.Keywords.{none_there}
-use Rattle.schema_values.specs.Numbers.{at_most, at_least, below, above}
-use Rattle.schema_types.specs.Named.{names_in}
+use Rattle.json_values.specs.Numbers.{at_most, at_least, below, above}
+use Rattle.assertions.specs.Named.{names_in}
 use Rattle.assertions.specs.Shapes.{integer_of}
 use Rattle.assertions.specs.declared.keyword.Count.{Count}
 use Rattle.assertions.specs.declared.keyword.Count.TheVariants as count

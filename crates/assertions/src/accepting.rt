@@ -2,12 +2,12 @@
 ghost use Rattle.std.specs.Prelude.{◌≡◌, List, ℕ, Bool, IfOk, option_map};
 ghost use Rattle.serde_json.specs.View.{view, items_view, members_view};
 ghost use Rattle.serde_json.specs.Data.{Data};
-ghost use Rattle.schema_values.specs.Numbers.{number_is, is_multiple as is_whole_multiple};
-ghost use Rattle.schema_values.specs.Equality.{all_distinct as are_distinct};
+ghost use Rattle.json_values.specs.Numbers.{number_is, is_multiple as is_whole_multiple};
+ghost use Rattle.json_values.specs.Equality.{all_distinct as are_distinct};
 ghost use Rattle.schema_meaning.specs.Keywords.{list_is, wrong, unless as note_unless};
-ghost use Rattle.schema_documents.specs.Words.{listed as in_list};
+ghost use Rattle.schema_definitions.specs.Words.{listed as in_list};
 ghost use Rattle.schema_meaning.specs.Members.{is_empty};
-ghost use Rattle.schema_values.specs.Texts.{count_items as items_counted, count_members as members_counted};
+ghost use Rattle.json_values.specs.Texts.{count_items as items_counted, count_members as members_counted};
 ghost use Rattle.assertions.specs.Shapes.{assertion_of, count_assertion, integer_of};
 ghost use Rattle.assertions.specs.Wrong.{bound_test, old_bound, bound_kind, count_kind, kind_of, head, note_of, notes_of};
 
@@ -18,10 +18,10 @@ use crate::whole_number::WholeNumber;
 use serde_json::{Map, Value};
 use std::alloc::{AllocError, Global};
 use std::num::NonZeroU64;
+use value_checks::distinct::all_distinct;
 use value_checks::equality::equal;
 use value_checks::numbers::{is_multiple, whole};
 use value_checks::texts::code_points;
-use value_order::distinct::all_distinct;
 
 // Whether a number stands so to a limit.
 fn is_so(bound: Bound, limit: i128, number: i128) -> bool

@@ -1,11 +1,11 @@
 //! Keywords that only assert, read from their values.
 
+use crate::TypeNames;
 use crate::keyword::{Count, Limit};
 use crate::whole_number::WholeNumber;
-use schema_types::TypeNames;
 use serde_json::{Map, Value};
 use std::num::NonZeroU64;
-use value_order::sorted_values::SortedValues;
+use value_checks::sorted_values::SortedValues;
 
 /// How a number stands to a limit.
 #[derive(Clone, Copy, Debug, PartialEq, Eq)]

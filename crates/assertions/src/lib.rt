@@ -8,5 +8,8 @@ pub mod missing;
 pub mod named;
 pub mod names;
 pub mod reading;
+mod types;
 mod values;
 pub mod whole_number;
+
+pub use types::{TypeNames, read};

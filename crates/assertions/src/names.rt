@@ -1,14 +1,14 @@
 //! Lists of names, none of them twice.
 ghost use Rattle.std.specs.Prelude.{◌≡◌, List, ℕ, IfOk, IfSome, IfNone, Ok, codes};
 ghost use Rattle.serde_json.specs.View.{view, items_view, members_view};
-ghost use Rattle.schema_reading.specs.Rows.{Context, required_entry, required_entries};
+ghost use Rattle.schema_definitions.specs.Rows.{Context, required_entry, required_entries};
 ghost use Rattle.assertions.specs.Texts.{are_texts as do_texts_stand, texts_in, entries_of};
 ghost use Rattle.assertions.specs.Reads.{IsNameList, EntryMakes, cause_of, IsRefusedFor};
 
 use crate::reading::Reading;
 use serde_json::{Map, Value};
 use std::alloc::{AllocError, Global};
-use value_order::distinct::all_distinct;
+use value_checks::distinct::all_distinct;
 
 /// What a list is that should hold names.
 #[derive(Clone, Copy)]

@@ -2,7 +2,7 @@
 ghost use Rattle.std.specs.Prelude.{◌≡◌, IfOk, IfSome, IfNone, codes, option_map, false, true};
 ghost use Rattle.serde_json.specs.View.{view, items_view};
 ghost use Rattle.schema_meaning.specs.Members.{is_listed};
-ghost use Rattle.schema_reading.specs.Rows.{Context, read_among, readers};
+ghost use Rattle.schema_definitions.specs.Rows.{Context, read_among, readers};
 ghost use Rattle.assertions.specs.Names.{name_of, limit_name, strict_name, count_name, assertion_names};
 ghost use Rattle.assertions.specs.Arms.{row_of, limit_row, strict_row};
 ghost use Rattle.assertions.specs.Reads.{ReadsAs, Surrounds, Makes, IsNameList, required_names_row};

@@ -2,21 +2,21 @@
 ghost use Rattle.std.specs.Prelude.{◌≡◌, IfOk, option_map, option_and_then};
 ghost use Rattle.serde_json.specs.Find.{as_array, as_bool};
 ghost use Rattle.serde_json.specs.View.{view};
-ghost use Rattle.schema_documents.specs.Words.{or};
+ghost use Rattle.schema_definitions.specs.Words.{or};
 ghost use Rattle.schema_meaning.specs.Keywords as told;
-ghost use Rattle.schema_reading.specs.Values.{type_names, positive_of, count_of, whole_number};
-ghost use Rattle.schema_reading.specs.Rows.{is_true as is_true_beside, is_draft_4 as is_of_draft_4};
+ghost use Rattle.schema_definitions.specs.Values.{type_names, positive_of, count_of, whole_number};
+ghost use Rattle.schema_definitions.specs.Rows.{is_true as is_true_beside, is_draft_4 as is_of_draft_4};
 ghost use Rattle.assertions.specs.Shapes.{assertion_of, bound_assertion, count_assertion, old_assertion, plain_bound, strict_bound};
 
 use crate::assertion::{Assertion, Bound};
 use crate::keyword::{Count, Limit};
+use crate::read as read_type_names;
 use crate::whole_number::WholeNumber;
 use schema_drafts::draft::Draft;
-use schema_types::read as read_type_names;
 use serde_json::Value;
 use std::alloc::{AllocError, Global};
 use std::num::NonZeroU64;
-use value_order::sorted_values::SortedValues;
+use value_checks::sorted_values::SortedValues;
 
 pub(crate) fn types<'s>(alloc: Global, value: &Value) -> Result<Option<Assertion<'s>>, AllocError>
     ensures { IfOk result (λ a. option_map assertion_of a ≡ option_map told.types (type_names (view value.now))) }

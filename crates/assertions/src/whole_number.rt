@@ -2,7 +2,7 @@
 ghost use Rattle.std.specs.Prelude.{◌≡◌, Some, option_map};
 ghost use Rattle.serde_json.specs.Find.{as_integer};
 ghost use Rattle.serde_json.specs.View.{view, number_view};
-ghost use Rattle.schema_values.specs.Numbers.{whole};
+ghost use Rattle.json_values.specs.Numbers.{whole};
 
 use serde_json::{Number, Value};
 

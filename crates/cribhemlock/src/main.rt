@@ -1,8 +1,8 @@
 //! Checks lines of JSON against a JSON Schema: `cribhemlock SCHEMA [URI=FILE]... [--base URI] [--draft DRAFT]`.
 #![tactic(auto)]
 
-use line_devices::{OverRead, OverWrite};
-use program_files::SystemFiles;
+use line_cuts::{OverRead, OverWrite};
+use program_inputs::SystemFiles;
 use std::process::ExitCode;
 use validator_program::run_program;
 

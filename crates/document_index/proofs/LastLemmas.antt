@@ -1,6 +1,6 @@
 -- The last of several.
 use Rattle.std.proofs.Common.{◌≡◌, List, [], ◌∷◌, ◌++◌, Bool, true, false, if◌then◌else◌, Option, Some, None, refl, ap, ◌∙◌}
-use Rattle.schema_documents.specs.Words.{or_else, last_that}
+use Rattle.schema_definitions.specs.Words.{or_else, last_that}
 
 kept : {X : Type 0} (b : Bool) (o p : Option X) (x : X) → or_else (if b then Some x else o) p ≡ (if b then Some x else or_else o p)
 kept true o p x = refl

@@ -2,3 +2,8 @@ pub mod AnswerLemmas
 pub mod LastLemmas
 pub mod LocatedLemmas
 pub mod NamedLemmas
+pub mod SameLemmas
+pub mod StageLemmas
+pub mod AwaitedLemmas
+pub mod CauseNames
+pub mod CauseLemmas

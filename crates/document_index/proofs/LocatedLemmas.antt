@@ -3,8 +3,8 @@ use Rattle.std.proofs.Common.{◌≡◌, ℕ, ◌+◌, suc, List, [], ◌∷◌,
 use Rattle.std.specs.List.{flat_map, enumerate_from}
 use Rattle.std.proofs.lemmas.Grind.{flat_map-append}
 use Rattle.std.proofs.lemmas.List.{map-append}
-use Rattle.schema_documents.specs.Places.{Dialect, SchemaPlace, places}
-use Rattle.schema_documents.specs.Bearers.{Document, Standing, standing_in, standings}
+use Rattle.schema_definitions.specs.Places.{Dialect, SchemaPlace, places}
+use Rattle.schema_definitions.specs.Bearers.{Document, Standing, standing_in, standings}
 use Rattle.document_index.specs.Located.{Located, standings_at, located_standings}
 
 abbrev pub located_at : ℕ → List ℕ → SchemaPlace → Located

@@ -9,8 +9,8 @@ use Rattle.std.specs.Map.{lookup}
 use Rattle.std.proofs.lemmas.Map.Text.{btree_map_updates_text}
 use Rattle.std.proofs.lemmas.Slice.Eq.{bytes_eq-Decides}
 use Rattle.std.proofs.lemmas.List.Folds.{list_any-append}
-use Rattle.schema_documents.specs.Words.{has_text}
-use Rattle.schema_documents.specs.Bearers.{Standing}
+use Rattle.schema_definitions.specs.Words.{has_text}
+use Rattle.schema_definitions.specs.Bearers.{Standing}
 use Rattle.document_index.specs.Located.{Located, Kept, kept_of, last_located}
 use Rattle.document_index.specs.Indexes.{bearer_of, named, anchor_named}
 use Rattle.document_index.specs.declared.index.Bearer.{Bearer}

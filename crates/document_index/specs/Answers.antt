@@ -1,8 +1,8 @@
 -- What an answer of an index says of the documents.
 use Rattle.std.specs.Prelude.{◌≡◌, ℕ, List, Option, Some, None, IsSomeAnd, slice_get, Contains, ⊤}
-use Rattle.schema_documents.specs.Identifiers.{dynamic_anchors}
-use Rattle.schema_documents.specs.Places.{Dialect}
-use Rattle.schema_documents.specs.Bearers.{Document, Documents, Standing, standing_in, bears_anchor, last_standing}
+use Rattle.schema_definitions.specs.Identifiers.{dynamic_anchors}
+use Rattle.schema_definitions.specs.Places.{Dialect}
+use Rattle.schema_definitions.specs.Bearers.{Document, Documents, Standing, standing_in, bears_anchor, last_standing}
 use Rattle.document_index.specs.Located.{Kept}
 
 -- what was kept is of this schema place, which is one of the document at the position, and awaits nothing

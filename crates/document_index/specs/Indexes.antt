@@ -2,10 +2,10 @@
 use Rattle.std.specs.Prelude.{◌≡◌, ℕ, List, Option, option_map, option_and_then, String}
 use Rattle.std.specs.Global.{Global}
 use Rattle.std.specs.BTreeMap.{BTreeMap, get_by_text}
-use Rattle.schema_documents.specs.Places.{Dialect}
-use Rattle.schema_documents.specs.Identifiers.{anchors, dynamic_anchors}
-use Rattle.schema_documents.specs.Bearers.{Document, bears, bears_anchor}
-use Rattle.schema_vocabularies.specs.Dialects.{dialect_of}
+use Rattle.schema_definitions.specs.Places.{Dialect}
+use Rattle.schema_definitions.specs.Identifiers.{anchors, dynamic_anchors}
+use Rattle.schema_definitions.specs.Bearers.{Document, bears, bears_anchor}
+use Rattle.schema_dialects.specs.Dialects.{dialect_of}
 use Rattle.document_index.specs.Located.{Located, Kept, kept_of, last_located, located_standings}
 use Rattle.document_index.specs.declared.index.Bearer.{Bearer}
 use Rattle.document_index.specs.declared.index.Index.{Index}

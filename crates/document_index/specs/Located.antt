@@ -1,10 +1,10 @@
 -- The schema places of several documents, each with its document's position.
 use Rattle.std.specs.Prelude.{ℕ, List, Bool, map, Option}
 use Rattle.std.specs.List.{enumerate_from, flat_map}
-use Rattle.json_paths.specs.Parts.{Part}
-use Rattle.schema_documents.specs.Words.{last_that}
-use Rattle.schema_documents.specs.Places.{Dialect}
-use Rattle.schema_documents.specs.Bearers.{Document, Standing, standing_in}
+use Rattle.json_values.specs.Parts.{Part}
+use Rattle.schema_definitions.specs.Words.{last_that}
+use Rattle.schema_definitions.specs.Places.{Dialect}
+use Rattle.schema_definitions.specs.Bearers.{Document, Standing, standing_in}
 
 -- a schema place, and its document's position
 pub record Located : Type 0 where

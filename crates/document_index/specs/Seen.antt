@@ -1,8 +1,8 @@
 -- What the code's documents and schema places stand for.
-use Rattle.schema_documents.specs.Bearers.{Document, Standing}
+use Rattle.schema_definitions.specs.Bearers.{Document, Standing}
 use Rattle.schema_places.specs.Seen.{place_of}
 use Rattle.document_index.specs.Located.{Located}
-pub use Rattle.given_documents.specs.Seen.{contents_view}
+pub use Rattle.document_sources.specs.Seen.{contents_view}
 use Rattle.document_index.specs.declared.document.Document as code
 use Rattle.document_index.specs.declared.standing.Standing as places
 

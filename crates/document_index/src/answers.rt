@@ -1,9 +1,9 @@
 //! What an index says of the documents that it was built from.
 
 ghost use Rattle.std.specs.Prelude.{◌≡◌, ◌<◌, ℕ, List, length, ◌∷◌, [], map, Option, Some, option_map, IfOk, IfSome, slice_get};
-ghost use Rattle.schema_documents.specs.Bearers as bearers;
-ghost use Rattle.schema_documents.specs.Places.{Dialect};
-ghost use Rattle.schema_vocabularies.specs.Dialects.{dialects_in};
+ghost use Rattle.schema_definitions.specs.Bearers as bearers;
+ghost use Rattle.schema_definitions.specs.Places.{Dialect};
+ghost use Rattle.schema_dialects.specs.Dialects.{dialects_in};
 ghost use Rattle.document_index.specs.Seen.{document_of};
 ghost use Rattle.document_index.specs.Located.{located_standings};
 ghost use Rattle.document_index.specs.Indexes.{bearer_of, Indexes, IsIndexed};
@@ -12,7 +12,7 @@ ghost use Rattle.document_index.specs.Answers.{IsAnswer, dynamically_anchored_un
 use crate::document::Document;
 use crate::index::{Bearer, Index};
 use crate::standing::standings;
-use schema_vocabularies::MetaSchemas;
+use schema_dialects::MetaSchemas;
 use std::alloc::{AllocError, Global};
 
 /// The index of the schema places of documents.

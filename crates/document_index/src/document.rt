@@ -1,6 +1,6 @@
 //! Documents.
 
-pub use given_documents::document::Contents;
+pub use document_sources::document::Contents;
 use schema_drafts::draft::Draft;
 use std::rc::Rc;
 use uri_references::uri::Uri;

@@ -3,17 +3,17 @@
 ghost use Rattle.std.specs.Prelude.{◌≡◌, ℕ, List, map, IfOk, OnOk, Some, option_map, option_and_then, if◌then◌else◌, bytes_eq, ◌&&◌};
 ghost use Rattle.std.specs.Prelude.{◌||◌, is_some};
 ghost use Rattle.serde_json.specs.View.{view};
-ghost use Rattle.schema_documents.specs.Words as words;
-ghost use Rattle.schema_documents.specs.Identifiers as identifiers;
-ghost use Rattle.schema_documents.specs.Bearers as bearers;
+ghost use Rattle.schema_definitions.specs.Words as words;
+ghost use Rattle.schema_definitions.specs.Identifiers as identifiers;
+ghost use Rattle.schema_definitions.specs.Bearers as bearers;
 ghost use Rattle.document_index.specs.Seen.{standing_of, located_of};
 ghost use Rattle.document_index.specs.Located.{kept_of};
 ghost use Rattle.document_index.specs.Indexes.{bearer_of, named, anchor_named};
 
 use crate::standing::Standing;
+use schema_dialects::Dialect;
 use schema_places::{anchor, dynamic_anchor, identifier};
 use schema_steps::Path;
-use schema_vocabularies::Dialect;
 use std::alloc::{AllocError, Global};
 use std::collections::BTreeMap;
 use std::rc::Rc;

@@ -1,15 +1,15 @@
 //! The schema places of several documents.
 
 ghost use Rattle.std.specs.Prelude.{◌≡◌, ◌++◌, map, IfOk, OnOk};
-ghost use Rattle.schema_documents.specs.Bearers as bearers;
-ghost use Rattle.schema_vocabularies.specs.Dialects.{dialects_in};
+ghost use Rattle.schema_definitions.specs.Bearers as bearers;
+ghost use Rattle.schema_dialects.specs.Dialects.{dialects_in};
 ghost use Rattle.document_index.specs.Located.{located_standings, standings_at};
 ghost use Rattle.document_index.specs.Seen.{document_of, standing_of, located_of};
 
 use crate::document::Document;
+use schema_dialects::MetaSchemas;
 use schema_places::document::places;
 use schema_places::place::Place;
-use schema_vocabularies::MetaSchemas;
 use std::alloc::{AllocError, Global};
 use std::rc::Rc;
 use uri_references::uri::Uri;

@@ -3,9 +3,9 @@ use Rattle.std.proofs.Common.{◌≡◌, ℕ, List, [], ◌∷◌, ◌++◌, map
 use Rattle.std.specs.List.{list_any, flat_map}
 use Rattle.std.proofs.lemmas.Slice.Eq.{bytes_eq-Decides}
 use Rattle.std.proofs.lemmas.List.Folds.{list_any-append}
-use Rattle.schema_documents.specs.Words.{has_text}
-use Rattle.schema_documents.specs.Bearers.{Document, Documents, standings, meta, bearer_under}
-use Rattle.retrieval_rounds.specs.Rounds.{Want, wanted_at, further, is_added, is_at_hand, wants_under, wanted_by, Asking, AreRounds, retrieved, none_twice}
+use Rattle.schema_definitions.specs.Words.{has_text}
+use Rattle.schema_definitions.specs.Bearers.{Document, Documents, standings, meta, bearer_under}
+use Rattle.schema_definitions.specs.Rounds.{Want, wanted_at, further, is_added, is_at_hand, wants_under, wanted_by, Asking, AreRounds, retrieved, none_twice}
 
 abbrev uris : List Want → List (List ℕ)
 uris ws = map (λ (w : Want). w.uri) ws

@@ -3,10 +3,10 @@ use Rattle.std.proofs.Common.{◌≡◌, ◌+◌, ◌⊎◌, inl, inr, Result, O
 use Rattle.std.specs.List.{AllByRecursion}
 use Rattle.std.proofs.lemmas.List.{map-append, length-append, length-map}
 use Rattle.schema_meaning.specs.Members.{In, first, later}
-use Rattle.schema_documents.specs.Bearers.{Document}
-use Rattle.referencing_errors.specs.Causes.{IsMemory}
-use Rattle.referencing_errors.specs.declared.error.Error.{Error}
-use Rattle.retrieval_rounds.specs.Rounds.{Want, Asking, IsRound, AreRounds, gathered, retrieved}
+use Rattle.schema_definitions.specs.Bearers.{Document}
+use Rattle.document_sources.specs.Causes.{IsMemory}
+use Rattle.document_sources.specs.declared.error.Error.{Error}
+use Rattle.schema_definitions.specs.Rounds.{Want, Asking, IsRound, AreRounds, gathered, retrieved}
 use Rattle.document_retrieval.specs.Stages.{documents_in, uris_in, MayAnswer, HasAnswer, HasAnswers, AnswersNothing}
 use Rattle.document_retrieval.specs.declared.rounds.Retrieved.{Retrieved}
 

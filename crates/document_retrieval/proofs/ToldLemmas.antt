@@ -1,10 +1,10 @@
 -- What is wanted under two that tell the same of meta-schemas.
 use Rattle.std.proofs.Common.{◌≡◌, ◌∙◌, ℕ, List, [], ◌∷◌, ◌||◌, Option, is_some, refl, ap}
 use Rattle.std.specs.List.{flat_map}
-use Rattle.schema_documents.specs.Places.{Dialect}
-use Rattle.schema_documents.specs.Bearers.{Documents, standings}
-use Rattle.place_laws.proofs.Alike.{alike_tell}
-use Rattle.retrieval_rounds.specs.Rounds.{wanted_at, is_added, is_at_hand, further, wants_under}
+use Rattle.schema_definitions.specs.Places.{Dialect}
+use Rattle.schema_definitions.specs.Bearers.{Documents, standings}
+use Rattle.document_laws.proofs.Alike.{alike_tell}
+use Rattle.schema_definitions.specs.Rounds.{wanted_at, is_added, is_at_hand, further, wants_under}
 use Rattle.document_retrieval.proofs.KnownLemmas.{further-same}
 
 pub wants-alike : (told told' : List ℕ → Option Dialect) → ((uri : List ℕ) → told uri ≡ told' uri) → (docs : Documents) → wants_under told docs ≡ wants_under told' docs

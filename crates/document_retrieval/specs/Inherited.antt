@@ -1,7 +1,7 @@
 -- Documents that are given again, as those of a parent.
 use Rattle.std.specs.Prelude.{List, [], map, Some}
-use Rattle.schema_documents.specs.Bearers.{Document}
-use Rattle.given_documents.specs.Given.{Given, with_all}
+use Rattle.schema_definitions.specs.Bearers.{Document}
+use Rattle.document_sources.specs.Given.{Given, with_all}
 
 -- a document as one that is given with its draft
 abbrev pub given_again : Document → Given

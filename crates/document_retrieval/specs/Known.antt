@@ -1,10 +1,10 @@
 -- What the code keeps of what is wanted and known.
 use Rattle.std.specs.Prelude.{ℕ, List, Bool, ◌||◌, is_some}
 use Rattle.std.specs.BTreeMap.{get_by_text}
-use Rattle.schema_documents.specs.DocumentCauses.{DocumentCause, unretrieved, unknown_specification}
+use Rattle.schema_definitions.specs.DocumentCauses.{DocumentCause, unretrieved, unknown_specification}
 use Rattle.document_index.specs.Indexes.{bearer_in}
 use Rattle.document_index.specs.declared.index.Index.{Index}
-use Rattle.retrieval_rounds.specs.Rounds as rounds
+use Rattle.schema_definitions.specs.Rounds as rounds
 use Rattle.document_retrieval.specs.declared.names.Names.{Names}
 use Rattle.document_retrieval.specs.declared.wants.Purpose.{Purpose}
 use Rattle.document_retrieval.specs.declared.wants.Purpose.TheVariants.{Reference, MetaSchema}

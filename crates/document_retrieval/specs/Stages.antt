@@ -4,12 +4,12 @@ use Rattle.std.specs.List.{AllByRecursion}
 use Rattle.serde_json.specs.Data.{Data}
 use Rattle.schema_drafts.specs.declared.draft.Draft.{Draft}
 use Rattle.schema_meaning.specs.Members.{In}
-use Rattle.schema_documents.specs.Bearers.{Document}
+use Rattle.schema_definitions.specs.Bearers.{Document}
 use Rattle.document_index.specs.Seen.{document_of}
-use Rattle.referencing_errors.specs.Causes.{NamesDocument}
-use Rattle.referencing_errors.specs.declared.error.Error.{Error}
-use Rattle.referencing_errors.specs.declared.error.Error.TheVariants.{RetrievalLimit}
-use Rattle.retrieval_rounds.specs.Rounds.{Want, Asking, wanted_by, AreRounds, gathered, retrieved}
+use Rattle.document_sources.specs.Causes.{NamesDocument}
+use Rattle.document_sources.specs.declared.error.Error.{Error}
+use Rattle.document_sources.specs.declared.error.Error.TheVariants.{RetrievalLimit}
+use Rattle.schema_definitions.specs.Rounds.{Want, Asking, wanted_by, AreRounds, gathered, retrieved}
 use Rattle.document_retrieval.specs.declared.rounds.Retrieved.{Retrieved}
 
 -- a retriever is asked, and there are no parents

@@ -2,14 +2,14 @@
 
 ghost use Rattle.std.specs.Prelude.{◌≡◌, map, IfOk};
 ghost use Rattle.document_index.specs.Seen.{document_of};
-ghost use Rattle.given_documents.specs.Given.{document_by, documents_by, with_given};
-ghost use Rattle.given_documents.specs.Listed.{givens_of};
-ghost use Rattle.given_documents.specs.Seen.{given_of, contents_view};
+ghost use Rattle.document_sources.specs.Given.{document_by, documents_by, with_given};
+ghost use Rattle.document_sources.specs.Listed.{givens_of};
+ghost use Rattle.document_sources.specs.Seen.{given_of, contents_view};
 ghost use Rattle.document_retrieval.specs.Inherited.{given_again, inherited};
 
 use document_index::document::{Contents, Document};
-use given_documents::document::Document as GivenDocument;
-use given_documents::list::DocumentList;
+use document_sources::document::Document as GivenDocument;
+use document_sources::list::DocumentList;
 use schema_drafts::draft::Draft;
 use std::alloc::{AllocError, Global};
 use std::rc::Rc;

@@ -3,16 +3,16 @@
 ghost use Rattle.std.specs.Prelude.{◌≡◌, ◌⊎◌, ◌++◌, ◌∷◌, [], map, IfOk, IfErr, OnOk};
 ghost use Rattle.serde_json.specs.View.{view};
 ghost use Rattle.document_index.specs.Seen.{document_of, contents_view};
-ghost use Rattle.referencing_errors.specs.Causes.{IsMemory, NamesDocument};
+ghost use Rattle.document_sources.specs.Causes.{IsMemory, NamesDocument};
 ghost use Rattle.document_retrieval.specs.Known.{want_of};
 ghost use Rattle.document_retrieval.specs.Stages.{asking, documents_in, uris_in, IsAnswer, HasAnswer, Adds, RefusesWant, RefusesRound};
 
 use crate::rounds::Retrieved;
 use crate::wants::{Purpose, Want};
 use document_index::document::{Contents, Document};
-use document_retrievers::Retrieve;
-use referencing_errors::error::{Error, RetrieveError};
-use referencing_errors::named::{not_borne, unknown_specification};
+use document_sources::Retrieve;
+use document_sources::error::{Error, RetrieveError};
+use document_sources::named::{not_borne, unknown_specification};
 use schema_drafts::draft::Draft;
 use serde_json::Value;
 use std::alloc::{AllocError, Global};

@@ -2,15 +2,15 @@
 
 ghost use Rattle.std.specs.Prelude.{◌≡◌, ◌⊎◌, [], ◌∷◌, map, true, IfOk, IfErr};
 ghost use Rattle.document_index.specs.Seen.{document_of};
-ghost use Rattle.referencing_errors.specs.Causes.{IsMemory};
-ghost use Rattle.retrieval_rounds.specs.Rounds.{wants, none_twice};
+ghost use Rattle.document_sources.specs.Causes.{IsMemory};
+ghost use Rattle.schema_definitions.specs.Rounds.{wants, none_twice};
 ghost use Rattle.document_retrieval.specs.Stages.{asking, documents_in, uris_in, IsGathered, AnswersNothing, Stops};
 
 use crate::round::push_round;
 use crate::wants::wants_of;
 use document_index::document::Document;
-use document_retrievers::Retrieve;
-use referencing_errors::error::Error;
+use document_sources::Retrieve;
+use document_sources::error::Error;
 use schema_drafts::draft::Draft;
 use std::alloc::Global;
 use std::rc::Rc;

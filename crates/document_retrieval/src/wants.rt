@@ -2,22 +2,22 @@
 
 ghost use Rattle.std.specs.Prelude.{◌≡◌, ◌++◌, [], ◌∷◌, ℕ, List, map, option_map, IfOk, OnOk, bytes_eq};
 ghost use Rattle.std.specs.List.{list_any};
-ghost use Rattle.schema_documents.specs.Words.{listed};
-ghost use Rattle.schema_vocabularies.specs.Dialects.{dialects_in};
+ghost use Rattle.schema_definitions.specs.Words.{listed};
+ghost use Rattle.schema_dialects.specs.Dialects.{dialects_in};
 ghost use Rattle.document_index.specs.Seen.{document_of, standing_of};
 ghost use Rattle.document_index.specs.Located.{located_standings};
 ghost use Rattle.document_index.specs.Indexes.{Indexes};
-ghost use Rattle.retrieval_rounds.specs.Rounds as rounds;
+ghost use Rattle.schema_definitions.specs.Rounds as rounds;
 ghost use Rattle.document_retrieval.specs.Known.{want_of, has_name, is_known_by};
 
 use crate::names::Names;
 use document_index::document::Document;
 use document_index::index::Index;
 use document_index::standing::{Standing, standings};
-use meta_schemas::told::meta_schemas;
-use schema_identifiers::bases::resolved;
-use schema_identifiers::identifiers::text_at;
-use schema_vocabularies::MetaSchemas;
+use document_index::told::meta_schemas;
+use schema_dialects::MetaSchemas;
+use schema_dialects::bases::resolved;
+use schema_dialects::identifiers::text_at;
 use std::alloc::{AllocError, Global};
 use std::rc::Rc;
 use uri_grammar::components::split_fragment;

@@ -3,32 +3,32 @@ use Rattle.std.specs.Borrow.{Bor}
 use Rattle.std.proofs.Common.{◌≡◌, ℕ, List, [], ◌∷◌, Bool, true, false, Err, sym, ap, subst, reverse}
 use Rattle.serde_json.specs.Data.{Data}
 use Rattle.serde_json.specs.View.{view}
-use Rattle.json_paths.specs.Parts.{Part}
-use Rattle.json_paths.specs.Pointers.{pointer_text}
-use Rattle.schema_documents.specs.Bearers.{Documents}
-use Rattle.schema_documents.specs.Lookup.{Target, LookupCause, lookup}
+use Rattle.json_values.specs.Parts.{Part}
+use Rattle.json_values.specs.Pointers.{pointer_text}
+use Rattle.schema_definitions.specs.Bearers.{Documents}
+use Rattle.schema_definitions.specs.Lookup.{Target, LookupCause, lookup}
 use Rattle.schema_meaning.specs.Places.{whole}
-use Rattle.schema_reading.specs.Sites.{Site, root_site}
-use Rattle.schema_reading.specs.PathTexts.{AreCertificate}
-use Rattle.schema_reading.specs.Plain.{plain}
-use Rattle.fault_steps.specs.Passed.{scope_of}
-use Rattle.fault_steps.specs.Passed.{documents_at, Stands}
-use Rattle.check_laws.specs.Spelled.{AreSpelled}
-use Rattle.fault_steps.specs.declared.walk.Walk.{Walk}
-use Rattle.fault_steps.specs.declared.walk.Step.TheVariants.{Answered}
+use Rattle.schema_definitions.specs.Sites.{Site, root_site}
+use Rattle.schema_definitions.specs.PathTexts.{AreCertificate}
+use Rattle.schema_definitions.specs.Plain.{plain}
+use Rattle.fault_checks.specs.Passed.{scope_of}
+use Rattle.fault_checks.specs.Passed.{documents_at, Stands}
+use Rattle.certificate_laws.specs.Spelled.{AreSpelled}
+use Rattle.fault_checks.specs.declared.walk.Walk.{Walk}
+use Rattle.fault_checks.specs.declared.walk.Step.TheVariants.{Answered}
 use Rattle.fault_checks.specs.declared.checking.CheckAnswer.TheVariants as answer
-use Rattle.path_parts.specs.Texts.{text_left, IsNoPath}
-use Rattle.schema_roots.specs.Roots.{Root, Patterns, Finds, IsSound}
-use Rattle.schema_matches.specs.Read.{reads}
-use Rattle.schema_matches.specs.declared.matches.Matches.{Matches}
-use Rattle.match_laws.specs.Laws.{SameOnTheWay}
-use Rattle.match_laws.proofs.Others.{circular_by_other_matches, certified_by_other_matches}
-use Rattle.schema_roots.specs.Answers.{ComesBack}
-use Rattle.schema_roots.specs.Matched.{AreReadOf}
-use Rattle.schema_roots.proofs.Found.{finds_one, leads_somewhere}
-use Rattle.schema_roots.proofs.Matched.{same_matches}
+use Rattle.fault_paths.specs.Texts.{text_left, IsNoPath}
+use Rattle.schema_registries.specs.Roots.{Root, Patterns, Finds, IsSound}
+use Rattle.schema_patterns.specs.Read.{reads}
+use Rattle.schema_patterns.specs.declared.matches.Matches.{Matches}
+use Rattle.meaning_laws.specs.MatchLaws.{SameOnTheWay}
+use Rattle.meaning_laws.proofs.Others.{circular_by_other_matches, certified_by_other_matches}
+use Rattle.schema_registries.specs.Answers.{ComesBack}
+use Rattle.schema_registries.specs.Matched.{AreReadOf}
+use Rattle.schema_registries.proofs.Found.{finds_one, leads_somewhere}
+use Rattle.schema_registries.proofs.Matched.{same_matches}
 use Rattle.fault_checks.specs.Checked.{IsChecked, DecidesRoot}
-use Rattle.fault_steps.specs.Steps.{path_at, Passes}
+use Rattle.fault_checks.specs.Steps.{path_at, Passes}
 
 pub decided_at : (w : Walk) (t : Target) (docs : Documents) (m : Bor Matches) (b : Bool) → documents_at w.site ≡ docs → w.site.matches ≡ m → Stands w.site (root_site t) → scope_of w.site.resolver ≡ t.base ∷ [] → path_at w ≡ []
     → Passes w (Answered b) → DecidesRoot t docs m.now (view w.value.now) (text_left w.instance) (text_left w.evaluation) b

@@ -1,10 +1,10 @@
 -- Where every match that a value asks for finishes, none stays unfinished.
 use Rattle.std.proofs.Common.{◌≡◌, ℕ, List, Bool, Option, Some, None, refl}
 use Rattle.serde_json.specs.Data.{Data}
-use Rattle.schema_values.specs.Patterns.{known}
-use Rattle.schema_documents.specs.Lookup.{Target}
-use Rattle.schema_roots.specs.Roots.{Root, Patterns, Finds}
-use Rattle.schema_roots.specs.Answers.{Finish}
+use Rattle.json_values.specs.Patterns.{known}
+use Rattle.schema_definitions.specs.Lookup.{Target}
+use Rattle.schema_registries.specs.Roots.{Root, Patterns, Finds}
+use Rattle.schema_registries.specs.Answers.{Finish}
 use Rattle.fault_checks.specs.Checked.{AgreeWithKnown, IsChecked}
 use Rattle.fault_checks.specs.declared.checking.CheckAnswer.TheVariants.{Unfinished}
 

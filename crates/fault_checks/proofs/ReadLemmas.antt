@@ -2,17 +2,17 @@
 use Rattle.std.proofs.Common.{◌≡◌, ◌∙◌, inl, inr, ℕ, List, [], ◌∷◌, true, true≢false, Option, Some, None, Ok, refl, sym, ap, subst}
 use Rattle.std.specs.List.{list_all}
 use Rattle.serde_json.specs.Data.{Data}
-use Rattle.schema_documents.specs.Bearers.{Document, Documents}
-use Rattle.schema_documents.specs.Lookup.{Target, lookup}
-use Rattle.schema_reading.specs.Sites.{root_site}
-use Rattle.schema_matches.specs.declared.matches.Matches.{Matches}
-use Rattle.target_laws.specs.Laws.{are_apart, contents_rise, by_reference}
+use Rattle.schema_definitions.specs.Bearers.{Document, Documents}
+use Rattle.schema_definitions.specs.Lookup.{Target, lookup}
+use Rattle.schema_definitions.specs.Sites.{root_site}
+use Rattle.schema_patterns.specs.declared.matches.Matches.{Matches}
+use Rattle.document_laws.specs.TargetLaws.{are_apart, contents_rise, by_reference}
 use Rattle.asked_matches.specs.Asked.{AreAmong}
 use Rattle.reached_sites.specs.Roots.{IsPlaced}
 use Rattle.reached_sites.specs.Causes.{RefusesWithin}
 use Rattle.reached_sites.specs.declared.cause.BuildCause.{BuildCause}
-use Rattle.schema_roots.specs.Roots.{Root, Patterns, Finds}
-use Rattle.schema_roots.proofs.Found.{finds_one}
+use Rattle.schema_registries.specs.Roots.{Root, Patterns, Finds}
+use Rattle.schema_registries.proofs.Found.{finds_one}
 use Rattle.fault_checks.specs.Checked.{AreReadIn, ReadsAt, HasCauseAt, is_of_schemas}
 
 -- what is read from a target is read from each root that leads there

@@ -1,25 +1,25 @@
 -- What the answer of a check says of two paths.
 use Rattle.std.specs.Prelude.{◌≡◌, ℕ, List, Bool, true, false, Option, Some, None}
 use Rattle.serde_json.specs.Data.{Data}
-use Rattle.schema_documents.specs.Bearers.{Documents}
-use Rattle.schema_documents.specs.Lookup.{Target}
-use Rattle.schema_reading.specs.Sites.{root_site}
-use Rattle.schema_reading.specs.Rows as rows
-use Rattle.schema_reading.specs.BuildCauses.{IsCauseOf}
-use Rattle.schema_reading.specs.PathTexts.{AreCertificate}
-use Rattle.schema_matches.specs.Texts.{texts_in}
-use Rattle.schema_matches.specs.Read.{reads, IsReadBy}
-use Rattle.schema_matches.specs.declared.matches.Matches.{Matches}
-use Rattle.schema_values.specs.Patterns.{matched, known}
+use Rattle.schema_definitions.specs.Bearers.{Documents}
+use Rattle.schema_definitions.specs.Lookup.{Target}
+use Rattle.schema_definitions.specs.Sites.{root_site}
+use Rattle.schema_definitions.specs.Rows as rows
+use Rattle.schema_definitions.specs.BuildCauses.{IsCauseOf}
+use Rattle.schema_definitions.specs.PathTexts.{AreCertificate}
+use Rattle.schema_patterns.specs.Texts.{texts_in}
+use Rattle.schema_patterns.specs.Read.{reads, IsReadBy}
+use Rattle.schema_patterns.specs.declared.matches.Matches.{Matches}
+use Rattle.json_values.specs.Patterns.{matched, known}
 use Rattle.asked_matches.specs.Asked.{IsAsked, AreAmong}
-use Rattle.schema_roots.specs.Roots.{Root, Patterns, Finds, IsSound}
-use Rattle.schema_roots.specs.Answers.{Finish, ComesBack}
-use Rattle.schema_roots.specs.Matched.{AreReadOf}
+use Rattle.schema_registries.specs.Roots.{Root, Patterns, Finds, IsSound}
+use Rattle.schema_registries.specs.Answers.{Finish, ComesBack}
+use Rattle.schema_registries.specs.Matched.{AreReadOf}
 use Rattle.reached_sites.specs.declared.cause.BuildCause.{BuildCause}
 use Rattle.reached_sites.specs.declared.cause.BuildCause.TheVariants.{KeywordValue, BadPattern, Unevaluated, Reference, NodeLimit, Memory}
-use Rattle.check_laws.specs.Spelled.{AreSpelled}
-use Rattle.fault_steps.specs.Passed.{Scene, reading_of, IsRight, IsStraight}
-use Rattle.fault_steps.specs.Passed.{IsDecided}
+use Rattle.certificate_laws.specs.Spelled.{AreSpelled}
+use Rattle.fault_checks.specs.Scenes.{Scene, reading_of, IsRight, IsStraight}
+use Rattle.fault_checks.specs.Verdicts.{IsDecided}
 use Rattle.fault_checks.specs.declared.checking.CheckAnswer.{CheckAnswer}
 use Rattle.fault_checks.specs.declared.checking.CheckAnswer.TheVariants.{Accepted, Refused, Circular, Unfinished}
 

@@ -1,2 +1,10 @@
-pub mod Checked
+pub mod Roads
+pub mod Scenes
+pub mod Rows
+pub mod Verdicts
 pub mod Passed
+pub mod PassedRefusals
+pub mod Names
+pub mod Steps
+pub mod NamedSteps
+pub mod Checked

@@ -2,21 +2,21 @@
 ghost use Rattle.std.specs.Prelude.{◌≡◌, ◌≤◌, ◌∷◌, [], IfOk, option_copied};
 ghost use Rattle.serde_json.specs.Data.{depth};
 ghost use Rattle.serde_json.specs.View.{view};
-ghost use Rattle.schema_reading.specs.Plain.{deepest};
-ghost use Rattle.fault_steps.specs.Passed.{documents_in, target_in};
-ghost use Rattle.schema_roots.specs.Roots.{Patterns, IsSound, patterns_by, root_on};
+ghost use Rattle.schema_definitions.specs.Plain.{deepest};
+ghost use Rattle.fault_checks.specs.Passed.{documents_in, target_in};
+ghost use Rattle.schema_registries.specs.Roots.{Patterns, IsSound, root_on};
 ghost use Rattle.fault_checks.specs.Checked.{AreReadIn, IsChecked, DecidesRoot};
-ghost use Rattle.path_parts.specs.Texts.{text_left};
+ghost use Rattle.fault_paths.specs.Texts.{text_left};
 
 use crate::reading::read_matches;
-use fault_steps::walk::Walk;
-use fault_steps::walking::walked;
-use fault_steps::{Error, Resolved, at_root};
-use path_parts::parts::opened;
-use schema_matches::matches::Matches;
+use crate::walk::Walk;
+use crate::walking::walked;
+use crate::{Error, Resolved, at_root};
+use fault_paths::parts::opened;
 use schema_patterns::PatternMaker;
+use schema_patterns::matches::Matches;
+use schema_registries::SchemaRegistry;
 use schema_reports::Reference;
-use schema_roots::SchemaRegistry;
 use serde_json::Value;
 use std::alloc::{AllocError, Global};
 
@@ -82,7 +82,7 @@ pub fn check_fault<P: PatternMaker>(
     value: &Value,
     path: FaultPath<'_>,
 ) -> Result<CheckAnswer, AllocError>
-    ensures { IfOk result (λ a. IsSound (patterns_by P.makes P.finished maker.now) (root_on registry.now root.now) → IsChecked (patterns_by P.makes P.finished maker.now) (root_on registry.now root.now) (view value.now) path.entry.instance_path.now path.entry.evaluation_path.now a) }
+    ensures { IfOk result (λ a. IsSound (P.patterns maker.now) (root_on registry.now root.now) → IsChecked (P.patterns maker.now) (root_on registry.now root.now) (view value.now) path.entry.instance_path.now path.entry.evaluation_path.now a) }
 {
     let matches = read_matches(alloc, registry, root, maker, value)?;
     check_by(alloc, registry, root, matches.as_ref(), value, path)

@@ -1,11 +1,29 @@
-//! Checks of faults: whether some chain of obliged steps spells a fault's two paths, read from the documents alone.
+//! Whether two paths of a fault are a certificate, by the documents alone.
 #![tactic(auto)]
 
+mod applied_refusals;
+mod applied_steps;
 pub mod checking;
+pub mod choice_refusals;
+mod choice_steps;
+mod item_refusals;
+mod item_steps;
+pub mod member_refusals;
+mod member_steps;
+mod names;
 pub mod reading;
+pub mod refusing;
+pub mod road;
+pub mod stepping;
+pub mod walk;
+pub mod walking;
 
-pub use fault_steps::{Resolved, tell_root};
+pub use plain_reader::root::tell_root;
+pub use plain_reader::{
+    Applicator, Assertion, Error, Keyword, ReferenceKeyword, Refusal, Resolved, Site, at_root,
+    at_target, keyword,
+};
 pub use reached_sites::cause::BuildCause;
 pub use reached_sites::checking::check_reached;
 pub use reached_sites::place::SchemaPlace;
-pub use reached_sites::{Draft, Error, Registry, uri};
+pub use reached_sites::{Draft, Registry, uri};

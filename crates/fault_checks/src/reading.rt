@@ -1,17 +1,17 @@
 //! Matches that checks of faults go by.
 ghost use Rattle.std.specs.Prelude.{◌≡◌, ◌∷◌, [], IfOk};
 ghost use Rattle.serde_json.specs.View.{view};
-ghost use Rattle.fault_steps.specs.Passed.{documents_in, target_in};
+ghost use Rattle.fault_checks.specs.Passed.{documents_in, target_in};
 ghost use Rattle.reached_sites.specs.Roots.{IsPlaced};
-ghost use Rattle.schema_roots.specs.Roots.{patterns_by, root_on};
+ghost use Rattle.schema_registries.specs.Roots.{root_on};
 ghost use Rattle.fault_checks.specs.Checked.{AreReadIn, ReadsAt, is_of_schemas as is_cause_of_schemas};
 
-use fault_steps::{Error, Resolved};
+use crate::{Error, Resolved};
 use reached_sites::cause::BuildCause;
 use reached_sites::checking::check_reached;
-use schema_matches::matches::Matches;
 use schema_patterns::PatternMaker;
-use schema_roots::SchemaRegistry;
+use schema_patterns::matches::Matches;
+use schema_registries::SchemaRegistry;
 use serde_json::Value;
 use std::alloc::{AllocError, Global};
 
@@ -33,7 +33,7 @@ fn read_reached<P: PatternMaker>(
     maker: &P,
     value: &Value,
 ) -> Result<Option<Matches>, AllocError>
-    ensures { IfOk result (λ m. IsPlaced (documents_in root.now.resolver) (target_in root.now) → ReadsAt (patterns_by P.makes P.finished maker.now) (documents_in root.now.resolver ∷ []) (target_in root.now) (view value.now) m) }
+    ensures { IfOk result (λ m. IsPlaced (documents_in root.now.resolver) (target_in root.now) → ReadsAt (P.patterns maker.now) (documents_in root.now.resolver ∷ []) (target_in root.now) (view value.now) m) }
 {
     match check_reached(alloc, root, maker, usize::MAX) {
         Ok(table) => Ok(Some(Matches::read(alloc, &table, value)?)),
@@ -62,7 +62,7 @@ pub fn read_matches<P: PatternMaker>(
     maker: &P,
     value: &Value,
 ) -> Result<Option<Matches>, AllocError>
-    ensures { IfOk result (AreReadIn (patterns_by P.makes P.finished maker.now) (root_on registry.now root.now) (view value.now)) }
+    ensures { IfOk result (AreReadIn (P.patterns maker.now) (root_on registry.now root.now) (view value.now)) }
 {
     let resolver = registry.registry().resolver(registry.base().clone()?)?;
     match resolver.lookup(root) {

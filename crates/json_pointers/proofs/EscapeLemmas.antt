@@ -2,7 +2,7 @@
 use Rattle.std.proofs.Common.{◌≡◌, ◌≢◌, ℕ, suc, ◌==◌, ◌&&◌, List, [], ◌∷◌, ◌++◌, get_or, Bool, true, false, if◌then◌else◌, codes, refl, sym, ap, ◌∙◌, arith, append_assoc, append-nil, ne_eqb, eqb-true, eq-eqb, true≢false}
 use Rattle.serde_json.specs.Find.{unescape}
 use Rattle.serde_json.proofs.Paths.{Lacks}
-use Rattle.json_paths.specs.Pointers.{escape, escaped_byte, escape_slashes, replace_escape, unescape_in_turn}
+use Rattle.json_values.specs.Pointers.{escape, escaped_byte, escape_slashes, replace_escape, unescape_in_turn}
 
 lacks_tail : (c x : ℕ) (xs : List ℕ) → Lacks c (x ∷ xs) → Lacks c xs
 lacks_tail c x xs h i less = h (suc i) (omega arith)

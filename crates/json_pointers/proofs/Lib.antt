@@ -4,3 +4,5 @@ pub mod PointerLemmas
 pub mod PathLemmas
 pub mod NodeLemmas
 mod PointerExamples
+pub mod FragmentLemmas
+mod FragmentExamples

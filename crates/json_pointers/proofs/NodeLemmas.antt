@@ -1,8 +1,8 @@
 -- A node's path, one step at a time.
 use Rattle.std.proofs.Common.{◌≡◌, List, [], ◌∷◌, ◌++◌, Option, Some, None, option_and_then, Bor, refl, sym, ap, ◌∙◌, rules, append_assoc, append-nil, subst}
 use Rattle.serde_json.specs.Data.{Data}
-use Rattle.json_paths.specs.Parts.{Part}
-use Rattle.json_paths.specs.Pointers.{part_text, pointer_text, value_in, value_at, PartFits, PathFits}
+use Rattle.json_values.specs.Parts.{Part}
+use Rattle.json_values.specs.Pointers.{part_text, pointer_text, value_in, value_at, PartFits, PathFits}
 use Rattle.json_pointers.specs.Lent.{part_of, path_of}
 use Rattle.json_pointers.specs.declared.path.JsonPointerNode.{JsonPointerNode, out-JsonPointerNode, the_lemmas}
 

@@ -7,8 +7,8 @@ use Rattle.std.proofs.lemmas.Fmt.{decimal_digit, first_decimal, digits_decimal, 
 use Rattle.std.proofs.lemmas.List.Elements.{All-nil, All-cons, All-append}
 use Rattle.std.proofs.lemmas.List.Splits.{slice_split_none, slice_split_at}
 use Rattle.serde_json.specs.Data.{Data, null, boolean, number, string, array, object}
-use Rattle.json_paths.specs.Parts.{Part, name, index}
-use Rattle.json_paths.specs.Pointers.{escape, escaped_byte, part_text, pointer_text, value_in, value_at, PartFits, PathFits, is_index, index_of, Stop, found, step_from, follow, locate}
+use Rattle.json_values.specs.Parts.{Part, name, index}
+use Rattle.json_values.specs.Pointers.{escape, escaped_byte, part_text, pointer_text, value_in, value_at, PartFits, PathFits, is_index, index_of, Stop, found, step_from, follow, locate}
 use Rattle.json_pointers.proofs.EscapeLemmas.{unescape-escape}
 use Rattle.json_pointers.proofs.PointerLemmas.{own}
 

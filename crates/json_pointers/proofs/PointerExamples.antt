@@ -4,8 +4,8 @@ use Rattle.std.specs.Fmt.{digits}
 use Rattle.serde_json.specs.Data.{Data, unsigned, number, string, array, object, no_items, item, no_members, member}
 use Rattle.serde_json.specs.Find.{unescape}
 use Rattle.serde_json.proofs.OnLiterals.{serde_json_on_literals}
-use Rattle.json_paths.specs.Parts.{name, index}
-use Rattle.json_paths.specs.Pointers.{escape, replace_escape, unescape_in_turn, pointer_text, value_at, index_of, index_below, Stop, not_a_pointer, nowhere, not_an_index, follow, locate}
+use Rattle.json_values.specs.Parts.{name, index}
+use Rattle.json_values.specs.Pointers.{escape, replace_escape, unescape_in_turn, pointer_text, value_at, index_of, index_below, Stop, not_a_pointer, nowhere, not_an_index, follow, locate}
 
 -- ---- section 5
 

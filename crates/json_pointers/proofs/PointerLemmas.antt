@@ -15,7 +15,7 @@ use Rattle.serde_json.specs.declared.value.Value.{Value}
 use Rattle.serde_json.proofs.Views.{get_item_within, get_item_past}
 use Rattle.json_pointers.specs.Lent.{stop_of}
 use Rattle.json_pointers.specs.declared.pointers.PointerError.{PointerError}
-use Rattle.json_paths.specs.Pointers.{is_index, number_from, index_of, index_below, Stop, nowhere, not_a_pointer, found, item_at, step_from, and_then, follow, locate}
+use Rattle.json_values.specs.Pointers.{is_index, number_from, index_of, index_below, Stop, nowhere, not_a_pointer, found, item_at, step_from, and_then, follow, locate}
 
 -- ---- indexes
 

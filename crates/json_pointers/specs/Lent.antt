@@ -1,8 +1,8 @@
 -- What the segments, nodes and errors of the code stand for.
 use Rattle.std.specs.Prelude.{List, [], ◌∷◌, ◌++◌}
 use Rattle.std.specs.Cow.{cow_str_bytes}
-use Rattle.json_paths.specs.Parts.{Part, name, index}
-use Rattle.json_paths.specs.Pointers.{Stop, not_a_pointer, nowhere, not_an_index}
+use Rattle.json_values.specs.Parts.{Part, name, index}
+use Rattle.json_values.specs.Pointers.{Stop, not_a_pointer, nowhere, not_an_index}
 use Rattle.json_pointers.specs.declared.path.JsonPointerSegment.{JsonPointerSegment}
 use Rattle.json_pointers.specs.declared.path.JsonPointerSegment.TheVariants.{Key, Index}
 use Rattle.json_pointers.specs.declared.path.JsonPointerNode.{JsonPointerNode, JsonPointerNode', Held-JsonPointerNode-parent, None', Some'}

@@ -3,7 +3,7 @@ ghost use Rattle.std.specs.Prelude.{◌≡◌, ◌≢◌, ◌≤◌, ◌<◌, �
 ghost use Rattle.std.specs.String.{string_capacity};
 ghost use Rattle.std.specs.Cow.{cow_str_bytes, IsBorrowedStr};
 ghost use Rattle.serde_json.specs.Find.{unescape};
-ghost use Rattle.json_paths.specs.Pointers.{escape, escape_slashes, unescape_in_turn};
+ghost use Rattle.json_values.specs.Pointers.{escape, escape_slashes, unescape_in_turn};
 ghost use Rattle.json_pointers.specs.Buffers.{Grows};
 
 use itoa::Buffer;

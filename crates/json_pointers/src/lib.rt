@@ -5,6 +5,7 @@
 #![tactic(auto)]
 
 mod escapes;
+pub mod fragments;
 mod path;
 mod pointers;
 

@@ -5,8 +5,8 @@ ghost use Rattle.std.specs.Cow.{cow_str_bytes};
 ghost use Rattle.std.specs.Result.{result_ok};
 ghost use Rattle.serde_json.specs.Data.{Data};
 ghost use Rattle.serde_json.specs.View.{view};
-ghost use Rattle.json_paths.specs.Parts.{name, index};
-ghost use Rattle.json_paths.specs.Pointers as spec;
+ghost use Rattle.json_values.specs.Parts.{name, index};
+ghost use Rattle.json_values.specs.Pointers as spec;
 ghost use Rattle.json_pointers.specs.Buffers.{Grows};
 
 use crate::escapes::{write_escaped_str, write_index};

@@ -5,7 +5,7 @@ ghost use Rattle.std.specs.List.{list_all};
 ghost use Rattle.std.specs.Char.{is_ascii_digit};
 ghost use Rattle.serde_json.specs.Find.{unescape, get_member};
 ghost use Rattle.serde_json.specs.View.{view, items_view, members_view};
-ghost use Rattle.json_paths.specs.Pointers as spec;
+ghost use Rattle.json_values.specs.Pointers as spec;
 ghost use Rattle.json_pointers.specs.Lent.{stop_of};
 
 use serde_json::{Map, Value};

@@ -2,8 +2,8 @@
 use Rattle.std.proofs.Common.{◌≡◌, ◌∙◌, ◌++◌, ℕ, List, [], ◌∷◌, Bool, false, refl, ap, append_assoc}
 use Rattle.serde_json.specs.Data.{Data}
 use Rattle.schema_meaning.specs.Faults.{Fault, Faults, also, told_first, told_later}
-use Rattle.schema_roots.specs.Roots.{Root, Patterns}
-use Rattle.schema_roots.specs.Certified.{IsCertified, HasCertificate, HaveCertificates}
+use Rattle.schema_registries.specs.Roots.{Root, Patterns}
+use Rattle.schema_registries.specs.Certified.{IsCertified, HasCertificate, HaveCertificates}
 use Rattle.fault_checks.specs.Checked.{IsChecked}
 use Rattle.fault_checks.proofs.FinishedLemmas.{none_unfinished}
 use Rattle.fault_checks.specs.declared.checking.CheckAnswer.{CheckAnswer}

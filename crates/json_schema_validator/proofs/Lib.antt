@@ -1,9 +1,1 @@
-mod Hearing
-mod Certifying
-mod Asking
-mod BuiltLemmas
-pub mod Preparing
-pub mod Placing
 pub mod Joining
-pub mod Entries
-pub mod Rooting

@@ -3,10 +3,10 @@ use Rattle.std.specs.Prelude.{◌≡◌, ℕ, List, [], ◌∷◌, Bool}
 use Rattle.serde_json.specs.Data.{Data}
 use Rattle.schema_meaning.specs.Faults.{Fault, Faults, none, also, instance_path, evaluation_path}
 use Rattle.schema_meaning.specs.Readings.{bags}
-use Rattle.schema_documents.specs.Lookup.{Target}
-use Rattle.schema_reading.specs.PathTexts.{path_text}
-use Rattle.schema_roots.specs.Roots.{Root, Patterns, Finds}
-use Rattle.schema_roots.specs.Answers.{Finish, ComesBack, IsAnswer}
+use Rattle.schema_definitions.specs.Lookup.{Target}
+use Rattle.schema_definitions.specs.PathTexts.{path_text}
+use Rattle.schema_registries.specs.Roots.{Root, Patterns, Finds}
+use Rattle.schema_registries.specs.Answers.{Finish, ComesBack, IsAnswer}
 use Rattle.fault_checks.specs.Checked.{IsChecked}
 use Rattle.fault_checks.specs.declared.checking.CheckAnswer.{CheckAnswer}
 use Rattle.fault_checks.specs.declared.checking.CheckAnswer.TheVariants.{Accepted}

@@ -1,14 +1,1 @@
-pub mod Seen
-pub mod Made
-pub mod Heard
-pub mod Counted
-pub mod Asked
-pub mod Prepared
-pub mod Refused
-pub mod Built
 pub mod Joined
-pub mod New
-pub mod Passed
-pub mod Hashes
-pub mod Maps
-pub mod Mapped

@@ -5,19 +5,21 @@ ghost use Rattle.serde_json.specs.View.{view};
 ghost use Rattle.schema_meaning.specs.Readings.{verdicts};
 ghost use Rattle.schema_reports.specs.Left.{errors_left};
 ghost use Rattle.schema_reports.specs.Told.{fault_of, faults_of};
-ghost use Rattle.schema_roots.specs.Roots.{Patterns, IsSound, patterns_by, root_on};
-ghost use Rattle.schema_roots.specs.Answers.{IsAnswer};
-ghost use Rattle.schema_roots.specs.Certified.{HasCertificate, HaveCertificates};
+ghost use Rattle.schema_registries.specs.Roots.{Patterns, IsSound, root_on};
+ghost use Rattle.schema_registries.specs.Answers.{IsAnswer};
+ghost use Rattle.schema_registries.specs.Certified.{HasCertificate, HaveCertificates};
 ghost use Rattle.fault_checks.specs.Checked.{AreReadIn, IsChecked};
+ghost use Rattle.schema_validators.specs.Made.{IsMadeBy};
+ghost use Rattle.schema_validators.specs.Seen.{root_in};
 ghost use Rattle.json_schema_validator.specs.Joined.{IsFaultChecked, WhereStraight, AreAccepted, each_accepted};
 
-use crate::validator::Validator;
 use fault_checks::checking::{CheckAnswer, FaultPath, check_by, check_fault};
 use fault_checks::reading::read_matches;
-use schema_matches::matches::Matches;
+use schema_patterns::matches::Matches;
 use schema_patterns::{PatternMaker, PatternMatcher};
+use schema_registries::SchemaRegistry;
 use schema_reports::{ErrorIterator, ValidationError};
-use schema_roots::SchemaRegistry;
+use schema_validators::Validator;
 use serde_json::Value;
 use std::alloc::{AllocError, Global};
 
@@ -35,8 +37,8 @@ pub fn check_error<P: PatternMaker>(
     value: &Value,
     error: &ValidationError<'_>,
 ) -> Result<CheckAnswer, AllocError>
-    ensures checked { IfOk result (λ a. IsSound (patterns_by P.makes P.finished maker.now) (root_on registry.now root.now) → IsFaultChecked (patterns_by P.makes P.finished maker.now) (root_on registry.now root.now) (view value.now) (fault_of error.now) a) }
-    ensures accepted { IfOk result (λ a. IsSound (patterns_by P.makes P.finished maker.now) (root_on registry.now root.now) → HasCertificate (patterns_by P.makes P.finished maker.now) (root_on registry.now root.now) (view value.now) (fault_of error.now) → WhereStraight (patterns_by P.makes P.finished maker.now) (root_on registry.now root.now) (view value.now) (a ≡ CheckAnswer.Accepted)) }
+    ensures checked { IfOk result (λ a. IsSound (P.patterns maker.now) (root_on registry.now root.now) → IsFaultChecked (P.patterns maker.now) (root_on registry.now root.now) (view value.now) (fault_of error.now) a) }
+    ensures accepted { IfOk result (λ a. IsSound (P.patterns maker.now) (root_on registry.now root.now) → HasCertificate (P.patterns maker.now) (root_on registry.now root.now) (view value.now) (fault_of error.now) → WhereStraight (P.patterns maker.now) (root_on registry.now root.now) (view value.now) (a ≡ CheckAnswer.Accepted)) }
 {
     let matches = read_matches(alloc, registry, root, maker, value)?;
     check_error_by(alloc, registry, root, matches.as_ref(), value, error)
@@ -81,84 +83,82 @@ fn check_each(
     Ok(answers)
 }
 
-impl<M: PatternMatcher> Validator<M> {
-    ghost use Rattle.json_schema_validator.specs.Made.{IsMadeBy};
-    ghost use Rattle.json_schema_validator.specs.Seen.{root_in};
+/// What `check_fault` says of each fault of a value that `iter_errors` gives, in that order.
+///
+/// The registry, the reference and the maker are those that the validator was built by. Where every match that the value asks for
+/// finishes and no references come back, each is accepted. The patterns are made and their matches read once for all faults.
+///
+/// # Errors
+///
+/// Where memory was refused or a count of owners is full.
+pub fn check_errors<M: PatternMatcher, P: PatternMaker>(
+    alloc: Global,
+    validator: &Validator<M>,
+    registry: &SchemaRegistry,
+    root: &str,
+    maker: &P,
+    value: &Value,
+) -> Result<Vec<CheckAnswer>, AllocError>
+    requires built { root_in validator.now ≡ root_on registry.now root.now }
+    ensures accepted { IfOk result (λ v. IsMadeBy M.finds (P.patterns maker.now) validator.now → AreAccepted (P.patterns maker.now) (root_in validator.now) (view value.now) v.items) }
+{
+    let errors = validator.iter_errors(value)?;
+    let matches = read_matches(alloc, registry, root, maker, value)?;
+    check_each(alloc, registry, root, matches.as_ref(), value, errors)
+}
 
-    /// What `check_fault` says of each fault of a value that `iter_errors` gives, in that order.
-    ///
-    /// The registry, the reference and the maker are those that the validator was built by. Where every match that the value asks for
-    /// finishes and no references come back, each is accepted. The patterns are made and their matches read once for all faults.
-    ///
-    /// # Errors
-    ///
-    /// Where memory was refused or a count of owners is full.
-    pub fn check_errors<P: PatternMaker>(
-        &self,
-        registry: &SchemaRegistry,
-        root: &str,
-        maker: &P,
-        value: &Value,
-    ) -> Result<Vec<CheckAnswer>, AllocError>
-        requires built { root_in self.now ≡ root_on registry.now root.now }
-        ensures accepted { IfOk result (λ v. IsMadeBy M.finds (patterns_by P.makes P.finished maker.now) self.now → AreAccepted (patterns_by P.makes P.finished maker.now) (root_in self.now) (view value.now) v.items) }
-    {
-        let errors = self.iter_errors(value)?;
-        let matches = read_matches(self.alloc, registry, root, maker, value)?;
-        check_each(self.alloc, registry, root, matches.as_ref(), value, errors)
-    }
-
-    /// What `check_fault` says of the fault of a value that `validate` gives, and nothing of a valid value.
-    ///
-    /// The registry, the reference and the maker are those that the validator was built by. Where every match that the value asks for
-    /// finishes and no references come back, it is accepted.
-    ///
-    /// # Errors
-    ///
-    /// Where memory was refused or a count of owners is full.
-    pub fn check_first<P: PatternMaker>(
-        &self,
-        registry: &SchemaRegistry,
-        root: &str,
-        maker: &P,
-        value: &Value,
-    ) -> Result<Option<CheckAnswer>, AllocError>
-        requires built { root_in self.now ≡ root_on registry.now root.now }
-        ensures verdict { IfOk result (λ o. (p : Patterns) → IsMadeBy M.finds p self.now → IsAnswer verdicts p (root_in self.now) (view value.now) (is_none o)) }
-        ensures accepted { IfOk result (λ o. IfSome o (λ a. IsMadeBy M.finds (patterns_by P.makes P.finished maker.now) self.now → WhereStraight (patterns_by P.makes P.finished maker.now) (root_in self.now) (view value.now) (a ≡ CheckAnswer.Accepted))) }
-    {
-        match self.validate(value)? {
-            Ok(()) => Ok(None),
-            Err(error) => {
-                let answer = check_error(self.alloc, registry, root, maker, value, &error)?;
-                Ok(Some(answer))
-            }
+/// What `check_fault` says of the fault of a value that `validate` gives, and nothing of a valid value.
+///
+/// The registry, the reference and the maker are those that the validator was built by. Where every match that the value asks for
+/// finishes and no references come back, it is accepted.
+///
+/// # Errors
+///
+/// Where memory was refused or a count of owners is full.
+pub fn check_first<M: PatternMatcher, P: PatternMaker>(
+    alloc: Global,
+    validator: &Validator<M>,
+    registry: &SchemaRegistry,
+    root: &str,
+    maker: &P,
+    value: &Value,
+) -> Result<Option<CheckAnswer>, AllocError>
+    requires built { root_in validator.now ≡ root_on registry.now root.now }
+    ensures verdict { IfOk result (λ o. (p : Patterns) → IsMadeBy M.finds p validator.now → IsAnswer verdicts p (root_in validator.now) (view value.now) (is_none o)) }
+    ensures accepted { IfOk result (λ o. IfSome o (λ a. IsMadeBy M.finds (P.patterns maker.now) validator.now → WhereStraight (P.patterns maker.now) (root_in validator.now) (view value.now) (a ≡ CheckAnswer.Accepted))) }
+{
+    match validator.validate(value)? {
+        Ok(()) => Ok(None),
+        Err(error) => {
+            let answer = check_error(alloc, registry, root, maker, value, &error)?;
+            Ok(Some(answer))
         }
     }
+}
 
-    /// What `check_fault` says of two paths, and `is_valid` of the value.
-    ///
-    /// The registry, the reference and the maker are those that the validator was built by. Where every match that the value asks for
-    /// finishes, no references come back and the paths are accepted, the value is not valid.
-    ///
-    /// # Errors
-    ///
-    /// Where memory was refused or a count of owners is full.
-    pub fn check_path<P: PatternMaker>(
-        &self,
-        registry: &SchemaRegistry,
-        root: &str,
-        maker: &P,
-        value: &Value,
-        path: FaultPath<'_>,
-    ) -> Result<(CheckAnswer, bool), AllocError>
-        requires built { root_in self.now ≡ root_on registry.now root.now }
-        ensures checked { IfOk result (λ both. IsMadeBy M.finds (patterns_by P.makes P.finished maker.now) self.now → IsChecked (patterns_by P.makes P.finished maker.now) (root_in self.now) (view value.now) path.entry.instance_path.now path.entry.evaluation_path.now both.0) }
-        ensures verdict { IfOk result (λ both. (p : Patterns) → IsMadeBy M.finds p self.now → IsAnswer verdicts p (root_in self.now) (view value.now) both.1) }
-        ensures refused { IfOk result (λ both. IsMadeBy M.finds (patterns_by P.makes P.finished maker.now) self.now → both.0 ≡ CheckAnswer.Accepted → WhereStraight (patterns_by P.makes P.finished maker.now) (root_in self.now) (view value.now) (both.1 ≡ false)) }
-    {
-        let answer = check_fault(self.alloc, registry, root, maker, value, path)?;
-        let verdict = self.is_valid(value)?;
-        Ok((answer, verdict))
-    }
+/// What `check_fault` says of two paths, and `is_valid` of the value.
+///
+/// The registry, the reference and the maker are those that the validator was built by. Where every match that the value asks for
+/// finishes, no references come back and the paths are accepted, the value is not valid.
+///
+/// # Errors
+///
+/// Where memory was refused or a count of owners is full.
+pub fn check_path<M: PatternMatcher, P: PatternMaker>(
+    alloc: Global,
+    validator: &Validator<M>,
+    registry: &SchemaRegistry,
+    root: &str,
+    maker: &P,
+    value: &Value,
+    path: FaultPath<'_>,
+) -> Result<(CheckAnswer, bool), AllocError>
+    requires built { root_in validator.now ≡ root_on registry.now root.now }
+    ensures checked { IfOk result (λ both. IsMadeBy M.finds (P.patterns maker.now) validator.now → IsChecked (P.patterns maker.now) (root_in validator.now) (view value.now) path.entry.instance_path.now path.entry.evaluation_path.now both.0) }
+    ensures verdict { IfOk result (λ both. (p : Patterns) → IsMadeBy M.finds p validator.now → IsAnswer verdicts p (root_in validator.now) (view value.now) both.1) }
+    ensures refused { IfOk result (λ both. IsMadeBy M.finds (P.patterns maker.now) validator.now → both.0 ≡ CheckAnswer.Accepted → WhereStraight (P.patterns maker.now) (root_in validator.now) (view value.now) (both.1 ≡ false)) }
+{
+    let answer = check_fault(alloc, registry, root, maker, value, path)?;
+    let verdict = validator.is_valid(value)?;
+    Ok((answer, verdict))
 }

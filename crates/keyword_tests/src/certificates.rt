@@ -1,7 +1,8 @@
 // Paths that are and are not certificates, over a root document beside one that it may refer to.
 use crate::subject::{documents_of, options_at, value_of};
 use json_schema_validator::{
-    CheckAnswer, FaultPath, RegexMaker, SchemaRegistry, Validator, check_fault,
+    CheckAnswer, FaultPath, RegexMaker, SchemaRegistry, Validator, check_errors, check_fault,
+    check_first, check_path,
 };
 use serde_json::Value;
 use std::alloc::Global;
@@ -287,7 +288,7 @@ fn answers_of(
 ) -> Vec<CheckAnswer> {
     let options = Validator::options(alloc).expect(rt, "memory");
     let validator = options.build_on(registry, "").expect(rt, "a validator");
-    let answers = validator.check_errors(registry, "", &RegexMaker, value);
+    let answers = check_errors(alloc, &validator, registry, "", &RegexMaker, value);
     answers.expect(rt, "memory")
 }
 
@@ -300,7 +301,7 @@ fn first_of(
 ) -> Option<CheckAnswer> {
     let options = Validator::options(alloc).expect(rt, "memory");
     let validator = options.build_on(registry, "").expect(rt, "a validator");
-    let answer = validator.check_first(registry, "", &RegexMaker, value);
+    let answer = check_first(alloc, &validator, registry, "", &RegexMaker, value);
     answer.expect(rt, "memory")
 }
 
@@ -357,7 +358,7 @@ fn beside_verdict_on(
         instance_path: "",
         evaluation_path,
     };
-    let both = validator.check_path(registry, "", &RegexMaker, value, path);
+    let both = check_path(alloc, &validator, registry, "", &RegexMaker, value, path);
     both.expect(rt, "memory")
 }
 

@@ -4,7 +4,7 @@ use Rattle.std.specs.List.{AllZip, concat, list_any}
 use Rattle.std.proofs.Math.Seq.{drop-append_seam}
 use Rattle.std.proofs.lemmas.List.{take_rest}
 use Rattle.std.proofs.lemmas.List.Folds.{list_any-append, concat-append}
-use Rattle.line_devices.specs.Devices.{most}
+use Rattle.line_cuts.specs.Devices.{most}
 use Rattle.line_cuts.specs.Runs.{Answered, is_refused}
 use Rattle.line_cuts.specs.declared.report.RunReport.{RunReport}
 

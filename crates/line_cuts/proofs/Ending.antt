@@ -2,7 +2,7 @@
 use Rattle.std.proofs.Common.{◌≡◌, ◌∙◌, ℕ, List, [], subst, refl, Option, Result, Ok, Err, OnErr, OnOk, IfErr, IfOk}
 use Rattle.std.specs.Io.KnownBytes.{IsAtEnd}
 use Rattle.std.proofs.KnownBytes.{Consumes-nil}
-use Rattle.line_devices.specs.Devices.{IsRisen}
+use Rattle.line_cuts.specs.Devices.{IsRisen}
 use Rattle.line_cuts.specs.Cuts.{unless_empty}
 use Rattle.line_cuts.specs.Runs.{BreaksAt, ByError, Counts, RunsThrough, Stops}
 use Rattle.line_cuts.specs.Steps.{Goes, Reads}

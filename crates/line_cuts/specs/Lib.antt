@@ -1,3 +1,6 @@
+pub mod Devices
+pub mod Over
+pub mod Memory
 pub mod Cuts
 pub mod Runs
 pub mod Steps

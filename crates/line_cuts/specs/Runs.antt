@@ -3,7 +3,7 @@ use Rattle.std.specs.Prelude.{◌≡◌, ℕ, List, [], ◌∷◌, ◌++◌, ◌
 use Rattle.std.specs.List.{AllZip, concat, list_any}
 use Rattle.std.specs.Str.{bytes_eq}
 use Rattle.std.specs.Io.KnownBytes.{Appends, Consumes, IsAtEnd}
-use Rattle.line_devices.specs.Devices.{most, IsRisen}
+use Rattle.line_cuts.specs.Devices.{most, IsRisen}
 use Rattle.line_cuts.specs.Cuts.{ended_in, lines_of}
 use Rattle.line_cuts.specs.declared.report.RunReport.{RunReport}
 use Rattle.line_cuts.specs.declared.report.RunError.{RunError}

@@ -2,12 +2,12 @@
 ghost use Rattle.std.specs.Prelude.{◌≡◌, [], IfErr, OnOk, string_bytes};
 ghost use Rattle.line_cuts.specs.Runs.{TakesSome};
 ghost use Rattle.line_cuts.specs.Steps.{Answers, Sends, nothing_yet};
-ghost use Rattle.line_devices.specs.Devices.{IsRisen};
+ghost use Rattle.line_cuts.specs.Devices.{IsRisen};
 
+use crate::ByteSink;
 use crate::answers::LineAnswers;
 use crate::report::{RunError, RunReport};
 use crate::writing::write_whole;
-use line_devices::ByteSink;
 use std::alloc::Global;
 
 // From this length on what waits is written, in bytes.

@@ -4,13 +4,13 @@ ghost use Rattle.std.specs.Io.KnownBytes.{IsAtEnd};
 ghost use Rattle.line_cuts.specs.Cuts.{ended_in, part_of, pieces, unless_empty};
 ghost use Rattle.line_cuts.specs.Runs.{BreaksAt, ByError, Counts};
 ghost use Rattle.line_cuts.specs.Steps.{Answers, Goes, ReadsOnward, StopsOnward, nothing_yet};
-ghost use Rattle.line_devices.specs.Devices.{IsRisen};
+ghost use Rattle.line_cuts.specs.Devices.{IsRisen};
 
 use crate::answers::LineAnswers;
 use crate::cuts::first_line;
 use crate::outbox::Outbox;
 use crate::report::{RunError, RunReport};
-use line_devices::{ByteSink, ByteSource};
+use crate::{ByteSink, ByteSource};
 use std::alloc::Global;
 
 // What is kept between two reads: the line begun, and what waits to be written.

@@ -5,7 +5,7 @@ ghost use Rattle.line_cuts.specs.Runs.{Counts, RunsThrough, Stops};
 use crate::answers::LineAnswers;
 use crate::progress::Progress;
 use crate::report::{RunError, RunReport};
-use line_devices::{ByteSink, ByteSource};
+use crate::{ByteSink, ByteSource};
 use std::alloc::Global;
 
 // The most bytes of one read.

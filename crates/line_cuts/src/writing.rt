@@ -1,11 +1,11 @@
 //! Bytes written whole.
 ghost use Rattle.std.specs.Prelude.{◌≡◌, IfErr, OnOk};
 ghost use Rattle.std.specs.Io.KnownBytes.{Appends};
-ghost use Rattle.line_devices.specs.Devices.{IsRisen};
+ghost use Rattle.line_cuts.specs.Devices.{IsRisen};
 ghost use Rattle.line_cuts.specs.Runs.{TakesSome};
 
+use crate::ByteSink;
 use crate::report::RunError;
-use line_devices::ByteSink;
 
 // Writes all the bytes, by as many writes as it takes.
 pub(crate) fn write_whole<K: ByteSink>(writer: &mut K, bytes: &[u8]) -> Result<(), RunError>

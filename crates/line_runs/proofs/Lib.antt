@@ -1,3 +1,7 @@
+mod Values
+mod Orders
+mod Sorting
+mod Listed
 mod Ends
 mod Others
 pub mod Passed

@@ -4,11 +4,11 @@ use Rattle.std.specs.List.{AllZip}
 use Rattle.serde_json.specs.Data.{Data}
 use Rattle.schema_meaning.specs.Faults.{Faults}
 use Rattle.schema_meaning.specs.Readings.{bags}
-use Rattle.schema_reading.specs.Lines.{line_value, faults_text}
-use Rattle.json_schema_validator.specs.Passed.{Root, Patterns, IsCut, IsAnswer}
-use Rattle.json_schema_validator.specs.Made.{IsMadeBy}
-use Rattle.json_schema_validator.specs.Seen.{root_in}
-use Rattle.json_schema_validator.specs.declared.validator.Validator.{Validator}
+use Rattle.schema_definitions.specs.Lines.{line_value, faults_text}
+use Rattle.schema_validators.specs.Passed.{Root, Patterns, IsCut, IsAnswer}
+use Rattle.schema_validators.specs.Made.{IsMadeBy}
+use Rattle.schema_validators.specs.Seen.{root_in}
+use Rattle.schema_validators.specs.declared.validator.Validator.{Validator}
 
 -- the faults that a value has under a root, by the patterns of a maker: the cut reading's, and where no references come back the decided ones
 pub record HasFaults (p : Patterns) (r : Root) (d : Data) (fs : Faults) : Type 0 where

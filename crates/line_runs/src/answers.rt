@@ -3,10 +3,10 @@ ghost use Rattle.std.specs.Prelude.{◌≡◌, ◌++◌, ℕ, List, OnOk, option
 ghost use Rattle.serde_json.specs.View.{view};
 ghost use Rattle.line_runs.specs.Runs.{IsLineTextBy, ValueTextBy};
 
-use json_schema_validator::Validator;
+use crate::{line_value, write_faults};
 use line_cuts::LineAnswers;
-use line_texts::{line_value, write_faults};
 use schema_patterns::PatternMatcher;
+use schema_validators::Validator;
 use serde_json::Value;
 use std::alloc::{AllocError, Global};
 

@@ -1,11 +1,15 @@
-//! Instances read a line each, and the faults of each written as a line.
+//! Instances a line each: the value of a line, the text of its faults, and a run over many.
 #![tactic(auto)]
 
 mod answers;
+mod faults;
+mod reading;
 mod running;
 
-pub use json_schema_validator::{
+pub use faults::write_faults;
+pub use line_cuts::{RunError, RunReport};
+pub use reading::line_value;
+pub use running::{lines_are_ended, run};
+pub use schema_validators::{
     BuildError, DocumentError, Documents, Draft, ValidationOptions, Validator,
 };
-pub use line_cuts::{RunError, RunReport};
-pub use running::{lines_are_ended, run};

@@ -1,18 +1,17 @@
 //! Runs over all lines of a reader.
 ghost use Rattle.std.specs.Prelude.{◌≡◌, IfOk, IfErr, OnOk};
-ghost use Rattle.schema_reading.specs.Lines as lines;
-ghost use Rattle.json_schema_validator.specs.Passed.{Patterns};
-ghost use Rattle.json_schema_validator.specs.Made.{IsMadeBy};
-ghost use Rattle.json_schema_validator.specs.Seen.{root_in};
+ghost use Rattle.schema_definitions.specs.Lines as lines;
+ghost use Rattle.schema_validators.specs.Passed.{Patterns};
+ghost use Rattle.schema_validators.specs.Made.{IsMadeBy};
+ghost use Rattle.schema_validators.specs.Seen.{root_in};
 ghost use Rattle.line_cuts.specs.Cuts.{lines_of};
 ghost use Rattle.line_cuts.specs.Runs.{Counts, RunsThrough, Stops};
 ghost use Rattle.line_runs.specs.Runs.{IsLineText};
 
 use crate::answers::LineFaults;
-use json_schema_validator::Validator;
-use line_cuts::{RunError, RunReport, answer_lines};
-use line_devices::{ByteSink, ByteSource};
+use line_cuts::{ByteSink, ByteSource, RunError, RunReport, answer_lines};
 use schema_patterns::PatternMatcher;
+use schema_validators::Validator;
 use std::alloc::Global;
 
 /// Reads instances, a line each, and writes a line for each: the text of its faults, or `null` where the line is no JSON text of whole

@@ -3,7 +3,7 @@ use Rattle.std.proofs.Common.{◌≡◌, ◌==◌, ℕ, zero, suc, List, [], ◌
 use Rattle.std.specs.List.{AllZip}
 use Rattle.serde_json.specs.Data.{Data}
 use Rattle.schema_meaning.specs.Members.{all_true, some_true, count_true, known_too, all_known, Reordered, nothing_left, kept, exchanged, in_turn}
-use Rattle.json_paths.specs.Parts.{Part}
+use Rattle.json_values.specs.Parts.{Part}
 use Rattle.schema_meaning.specs.Places.{Spot}
 use Rattle.schema_meaning.specs.Faults.{Fault, Contains, OneOfMultipleValid, OneOfNotValid, Faults, join, is_none, Branches, branches_of}
 use Rattle.schema_meaning.specs.Questions.{Question, asked_at, at}

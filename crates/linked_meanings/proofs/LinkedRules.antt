@@ -3,8 +3,8 @@ use Rattle.std.proofs.Common.{◌≡◌, ◌++◌, ℕ, suc, codes, List, [], �
 use Rattle.std.specs.List.{AllZip, flat_map, filter}
 use Rattle.serde_json.specs.Data.{Data, null, boolean, number, string, array, object, Items, no_items, item}
 use Rattle.serde_json.specs.Find.{get}
-use Rattle.schema_values.specs.Patterns.{matched}
-use Rattle.json_paths.specs.Parts.{Part}
+use Rattle.json_values.specs.Patterns.{matched}
+use Rattle.json_values.specs.Parts.{Part}
 use Rattle.schema_meaning.specs.Places.{Step, stay, to_member}
 use Rattle.schema_meaning.specs.Questions.{Question, question, at, at_name, each_branch, items_of, items_from, each_item, item_by_item, members_of, if_member, other_members, names_of}
 use Rattle.schema_meaning.specs.Rules.{Note, Rule, every, together, each_named, some_branch, one_branch, refusal, counted, conditional, asks, consequents}

@@ -2,7 +2,7 @@
 use Rattle.std.proofs.Common.{◌≡◌, ◌<◌, ◌≤◌, ℕ, suc, List, [], ◌∷◌, Bool, true, false, ◌&&◌, ◌||◌, Option, Some, None, bytes_eq, eqb-true, eq-eqb, length, refl, ap, ap₂, subst, arith}
 use Rattle.std.proofs.lemmas.Slice.Eq.{bytes_eq-Decides}
 use Rattle.schema_meaning.specs.Members.{In, first, later}
-use Rattle.json_paths.specs.Parts.{Part, name, index}
+use Rattle.json_values.specs.Parts.{Part, name, index}
 use Rattle.schema_meaning.specs.Places.{SchemaPlace, Key}
 use Rattle.schema_meaning.specs.Cut.{same_part, same_path, same_name, same_key, is_in_progress, one_unless, left}
 

@@ -13,3 +13,5 @@ pub mod Traced
 pub mod Texts
 pub mod Certified
 pub mod MatchLemmas
+pub mod MatchesAlike
+pub mod Others

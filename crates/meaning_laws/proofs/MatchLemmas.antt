@@ -2,7 +2,7 @@
 use Rattle.std.proofs.Common.{◌≡◌, ◌++◌, ◌||◌, ℕ, codes, List, [], ◌∷◌, Bool, true, false, not, cond, map, refl, ap, ap₂}
 use Rattle.std.specs.List.{flat_map, filter, list_any}
 use Rattle.serde_json.specs.Data.{Data, null, boolean, number, string, array, object}
-use Rattle.schema_values.specs.Patterns.{matched}
+use Rattle.json_values.specs.Patterns.{matched}
 use Rattle.schema_meaning.specs.Members.{In, first, later, is_listed}
 use Rattle.schema_meaning.specs.Places.{to_member}
 use Rattle.schema_meaning.specs.Faults.{AdditionalProperties, Pattern}

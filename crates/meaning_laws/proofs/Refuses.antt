@@ -1,7 +1,7 @@
 -- A certificate implies refusal.
 use Rattle.std.proofs.Common.{◌≡◌, ◌+◌, ℕ, List, Bool, true, false, map, Option, Some, None, sym, ap, ◌∙◌, subst, add_comm}
 use Rattle.schema_meaning.specs.Members.{In, all_true, all_known}
-use Rattle.json_paths.specs.Parts.{Part}
+use Rattle.json_values.specs.Parts.{Part}
 use Rattle.schema_meaning.specs.Places.{Spot}
 use Rattle.schema_meaning.specs.Questions.{Question, asked_at}
 use Rattle.schema_meaning.specs.Rules.{Rule, asks, accepts, obliged}

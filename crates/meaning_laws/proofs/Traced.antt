@@ -1,7 +1,7 @@
 -- Where a keyword's faults come from.
 use Rattle.std.proofs.Common.{◌≡◌, ◌++◌, ℕ, List, [], ◌∷◌, Bool, true, false, ◌&&◌, map, refl, sym, ap, ◌∙◌, subst, ◌⊎◌, inl, inr}
 use Rattle.schema_meaning.specs.Members.{In, first, later, is_empty}
-use Rattle.json_paths.specs.Parts.{Part}
+use Rattle.json_values.specs.Parts.{Part}
 use Rattle.schema_meaning.specs.Places.{Spot, to_name}
 use Rattle.schema_meaning.specs.Faults.{Fault, fault, Faults, none, also, joined, join, is_none, instance_path, evaluation_path, Told, told_first, told_later}
 use Rattle.schema_meaning.specs.Questions.{Question, at, each_name}

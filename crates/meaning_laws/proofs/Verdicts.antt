@@ -1,7 +1,7 @@
 -- The bag of faults is empty exactly where the verdict is yes.
 use Rattle.std.proofs.Common.{◌≡◌, ℕ, zero, suc, List, [], ◌∷◌, Bool, true, false, ◌&&◌, map, Option, None, option_map, refl, sym, ap, ap₂, ◌∙◌}
 use Rattle.schema_meaning.specs.Members.{is_empty, all_true}
-use Rattle.json_paths.specs.Parts.{Part}
+use Rattle.json_values.specs.Parts.{Part}
 use Rattle.schema_meaning.specs.Places.{Spot, Key}
 use Rattle.schema_meaning.specs.Faults.{Fault, Faults, none, also, joined, join, is_none}
 use Rattle.schema_meaning.specs.Questions.{Question, asked_at}

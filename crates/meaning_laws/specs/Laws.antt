@@ -1,7 +1,7 @@
 -- What is proved of the readings of schemas. Each statement is the contract of a function of this crate.
 use Rattle.std.specs.Prelude.{◌≡◌, ◌≤◌, ◌+◌, ◌*◌, ℕ, suc, List, [], Bool, false, Some, option_map, length}
 use Rattle.serde_json.specs.Data.{Data}
-use Rattle.json_paths.specs.Parts.{Part}
+use Rattle.json_values.specs.Parts.{Part}
 use Rattle.schema_meaning.specs.Places.{Spot, Key}
 use Rattle.schema_meaning.specs.Faults.{Fault, Faults, is_none, instance_path, evaluation_path, Told}
 use Rattle.schema_meaning.specs.Keywords.{Shape, rule}

@@ -5,9 +5,9 @@ use Rattle.std.specs.Cmp.Lexicographic.{slice_cmp}
 use Rattle.std.specs.Ordering.{is_lt}
 use Rattle.serde_json.specs.Data.{Data, object, Members, no_members, member}
 use Rattle.serde_json.specs.Find.{get, get_member}
-use Rattle.schema_values.specs.Equality.{rises_from}
-use Rattle.schema_values.proofs.Kept.{first_rise, rises_before}
-use Rattle.schema_values.specs.Rising.{are_rising}
+use Rattle.json_values.specs.Equality.{rises_from}
+use Rattle.json_values.proofs.Kept.{first_rise, rises_before}
+use Rattle.json_values.specs.Rising.{are_rising}
 use Rattle.member_walks.specs.Found.{AreFound}
 
 -- before the first member

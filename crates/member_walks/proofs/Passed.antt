@@ -5,9 +5,9 @@ use Rattle.std.specs.Cmp.Lexicographic.{slice_cmp}
 use Rattle.std.specs.Ordering.{ordering_reverse}
 use Rattle.serde_json.specs.Data.{Data, Members, member}
 use Rattle.serde_json.specs.Find.{get_member}
-use Rattle.schema_values.proofs.Names.{name_same, get_same, get_less, get_greater}
-use Rattle.schema_values.proofs.Kept.{behind_none, rises_before}
-use Rattle.schema_values.specs.Rising.{are_rising}
+use Rattle.json_values.proofs.Names.{name_same, get_same, get_less, get_greater}
+use Rattle.json_values.proofs.Kept.{behind_none, rises_before}
+use Rattle.json_values.specs.Rising.{are_rising}
 use Rattle.member_walks.specs.Left.{led}
 use Rattle.member_walks.proofs.Found.{rest_rises}
 

@@ -5,7 +5,7 @@ ghost use Rattle.std.specs.declared.cmp.Ordering.TheVariants.{Less};
 ghost use Rattle.std.specs.Cmp.Lexicographic.{slice_cmp};
 ghost use Rattle.serde_json.specs.View.{view, members_view};
 ghost use Rattle.serde_json.specs.Find.{get_member};
-ghost use Rattle.schema_values.specs.Rising.{are_rising};
+ghost use Rattle.json_values.specs.Rising.{are_rising};
 ghost use Rattle.member_walks.specs.Left.{left_in};
 
 use serde_json::{Map, Value};

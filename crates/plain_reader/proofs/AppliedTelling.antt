@@ -3,7 +3,7 @@ use Rattle.std.proofs.Common.{◌≡◌, ◌<◌, ◌++◌, ℕ, List, [], ◌�
 use Rattle.serde_json.specs.Data.{Data, object, depth, Members}
 use Rattle.serde_json.specs.View.{view}
 use Rattle.serde_json.specs.declared.value.Value.{Value}
-use Rattle.json_paths.specs.Parts.{Part, name, index}
+use Rattle.json_values.specs.Parts.{Part, name, index}
 use Rattle.schema_meaning.specs.Members.{In, first, later}
 use Rattle.schema_meaning.specs.Places.{Spot, Step, Key, whole, value_after, path_after, called_after}
 use Rattle.schema_meaning.specs.Faults.{Faults, joined}
@@ -11,16 +11,16 @@ use Rattle.schema_meaning.specs.Questions.{at, listed_members}
 use Rattle.schema_meaning.specs.Rules.{asks}
 use Rattle.schema_meaning.specs.Keywords.{rule}
 use Rattle.schema_meaning.specs.Readings.{Asks}
-use Rattle.schema_documents.specs.Bearers.{meta}
-use Rattle.schema_documents.specs.Places.{by_schema, schema_in_force}
-use Rattle.schema_reading.specs.Sites.{Site, below}
-use Rattle.schema_reading.specs.Rows.{Row, row_at, rows_at}
-use Rattle.schema_reading.specs.Plain.{plain}
+use Rattle.schema_definitions.specs.Bearers.{meta}
+use Rattle.schema_definitions.specs.Places.{by_schema, schema_in_force}
+use Rattle.schema_definitions.specs.Sites.{Site, below}
+use Rattle.schema_definitions.specs.Rows.{Row, row_at, rows_at}
+use Rattle.schema_definitions.specs.Plain.{plain}
 use Rattle.meaning_laws.proofs.Obliged.{in_map}
-use Rattle.place_laws.proofs.Depths.{placed_contents}
-use Rattle.plain_laws.proofs.Elements.{in_mapped}
-use Rattle.plain_laws.proofs.Nested.{all_known}
-use Rattle.walk_laws.proofs.Begun.{rules_stand}
+use Rattle.document_laws.proofs.Depths.{placed_contents}
+use Rattle.reading_laws.proofs.Elements.{in_mapped}
+use Rattle.reading_laws.proofs.Nested.{all_known}
+use Rattle.certificate_laws.proofs.Begun.{rules_stand}
 use Rattle.applicators.specs.Shapes.{shape_of, added_at}
 use Rattle.applicators.specs.Made.{patterns_in}
 use Rattle.applicators.specs.Combined.{is_by_answers}
@@ -33,13 +33,13 @@ use Rattle.applicators.specs.declared.subschema.Entry.{Entry}
 use Rattle.applicators.specs.declared.subschema.Entry.TheVariants as entry
 use Rattle.applied_laws.specs.Laws.{IsSound}
 use Rattle.applied_laws.proofs.Sound.{questions_are_sound}
-use Rattle.schema_matches.specs.Read.{reads}
+use Rattle.schema_patterns.specs.Read.{reads}
 use Rattle.schema_sites.specs.Passed.{base_of, scope_of}
 use Rattle.schema_sites.specs.Read.{row_of, context_at, Finds, IsRowOf}
 use Rattle.schema_sites.specs.Seen.{documents_at, Stands}
 use Rattle.schema_sites.specs.declared.keyword.Keyword.{Keyword}
 use Rattle.schema_sites.specs.declared.keyword.Keyword.TheVariants as keyword
-use Rattle.schema_vocabularies.specs.Dialects.{dialect_of}
+use Rattle.schema_dialects.specs.Dialects.{dialect_of}
 use Rattle.schema_sites.specs.declared.site.Site as code
 use Rattle.schema_reports.specs.Observers.{Hears}
 use Rattle.schema_reports.specs.RoadPaths.{instance_in, schema_in, evaluation_in}

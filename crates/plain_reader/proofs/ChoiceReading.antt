@@ -10,22 +10,22 @@ use Rattle.schema_meaning.specs.Questions.{Question, at, listed_members}
 use Rattle.schema_meaning.specs.Rules.{asks}
 use Rattle.schema_meaning.specs.Keywords.{Shape, condition, rule}
 use Rattle.schema_meaning.specs.Readings.{Asks}
-use Rattle.schema_documents.specs.Bearers.{meta}
-use Rattle.schema_documents.specs.Places.{by_schema, schema_in_force}
-use Rattle.schema_reading.specs.Sites.{Site}
-use Rattle.schema_reading.specs.Rows.{Row, Context, row_at, rows_at}
-use Rattle.schema_reading.specs.Plain.{plain}
+use Rattle.schema_definitions.specs.Bearers.{meta}
+use Rattle.schema_definitions.specs.Places.{by_schema, schema_in_force}
+use Rattle.schema_definitions.specs.Sites.{Site}
+use Rattle.schema_definitions.specs.Rows.{Row, Context, row_at, rows_at}
+use Rattle.schema_definitions.specs.Plain.{plain}
 use Rattle.meaning_laws.proofs.Obliged.{in_map}
-use Rattle.place_laws.proofs.Depths.{placed_contents}
-use Rattle.plain_laws.proofs.Nested.{all_known}
-use Rattle.walk_laws.proofs.Begun.{rules_stand}
-use Rattle.walk_laws.proofs.BesideLed.{IsChoice, LedBy, then_led, else_led}
+use Rattle.document_laws.proofs.Depths.{placed_contents}
+use Rattle.reading_laws.proofs.Nested.{all_known}
+use Rattle.certificate_laws.proofs.Begun.{rules_stand}
+use Rattle.certificate_laws.proofs.BesideLed.{IsChoice, LedBy, then_led, else_led}
 use Rattle.schema_sites.specs.Passed.{base_of, scope_of}
 use Rattle.schema_sites.specs.Read.{row_of, context_at, site_at}
 use Rattle.schema_sites.specs.Seen.{documents_at, Stands}
 use Rattle.schema_sites.specs.declared.keyword.Keyword.TheVariants as keyword
 use Rattle.schema_sites.specs.declared.site.Site as code
-use Rattle.schema_vocabularies.specs.Dialects.{dialect_of}
+use Rattle.schema_dialects.specs.Dialects.{dialect_of}
 use Rattle.plain_reader.specs.Settings.{Setting}
 use Rattle.plain_reader.specs.Tellings.{AreRead}
 use Rattle.plain_reader.specs.Choices.{beside_leads, choice_leads, IsInside, AreInside}

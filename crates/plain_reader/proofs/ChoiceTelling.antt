@@ -10,8 +10,8 @@ use Rattle.schema_meaning.specs.Faults.{Faults, none, joined, join, is_none}
 use Rattle.schema_meaning.specs.Questions.{Question, here}
 use Rattle.schema_meaning.specs.Rules.{chosen, consequents}
 use Rattle.schema_meaning.specs.Keywords.{Shape, condition, consequent}
-use Rattle.schema_reading.specs.Sites.{Site, below}
-use Rattle.plain_laws.proofs.Elements.{in_front, in_rest}
+use Rattle.schema_definitions.specs.Sites.{Site, below}
+use Rattle.reading_laws.proofs.Elements.{in_front, in_rest}
 use Rattle.applicators.specs.Questions.{question_of}
 use Rattle.applicators.specs.declared.question.Question as asking_of
 use Rattle.schema_sites.specs.Read.{site_at}

@@ -10,7 +10,7 @@ use Rattle.schema_meaning.specs.Faults.{Fault, Faults, none, also, joined, is_no
 use Rattle.schema_meaning.specs.Questions.{at}
 use Rattle.schema_meaning.specs.Rules.{asks, accepts, faults, one_fault, own_fault, verdicts_of}
 use Rattle.schema_meaning.specs.Keywords.{rule}
-use Rattle.schema_reading.specs.Sites.{Site, below}
+use Rattle.schema_definitions.specs.Sites.{Site, below}
 use Rattle.applicators.specs.Shapes.{shape_of}
 use Rattle.applicators.specs.Combined.{refused_name, is_every, is_by_answers, is_each_named, Decides}
 use Rattle.applicators.specs.Questions.{question_of, questions_of}
@@ -18,7 +18,7 @@ use Rattle.applicators.specs.declared.applicator.Applicator.{Applicator}
 use Rattle.applicators.specs.declared.question.Question.{Question}
 use Rattle.applied_laws.specs.Notes.{kind_by, value_by}
 use Rattle.applied_laws.proofs.Once.{tell_once, once_plain}
-use Rattle.schema_matches.specs.Read.{reads}
+use Rattle.schema_patterns.specs.Read.{reads}
 use Rattle.schema_sites.specs.Seen.{documents_at}
 use Rattle.schema_sites.specs.declared.site.Site as code
 use Rattle.schema_reports.specs.Observers.{Hears}

@@ -1,8 +1,8 @@
 -- What the children of a site tell: by `items` and by `properties`.
 use Rattle.std.proofs.Common.{◌≡◌, ◌≤◌, ◌<◌, ◌+◌, ◌*◌, ◌++◌, ℕ, zero, suc, List, [], ◌∷◌, Option, Some, None, Ordering, Less, Equal, Greater, nat_cmp, is_eq, codes, drop, refl, sym, ap, ap₂, subst, ◌∙◌, arith}
 use Rattle.std.specs.Borrow.{Bor}
-use Rattle.schema_matches.specs.Read.{reads}
-use Rattle.schema_matches.specs.declared.matches.Matches.{Matches}
+use Rattle.schema_patterns.specs.Read.{reads}
+use Rattle.schema_patterns.specs.declared.matches.Matches.{Matches}
 use Rattle.std.specs.Ordering.{match_ordering}
 use Rattle.std.specs.Cmp.Lexicographic.{slice_cmp}
 use Rattle.std.proofs.lemmas.Slice.Eq.{bytes_eq-Decides}
@@ -11,15 +11,15 @@ use Rattle.serde_json.specs.Data.{Data, null, boolean, number, string, array, ob
 use Rattle.serde_json.specs.Find.{get, get_member}
 use Rattle.serde_json.specs.View.{view, items_view}
 use Rattle.serde_json.specs.declared.value.Value.{Value}
-use Rattle.json_paths.specs.Parts.{Part, name, index}
-use Rattle.schema_documents.specs.Scopes.{entered_scope}
+use Rattle.json_values.specs.Parts.{Part, name, index}
+use Rattle.schema_definitions.specs.Scopes.{entered_scope}
 use Rattle.schema_meaning.specs.Members.{In, first, later}
 use Rattle.schema_meaning.specs.Places.{Spot, Step, to_item, to_member, after, called_after, Key}
 use Rattle.schema_meaning.specs.Faults.{Faults, joined}
 use Rattle.schema_meaning.specs.Questions.{Question, question, at, at_name, each_item, items_from, if_member}
-use Rattle.schema_reading.specs.Sites.{Site, below, path_of_reference}
-use Rattle.schema_reading.specs.AllKeys.{spots_in, spots_of_items, spots_of_members}
-use Rattle.schema_reading.specs.Plain.{deepest}
+use Rattle.schema_definitions.specs.Sites.{Site, below, path_of_reference}
+use Rattle.schema_definitions.specs.AllKeys.{spots_in, spots_of_items, spots_of_members}
+use Rattle.schema_definitions.specs.Plain.{deepest}
 use Rattle.schema_sites.specs.Passed.{base_of, scope_of}
 use Rattle.schema_sites.specs.Seen.{documents_at, Stands}
 use Rattle.schema_sites.specs.declared.site.Site as code

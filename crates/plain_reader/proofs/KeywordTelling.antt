@@ -12,18 +12,18 @@ use Rattle.schema_meaning.specs.Questions.{Question, at, listed_members}
 use Rattle.schema_meaning.specs.Keywords.{Shape, Reference, Assertion, pattern, items, properties, reference, never, named, wrong, reference_name}
 use Rattle.schema_meaning.specs.Readings.{bags}
 use Rattle.schema_meaning.specs.Cut.{cut_within}
-use Rattle.schema_documents.specs.Bearers.{Documents}
-use Rattle.schema_documents.specs.Lookup.{Target}
-use Rattle.schema_matches.specs.Read.{reads}
-use Rattle.schema_reading.specs.Sites.{Site, below, target_site}
+use Rattle.schema_definitions.specs.Bearers.{Documents}
+use Rattle.schema_definitions.specs.Lookup.{Target}
+use Rattle.schema_patterns.specs.Read.{reads}
+use Rattle.schema_definitions.specs.Sites.{Site, below, target_site}
 use Rattle.applicators.specs.Shapes.{shape_of}
 use Rattle.applicators.specs.Combined.{is_every, notes_by, name_of as applicator_name}
 use Rattle.applicators.specs.declared.applicator.Applicator.{Applicator}
 use Rattle.applicators.proofs.CombinedLemmas.{every_rule}
 use Rattle.plain_reader.specs.Spots.{Spots}
 use Rattle.plain_reader.specs.Applied.{applied_leads, applied_shapes, applied_questions}
-use Rattle.schema_reading.specs.Rows.{Row, Context, row_at, assertion, rows_in}
-use Rattle.schema_reading.specs.Plain.{keywords_at}
+use Rattle.schema_definitions.specs.Rows.{Row, Context, row_at, assertion, rows_in}
+use Rattle.schema_definitions.specs.Plain.{keywords_at}
 use Rattle.schema_sites.specs.Passed.{scope_of}
 use Rattle.schema_sites.specs.Seen.{documents_at, Stands}
 use Rattle.schema_sites.specs.Read.{leads_of, row_of, context_at, IsRowOf}

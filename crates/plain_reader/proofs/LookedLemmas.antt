@@ -1,11 +1,11 @@
 -- What is looked up by the keywords of references.
 use Rattle.std.proofs.Common.{◌≡◌, refl, subst, sym, ℕ, List, true, Result, Ok, Err}
-use Rattle.schema_documents.specs.Words.{and_then}
-use Rattle.schema_documents.specs.Bearers.{Documents}
-use Rattle.schema_documents.specs.Lookup.{LookupCause, Target, lookup}
-use Rattle.target_laws.specs.Laws.{Lies, reads_as_path}
-use Rattle.target_laws.proofs.Looked.{lookups_lie, dynamic_lookups_lie, recursive_lookups_lie}
-use Rattle.target_laws.proofs.Texts.{lookups_read}
+use Rattle.schema_definitions.specs.Words.{and_then}
+use Rattle.schema_definitions.specs.Bearers.{Documents}
+use Rattle.schema_definitions.specs.Lookup.{LookupCause, Target, lookup}
+use Rattle.document_laws.specs.TargetLaws.{Lies, reads_as_path}
+use Rattle.document_laws.proofs.TargetsLooked.{lookups_lie, dynamic_lookups_lie, recursive_lookups_lie}
+use Rattle.document_laws.proofs.Texts.{lookups_read}
 use Rattle.schema_sites.specs.References.{looked_up, MayBe}
 use Rattle.schema_sites.specs.declared.reference_keyword.ReferenceKeyword.{ReferenceKeyword}
 use Rattle.schema_sites.specs.declared.reference_keyword.ReferenceKeyword.TheVariants.{Ref, DynamicRef, RecursiveRef}

@@ -3,7 +3,7 @@ use Rattle.std.proofs.Common.{◌≡◌, ◌≤◌, ◌*◌, ◌+◌, ℕ, suc, 
 use Rattle.std.proofs.Math.Nat.{mul-le-mul_right}
 use Rattle.serde_json.specs.Data.{Data, string, depth}
 use Rattle.serde_json.specs.View.{view}
-use Rattle.json_paths.specs.Parts.{Part}
+use Rattle.json_values.specs.Parts.{Part}
 use Rattle.schema_meaning.specs.Members.{In, first, later}
 use Rattle.schema_meaning.specs.Places.{Spot, Key}
 use Rattle.schema_meaning.specs.Faults.{Faults, none, also, fault, joined, join}
@@ -11,20 +11,20 @@ use Rattle.schema_meaning.specs.Rules.{asks, faults, of_object, each_of_object}
 use Rattle.schema_meaning.specs.Keywords.{rule}
 use Rattle.schema_meaning.specs.Readings.{bags}
 use Rattle.schema_meaning.specs.Cut.{cut_within, left}
-use Rattle.schema_documents.specs.Bearers.{Documents}
-use Rattle.schema_reading.specs.Sites.{Site, below}
-use Rattle.schema_reading.specs.Plain.{deepest}
-use Rattle.schema_reading.specs.AllKeys.{spots_in}
-use Rattle.name_laws.specs.Laws.{AreUncalled, keys_among}
-use Rattle.name_laws.proofs.Rooms.{have_room_among}
-use Rattle.name_laws.proofs.Texts.{read_as_text}
+use Rattle.schema_definitions.specs.Bearers.{Documents}
+use Rattle.schema_definitions.specs.Sites.{Site, below}
+use Rattle.schema_definitions.specs.Plain.{deepest}
+use Rattle.schema_definitions.specs.AllKeys.{spots_in}
+use Rattle.reading_laws.specs.NameLaws.{AreUncalled, keys_among}
+use Rattle.reading_laws.proofs.NameRooms.{have_room_among}
+use Rattle.reading_laws.proofs.NameTexts.{read_as_text}
 use Rattle.applicators.specs.Shapes.{shape_of}
 use Rattle.applicators.specs.Combined.{is_by_answers, is_each_named}
 use Rattle.applicators.specs.Questions.{question_of, questions_of}
 use Rattle.applicators.specs.declared.applicator.Applicator.{Applicator}
 use Rattle.applicators.specs.declared.applicator.Applicator.TheVariants as code
 use Rattle.applicators.specs.declared.question.Question.{Question}
-use Rattle.schema_matches.specs.Read.{reads}
+use Rattle.schema_patterns.specs.Read.{reads}
 use Rattle.schema_sites.specs.Seen.{documents_at}
 use Rattle.schema_sites.specs.declared.site.Site as sites
 use Rattle.schema_reports.specs.Observers.{Hears}

@@ -2,14 +2,14 @@
 use Rattle.std.proofs.Common.{◌≡◌, ◌<◌, ◌≤◌, ◌||◌, ℕ, List, [], Bool, true, false, is_some, refl, sym, ap, arith, subst}
 use Rattle.std.specs.List.{flat_map}
 use Rattle.serde_json.specs.Data.{Data, object, Members, no_members, member, depth, members_depth}
-use Rattle.schema_values.specs.Patterns.{literal_of}
+use Rattle.json_values.specs.Patterns.{literal_of}
 use Rattle.schema_meaning.specs.Members.{In, first, later}
 use Rattle.schema_meaning.specs.Questions.{listed_members}
-use Rattle.schema_documents.specs.Bearers.{Documents}
-use Rattle.schema_reading.specs.Sites.{Site}
-use Rattle.schema_reading.specs.Rows.{Row, Context, row_at, rows_of, rows_at, rows_in}
-use Rattle.schema_reading.specs.BuildCauses.{Reached, at_root, by_keyword}
-use Rattle.schema_reading.specs.Plain.{keywords_at}
+use Rattle.schema_definitions.specs.Bearers.{Documents}
+use Rattle.schema_definitions.specs.Sites.{Site}
+use Rattle.schema_definitions.specs.Rows.{Row, Context, row_at, rows_of, rows_at, rows_in}
+use Rattle.schema_definitions.specs.BuildCauses.{Reached, at_root, by_keyword}
+use Rattle.schema_definitions.specs.Plain.{keywords_at}
 use Rattle.applicators.specs.Made.{AreMade}
 use Rattle.plain_reader.specs.Tellings.{AreRead}
 

@@ -1,18 +1,18 @@
 -- What a root tells.
 use Rattle.std.proofs.Common.{◌≡◌, ◌<◌, ◌≤◌, ◌+◌, ◌*◌, ℕ, suc, List, [], ◌∷◌, None, refl, sym, ap, ap₂, ◌∙◌, subst, arith}
 use Rattle.std.specs.Borrow.{Bor}
-use Rattle.schema_matches.specs.Read.{reads}
-use Rattle.schema_matches.specs.declared.matches.Matches.{Matches}
+use Rattle.schema_patterns.specs.Read.{reads}
+use Rattle.schema_patterns.specs.declared.matches.Matches.{Matches}
 use Rattle.serde_json.specs.Data.{Data, depth}
 use Rattle.serde_json.specs.View.{view}
-use Rattle.json_paths.specs.Parts.{Part}
+use Rattle.json_values.specs.Parts.{Part}
 use Rattle.schema_meaning.specs.Places.{whole}
 use Rattle.schema_meaning.specs.Cut.{cut, left}
-use Rattle.schema_documents.specs.Bearers.{Documents}
-use Rattle.schema_documents.specs.Lookup.{Target}
-use Rattle.schema_reading.specs.Sites.{root_site}
-use Rattle.schema_reading.specs.Plain.{deepest}
-use Rattle.schema_reading.specs.AllKeys.{keys_of, spots_in}
+use Rattle.schema_definitions.specs.Bearers.{Documents}
+use Rattle.schema_definitions.specs.Lookup.{Target}
+use Rattle.schema_definitions.specs.Sites.{root_site}
+use Rattle.schema_definitions.specs.Plain.{deepest}
+use Rattle.schema_definitions.specs.AllKeys.{keys_of, spots_in}
 use Rattle.schema_sites.specs.Passed.{scope_of}
 use Rattle.schema_sites.specs.Seen.{documents_at, Stands}
 use Rattle.schema_sites.specs.declared.site.Site as code

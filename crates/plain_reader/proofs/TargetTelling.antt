@@ -1,26 +1,26 @@
 -- What a reference tells: what its target does, unless it is in progress.
 use Rattle.std.proofs.Common.{◌≡◌, ◌<◌, ◌≤◌, ◌+◌, ◌*◌, ℕ, suc, List, [], ◌∷◌, Bool, true, false, None, refl, sym, ap, ap₂, ◌∙◌, subst, arith, map}
 use Rattle.std.specs.Borrow.{Bor}
-use Rattle.name_laws.specs.Laws.{keys_among}
-use Rattle.schema_matches.specs.Read.{reads}
-use Rattle.schema_matches.specs.declared.matches.Matches.{Matches}
+use Rattle.reading_laws.specs.NameLaws.{keys_among}
+use Rattle.schema_patterns.specs.Read.{reads}
+use Rattle.schema_patterns.specs.declared.matches.Matches.{Matches}
 use Rattle.std.proofs.Math.Nat.{mul-le-mul_right}
 use Rattle.serde_json.specs.Data.{Data, null, boolean, number, string, array, object, depth}
 use Rattle.serde_json.specs.View.{view}
-use Rattle.json_paths.specs.Parts.{Part, name}
+use Rattle.json_values.specs.Parts.{Part, name}
 use Rattle.schema_meaning.specs.Members.{In, first}
 use Rattle.schema_meaning.specs.Places.{Spot, SchemaPlace, Key, stay}
 use Rattle.schema_meaning.specs.Faults.{Faults, none, joined}
 use Rattle.schema_meaning.specs.Questions.{Question, at}
 use Rattle.schema_meaning.specs.Cut.{is_in_progress}
 use Rattle.meaning_laws.proofs.Keys.{left_falls}
-use Rattle.schema_documents.specs.Bearers.{Documents}
-use Rattle.schema_documents.specs.Lookup.{Target}
-use Rattle.schema_reading.specs.Sites.{Site, target_site, path_of_reference}
-use Rattle.schema_reading.specs.Plain.{deepest}
-use Rattle.schema_reading.specs.AllKeys.{spots_in, places_of}
-use Rattle.target_laws.specs.Laws.{place_of, Lies}
-use Rattle.target_laws.proofs.Listed.{in_map, in_flat_map}
+use Rattle.schema_definitions.specs.Bearers.{Documents}
+use Rattle.schema_definitions.specs.Lookup.{Target}
+use Rattle.schema_definitions.specs.Sites.{Site, target_site, path_of_reference}
+use Rattle.schema_definitions.specs.Plain.{deepest}
+use Rattle.schema_definitions.specs.AllKeys.{spots_in, places_of}
+use Rattle.document_laws.specs.TargetLaws.{place_of, Lies}
+use Rattle.document_laws.proofs.Listed.{in_map, in_flat_map}
 use Rattle.schema_sites.specs.Passed.{base_of, scope_of}
 use Rattle.schema_sites.specs.Seen.{documents_at, Stands}
 use Rattle.schema_sites.specs.declared.site.Site as code

@@ -1,6 +1,6 @@
 -- What is told of keywords, by what is told of their questions.
 use Rattle.std.proofs.Common.{◌≡◌, ◌++◌, ℕ, suc, List, [], ◌∷◌, Bool, true, false, map, codes, refl, sym, ap, ◌∙◌}
-use Rattle.json_paths.specs.Parts.{Part}
+use Rattle.json_values.specs.Parts.{Part}
 use Rattle.schema_meaning.specs.Places.{Spot, Key}
 use Rattle.schema_meaning.specs.Faults.{Fault, Faults, none, also, joined, join}
 use Rattle.schema_meaning.specs.Questions.{Question, at, asked_at, each_item, items_from, items_of, each_declared}
@@ -9,8 +9,8 @@ use Rattle.schema_meaning.specs.Keywords.{Shape, Assertion, asserts, never, item
 use Rattle.schema_meaning.specs.Readings.{bags}
 use Rattle.schema_meaning.specs.Circular.{key_at}
 use Rattle.schema_meaning.specs.Cut.{cut_one, cut_unless, cut_by_kind, cut_within, is_in_progress}
-use Rattle.schema_reading.specs.Sites.{Site}
-use Rattle.schema_reading.specs.Plain.{keywords_at}
+use Rattle.schema_definitions.specs.Sites.{Site}
+use Rattle.schema_definitions.specs.Plain.{keywords_at}
 use Rattle.schema_reports.proofs.FaultLemmas.{joined-none, joined-joined}
 use Rattle.plain_reader.specs.Settings.{Setting, reading_in, told_in, asked_in, asked_by, told_by}
 

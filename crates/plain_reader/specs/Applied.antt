@@ -2,14 +2,14 @@
 use Rattle.std.specs.Prelude.{◌≡◌, ◌<◌, ◌++◌, ℕ, List, [], ◌∷◌, Bool, Option, None, Some}
 use Rattle.serde_json.specs.Data.{Data, depth}
 use Rattle.serde_json.specs.View.{view}
-use Rattle.json_paths.specs.Parts.{Part, name, index}
+use Rattle.json_values.specs.Parts.{Part, name, index}
 use Rattle.schema_meaning.specs.Members.{In}
 use Rattle.schema_meaning.specs.Places.{Key, to_name, value_after, path_after, called_after}
 use Rattle.schema_meaning.specs.Questions as told
 use Rattle.schema_meaning.specs.Rules.{asks}
 use Rattle.schema_meaning.specs.Keywords.{Shape, rule}
-use Rattle.schema_reading.specs.Sites.{Site, below}
-use Rattle.schema_reading.specs.AllKeys.{spots_in}
+use Rattle.schema_definitions.specs.Sites.{Site, below}
+use Rattle.schema_definitions.specs.AllKeys.{spots_in}
 use Rattle.applicators.specs.Shapes.{shape_of, leads_of, place_of}
 use Rattle.applicators.specs.Questions.{step_of, question_of, questions_of}
 use Rattle.applicators.specs.declared.applicator.Applicator.{Applicator}

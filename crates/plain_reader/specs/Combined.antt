@@ -8,7 +8,7 @@ use Rattle.schema_meaning.specs.Members.{In, count_true}
 use Rattle.schema_meaning.specs.Places.{Key}
 use Rattle.schema_meaning.specs.Faults.{Faults, branches_of}
 use Rattle.schema_meaning.specs.Rules.{verdicts_of}
-use Rattle.schema_reading.specs.Sites.{Site}
+use Rattle.schema_definitions.specs.Sites.{Site}
 use Rattle.applicators.specs.declared.applicator.Applicator.{Applicator}
 use Rattle.schema_sites.specs.Seen.{documents_at}
 use Rattle.schema_sites.specs.declared.site.Site as code

@@ -1,6 +1,6 @@
 -- The references in progress.
 use Rattle.std.specs.Prelude.{ℕ, List, [], ◌∷◌, None}
-use Rattle.json_paths.specs.Parts.{Part}
+use Rattle.json_values.specs.Parts.{Part}
 use Rattle.schema_meaning.specs.Places.{Key}
 use Rattle.schema_reports.specs.Locations.{location_of}
 use Rattle.plain_reader.specs.declared.progress.Progress.{Progress, Nothing, Target'}

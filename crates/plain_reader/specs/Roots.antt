@@ -5,13 +5,13 @@ use Rattle.schema_meaning.specs.Places.{whole}
 use Rattle.schema_meaning.specs.Faults.{Faults, joined}
 use Rattle.schema_meaning.specs.Readings.{bags}
 use Rattle.schema_meaning.specs.Cut.{cut}
-use Rattle.schema_documents.specs.Bearers.{Documents}
-use Rattle.schema_documents.specs.Lookup.{Target}
-use Rattle.schema_reading.specs.Sites.{root_site}
-use Rattle.schema_reading.specs.Plain.{plain}
-use Rattle.schema_reading.specs.AllKeys.{keys_of}
-use Rattle.schema_matches.specs.Read.{reads}
-use Rattle.schema_matches.specs.declared.matches.Matches.{Matches}
+use Rattle.schema_definitions.specs.Bearers.{Documents}
+use Rattle.schema_definitions.specs.Lookup.{Target}
+use Rattle.schema_definitions.specs.Sites.{root_site}
+use Rattle.schema_definitions.specs.Plain.{plain}
+use Rattle.schema_definitions.specs.AllKeys.{keys_of}
+use Rattle.schema_patterns.specs.Read.{reads}
+use Rattle.schema_patterns.specs.declared.matches.Matches.{Matches}
 use Rattle.schema_reports.specs.Observers.{Hears}
 use Rattle.schema_reports.specs.declared.observer.Observation.{Observation}
 use Rattle.schema_reports.specs.declared.observer.Observer.{Observer}

@@ -6,9 +6,9 @@ use Rattle.schema_meaning.specs.Questions.{Question}
 use Rattle.schema_meaning.specs.Keywords.{Shape, rule}
 use Rattle.schema_meaning.specs.Readings.{Reading, bags}
 use Rattle.schema_meaning.specs.Cut.{cut_all, cut_asked, cut_within}
-use Rattle.schema_documents.specs.Bearers.{Documents}
-use Rattle.schema_reading.specs.Sites.{Site}
-use Rattle.schema_reading.specs.Plain.{plain}
+use Rattle.schema_definitions.specs.Bearers.{Documents}
+use Rattle.schema_definitions.specs.Sites.{Site}
+use Rattle.schema_definitions.specs.Plain.{plain}
 
 -- the documents, how patterns are made and matched, the site and the spot, the references in progress, and how deep questions may go
 pub record Setting : Type 0 where

@@ -2,12 +2,12 @@
 use Rattle.std.specs.Prelude.{ℕ, List, [], ◌∷◌, codes}
 use Rattle.std.specs.List.{flat_map}
 use Rattle.serde_json.specs.Data.{Data, Members}
-use Rattle.json_paths.specs.Parts.{name}
+use Rattle.json_values.specs.Parts.{name}
 use Rattle.schema_meaning.specs.Places.{to_member}
 use Rattle.schema_meaning.specs.Questions.{Question, question, at, at_name, each_item, items_from, items_of, each_declared}
 use Rattle.schema_meaning.specs.Keywords.{Shape}
-use Rattle.schema_reading.specs.Rows.{Context, row_at, rows_of, sites_named}
-use Rattle.schema_reading.specs.Sites.{Site, below}
+use Rattle.schema_definitions.specs.Rows.{Context, row_at, rows_of, sites_named}
+use Rattle.schema_definitions.specs.Sites.{Site, below}
 use Rattle.schema_sites.specs.Read.{each_below, leads_of, shapes_of}
 use Rattle.schema_sites.specs.declared.keyword.Keyword.{Keyword}
 use Rattle.schema_sites.specs.declared.keyword.Keyword.TheVariants as keyword

@@ -1,8 +1,8 @@
 -- The places of what is read.
 use Rattle.std.specs.Prelude.{ℕ, List, Option}
 use Rattle.serde_json.specs.View.{view}
-use Rattle.json_paths.specs.Parts.{Part}
-use Rattle.schema_reading.specs.AllKeys.{spots_in}
+use Rattle.json_values.specs.Parts.{Part}
+use Rattle.schema_definitions.specs.AllKeys.{spots_in}
 use Rattle.schema_reports.specs.Locations.{location_of}
 use Rattle.plain_reader.specs.declared.whole.Reading.{Reading}
 

@@ -2,8 +2,8 @@
 use Rattle.std.specs.Prelude.{ℕ, List, [], ◌∷◌, true}
 use Rattle.schema_meaning.specs.Places.{stay}
 use Rattle.schema_meaning.specs.Questions.{Question, at}
-use Rattle.schema_documents.specs.Lookup.{Target}
-use Rattle.schema_reading.specs.Sites.{Site, target_site}
+use Rattle.schema_definitions.specs.Lookup.{Target}
+use Rattle.schema_definitions.specs.Sites.{Site, target_site}
 use Rattle.plain_reader.specs.Settings.{Setting}
 
 abbrev pub reference_leads : List ℕ → Target → Setting → List Site

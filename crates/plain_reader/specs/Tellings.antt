@@ -2,21 +2,21 @@
 use Rattle.std.specs.Prelude.{◌≡◌, ◌<◌, ◌≤◌, ◌+◌, ◌*◌, ℕ, suc, List, [], Option, Bool}
 use Rattle.serde_json.specs.Data.{Data, depth}
 use Rattle.serde_json.specs.View.{view}
-use Rattle.json_paths.specs.Parts.{Part}
+use Rattle.json_values.specs.Parts.{Part}
 use Rattle.schema_meaning.specs.Members.{In}
 use Rattle.schema_meaning.specs.Places.{Key}
 use Rattle.schema_meaning.specs.Faults.{Faults, joined}
 use Rattle.schema_meaning.specs.Questions.{Question}
 use Rattle.schema_meaning.specs.Keywords.{Shape}
 use Rattle.schema_meaning.specs.Cut.{left}
-use Rattle.schema_documents.specs.Bearers.{Documents}
-use Rattle.schema_reading.specs.Sites.{Site}
-use Rattle.schema_reading.specs.Rows.{Row, rows_at}
-use Rattle.schema_reading.specs.BuildCauses.{Reached}
-use Rattle.schema_reading.specs.Plain.{deepest}
-use Rattle.schema_reading.specs.AllKeys.{spots_in}
-use Rattle.name_laws.specs.Laws.{keys_among}
-use Rattle.schema_matches.specs.Read.{reads}
+use Rattle.schema_definitions.specs.Bearers.{Documents}
+use Rattle.schema_definitions.specs.Sites.{Site}
+use Rattle.schema_definitions.specs.Rows.{Row, rows_at}
+use Rattle.schema_definitions.specs.BuildCauses.{Reached}
+use Rattle.schema_definitions.specs.Plain.{deepest}
+use Rattle.schema_definitions.specs.AllKeys.{spots_in}
+use Rattle.reading_laws.specs.NameLaws.{keys_among}
+use Rattle.schema_patterns.specs.Read.{reads}
 use Rattle.schema_sites.specs.Passed.{scope_of}
 use Rattle.schema_sites.specs.Seen.{documents_at, Stands}
 use Rattle.schema_sites.specs.declared.site.Site as code

@@ -5,8 +5,8 @@ ghost use Rattle.serde_json.specs.Data.{depth, object};
 ghost use Rattle.serde_json.specs.View.{view, members_view};
 ghost use Rattle.schema_meaning.specs.Members.{In};
 ghost use Rattle.schema_meaning.specs.Questions.{listed_members};
-ghost use Rattle.schema_matches.specs.Read.{reads};
-ghost use Rattle.schema_reading.specs.Plain.{deepest};
+ghost use Rattle.schema_patterns.specs.Read.{reads};
+ghost use Rattle.schema_definitions.specs.Plain.{deepest};
 ghost use Rattle.schema_sites.specs.Passed.{target_in};
 ghost use Rattle.schema_sites.specs.Read.{Finds, FindsTarget};
 ghost use Rattle.schema_sites.specs.References.{name_of};
@@ -33,8 +33,8 @@ use applicators::question::{Asked, Question};
 use applicators::questions::questions;
 use applicators::subschema::Entry;
 use assertion_faults::{tell_assertion, tell_pattern};
-use heard_faults::{all_heard, heard_none};
 use member_walks::member_walk::MemberWalk;
+use schema_reports::heard::{all_heard, heard_none};
 use schema_reports::{
     AllFaults, LazyLocation, Observer, Reference, Roads, ValidationError, ValidationErrorKind,
     Verdict,

@@ -4,12 +4,12 @@ ghost use Rattle.serde_json.specs.View.{view};
 ghost use Rattle.schema_meaning.specs.Questions.{members_of};
 ghost use Rattle.schema_meaning.specs.Keywords.{first_value};
 ghost use Rattle.applied_laws.specs.Notes.{value_by};
-ghost use Rattle.schema_matches.specs.Read.{reads};
+ghost use Rattle.schema_patterns.specs.Read.{reads};
 ghost use Rattle.plain_reader.specs.Refusals.{carries_branches as is_carrier, IsRefusal, TellsRefusal};
 
 use applicators::applicator::Applicator;
 use applicators::declared::undeclared_names;
-use schema_matches::matches::Matches;
+use schema_patterns::matches::Matches;
 use schema_reports::{Observer, Roads, ValidationError, ValidationErrorKind};
 use serde_json::Value;
 use std::alloc::{AllocError, Global};

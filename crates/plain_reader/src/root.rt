@@ -2,12 +2,12 @@
 ghost use Rattle.std.specs.Prelude.{◌≤◌, ◌∷◌, [], OnOk};
 ghost use Rattle.serde_json.specs.Data.{depth};
 ghost use Rattle.serde_json.specs.View.{view};
-ghost use Rattle.schema_reading.specs.Plain.{deepest};
+ghost use Rattle.schema_definitions.specs.Plain.{deepest};
 ghost use Rattle.schema_sites.specs.Passed.{documents_in, target_in};
 ghost use Rattle.plain_reader.specs.Roots.{TellsRoot};
 
 use crate::whole::read_alone;
-use schema_matches::matches::Matches;
+use schema_patterns::matches::Matches;
 use schema_reports::{LazyLocation, Observer, Reference, Roads};
 use schema_sites::Resolved;
 use schema_sites::site::at_root;

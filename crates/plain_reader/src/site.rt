@@ -2,8 +2,8 @@
 ghost use Rattle.std.specs.Prelude.{◌≤◌, ◌++◌, OnOk};
 ghost use Rattle.serde_json.specs.Data.{depth};
 ghost use Rattle.serde_json.specs.View.{view};
-ghost use Rattle.schema_reading.specs.Plain.{deepest};
-ghost use Rattle.schema_reading.specs.Sites.{path_of_reference};
+ghost use Rattle.schema_definitions.specs.Plain.{deepest};
+ghost use Rattle.schema_definitions.specs.Sites.{path_of_reference};
 ghost use Rattle.schema_sites.specs.Seen.{documents_at};
 ghost use Rattle.schema_reports.specs.Locations.{location_of};
 ghost use Rattle.schema_reports.specs.References.{text_of};

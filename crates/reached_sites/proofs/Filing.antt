@@ -5,9 +5,9 @@ use Rattle.std.specs.Bool.{Decides}
 use Rattle.std.specs.Option.{option_copied}
 use Rattle.std.specs.Prelude.{if◌then◌else◌}
 use Rattle.std.proofs.lemmas.Slice.Eq.{bytes_eq-Decides}
-use Rattle.schema_documents.specs.Words.{or}
+use Rattle.schema_definitions.specs.Words.{or}
 use Rattle.schema_meaning.specs.Members.{In, first, later}
-use Rattle.schema_reading.specs.Rows.{Place}
+use Rattle.schema_definitions.specs.Rows.{Place}
 use Rattle.reached_sites.specs.Filed.{place_text, positions_under, Filed, RepeatedAt, RepeatedAmong}
 use Rattle.reached_sites.specs.Places.{place_in}
 use Rattle.reached_sites.specs.Visits.{Repeats, Known}

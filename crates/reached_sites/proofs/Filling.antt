@@ -4,14 +4,14 @@ use Rattle.std.specs.Map.{lookup}
 use Rattle.std.specs.Prelude.{if◌then◌else◌}
 use Rattle.std.proofs.lemmas.List.{map-append}
 use Rattle.std.proofs.lemmas.Slice.Eq.{bytes_eq-Decides}
-use Rattle.schema_values.specs.Patterns.{Literal, literal_of, literal_or, means, known}
+use Rattle.json_values.specs.Patterns.{Literal, literal_of, literal_or, means, known}
 use Rattle.schema_meaning.specs.Members.{In, first, later, is_listed}
 use Rattle.applicators.specs.Made.{AreMade, is_made_by}
 use Rattle.schema_patterns.specs.Compiled.{found_by}
 use Rattle.schema_patterns.specs.Tables.{entries_of, texts_of_table, pattern_for, AreMadeBy, GrowsBy}
 use Rattle.schema_patterns.specs.declared.compiled.CompiledPattern.{CompiledPattern}
 use Rattle.schema_patterns.specs.declared.table.PatternTable.{PatternTable}
-use Rattle.walk_laws.proofs.Named.{listed_in}
+use Rattle.certificate_laws.proofs.Named.{listed_in}
 use Rattle.reached_sites.specs.Patterns.{Holds, IsFilled}
 use Rattle.reached_sites.proofs.Listing.{in-before, in-either, in-one, none-in}
 

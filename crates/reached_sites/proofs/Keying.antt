@@ -1,23 +1,23 @@
 -- The compile keys of visits.
 use Rattle.std.proofs.Common.{◌≡◌, ◌∙◌, ℕ, List, [], ◌∷◌, map, Some, refl, sym, ap, ap₂, subst}
 use Rattle.std.proofs.lemmas.List.{map-append}
-use Rattle.json_paths.specs.Parts.{Part}
+use Rattle.json_values.specs.Parts.{Part}
 use Rattle.serde_json.specs.View.{view}
 use Rattle.schema_meaning.specs.Members.{In, first, later}
-use Rattle.schema_documents.specs.Places.{Dialect}
-use Rattle.schema_documents.specs.Bearers.{Document, Documents}
-use Rattle.schema_reading.specs.CompileKeys.{CompileKey, ScopeKey, scope_key}
-use Rattle.schema_reading.specs.Rows.{Place}
-use Rattle.schema_reading.specs.Sites.{Site}
+use Rattle.schema_definitions.specs.Places.{Dialect}
+use Rattle.schema_definitions.specs.Bearers.{Document, Documents}
+use Rattle.schema_definitions.specs.CompileKeys.{CompileKey, ScopeKey, scope_key}
+use Rattle.schema_definitions.specs.Rows.{Place}
+use Rattle.schema_definitions.specs.Sites.{Site}
 use Rattle.schema_sites.specs.Seen.{documents_at}
-use Rattle.schema_vocabularies.proofs.Dialects.{same_dialects}
-use Rattle.schema_vocabularies.specs.Dialects.{dialect_of}
-use Rattle.schema_vocabularies.specs.declared.dialect.Dialect as code
+use Rattle.schema_dialects.proofs.Dialects.{same_dialects}
+use Rattle.schema_dialects.specs.Dialects.{dialect_of}
+use Rattle.schema_dialects.specs.declared.dialect.Dialect as code
 use Rattle.referencing.specs.Resolved.{base_of, scope_of, documents_in}
-use Rattle.site_laws.specs.Laws.{AreAlike}
-use Rattle.site_laws.specs.Spelled.{spelled}
-use Rattle.key_laws.specs.Keys.{Distinct, key_of_site}
-use Rattle.key_laws.proofs.Counting.{distinct-behind}
+use Rattle.reading_laws.specs.SiteLaws.{AreAlike}
+use Rattle.reading_laws.specs.Spelled.{spelled}
+use Rattle.reading_laws.specs.Keys.{Distinct, key_of_site}
+use Rattle.reading_laws.proofs.Counting.{distinct-behind}
 use Rattle.reached_sites.specs.Growing.{Apart, none, one_more}
 use Rattle.reached_sites.specs.Visits.{site_of, key_at, Belongs, Repeats}
 use Rattle.reached_sites.specs.declared.visit.Visit.{Visit}

@@ -5,14 +5,14 @@ use Rattle.serde_json.specs.Data.{Data, null, boolean, number, string, array, ob
 use Rattle.serde_json.specs.Find.{as_object, as_bool}
 use Rattle.serde_json.specs.View.{view}
 use Rattle.schema_meaning.specs.Members.{In, first}
-use Rattle.schema_documents.specs.Bearers.{Document}
-use Rattle.schema_reading.specs.BuildCauses.{at_root, IsCauseOf}
-use Rattle.schema_reading.specs.Sites.{Site}
-use Rattle.schema_reading.specs.Rows.{Place, Row, keyword_value, rows_at, rows_in, no_schema}
+use Rattle.schema_definitions.specs.Bearers.{Document}
+use Rattle.schema_definitions.specs.BuildCauses.{at_root, IsCauseOf}
+use Rattle.schema_definitions.specs.Sites.{Site}
+use Rattle.schema_definitions.specs.Rows.{Place, Row, keyword_value, rows_at, rows_in, no_schema}
 use Rattle.schema_sites.specs.Seen.{documents_at}
 use Rattle.reached_sites.specs.Led.{Leads, leads_in, causes_in}
 use Rattle.reached_sites.specs.Members.{Rest}
-use Rattle.site_laws.specs.Laws.{AreAlike}
+use Rattle.reading_laws.specs.SiteLaws.{AreAlike}
 use Rattle.reached_sites.specs.Patterns.{written, written_in, written_members}
 use Rattle.reached_sites.specs.Places.{place_in}
 use Rattle.reached_sites.specs.Visits.{site_of, Met, Matches, none}

@@ -1,8 +1,8 @@
 -- Visits that stand for sites.
 use Rattle.std.proofs.Common.{◌≡◌, ◌∙◌, List, [], ◌∷◌, ◌++◌, sym, ap, append-nil, append_assoc}
 use Rattle.schema_meaning.specs.Members.{In, first, later}
-use Rattle.schema_documents.specs.Bearers.{Document}
-use Rattle.schema_reading.specs.Sites.{Site}
+use Rattle.schema_definitions.specs.Bearers.{Document}
+use Rattle.schema_definitions.specs.Sites.{Site}
 use Rattle.reached_sites.specs.Visits.{Met, Belongs, Matches, none, both, Adds}
 use Rattle.reached_sites.specs.declared.visit.Visit.{Visit}
 

@@ -3,18 +3,18 @@ use Rattle.std.proofs.Common.{◌≡◌, ◌∙◌, ℕ, List, ◌++◌, Some, f
 use Rattle.std.proofs.lemmas.List.{map-append}
 use Rattle.serde_json.specs.View.{view}
 use Rattle.serde_json.specs.Data.{Data}
-use Rattle.json_paths.specs.Parts.{Part}
-use Rattle.schema_documents.specs.Bearers.{Documents, meta}
-use Rattle.schema_documents.specs.Places.{Dialect, Named, settled, awaited, by_schema, schema_in_force, placed}
-use Rattle.schema_vocabularies.specs.Dialects.{dialect_of}
+use Rattle.json_values.specs.Parts.{Part}
+use Rattle.schema_definitions.specs.Bearers.{Documents, meta}
+use Rattle.schema_definitions.specs.Places.{Dialect, Named, settled, awaited, by_schema, schema_in_force, placed}
+use Rattle.schema_dialects.specs.Dialects.{dialect_of}
 use Rattle.referencing.specs.Resolved.{base_of, scope_of}
-use Rattle.schema_reading.specs.CompileKeys.{scope_key}
-use Rattle.schema_reading.specs.Sites.{Site, below}
+use Rattle.schema_definitions.specs.CompileKeys.{scope_key}
+use Rattle.schema_definitions.specs.Sites.{Site, below}
 use Rattle.schema_sites.specs.Seen.{documents_at, Stands}
-use Rattle.scope_laws.specs.Laws.{IsPresent}
-use Rattle.site_laws.proofs.Alike.{joined}
-use Rattle.site_laws.specs.Laws.{AreAlike}
-use Rattle.site_laws.specs.Spelled.{by_name, spelled}
+use Rattle.document_laws.specs.ScopeLaws.{IsPresent}
+use Rattle.reading_laws.proofs.Alike.{joined}
+use Rattle.reading_laws.specs.SiteLaws.{AreAlike}
+use Rattle.reading_laws.specs.Spelled.{by_name, spelled}
 use Rattle.reached_sites.specs.Visits.{site_of, Met}
 use Rattle.reached_sites.specs.declared.visit.Visit.{Visit}
 

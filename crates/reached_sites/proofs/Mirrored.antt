@@ -1,13 +1,13 @@
 -- What is read at a site holds at those that are alike.
 use Rattle.std.proofs.Common.{◌≡◌, ◌∙◌, ℕ, List, [], ◌∷◌, Bool, refl, sym, ap₂, subst, ◌++◌, inl, inr}
 use Rattle.std.specs.List.{AllZip}
-use Rattle.schema_documents.specs.Bearers.{Document, Documents}
-use Rattle.schema_reading.specs.Rows.{Row, rows_at}
-use Rattle.schema_reading.specs.Sites.{Site}
-use Rattle.site_laws.proofs.Reaching.{alike_have_causes}
-use Rattle.site_laws.proofs.Reading.{read_alike}
-use Rattle.site_laws.proofs.Results.{zip_append}
-use Rattle.site_laws.specs.Laws.{AreAlike, RowsAgree}
+use Rattle.schema_definitions.specs.Bearers.{Document, Documents}
+use Rattle.schema_definitions.specs.Rows.{Row, rows_at}
+use Rattle.schema_definitions.specs.Sites.{Site}
+use Rattle.reading_laws.proofs.Reaching.{alike_have_causes}
+use Rattle.reading_laws.proofs.Reading.{read_alike}
+use Rattle.reading_laws.proofs.Results.{zip_append}
+use Rattle.reading_laws.specs.SiteLaws.{AreAlike, RowsAgree}
 use Rattle.reached_sites.specs.Causes.{RefusesRoot}
 use Rattle.reached_sites.specs.Led.{leads_in, causes_in, Leads}
 use Rattle.reached_sites.specs.Visits.{Belongs, Met, Matches, both}

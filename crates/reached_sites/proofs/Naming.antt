@@ -1,9 +1,9 @@
 -- Refusals of sites that are reached, and of the root.
 use Rattle.std.proofs.Common.{ℕ, List, Bool, inl, inr}
-use Rattle.schema_documents.specs.Bearers.{Documents}
-use Rattle.schema_reading.specs.BuildCauses.{Reached, at_root, by_keyword, IsCauseOf}
-use Rattle.schema_reading.specs.Sites.{Site}
-use Rattle.schema_reading.specs.Rows as rows
+use Rattle.schema_definitions.specs.Bearers.{Documents}
+use Rattle.schema_definitions.specs.BuildCauses.{Reached, at_root, by_keyword, IsCauseOf}
+use Rattle.schema_definitions.specs.Sites.{Site}
+use Rattle.schema_definitions.specs.Rows as rows
 use Rattle.reached_sites.specs.Causes.{RefusesRoot}
 use Rattle.reached_sites.specs.declared.cause.BuildCause.{BuildCause}
 

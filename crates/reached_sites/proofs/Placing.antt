@@ -1,7 +1,7 @@
 -- Places below places.
 use Rattle.std.proofs.Common.{◌≡◌, ◌∙◌, ℕ, List, ◌∷◌, sym, ap, ap₂}
-use Rattle.json_paths.specs.Parts.{Part, name, index}
-use Rattle.schema_reading.specs.Rows.{Place}
+use Rattle.json_values.specs.Parts.{Part, name, index}
+use Rattle.schema_definitions.specs.Rows.{Place}
 use Rattle.reached_sites.specs.Places.{place_in}
 use Rattle.reached_sites.specs.declared.place.SchemaPlace.{SchemaPlace}
 

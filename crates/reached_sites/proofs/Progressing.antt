@@ -3,23 +3,23 @@ use Rattle.std.proofs.Common.{◌≡◌, ◌∙◌, ◌⊎◌, ◌<◌, ◌≤�
 use Rattle.std.proofs.lemmas.List.{take_more, take_all, take-append-le, length-append, length-map}
 use Rattle.serde_json.specs.View.{view}
 use Rattle.schema_meaning.specs.Members.{In, first}
-use Rattle.schema_documents.specs.Bearers.{Document}
-use Rattle.schema_documents.specs.Lookup.{Target}
-use Rattle.schema_reading.specs.BuildCauses.{Reached, at_root, by_keyword, IsCauseOf}
-use Rattle.schema_reading.specs.CompileKeys.{CompileKey}
-use Rattle.schema_reading.specs.Sites.{Site, root_site}
-use Rattle.schema_reading.specs.Rows as rows
-use Rattle.schema_reading.specs.Rows.{Place, bad_pattern, Row, rows_at}
+use Rattle.schema_definitions.specs.Bearers.{Document}
+use Rattle.schema_definitions.specs.Lookup.{Target}
+use Rattle.schema_definitions.specs.BuildCauses.{Reached, at_root, by_keyword, IsCauseOf}
+use Rattle.schema_definitions.specs.CompileKeys.{CompileKey}
+use Rattle.schema_definitions.specs.Sites.{Site, root_site}
+use Rattle.schema_definitions.specs.Rows as rows
+use Rattle.schema_definitions.specs.Rows.{Place, bad_pattern, Row, rows_at}
 use Rattle.applicators.specs.Made.{is_made_by}
 use Rattle.schema_patterns.specs.Tables.{entries_of, texts_of_table}
 use Rattle.schema_patterns.specs.declared.table.PatternTable.{PatternTable}
 use Rattle.asked_matches.specs.Asked.{AreAmong}
 use Rattle.referencing.specs.Resolved.{documents_in}
-use Rattle.site_laws.specs.Laws.{AreAlike}
-use Rattle.site_laws.proofs.Alike.{joined}
-use Rattle.key_laws.specs.Keys.{IsReached, AreWithin, key_of_site}
-use Rattle.key_laws.proofs.Counting.{are-fewer}
-use Rattle.key_laws.proofs.One.{reached_contents_are_one}
+use Rattle.reading_laws.specs.SiteLaws.{AreAlike}
+use Rattle.reading_laws.proofs.Alike.{joined}
+use Rattle.reading_laws.specs.Keys.{IsReached, AreWithin, key_of_site}
+use Rattle.reading_laws.proofs.Counting.{are-fewer}
+use Rattle.reading_laws.proofs.One.{reached_contents_are_one}
 use Rattle.reached_sites.specs.Growing.{Grows, Apart, none}
 use Rattle.reached_sites.specs.Filed.{Filed}
 use Rattle.reached_sites.specs.Led.{Leads, leads_in, causes_in}

@@ -1,9 +1,9 @@
 -- Patterns that are put behind others.
 use Rattle.std.proofs.Common.{◌≡◌, ◌∙◌, ◌⊎◌, ℕ, List, [], ◌∷◌, ◌++◌, Bool, refl, sym, ap, ap₂, subst, append-nil, append_assoc, inl, inr, Bor}
 use Rattle.std.proofs.lemmas.List.{map-append}
-use Rattle.json_paths.specs.Parts.{Part}
+use Rattle.json_values.specs.Parts.{Part}
 use Rattle.schema_meaning.specs.Members.{In, first, later}
-use Rattle.schema_reading.specs.Rows.{Place}
+use Rattle.schema_definitions.specs.Rows.{Place}
 use Rattle.applicators.specs.Made.{AreMade}
 use Rattle.applicators.specs.declared.applicator.Applicator.{Applicator}
 use Rattle.schema_sites.specs.Read.{patterns_in}

@@ -1,9 +1,9 @@
 -- The texts of references that lead somewhere.
 use Rattle.std.proofs.Common.{◌≡◌, ℕ, List, true, Result, Ok, Err, refl, sym, subst}
-use Rattle.schema_documents.specs.Words.{and_then}
-use Rattle.schema_documents.specs.Bearers.{Documents}
-use Rattle.schema_documents.specs.Lookup.{LookupCause, Target, lookup}
-use Rattle.target_laws.proofs.Texts.{lookups_read}
+use Rattle.schema_definitions.specs.Words.{and_then}
+use Rattle.schema_definitions.specs.Bearers.{Documents}
+use Rattle.schema_definitions.specs.Lookup.{LookupCause, Target, lookup}
+use Rattle.document_laws.proofs.Texts.{lookups_read}
 use Rattle.schema_reports.specs.Readable.{reads_as_path}
 use Rattle.schema_sites.specs.References.{looked_up, MayBe}
 use Rattle.schema_sites.specs.declared.reference_keyword.ReferenceKeyword.{ReferenceKeyword}

@@ -4,10 +4,10 @@ use Rattle.std.specs.Prelude.{if◌then◌else◌}
 use Rattle.percent_encoding.specs.Percent.{percent_decode}
 use Rattle.serde_json.specs.Find.{unescape}
 use Rattle.uri_grammar.specs.Texts.{cut_at, pieces}
-use Rattle.json_paths.specs.Parts.{Part, name}
-use Rattle.schema_documents.specs.Words.{or}
-use Rattle.schema_reading.specs.Sites.{pushed, behind_first, pointer_path, path_of_reference}
-use Rattle.site_laws.specs.Spelled.{spelled}
+use Rattle.json_values.specs.Parts.{Part, name}
+use Rattle.schema_definitions.specs.Words.{or}
+use Rattle.schema_definitions.specs.Sites.{pushed, behind_first, pointer_path, path_of_reference}
+use Rattle.reading_laws.specs.Spelled.{spelled}
 
 pushed-spelled : (ts : List (List ℕ)) (path : List Part) → spelled path ≡ path → spelled (pushed ts path) ≡ pushed ts path
 pushed-spelled [] path h = h

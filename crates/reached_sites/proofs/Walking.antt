@@ -2,12 +2,12 @@
 use Rattle.std.proofs.Common.{◌≡◌, ◌∙◌, ℕ, List, [], ◌++◌, Bool, false, refl, sym, ap, subst, ◌⊎◌, inl, inr}
 use Rattle.serde_json.specs.Data.{Data, object, Members, no_members, member}
 use Rattle.schema_meaning.specs.Members.{In, first, later}
-use Rattle.schema_documents.specs.Bearers.{Document, Documents}
+use Rattle.schema_definitions.specs.Bearers.{Document, Documents}
 use Rattle.referencing.specs.Resolved.{documents_in}
-use Rattle.schema_reading.specs.BuildCauses.{at_root, IsCauseOf}
-use Rattle.schema_reading.specs.Sites.{Site}
-use Rattle.schema_reading.specs.Rows as rows
-use Rattle.schema_reading.specs.Rows.{Place, bad_pattern, Row, Context, row_at, rows_of, rows_in, rows_at}
+use Rattle.schema_definitions.specs.BuildCauses.{at_root, IsCauseOf}
+use Rattle.schema_definitions.specs.Sites.{Site}
+use Rattle.schema_definitions.specs.Rows as rows
+use Rattle.schema_definitions.specs.Rows.{Place, bad_pattern, Row, Context, row_at, rows_of, rows_in, rows_at}
 use Rattle.applicators.specs.Made.{is_made_by, AreMade}
 use Rattle.schema_sites.specs.Seen.{documents_at}
 use Rattle.schema_sites.specs.Read.{row_of, leads_of, patterns_in, pattern_parts, IsRowOf}

@@ -6,18 +6,18 @@ use Rattle.std.specs.Prelude.{if◌then◌else◌}
 use Rattle.serde_json.specs.Data.{Data, null, boolean, number, string, array, object, Members, no_members, member}
 use Rattle.serde_json.specs.Find.{as_str, get_member}
 use Rattle.serde_json.specs.View.{members_view}
-use Rattle.json_paths.specs.Parts.{Part, name}
-use Rattle.schema_values.specs.Patterns.{literal_of}
-use Rattle.schema_documents.specs.Bearers.{Documents}
+use Rattle.json_values.specs.Parts.{Part, name}
+use Rattle.json_values.specs.Patterns.{literal_of}
+use Rattle.schema_definitions.specs.Bearers.{Documents}
 use Rattle.schema_drafts.specs.Counts.{counts}
-use Rattle.schema_documents.specs.Places.{Dialect, is_schema}
-use Rattle.schema_documents.specs.Words.{listed}
+use Rattle.schema_definitions.specs.Places.{Dialect, is_schema}
+use Rattle.schema_definitions.specs.Words.{listed}
 use Rattle.schema_meaning.specs.Members.{In, first, later}
 use Rattle.schema_meaning.specs.Keywords.{Assertion, types, constant, enumeration, multiple_of, maximum, exclusive_maximum, minimum, exclusive_minimum, maximum_of_draft_4, minimum_of_draft_4, max_length, min_length, pattern, max_items, min_items, unique_items, max_properties, min_properties, required, dependent_required, Shape, never, asserts, items, item_list, prefix_items, additional_items, no_additional_items, contains, properties, pattern_properties, additional_properties, no_additional_properties, no_properties, property_names, no_property_names, dependent_schemas, dependencies, all_of, any_of, one_of, negation, condition, reference}
 use Rattle.schema_meaning.specs.Questions.{listed_members}
-use Rattle.schema_reading.specs.Plain.{keywords_at}
-use Rattle.schema_reading.specs.Sites.{Site, below}
-use Rattle.schema_reading.specs.Rows.{has_reference, BuildCause, bad_pattern, Row, nothing_read, refused, reads, Context, counts_here, beside, place_at, at, expected, subschema, and_more, named_result, each_named, row_of, sites_named, schema_map, assertion, is_made, pattern_row, member_names, names_of_object, is_alone, declared_beside, refuses_others, additional_properties_row, patterns_wrong, with_causes, pattern_properties_row, is_draft_4, readers, read_among, row_at, rows_of, rows_in, rows_at}
+use Rattle.schema_definitions.specs.Plain.{keywords_at}
+use Rattle.schema_definitions.specs.Sites.{Site, below}
+use Rattle.schema_definitions.specs.Rows.{has_reference, BuildCause, bad_pattern, Row, nothing_read, refused, reads, Context, counts_here, beside, place_at, at, expected, subschema, and_more, named_result, each_named, row_of, sites_named, schema_map, assertion, is_made, pattern_row, member_names, names_of_object, is_alone, declared_beside, refuses_others, additional_properties_row, patterns_wrong, with_causes, pattern_properties_row, is_draft_4, readers, read_among, row_at, rows_of, rows_in, rows_at}
 use Rattle.assertions.specs.Shapes.{assertion_of, bound_assertion, old_assertion, count_assertion}
 use Rattle.assertions.specs.declared.keyword.Count.{Count}
 use Rattle.assertions.specs.declared.keyword.Count.TheVariants as count
@@ -36,10 +36,10 @@ use Rattle.schema_sites.specs.Read as read
 use Rattle.schema_sites.specs.declared.keyword.Keyword.{Keyword}
 use Rattle.schema_sites.specs.declared.keyword.Keyword.TheVariants as keyword
 use Rattle.asked_matches.specs.Asked.{pattern_in, patterns_of}
-use Rattle.walk_laws.specs.Words.{IsUnder}
-use Rattle.walk_laws.proofs.BesideLed.{found_among}
-use Rattle.walk_laws.proofs.Listed.{each_in}
-use Rattle.walk_laws.proofs.Named.{shapes_are_under}
+use Rattle.certificate_laws.specs.Words.{IsUnder}
+use Rattle.certificate_laws.proofs.BesideLed.{found_among}
+use Rattle.certificate_laws.proofs.Listed.{each_in}
+use Rattle.certificate_laws.proofs.Named.{shapes_are_under}
 use Rattle.reached_sites.specs.Patterns.{written_by, written_members, written_in, written}
 use Rattle.reached_sites.proofs.Listing.{in-before, in-behind, in-all, in-some, none-in}
 

@@ -1,13 +1,13 @@
 -- Which refusal names which cause.
 use Rattle.std.specs.Prelude.{◌≡◌, ◌⊎◌, ℕ, List, [], ◌∷◌, Bool}
-use Rattle.schema_documents.specs.Bearers.{Documents}
-use Rattle.schema_documents.specs.Lookup.{LookupCause}
-use Rattle.referencing_errors.specs.Causes.{NamesLookup}
-use Rattle.schema_reading.specs.BuildCauses.{IsCauseOf}
-use Rattle.schema_reading.specs.Sites.{Site}
-use Rattle.schema_reading.specs.Rows as rows
-use Rattle.schema_reading.specs.Rows.{keyword_value, bad_pattern, left_out, bad_reference}
-use Rattle.key_laws.specs.Keys.{Exceeds}
+use Rattle.schema_definitions.specs.Bearers.{Documents}
+use Rattle.schema_definitions.specs.Lookup.{LookupCause}
+use Rattle.document_sources.specs.Causes.{NamesLookup}
+use Rattle.schema_definitions.specs.BuildCauses.{IsCauseOf}
+use Rattle.schema_definitions.specs.Sites.{Site}
+use Rattle.schema_definitions.specs.Rows as rows
+use Rattle.schema_definitions.specs.Rows.{keyword_value, bad_pattern, left_out, bad_reference}
+use Rattle.reading_laws.specs.Keys.{Exceeds}
 use Rattle.reached_sites.specs.Places.{place_in}
 use Rattle.reached_sites.specs.declared.cause.BuildCause.{BuildCause}
 use Rattle.reached_sites.specs.declared.cause.BuildCause.TheVariants.{KeywordValue, BadPattern, Unevaluated, Reference, NodeLimit, Memory}

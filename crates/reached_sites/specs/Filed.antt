@@ -1,10 +1,10 @@
 -- Visits found by the texts of their places.
 use Rattle.std.specs.Prelude.{◌≡◌, ℕ, List, [], ◌++◌, Some, reverse, slice_get}
 use Rattle.std.specs.BTreeMap.{get_by_text}
-use Rattle.json_paths.specs.Pointers.{pointer_text}
-use Rattle.schema_documents.specs.Words.{or}
+use Rattle.json_values.specs.Pointers.{pointer_text}
+use Rattle.schema_definitions.specs.Words.{or}
 use Rattle.schema_meaning.specs.Members.{In}
-use Rattle.schema_reading.specs.Rows.{Place}
+use Rattle.schema_definitions.specs.Rows.{Place}
 use Rattle.reached_sites.specs.Places.{place_in}
 use Rattle.reached_sites.specs.Visits.{Repeats}
 use Rattle.reached_sites.specs.declared.visit.Visit.{Visit}

@@ -1,9 +1,9 @@
 -- What is right at a site, and where its keywords lead.
 use Rattle.std.specs.Prelude.{◌≡◌, ℕ, List, [], ◌∷◌, Bool}
 use Rattle.std.specs.List.{flat_map}
-use Rattle.schema_documents.specs.Bearers.{Document}
-use Rattle.schema_reading.specs.Sites.{Site}
-use Rattle.schema_reading.specs.Rows.{Row, BuildCause, rows_at}
+use Rattle.schema_definitions.specs.Bearers.{Document}
+use Rattle.schema_definitions.specs.Sites.{Site}
+use Rattle.schema_definitions.specs.Rows.{Row, BuildCause, rows_at}
 use Rattle.reached_sites.specs.Visits.{Matches}
 use Rattle.reached_sites.specs.declared.visit.Visit.{Visit}
 

@@ -1,9 +1,9 @@
 -- The members of a schema, each in turn.
 use Rattle.std.specs.Prelude.{◌≡◌, ℕ, List, [], ◌∷◌, Bool}
 use Rattle.serde_json.specs.Data.{Members}
-use Rattle.schema_documents.specs.Bearers.{Document}
-use Rattle.schema_reading.specs.Sites.{Site}
-use Rattle.schema_reading.specs.Rows.{Context, rows_of}
+use Rattle.schema_definitions.specs.Bearers.{Document}
+use Rattle.schema_definitions.specs.Sites.{Site}
+use Rattle.schema_definitions.specs.Rows.{Context, rows_of}
 use Rattle.reached_sites.specs.Visits.{Adds}
 use Rattle.reached_sites.specs.Led.{leads_in, causes_in}
 use Rattle.reached_sites.specs.declared.visit.Visit.{Visit}

@@ -2,13 +2,13 @@
 use Rattle.std.specs.Prelude.{◌≡◌, ◌⊎◌, ℕ, List, [], ◌++◌, map, Bool, true, false, bytes_eq, codes, if◌then◌else◌, Option, Some}
 use Rattle.serde_json.specs.Data.{Data, null, boolean, number, string, array, object, Members, no_members, member}
 use Rattle.serde_json.specs.Find.{as_str}
-use Rattle.json_paths.specs.Parts.{Part}
+use Rattle.json_values.specs.Parts.{Part}
 use Rattle.schema_drafts.specs.Counts.{counts}
-use Rattle.schema_documents.specs.Places.{Dialect}
-use Rattle.schema_documents.specs.Words.{listed}
+use Rattle.schema_definitions.specs.Places.{Dialect}
+use Rattle.schema_definitions.specs.Words.{listed}
 use Rattle.schema_meaning.specs.Members.{In, is_listed}
-use Rattle.schema_reading.specs.Sites.{Site}
-use Rattle.schema_reading.specs.Rows.{Place, bad_pattern, names_of_object, has_reference}
+use Rattle.schema_definitions.specs.Sites.{Site}
+use Rattle.schema_definitions.specs.Rows.{Place, bad_pattern, names_of_object, has_reference}
 use Rattle.applicators.specs.Made.{is_made_by, AreMade}
 use Rattle.schema_patterns.specs.Tables.{texts_of_table, AreMadeBy}
 use Rattle.schema_patterns.specs.declared.table.PatternTable.{PatternTable}

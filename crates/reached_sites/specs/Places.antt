@@ -1,5 +1,5 @@
 -- What the code's places stand for.
-use Rattle.schema_reading.specs.Rows.{Place}
+use Rattle.schema_definitions.specs.Rows.{Place}
 use Rattle.reached_sites.specs.declared.place.SchemaPlace.{SchemaPlace}
 
 abbrev pub place_in : SchemaPlace → Place

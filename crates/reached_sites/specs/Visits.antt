@@ -2,16 +2,16 @@
 use Rattle.std.specs.Prelude.{◌≡◌, List, [], ◌∷◌, ◌++◌}
 use Rattle.serde_json.specs.View.{view}
 use Rattle.schema_meaning.specs.Members.{In}
-use Rattle.schema_documents.specs.Bearers.{Document}
-use Rattle.schema_vocabularies.specs.Dialects.{dialect_of}
+use Rattle.schema_definitions.specs.Bearers.{Document}
+use Rattle.schema_dialects.specs.Dialects.{dialect_of}
 use Rattle.referencing.specs.Keys.{key_of}
 use Rattle.referencing.specs.Resolved.{base_of, scope_of, documents_in, target_in}
 use Rattle.referencing.specs.declared.resolver.Resolved.{Resolved}
-use Rattle.schema_reading.specs.CompileKeys.{CompileKey}
-use Rattle.schema_reading.specs.Sites.{Site, root_site}
+use Rattle.schema_definitions.specs.CompileKeys.{CompileKey}
+use Rattle.schema_definitions.specs.Sites.{Site, root_site}
 use Rattle.schema_sites.specs.Seen.{documents_at}
-use Rattle.site_laws.specs.Laws.{AreAlike}
-use Rattle.key_laws.specs.Keys.{key_of_site}
+use Rattle.reading_laws.specs.SiteLaws.{AreAlike}
+use Rattle.reading_laws.specs.Keys.{key_of_site}
 use Rattle.reached_sites.specs.Places.{place_in}
 use Rattle.reached_sites.specs.declared.visit.Visit.{Visit}
 use Rattle.reached_sites.specs.declared.waypoint.Waypoint.{Waypoint}

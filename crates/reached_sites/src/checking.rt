@@ -1,11 +1,11 @@
 //! What is reached from a root, before any instance is seen.
 
 ghost use Rattle.std.specs.Prelude.{◌∷◌, [], IfOk, IfErr};
-ghost use Rattle.key_laws.specs.Keys.{AreWithin};
+ghost use Rattle.reading_laws.specs.Keys.{AreWithin};
 ghost use Rattle.referencing.specs.Resolved.{documents_in, target_in};
-ghost use Rattle.schema_reading.specs.BuildCauses.{IsCauseOf};
-ghost use Rattle.schema_reading.specs.Rows as rows;
-ghost use Rattle.schema_reading.specs.Sites.{root_site};
+ghost use Rattle.schema_definitions.specs.BuildCauses.{IsCauseOf};
+ghost use Rattle.schema_definitions.specs.Rows as rows;
+ghost use Rattle.schema_definitions.specs.Sites.{root_site};
 ghost use Rattle.schema_patterns.specs.Tables.{texts_of_table, AreMadeBy};
 ghost use Rattle.asked_matches.specs.Asked.{AreAmong};
 ghost use Rattle.reached_sites.specs.Causes.{RefusesWithin};
@@ -18,7 +18,7 @@ use crate::reaching::add_new;
 use crate::visit::Visit;
 use crate::visited::Visited;
 use referencing::Resolved;
-use schema_matches::matches::Matches;
+use schema_patterns::matches::Matches;
 use schema_patterns::{PatternMaker, PatternTable};
 use std::alloc::Global;
 
@@ -30,11 +30,11 @@ fn walk<'r, P: PatternMaker>(
     maker: &P,
     limit: usize,
 ) -> Result<PatternTable<P::Matcher>, BuildCause>
-    ensures accepted { IfOk result (λ t. IsPlaced (documents_in root.now.resolver) (target_in root.now) → (c : rows.BuildCause) → IsCauseOf (documents_in root.now.resolver ∷ []) (P.makes maker.now) (root_site (target_in root.now)) c → ⊥) }
-    ensures within { IfOk result (λ t. IsPlaced (documents_in root.now.resolver) (target_in root.now) → AreWithin (documents_in root.now.resolver ∷ []) (P.makes maker.now) (root_site (target_in root.now) ∷ []) limit) }
-    ensures patterns { IfOk result (λ t. IsPlaced (documents_in root.now.resolver) (target_in root.now) → AreAmong (documents_in root.now.resolver ∷ []) (P.makes maker.now) (root_site (target_in root.now)) (texts_of_table t)) }
-    ensures made { IfOk result (λ t. AreMadeBy P.Matcher.finds (P.finished maker.now) t) }
-    ensures refused { IfErr result (RefusesWithin (documents_in root.now.resolver ∷ []) (P.makes maker.now) (root_site (target_in root.now)) limit) }
+    ensures accepted { IfOk result (λ t. IsPlaced (documents_in root.now.resolver) (target_in root.now) → (c : rows.BuildCause) → IsCauseOf (documents_in root.now.resolver ∷ []) (P.patterns maker.now).makes (root_site (target_in root.now)) c → ⊥) }
+    ensures within { IfOk result (λ t. IsPlaced (documents_in root.now.resolver) (target_in root.now) → AreWithin (documents_in root.now.resolver ∷ []) (P.patterns maker.now).makes (root_site (target_in root.now) ∷ []) limit) }
+    ensures patterns { IfOk result (λ t. IsPlaced (documents_in root.now.resolver) (target_in root.now) → AreAmong (documents_in root.now.resolver ∷ []) (P.patterns maker.now).makes (root_site (target_in root.now)) (texts_of_table t)) }
+    ensures made { IfOk result (λ t. AreMadeBy P.Matcher.finds (P.patterns maker.now).finished t) }
+    ensures refused { IfErr result (RefusesWithin (documents_in root.now.resolver ∷ []) (P.patterns maker.now).makes (root_site (target_in root.now)) limit) }
 {
     let mut table = PatternTable::new(alloc);
     let mut visits: Vec<Visit<'r>> = Vec::new(alloc);
@@ -74,11 +74,11 @@ pub fn check_reached<P: PatternMaker>(
     maker: &P,
     limit: usize,
 ) -> Result<PatternTable<P::Matcher>, BuildCause>
-    ensures accepted { IfOk result (λ t. IsPlaced (documents_in root.now.resolver) (target_in root.now) → (c : rows.BuildCause) → IsCauseOf (documents_in root.now.resolver ∷ []) (P.makes maker.now) (root_site (target_in root.now)) c → ⊥) }
-    ensures within { IfOk result (λ t. IsPlaced (documents_in root.now.resolver) (target_in root.now) → AreWithin (documents_in root.now.resolver ∷ []) (P.makes maker.now) (root_site (target_in root.now) ∷ []) limit) }
-    ensures patterns { IfOk result (λ t. IsPlaced (documents_in root.now.resolver) (target_in root.now) → AreAmong (documents_in root.now.resolver ∷ []) (P.makes maker.now) (root_site (target_in root.now)) (texts_of_table t)) }
-    ensures made { IfOk result (λ t. AreMadeBy P.Matcher.finds (P.finished maker.now) t) }
-    ensures refused { IfErr result (RefusesWithin (documents_in root.now.resolver ∷ []) (P.makes maker.now) (root_site (target_in root.now)) limit) }
+    ensures accepted { IfOk result (λ t. IsPlaced (documents_in root.now.resolver) (target_in root.now) → (c : rows.BuildCause) → IsCauseOf (documents_in root.now.resolver ∷ []) (P.patterns maker.now).makes (root_site (target_in root.now)) c → ⊥) }
+    ensures within { IfOk result (λ t. IsPlaced (documents_in root.now.resolver) (target_in root.now) → AreWithin (documents_in root.now.resolver ∷ []) (P.patterns maker.now).makes (root_site (target_in root.now) ∷ []) limit) }
+    ensures patterns { IfOk result (λ t. IsPlaced (documents_in root.now.resolver) (target_in root.now) → AreAmong (documents_in root.now.resolver ∷ []) (P.patterns maker.now).makes (root_site (target_in root.now)) (texts_of_table t)) }
+    ensures made { IfOk result (λ t. AreMadeBy P.Matcher.finds (P.patterns maker.now).finished t) }
+    ensures refused { IfErr result (RefusesWithin (documents_in root.now.resolver ∷ []) (P.patterns maker.now).makes (root_site (target_in root.now)) limit) }
 {
     let matches = Matches::none(alloc);
     walk(alloc, &*root, &matches, maker, limit)

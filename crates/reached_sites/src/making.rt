@@ -16,10 +16,10 @@ fn add_pattern<P: PatternMaker>(
     pattern: &Pattern<'_>,
     table: &mut PatternTable<P::Matcher>,
 ) -> Result<(), BuildCause>
-    ensures filled { IsFilled P.Matcher.finds (P.finished maker.now) (P.makes maker.now) table.old → IsFilled P.Matcher.finds (P.finished maker.now) (P.makes maker.now) table.new }
+    ensures filled { IsFilled P.Matcher.finds (P.patterns maker.now).finished (P.patterns maker.now).makes table.old → IsFilled P.Matcher.finds (P.patterns maker.now).finished (P.patterns maker.now).makes table.new }
     ensures kept { Holds table.new (texts_of_table table.old) }
     ensures held { OnOk result (is_listed (text_of pattern.now) (texts_of_table table.new) ≡ true) }
-    ensures refused { IfErr result (RefusesPattern (P.makes maker.now) (pattern.now ∷ [])) }
+    ensures refused { IfErr result (RefusesPattern (P.patterns maker.now).makes (pattern.now ∷ [])) }
 {
     let text = pattern.text;
     match table.add_with(alloc, text, || maker.make(alloc, text)) {
@@ -42,10 +42,10 @@ pub fn add_patterns<P: PatternMaker>(
     patterns: &[Pattern<'_>],
     table: &mut PatternTable<P::Matcher>,
 ) -> Result<(), BuildCause>
-    ensures filled { IsFilled P.Matcher.finds (P.finished maker.now) (P.makes maker.now) table.old → IsFilled P.Matcher.finds (P.finished maker.now) (P.makes maker.now) table.new }
+    ensures filled { IsFilled P.Matcher.finds (P.patterns maker.now).finished (P.patterns maker.now).makes table.old → IsFilled P.Matcher.finds (P.patterns maker.now).finished (P.patterns maker.now).makes table.new }
     ensures kept { Holds table.new (texts_of_table table.old) }
     ensures held { OnOk result (Holds table.new (texts_of patterns.now)) }
-    ensures refused { IfErr result (RefusesPattern (P.makes maker.now) patterns.now) }
+    ensures refused { IfErr result (RefusesPattern (P.patterns maker.now).makes patterns.now) }
 {
     for pattern in patterns {
         add_pattern(alloc, maker, pattern, table)?;

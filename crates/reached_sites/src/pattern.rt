@@ -2,8 +2,8 @@
 
 ghost use Rattle.std.specs.Prelude.{◌≡◌, ◌∷◌, [], List, ℕ, IfSome, IfNone, OnOk};
 ghost use Rattle.serde_json.specs.View.{members_view};
-ghost use Rattle.json_paths.specs.Parts.{name as name_part};
-ghost use Rattle.schema_reading.specs.Rows.{member_names};
+ghost use Rattle.json_values.specs.Parts.{name as name_part};
+ghost use Rattle.schema_definitions.specs.Rows.{member_names};
 ghost use Rattle.applicators.specs.Made as making;
 ghost use Rattle.schema_sites.specs.Read.{patterns_in, pattern_parts};
 ghost use Rattle.reached_sites.specs.Patterns.{Puts};

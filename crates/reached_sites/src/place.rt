@@ -2,7 +2,7 @@
 
 ghost use Rattle.std.specs.Prelude.{◌≡◌, ◌∷◌, IfOk, string_bytes};
 ghost use Rattle.std.specs.Bool.{Decides};
-ghost use Rattle.json_paths.specs.Parts.{name as name_part, index as index_part};
+ghost use Rattle.json_values.specs.Parts.{name as name_part, index as index_part};
 ghost use Rattle.referencing.specs.Resolved.{target_in};
 ghost use Rattle.reached_sites.specs.Filed.{place_text};
 ghost use Rattle.reached_sites.specs.Places.{place_in};

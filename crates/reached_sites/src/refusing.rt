@@ -3,7 +3,7 @@
 ghost use Rattle.std.specs.Prelude.{◌≡◌, [], IfOk};
 ghost use Rattle.serde_json.specs.Data.{Data};
 ghost use Rattle.schema_meaning.specs.Members.{In};
-ghost use Rattle.schema_reading.specs.Rows as rows;
+ghost use Rattle.schema_definitions.specs.Rows as rows;
 ghost use Rattle.schema_sites.specs.Refused.{Refuses};
 ghost use Rattle.reached_sites.specs.Causes.{NamesCause};
 ghost use Rattle.reached_sites.specs.Places.{place_in};

@@ -3,21 +3,21 @@
 ghost use Rattle.std.specs.Prelude.{◌≡◌, ◌∷◌, ◌++◌, [], List, ℕ, true, IfOk};
 ghost use Rattle.std.specs.Bool.{Decides};
 ghost use Rattle.serde_json.specs.View.{view};
-ghost use Rattle.json_paths.specs.Parts.{Part};
-ghost use Rattle.schema_documents.specs.Scopes.{entered_scope};
+ghost use Rattle.json_values.specs.Parts.{Part};
+ghost use Rattle.schema_definitions.specs.Scopes.{entered_scope};
 ghost use Rattle.referencing.specs.Resolved.{base_of, scope_of, documents_in, target_in};
-ghost use Rattle.schema_reading.specs.Sites as sites;
-ghost use Rattle.schema_reading.specs.CompileKeys.{scope_key};
+ghost use Rattle.schema_definitions.specs.Sites as sites;
+ghost use Rattle.schema_definitions.specs.CompileKeys.{scope_key};
 ghost use Rattle.schema_reports.specs.Readable.{reads_as_path};
 ghost use Rattle.schema_sites.specs.Seen.{documents_at};
-ghost use Rattle.site_laws.specs.Spelled.{spelled};
+ghost use Rattle.reading_laws.specs.Spelled.{spelled};
 ghost use Rattle.referencing.specs.Keys.{key_of};
 
 use crate::waypoint::Waypoint;
 use referencing::{Resolved, ScopeKey};
-use schema_matches::matches::Matches;
+use schema_dialects::{Dialect, KnownVocabularies};
+use schema_patterns::matches::Matches;
 use schema_sites::site::{Site, at_root, at_target};
-use schema_vocabularies::{Dialect, KnownVocabularies};
 use serde_json::Value;
 use std::alloc::{AllocError, Global};
 use std::rc::Rc;

@@ -1,7 +1,7 @@
 //! Which visits there are.
 
 ghost use Rattle.std.specs.Prelude.{◌≡◌, ◌∷◌, [], ℕ, List, IfOk, OnOk, bytes_eq, if◌then◌else◌, option_map};
-ghost use Rattle.schema_documents.specs.Words.{or};
+ghost use Rattle.schema_definitions.specs.Words.{or};
 ghost use Rattle.reached_sites.specs.Filed.{positions_under};
 
 use shared_lists::List;

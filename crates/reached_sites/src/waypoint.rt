@@ -2,11 +2,11 @@
 
 ghost use Rattle.std.specs.Prelude.{◌≡◌, ◌∷◌, [], true, IfOk};
 ghost use Rattle.std.specs.Bool.{Decides};
-ghost use Rattle.json_paths.specs.Parts.{name as name_part, index as index_part};
+ghost use Rattle.json_values.specs.Parts.{name as name_part, index as index_part};
 ghost use Rattle.referencing.specs.Resolved.{target_in};
-ghost use Rattle.schema_reading.specs.Sites.{path_of_reference};
+ghost use Rattle.schema_definitions.specs.Sites.{path_of_reference};
 ghost use Rattle.schema_reports.specs.Readable.{reads_as_path};
-ghost use Rattle.site_laws.specs.Spelled.{by_name};
+ghost use Rattle.reading_laws.specs.Spelled.{by_name};
 ghost use Rattle.reached_sites.specs.Visits.{AreOnePoint};
 
 use crate::place::SchemaPlace;

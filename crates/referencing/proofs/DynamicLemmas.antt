@@ -1,6 +1,6 @@
 -- The outermost of several resources that have an answer, found from the innermost outward.
 use Rattle.std.proofs.Common.{◌≡◌, List, [], ◌∷◌, Bool, true, false, if◌then◌else◌, Option, Some, None, option_and_then, is_some, IfSome, refl, sym, ap, ◌∙◌}
-use Rattle.schema_documents.specs.Words.{or_else, last_that}
+use Rattle.schema_definitions.specs.Words.{or_else, last_that}
 
 alone : {X : Type 0} (o : Option X) → or_else o None ≡ o
 alone None = refl

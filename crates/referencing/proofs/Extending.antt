@@ -4,8 +4,8 @@ use Rattle.std.proofs.lemmas.List.{map-append}
 use Rattle.std.proofs.lemmas.List.Folds.{list_all-append}
 use Rattle.serde_json.specs.Data.{Data}
 use Rattle.schema_drafts.specs.declared.draft.Draft.{Draft}
-use Rattle.given_documents.specs.Given.{Given, with_given, with_all}
-use Rattle.given_documents.specs.Uris.{is_document_uri}
+use Rattle.document_sources.specs.Given.{Given, with_given, with_all}
+use Rattle.document_sources.specs.Uris.{is_document_uri}
 use Rattle.referencing.specs.Built.{given_by, givens_by, are_document_uris}
 
 with_all-more : (hs gs : List Given) (g : Given) → with_all hs (gs ++ g ∷ []) ≡ with_given (with_all hs gs) g

@@ -2,13 +2,13 @@
 use Rattle.std.proofs.Common.{◌≡◌, ◌∙◌, refl, sym, ap, subst, ℕ, zero, suc, List, [], ◌∷◌, Bool, true, false, ◌&&◌, Option, Some, None, map, reverse, option_map, is_some, length, ◌<◌, Result, Ok, Err, IfOk, slice_get, slice_index_or, IsSomeAnd, Contains, arith}
 use Rattle.std.specs.List.{list_all}
 use Rattle.serde_json.specs.Data.{Data}
-use Rattle.json_paths.specs.Pointers.{value_at}
-use Rattle.schema_documents.specs.Places.{Dialect, SchemaPlace, places}
-use Rattle.schema_documents.specs.Bearers.{Document, Standing, standing_in}
+use Rattle.json_values.specs.Pointers.{value_at}
+use Rattle.schema_definitions.specs.Places.{Dialect, SchemaPlace, places}
+use Rattle.schema_definitions.specs.Bearers.{Document, Standing, standing_in}
 use Rattle.document_index.specs.Located.{Kept}
 use Rattle.document_index.specs.Answers.{IsAnswer}
-use Rattle.place_laws.specs.Laws.{Leads}
-use Rattle.place_laws.proofs.Leading.{places_lead}
+use Rattle.document_laws.specs.PlaceLaws.{Leads}
+use Rattle.document_laws.proofs.Leading.{places_lead}
 use Rattle.referencing.specs.Kept.{kept_at, kept_standing}
 use Rattle.referencing.specs.Stands.{contents_rise}
 

@@ -4,7 +4,7 @@ use Rattle.std.specs.List.{list_any}
 use Rattle.std.specs.Cmp.Lexicographic.{pointwise, nat_list_eq_equiv}
 use Rattle.std.proofs.lemmas.List.{reverse-append, append_assoc}
 use Rattle.std.proofs.lemmas.Slice.Eq.{slice_eq-Decides, bytes_eq-Decides}
-use Rattle.schema_reading.specs.CompileKeys.{ScopeKey, first_ones, reversed_onto}
+use Rattle.schema_definitions.specs.CompileKeys.{ScopeKey, first_ones, reversed_onto}
 use Rattle.referencing.specs.Keys.{keys_eq}
 use mathlib.Core.List.{reverse_aux}
 

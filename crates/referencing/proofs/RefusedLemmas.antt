@@ -3,13 +3,13 @@ use borrow.Author.Tests.{eqb-true}
 use Rattle.std.proofs.Common.{◌≡◌, ◌==◌, ◌≤◌, refl, sym, ap, arith, length, get_or, Bool, true, false, if◌then◌else◌, ℕ, List, [], ◌∷◌, Option, Some, None, Result, Ok, Err, IfErr, IfSome, MatchOption, ◌⊎◌, inl, inr}
 use Rattle.percent_encoding.specs.Percent.{percent_decode}
 use Rattle.uri_grammar.specs.Texts.{cut_at}
-use Rattle.schema_documents.specs.Words.{or, ok_or, and_then}
-use Rattle.schema_documents.specs.Identifiers.{resolved}
-use Rattle.schema_documents.specs.Places.{Dialect}
-use Rattle.schema_documents.specs.Bearers.{Document, Documents, Standing, meta}
-use Rattle.schema_documents.specs.Lookup.{LookupCause, invalid_uri, by_pointer, by_anchor, by_fragment, lookup, lookup_under}
-use Rattle.referencing_errors.specs.Causes.{IsMemory, NamesLookup, RefusesLookup}
-use Rattle.referencing_errors.specs.declared.error.Error.{Error}
+use Rattle.schema_definitions.specs.Words.{or, ok_or, and_then}
+use Rattle.schema_definitions.specs.Identifiers.{resolved}
+use Rattle.schema_definitions.specs.Places.{Dialect}
+use Rattle.schema_definitions.specs.Bearers.{Document, Documents, Standing, meta}
+use Rattle.schema_definitions.specs.Lookup.{LookupCause, invalid_uri, by_pointer, by_anchor, by_fragment, lookup, lookup_under}
+use Rattle.document_sources.specs.Causes.{IsMemory, NamesLookup, RefusesLookup}
+use Rattle.document_sources.specs.declared.error.Error.{Error}
 use Rattle.referencing.specs.Found.{bearer_at, bearer_wanted}
 
 pub refused-one : {T : Type 0} (answer : Result T LookupCause) (cause : LookupCause) (e : Error) → answer ≡ Err cause → IsMemory e ⊎ NamesLookup cause e → RefusesLookup answer e

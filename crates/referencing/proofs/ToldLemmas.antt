@@ -2,15 +2,15 @@
 use Rattle.std.proofs.Common.{◌≡◌, ◌∙◌, sym, ap, ℕ, List, [], ◌∷◌, Option, Ok, if◌then◌else◌, Err}
 use Rattle.std.specs.Str.{is_utf8}
 use Rattle.uri_grammar.specs.Texts.{cut_at, pieces}
-use Rattle.schema_documents.specs.Words.{or, result_map, ok_or, and_then}
-use Rattle.schema_documents.specs.Places.{Dialect}
-use Rattle.schema_documents.specs.Bearers.{Document, Documents, Standing, meta, bearer_under, bearer, anchored_under, anchored, dynamically_anchored}
-use Rattle.schema_documents.specs.Lookup.{Walk, at_place, ended, behind_first, by_pointer, invalid_percent_encoding, lookup, unretrievable, Target, target_of}
-use Rattle.schema_documents.specs.Scopes.{dynamic_lookup, recursive_lookup}
-use Rattle.schema_vocabularies.specs.Dialects.{dialects_in}
-use Rattle.schema_vocabularies.specs.declared.meta_schemas.MetaSchemas.{MetaSchemas}
-use Rattle.schema_reading.specs.CompileKeys.{run_end}
-use Rattle.place_laws.proofs.Alike.{alike_tell}
+use Rattle.schema_definitions.specs.Words.{or, result_map, ok_or, and_then}
+use Rattle.schema_definitions.specs.Places.{Dialect}
+use Rattle.schema_definitions.specs.Bearers.{Document, Documents, Standing, meta, bearer_under, bearer, anchored_under, anchored, dynamically_anchored}
+use Rattle.schema_definitions.specs.Lookup.{Walk, at_place, ended, behind_first, by_pointer, invalid_percent_encoding, lookup, unretrievable, Target, target_of}
+use Rattle.schema_definitions.specs.Scopes.{dynamic_lookup, recursive_lookup}
+use Rattle.schema_dialects.specs.Dialects.{dialects_in}
+use Rattle.schema_dialects.specs.declared.meta_schemas.MetaSchemas.{MetaSchemas}
+use Rattle.schema_definitions.specs.CompileKeys.{run_end}
+use Rattle.document_laws.proofs.Alike.{alike_tell}
 use Rattle.document_index.specs.Answers.{dynamically_anchored_under}
 use Rattle.referencing.specs.Found.{redirect}
 

@@ -5,10 +5,10 @@ use Rattle.serde_json.specs.Data.{Data}
 use Rattle.schema_drafts.specs.Drafts.{newest}
 use Rattle.schema_drafts.specs.declared.draft.Draft.{Draft}
 use Rattle.uri_references.specs.Identity.{identity_of}
-use Rattle.schema_documents.specs.Bearers.{Document}
-use Rattle.given_documents.specs.Given.{Given, with_all, documents_by}
-use Rattle.given_documents.specs.Listed.{givens_of}
-use Rattle.given_documents.specs.Uris.{is_document_uri}
+use Rattle.schema_definitions.specs.Bearers.{Document}
+use Rattle.document_sources.specs.Given.{Given, with_all, documents_by}
+use Rattle.document_sources.specs.Listed.{givens_of}
+use Rattle.document_sources.specs.Uris.{is_document_uri}
 use Rattle.referencing.specs.declared.builder.RegistryBuilder.{RegistryBuilder}
 
 -- the documents of a builder

@@ -1,6 +1,6 @@
 -- What a chain stands for as the code has it.
 use Rattle.std.specs.Prelude.{◌≡◌, List, IfSome, option_map}
-use Rattle.schema_documents.specs.Bearers.{Document}
+use Rattle.schema_definitions.specs.Bearers.{Document}
 use Rattle.referencing.specs.Resolved.{base_of, scope_of, documents_in}
 use Rattle.referencing.specs.Followed.{Stand, answer_in}
 use Rattle.referencing.specs.declared.following.Chain.{Chain}

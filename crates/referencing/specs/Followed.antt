@@ -1,10 +1,10 @@
 -- Chains of references: each step from the base and the scope that the step before left.
 use Rattle.std.specs.Prelude.{ℕ, List, [], ◌∷◌, Option, Some, None, Result, Ok}
 use Rattle.serde_json.specs.View.{view}
-use Rattle.schema_documents.specs.Words.{result_map, and_then}
-use Rattle.schema_documents.specs.Bearers.{Documents}
-use Rattle.schema_documents.specs.Lookup.{LookupCause, Target, lookup}
-use Rattle.schema_documents.specs.Scopes.{entered_scope, dynamic_lookup, recursive_lookup}
+use Rattle.schema_definitions.specs.Words.{result_map, and_then}
+use Rattle.schema_definitions.specs.Bearers.{Documents}
+use Rattle.schema_definitions.specs.Lookup.{LookupCause, Target, lookup}
+use Rattle.schema_definitions.specs.Scopes.{entered_scope, dynamic_lookup, recursive_lookup}
 use Rattle.referencing.specs.Resolved.{scope_of, target_in, entered_by}
 use Rattle.referencing.specs.declared.resolver.Resolved.{Resolved}
 use Rattle.referencing.specs.declared.following.Step.{Step}

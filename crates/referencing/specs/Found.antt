@@ -1,11 +1,11 @@
 -- What references lead to.
 use Rattle.std.specs.Prelude.{ℕ, List, [], ◌∷◌, ◌&&◌, if◌then◌else◌, Result, Ok}
-use Rattle.schema_documents.specs.Words.{ok_or, and_then, has_text}
-use Rattle.schema_documents.specs.Identifiers.{resolved, is_name, dynamic_anchors}
-use Rattle.schema_documents.specs.Bearers.{Document, Documents, Standing, bearer}
-use Rattle.schema_documents.specs.Lookup.{LookupCause, invalid_uri, unretrievable, Target}
-use Rattle.schema_documents.specs.Scopes.{outermost}
-use Rattle.reference_walks.specs.Reached.{target_of}
+use Rattle.schema_definitions.specs.Words.{ok_or, and_then, has_text}
+use Rattle.schema_definitions.specs.Identifiers.{resolved, is_name, dynamic_anchors}
+use Rattle.schema_definitions.specs.Bearers.{Document, Documents, Standing, bearer}
+use Rattle.schema_definitions.specs.Lookup.{LookupCause, invalid_uri, unretrievable, Target}
+use Rattle.schema_definitions.specs.Scopes.{outermost}
+use Rattle.schema_places.specs.Reached.{target_of}
 use Rattle.referencing.specs.declared.resolving.Found.{Found}
 
 abbrev pub found_target : Found → Target

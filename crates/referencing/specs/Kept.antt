@@ -1,8 +1,8 @@
 -- The schema place that an index keeps something of.
 use Rattle.std.specs.Prelude.{reverse, Option, None, option_map}
 use Rattle.serde_json.specs.Data.{Data}
-use Rattle.json_paths.specs.Pointers.{value_at}
-use Rattle.schema_documents.specs.Bearers.{Document, Standing}
+use Rattle.json_values.specs.Pointers.{value_at}
+use Rattle.schema_definitions.specs.Bearers.{Document, Standing}
 use Rattle.document_index.specs.Located.{Kept}
 
 -- what lies in a document at a path that was kept

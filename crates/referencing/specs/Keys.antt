@@ -2,7 +2,7 @@
 use Rattle.std.specs.Prelude.{Bool, ◌&&◌, map, bytes_eq}
 use Rattle.std.specs.Cmp.{IsEquivalence, IsPartialEquivalence, on_equiv, and_equiv, partial_equiv_from_equiv}
 use Rattle.std.specs.Cmp.Lexicographic.{pointwise, lists_equiv, nat_list_eq_equiv}
-use Rattle.schema_reading.specs.CompileKeys.{ScopeKey}
+use Rattle.schema_definitions.specs.CompileKeys.{ScopeKey}
 use Rattle.referencing.specs.declared.scope_key.ScopeKey as code
 
 abbrev pub key_of : code.ScopeKey → ScopeKey

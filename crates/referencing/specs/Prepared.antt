@@ -2,11 +2,11 @@
 use Rattle.std.specs.Prelude.{◌⊎◌, ℕ, List, [], ◌∷◌}
 use Rattle.serde_json.specs.Data.{Data}
 use Rattle.schema_meaning.specs.Members.{In}
-use Rattle.schema_documents.specs.Bearers.{Document}
-use Rattle.schema_documents.specs.DocumentCauses.{DocumentCause, document_causes}
-use Rattle.referencing_errors.specs.Causes.{IsMemory, NamesDocument}
-use Rattle.referencing_errors.specs.declared.error.Error.{Error}
-use Rattle.retrieval_rounds.specs.Rounds.{Asking}
+use Rattle.schema_definitions.specs.Bearers.{Document}
+use Rattle.schema_definitions.specs.DocumentCauses.{DocumentCause, document_causes}
+use Rattle.document_sources.specs.Causes.{IsMemory, NamesDocument}
+use Rattle.document_sources.specs.declared.error.Error.{Error}
+use Rattle.schema_definitions.specs.Rounds.{Asking}
 use Rattle.document_retrieval.specs.Stages.{asking, IsGathered, Stops}
 use Rattle.referencing.specs.declared.builder.RegistryBuilder.{RegistryBuilder}
 

@@ -3,12 +3,12 @@ use Rattle.std.specs.Prelude.{ℕ, List, map, Option, Some, None, Result, Ok}
 use Rattle.serde_json.specs.Data.{Data}
 use Rattle.serde_json.specs.View.{view}
 use Rattle.schema_drafts.specs.declared.draft.Draft.{Draft}
-use Rattle.schema_documents.specs.Words.{ok_or, result_map}
-use Rattle.schema_documents.specs.Identifiers.{resolved, identifier}
-use Rattle.schema_documents.specs.Bearers.{Document}
-use Rattle.schema_documents.specs.Lookup.{LookupCause, invalid_uri, Target}
-use Rattle.schema_documents.specs.Scopes.{entered_scope}
-use Rattle.schema_vocabularies.specs.Dialects.{dialect_of}
+use Rattle.schema_definitions.specs.Words.{ok_or, result_map}
+use Rattle.schema_definitions.specs.Identifiers.{resolved, identifier}
+use Rattle.schema_definitions.specs.Bearers.{Document}
+use Rattle.schema_definitions.specs.Lookup.{LookupCause, invalid_uri, Target}
+use Rattle.schema_definitions.specs.Scopes.{entered_scope}
+use Rattle.schema_dialects.specs.Dialects.{dialect_of}
 use Rattle.referencing.specs.Seen.{documents_of}
 use Rattle.referencing.specs.declared.resolver.Resolver.{Resolver}
 use Rattle.referencing.specs.declared.resolver.Resolved.{Resolved}

@@ -1,7 +1,7 @@
 -- What the code's registries stand for.
 use Rattle.std.specs.Prelude.{ℕ, List, [], ◌∷◌, map, Option}
-use Rattle.schema_documents.specs.Places.{Dialect}
-use Rattle.schema_documents.specs.Bearers.{Document, meta}
+use Rattle.schema_definitions.specs.Places.{Dialect}
+use Rattle.schema_definitions.specs.Bearers.{Document, meta}
 use Rattle.document_index.specs.Seen.{document_of}
 use Rattle.referencing.specs.declared.registry.Registry.{Registry}
 

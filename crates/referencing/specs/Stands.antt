@@ -2,14 +2,14 @@
 use Rattle.std.specs.Prelude.{◌≡◌, ℕ, List, [], ◌∷◌, Bool, true}
 use Rattle.std.specs.List.{list_all}
 use Rattle.schema_meaning.specs.Members.{is_empty}
-use Rattle.schema_documents.specs.Bearers.{Document, meta}
-use Rattle.schema_documents.specs.DocumentCauses.{document_causes}
-use Rattle.schema_vocabularies.specs.Dialects.{dialects_in}
-use Rattle.schema_vocabularies.specs.declared.meta_schemas.MetaSchemas.{MetaSchemas}
+use Rattle.schema_definitions.specs.Bearers.{Document, meta}
+use Rattle.schema_definitions.specs.DocumentCauses.{document_causes}
+use Rattle.schema_dialects.specs.Dialects.{dialects_in}
+use Rattle.schema_dialects.specs.declared.meta_schemas.MetaSchemas.{MetaSchemas}
 use Rattle.document_index.specs.Located.{located_standings}
 use Rattle.document_index.specs.Indexes.{Indexes}
 use Rattle.document_index.specs.declared.index.Index.{Index}
-use Rattle.schema_values.specs.Rising.{rises}
+use Rattle.json_values.specs.Rising.{rises}
 
 abbrev pub contents_rise : Document → Bool
 contents_rise d = rises d.contents

@@ -2,9 +2,9 @@
 use Rattle.std.specs.Prelude.{◌≡◌, ◌⊎◌, ℕ, List, false}
 use Rattle.uri_grammar.specs.Parts.{split}
 use Rattle.uri_grammar.specs.Grammar.{is_reference}
-use Rattle.schema_documents.specs.DocumentCauses.{no_reference}
-use Rattle.referencing_errors.specs.Causes.{IsMemory, NamesDocument}
-use Rattle.referencing_errors.specs.declared.error.Error.{Error}
+use Rattle.schema_definitions.specs.DocumentCauses.{no_reference}
+use Rattle.document_sources.specs.Causes.{IsMemory, NamesDocument}
+use Rattle.document_sources.specs.declared.error.Error.{Error}
 
 -- want of memory, or that it is no URI reference, and then it is named (RFC 3986, section 4.1)
 abbrev pub RefusesReference : List ℕ → Error → Type 0

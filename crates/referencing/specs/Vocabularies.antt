@@ -3,8 +3,8 @@ use Rattle.std.specs.Prelude.{ℕ, List, true, codes, Option, Some, None, option
 use Rattle.serde_json.specs.Data.{Data}
 use Rattle.serde_json.specs.Find.{get}
 use Rattle.schema_drafts.specs.Vocabularies.{Vocabularies, all_of_draft}
-use Rattle.schema_documents.specs.Places.{named_meta_schema}
-use Rattle.schema_documents.specs.Bearers.{Documents, Standing, bearer, declared_by}
+use Rattle.schema_definitions.specs.Places.{named_meta_schema}
+use Rattle.schema_definitions.specs.Bearers.{Documents, Standing, bearer, declared_by}
 
 -- the contents of the meta-schema that a schema names, where it is none of the drafts' own and somebody bears its URI (Core 8.1.1)
 abbrev pub meta_schema_of : Documents → Data → Option Data

@@ -6,7 +6,7 @@ ghost use Rattle.uri_grammar.specs.Parts.{split};
 ghost use Rattle.uri_grammar.specs.Grammar.{is_reference};
 ghost use Rattle.uri_references.specs.Identity.{identity_against};
 ghost use Rattle.schema_drafts.specs.Vocabularies as spec;
-ghost use Rattle.schema_vocabularies.specs.Sets as sets;
+ghost use Rattle.schema_dialects.specs.Sets as sets;
 ghost use Rattle.referencing.specs.Seen.{documents_of};
 ghost use Rattle.referencing.specs.Resolved.{base_of, documents_in};
 ghost use Rattle.referencing.specs.Uris.{RefusesReference};
@@ -14,10 +14,10 @@ ghost use Rattle.referencing.specs.Vocabularies.{meta_schema_of, required_from, 
 
 use crate::registry::Registry;
 use crate::resolver::Resolver;
-use referencing_errors::error::Error;
+use document_sources::error::Error;
+use schema_dialects::bases::named_meta_schema;
+use schema_dialects::{VocabularySet, find_vocabularies};
 use schema_drafts::draft::Draft;
-use schema_identifiers::bases::named_meta_schema;
-use schema_vocabularies::{VocabularySet, find_vocabularies};
 use serde_json::Value;
 use std::alloc::{AllocError, Global};
 use uri_references::uri::{Uri, resolve_against};
@@ -51,7 +51,7 @@ impl<'a> Registry<'a> {
     /// The vocabularies in force in a schema of these contents: those that the meta-schema requires which its `$schema` names, where
     /// that is none of the drafts' own and some place of the documents bears its URI, and else all of the draft (Core 8.1).
     ///
-    /// One search by the URI, and what `schema_vocabularies::find_vocabularies` costs.
+    /// One search by the URI, and what `schema_dialects::find_vocabularies` costs.
     ///
     /// # Errors
     ///

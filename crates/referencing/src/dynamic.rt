@@ -1,15 +1,15 @@
 //! References by the dynamic scope (Core 8.2.3.2; 2019-09, Core 8.2.4.2).
 
 ghost use Rattle.std.specs.Prelude.{◌≡◌, ◌∷◌, [], ◌&&◌, ℕ, List, IfOk, IfErr, Ok, map, option_map, option_and_then, is_some};
-ghost use Rattle.schema_documents.specs.Words as words;
-ghost use Rattle.schema_documents.specs.Identifiers.{is_name, dynamic_anchors};
-ghost use Rattle.schema_documents.specs.Bearers as bearers;
-ghost use Rattle.schema_documents.specs.Scopes as spec;
-ghost use Rattle.schema_documents.specs.Scopes.{entered_scope};
-ghost use Rattle.schema_reading.specs.CompileKeys as keys;
+ghost use Rattle.schema_definitions.specs.Words as words;
+ghost use Rattle.schema_definitions.specs.Identifiers.{is_name, dynamic_anchors};
+ghost use Rattle.schema_definitions.specs.Bearers as bearers;
+ghost use Rattle.schema_definitions.specs.Scopes as spec;
+ghost use Rattle.schema_definitions.specs.Scopes.{entered_scope};
+ghost use Rattle.schema_definitions.specs.CompileKeys as keys;
 ghost use Rattle.document_index.specs.Indexes.{named};
 ghost use Rattle.document_index.specs.Seen.{standing_of};
-ghost use Rattle.referencing_errors.specs.Causes.{RefusesLookup};
+ghost use Rattle.document_sources.specs.Causes.{RefusesLookup};
 ghost use Rattle.referencing.specs.Found.{found_target, redirect};
 ghost use Rattle.referencing.specs.Resolved.{base_of, scope_of, documents_in, target_in};
 ghost use Rattle.referencing.specs.Seen.{documents_of};
@@ -19,9 +19,9 @@ use crate::resolver::{Resolved, Resolver};
 use crate::resolving::{Found, fragment_or_empty, has_slash, look_up, whole};
 use document_index::index::Bearer;
 use document_index::standing::Standing;
-use referencing_errors::error::Error;
-use referencing_errors::named::{no_such_anchor, not_borne};
-use schema_identifiers::identifiers::dynamic_anchor;
+use document_sources::error::Error;
+use document_sources::named::{no_such_anchor, not_borne};
+use schema_dialects::identifiers::dynamic_anchor;
 use shared_lists::List;
 use std::alloc::AllocError;
 use std::collections::BTreeMap;

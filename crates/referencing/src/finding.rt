@@ -3,9 +3,9 @@
 ghost use Rattle.std.specs.Prelude.{◌≡◌, ◌∷◌, [], IfOk, option_map, option_and_then, is_some, false, codes};
 ghost use Rattle.serde_json.specs.View.{view};
 ghost use Rattle.serde_json.specs.Find.{get, as_bool};
-ghost use Rattle.schema_documents.specs.Words as words;
-ghost use Rattle.schema_documents.specs.Bearers as bearers;
-ghost use Rattle.schema_documents.specs.Scopes as scopes;
+ghost use Rattle.schema_definitions.specs.Words as words;
+ghost use Rattle.schema_definitions.specs.Bearers as bearers;
+ghost use Rattle.schema_definitions.specs.Scopes as scopes;
 ghost use Rattle.document_index.specs.Seen.{document_of, standing_of};
 ghost use Rattle.document_index.specs.Indexes.{bearer_of};
 ghost use Rattle.referencing.specs.Kept.{kept_standing};

@@ -1,7 +1,7 @@
 //! Chains of references.
 
 ghost use Rattle.std.specs.Prelude.{◌≡◌, ◌∷◌, [], IfOk, IfErr, IfSome, Ok, Some, None, option_map};
-ghost use Rattle.referencing_errors.specs.Causes.{RefusesLookup};
+ghost use Rattle.document_sources.specs.Causes.{RefusesLookup};
 ghost use Rattle.referencing.specs.Resolved.{base_of, scope_of, documents_in};
 ghost use Rattle.referencing.specs.Followed.{one_step, followed, begun, last_of_chain, answer_in};
 ghost use Rattle.referencing.specs.Chains.{stand_of, IsOver};
@@ -9,7 +9,7 @@ ghost use Rattle.referencing.specs.Seen.{documents_of};
 
 use crate::registry::Registry;
 use crate::resolver::{Resolved, Resolver};
-use referencing_errors::error::Error;
+use document_sources::error::Error;
 use schema_drafts::resource::ResourceRef;
 use std::alloc::AllocError;
 use uri_references::uri::Uri;

@@ -21,21 +21,21 @@ pub mod scope_key;
 mod specifications;
 
 pub use builder::{Refused, RegistryBuilder};
-pub use document_retrievers::{DefaultRetriever, MapRetriever, Retrieve};
+pub use document_sources::error::{Error, RetrieveError, UriError};
+pub use document_sources::resource::IntoRegistryResource;
+pub use document_sources::{DefaultRetriever, MapRetriever, Retrieve};
 pub use following::{Step, follow};
-pub use given_documents::resource::IntoRegistryResource;
+pub use json_pointers::fragments::FragmentBuffer;
 pub use json_pointers::{
     JsonPointerNode, JsonPointerSegment, parse_index, pointer, unescape_segment, write_escaped_str,
     write_index,
 };
-pub use referencing_errors::error::{Error, RetrieveError, UriError};
 pub use registry::Registry;
 pub use resolver::{Resolved, Resolver};
+pub use schema_dialects::{Vocabulary, VocabularySet};
 pub use schema_drafts::children::ChildIter;
 pub use schema_drafts::draft::Draft;
 pub use schema_drafts::resource::{Resource, ResourceRef};
-pub use schema_vocabularies::{Vocabulary, VocabularySet};
 pub use scope_key::ScopeKey;
 pub use shared_lists::{Iter, List};
-pub use uri_fragments::FragmentBuffer;
 pub use uri_references::uri;

@@ -2,11 +2,11 @@
 
 ghost use Rattle.std.specs.Prelude.{◌≡◌, ◌∷◌, [], ℕ, List, IfOk, IfErr, Ok, map};
 ghost use Rattle.serde_json.specs.View.{view};
-ghost use Rattle.schema_documents.specs.Bearers.{meta};
-ghost use Rattle.schema_documents.specs.Lookup as spec;
-ghost use Rattle.schema_documents.specs.Scopes.{entered_scope};
-ghost use Rattle.schema_vocabularies.specs.Dialects.{dialects_in};
-ghost use Rattle.referencing_errors.specs.Causes.{RefusesLookup};
+ghost use Rattle.schema_definitions.specs.Bearers.{meta};
+ghost use Rattle.schema_definitions.specs.Lookup as spec;
+ghost use Rattle.schema_definitions.specs.Scopes.{entered_scope};
+ghost use Rattle.schema_dialects.specs.Dialects.{dialects_in};
+ghost use Rattle.document_sources.specs.Causes.{RefusesLookup};
 ghost use Rattle.referencing.specs.Found.{found_target};
 ghost use Rattle.referencing.specs.Seen.{documents_of};
 ghost use Rattle.referencing.specs.Resolved.{base_of, scope_of, documents_in, target_in, entered_at, entered_by};
@@ -14,13 +14,13 @@ ghost use Rattle.referencing.specs.Resolved.{base_of, scope_of, documents_in, ta
 use crate::registry::Registry;
 use crate::resolver::{Resolved, Resolver};
 use crate::resolving::{Found, look_up};
-use referencing_errors::error::Error;
-use referencing_errors::named::invalid_uri;
+use document_sources::error::Error;
+use document_sources::named::invalid_uri;
+use schema_dialects::bases::resolved;
+use schema_dialects::{Dialect, MetaSchemas};
 use schema_drafts::draft::Draft;
 use schema_drafts::resource::ResourceRef;
-use schema_identifiers::bases::resolved;
 use schema_steps::Path;
-use schema_vocabularies::{Dialect, MetaSchemas};
 use serde_json::Value;
 use shared_lists::List;
 use std::alloc::{AllocError, Global};

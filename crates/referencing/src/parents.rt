@@ -3,9 +3,9 @@
 ghost use Rattle.std.specs.Prelude.{◌≡◌, ◌⊎◌, List, Some, IfOk, IfErr, OnOk, IsTrue};
 ghost use Rattle.std.specs.Iterator.{IsFiniteIterable, Drains, YieldsThen};
 ghost use Rattle.schema_drafts.specs.Drafts.{newest};
-ghost use Rattle.referencing_errors.specs.Causes.{IsMemory};
-ghost use Rattle.given_documents.specs.Given.{with_given};
-ghost use Rattle.given_documents.specs.Uris.{is_document_uri, RefusesUri};
+ghost use Rattle.document_sources.specs.Causes.{IsMemory};
+ghost use Rattle.document_sources.specs.Given.{with_given};
+ghost use Rattle.document_sources.specs.Uris.{is_document_uri, RefusesUri};
 ghost use Rattle.document_retrieval.specs.Inherited.{inherited};
 ghost use Rattle.referencing.specs.Built.{given_in, given_by, are_document_uris, Adds};
 ghost use Rattle.referencing.specs.Seen.{documents_of};
@@ -13,8 +13,8 @@ ghost use Rattle.referencing.specs.Seen.{documents_of};
 use crate::builder::RegistryBuilder;
 use crate::registry::Registry;
 use document_retrieval::given::listed_again;
-use given_documents::resource::IntoRegistryResource;
-use referencing_errors::error::Error;
+use document_sources::error::Error;
+use document_sources::resource::IntoRegistryResource;
 use std::alloc::{AllocError, Global};
 use std::convert::AsStr;
 

@@ -2,21 +2,21 @@
 
 ghost use Rattle.std.specs.Prelude.{◌≡◌, ◌∷◌, [], map, true, IfOk, IfErr, OnOk};
 ghost use Rattle.std.specs.List.{list_all};
-ghost use Rattle.schema_documents.specs.DocumentCauses.{document_causes};
+ghost use Rattle.schema_definitions.specs.DocumentCauses.{document_causes};
 ghost use Rattle.document_index.specs.Seen.{document_of};
-ghost use Rattle.document_causes.specs.Named.{NamesOne};
+ghost use Rattle.document_index.specs.Named.{NamesOne};
 ghost use Rattle.referencing.specs.Stands.{contents_rise};
 ghost use Rattle.referencing.specs.Seen.{documents_of, retrieved_by};
 
 use crate::registry::Registry;
-use document_causes::prepared;
-use document_causes::prepared::Prepared;
 use document_index::document::Document;
-use value_checks::rising::names_rise;
-use referencing_errors::error::Error;
+use document_index::prepared;
+use document_index::prepared::Prepared;
+use document_sources::error::Error;
 use std::alloc::Global;
 use std::rc::Rc;
 use uri_references::uri::Uri;
+use value_checks::rising::names_rise;
 
 // Each object has its names in their order, each once.
 fn check_names(documents: &[Document<'_>])

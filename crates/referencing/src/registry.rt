@@ -6,7 +6,7 @@ ghost use Rattle.referencing.specs.Stands.{Stands};
 
 use document_index::document::Document;
 use document_index::index::Index;
-use schema_vocabularies::MetaSchemas;
+use schema_dialects::MetaSchemas;
 use std::alloc::Global;
 use std::rc::Rc;
 use uri_references::uri::Uri;

@@ -1,11 +1,11 @@
 //! Resolvers.
 
 ghost use Rattle.std.specs.Prelude.{map};
-ghost use Rattle.scope_laws.specs.Laws.{IsPresent};
+ghost use Rattle.document_laws.specs.ScopeLaws.{IsPresent};
 
 use crate::registry::Registry;
+use schema_dialects::Dialect;
 use schema_steps::Path;
-use schema_vocabularies::Dialect;
 use serde_json::Value;
 use shared_lists::List;
 use std::rc::Rc;

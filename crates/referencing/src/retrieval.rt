@@ -1,9 +1,9 @@
 //! Documents prepared with those that they want.
 
 ghost use Rattle.std.specs.Prelude.{◌≡◌, ◌∷◌, [], map, true, IfOk, IfErr, OnOk};
-ghost use Rattle.schema_documents.specs.DocumentCauses.{document_causes};
+ghost use Rattle.schema_definitions.specs.DocumentCauses.{document_causes};
 ghost use Rattle.document_index.specs.Seen.{document_of};
-ghost use Rattle.retrieval_rounds.specs.Rounds.{wants, none_twice};
+ghost use Rattle.schema_definitions.specs.Rounds.{wants, none_twice};
 ghost use Rattle.document_retrieval.specs.Stages.{asking, IsGathered, AnswersNothing};
 ghost use Rattle.referencing.specs.Built.{added_in};
 ghost use Rattle.referencing.specs.Seen.{documents_of, retrieved_by};
@@ -14,8 +14,8 @@ use crate::registry::Registry;
 use document_index::document::Document;
 use document_retrieval::given::with_drafts;
 use document_retrieval::rounds::{Retrieved, retrieve_wanted};
-use document_retrievers::Retrieve;
-use referencing_errors::error::Error;
+use document_sources::Retrieve;
+use document_sources::error::Error;
 use schema_drafts::draft::Draft;
 use std::alloc::Global;
 

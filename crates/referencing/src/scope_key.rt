@@ -2,8 +2,8 @@
 
 ghost use Rattle.std.specs.Prelude.{◌≡◌, ◌∷◌, [], ◌||◌, ℕ, List, IfOk, OnOk, map, bytes_eq};
 ghost use Rattle.std.specs.BTreeSet.{contains_text};
-ghost use Rattle.schema_reading.specs.CompileKeys as spec;
-ghost use Rattle.scope_laws.specs.Laws.{IsPresent, Alike};
+ghost use Rattle.schema_definitions.specs.CompileKeys as spec;
+ghost use Rattle.document_laws.specs.ScopeLaws.{IsPresent, Alike};
 ghost use Rattle.referencing.specs.Keys.{key_of};
 ghost use Rattle.referencing.specs.Resolved.{base_of, scope_of, documents_in};
 

@@ -2,18 +2,18 @@
 
 ghost use Rattle.std.specs.Prelude.{◌≡◌, ◌⊎◌, ◌∷◌, [], List, Some, IfOk, IfErr, IsTrue};
 ghost use Rattle.std.specs.Iterator.{IsFiniteIterable, Drains, YieldsThen};
-ghost use Rattle.schema_documents.specs.DocumentCauses.{document_causes};
-ghost use Rattle.given_documents.specs.Uris.{RefusesUri};
-ghost use Rattle.document_causes.specs.Named.{NamesOne};
-ghost use Rattle.referencing_errors.specs.Causes.{IsMemory};
+ghost use Rattle.schema_definitions.specs.DocumentCauses.{document_causes};
+ghost use Rattle.document_sources.specs.Uris.{RefusesUri};
+ghost use Rattle.document_index.specs.Named.{NamesOne};
+ghost use Rattle.document_sources.specs.Causes.{IsMemory};
 ghost use Rattle.referencing.specs.Built.{are_document_uris, specified_by};
 ghost use Rattle.referencing.specs.Seen.{documents_of, retrieved_by};
 
 use crate::builder::RegistryBuilder;
 use crate::registry::Registry;
 use document_retrieval::given::with_drafts;
-use given_documents::resource::IntoRegistryResource;
-use referencing_errors::error::Error;
+use document_sources::error::Error;
+use document_sources::resource::IntoRegistryResource;
 use std::alloc::Global;
 use std::convert::AsStr;
 

@@ -4,7 +4,7 @@ use document_index::answers::{anchored, bearer, dynamically_anchored, index_of};
 use document_index::document::{Contents, Document};
 use document_index::index::{Bearer, Index};
 use document_index::standing::standings;
-use schema_vocabularies::MetaSchemas;
+use schema_dialects::MetaSchemas;
 use serde_json::Value;
 use std::alloc::Global;
 use std::process::Abort;

@@ -2,9 +2,9 @@
 // and the scope of what stands there.
 use crate::registries::assert_topics;
 use crate::scripts::{cut_word, json, text_of};
+use document_sources::error::Error;
 use referencing::registry::Registry;
 use referencing::resolver::{Resolved, Resolver};
-use referencing_errors::error::Error;
 use schema_drafts::draft::Draft;
 use std::alloc::Global;
 use std::process::Abort;

@@ -2,9 +2,9 @@
 use crate::registries::{Prepared, assert_asked, assert_retrieved, assert_rows, prepared_with};
 use crate::scripts::{assert_last_row, documents_of, limit, set_by, text_of, topics};
 use document_retrieval::rounds::retrieve_wanted;
-use document_retrievers::{DefaultRetriever, MapRetriever, Retrieve};
+use document_sources::error::RetrieveError;
+use document_sources::{DefaultRetriever, MapRetriever, Retrieve};
 use referencing::registry::Registry;
-use referencing_errors::error::RetrieveError;
 use schema_drafts::draft::Draft;
 use serde_json::Value;
 use std::alloc::Global;

@@ -1,11 +1,11 @@
 // Documents whose schemas name meta-schemas that other documents bear.
 use crate::scripts::{assert_told, cut_word, documents_of, row, text_of, topics};
+use document_index::awaited::awaited_cause;
+use document_index::counting::how_many;
 use document_index::document::Document;
 use document_index::standing::{Standing, standings};
-use meta_schemas::causes::awaited_cause;
-use meta_schemas::counting::how_many;
-use meta_schemas::told::{Told, meta_schemas, told_after};
-use schema_vocabularies::Dialect;
+use document_index::told::{Told, meta_schemas, told_after};
+use schema_dialects::Dialect;
 use std::alloc::Global;
 use std::process::Abort;
 use uri_references::uri::Uri;

@@ -24,9 +24,7 @@ pub struct RegexMatcher {
 impl PatternMaker for RegexMaker {
     type Matcher = RegexMatcher;
 
-    ghost makes = { λ _ pattern. is_regex pattern };
-
-    ghost finished = { λ _ pattern text. searched pattern text };
+    ghost patterns = { λ _. record { makes = λ pattern. is_regex pattern; finished = λ pattern text. searched pattern text } };
 
     fn make(&self, alloc: Global, pattern: &str) -> Result<RegexMatcher, PatternError> {
         match Regex::new(alloc, pattern) {

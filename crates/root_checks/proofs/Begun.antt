@@ -2,13 +2,13 @@
 use Rattle.std.proofs.Common.{◌≡◌, ◌∙◌, ◌⊎◌, ℕ, List, [], ◌∷◌, ◌++◌, Bool, true, false, Option, Some, None, Ok, Err, refl, sym, ap, subst, inl, inr, append-nil, append_assoc, arith}
 use Rattle.std.specs.List.{list_all}
 use Rattle.schema_meaning.specs.Members.{In, first, later}
-use Rattle.schema_documents.specs.Bearers.{Document}
-use Rattle.schema_documents.specs.Lookup.{lookup}
-use Rattle.schema_reading.specs.BuildCauses.{at_root}
-use Rattle.schema_reading.specs.Sites.{Site, root_site}
-use Rattle.target_laws.specs.Laws.{are_apart, contents_rise, by_reference}
-use Rattle.key_laws.proofs.Lying.{Lies}
-use Rattle.key_laws.proofs.One.{root_lies}
+use Rattle.schema_definitions.specs.Bearers.{Document}
+use Rattle.schema_definitions.specs.Lookup.{lookup}
+use Rattle.schema_definitions.specs.BuildCauses.{at_root}
+use Rattle.schema_definitions.specs.Sites.{Site, root_site}
+use Rattle.document_laws.specs.TargetLaws.{are_apart, contents_rise, by_reference}
+use Rattle.reading_laws.proofs.Lying.{Lies}
+use Rattle.reading_laws.proofs.One.{root_lies}
 use Rattle.reached_sites.specs.Filed.{Filed}
 use Rattle.reached_sites.specs.Growing.{Apart, none}
 use Rattle.reached_sites.specs.declared.visited.Visited.{Visited}

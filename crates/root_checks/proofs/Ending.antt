@@ -2,17 +2,17 @@
 use Rattle.std.proofs.Common.{◌≡◌, ◌∙◌, ◌<◌, ◌≤◌, ℕ, List, [], ◌∷◌, Bool, sym, subst, arith, length, map, slice_get}
 use Rattle.std.proofs.lemmas.List.{length-map}
 use Rattle.schema_meaning.specs.Members.{In}
-use Rattle.schema_documents.specs.Bearers.{Document}
-use Rattle.schema_reading.specs.BuildCauses.{Reached, at_root, by_keyword, IsCauseOf}
-use Rattle.schema_reading.specs.CompileKeys.{CompileKey}
-use Rattle.schema_reading.specs.Rows as rows
-use Rattle.schema_reading.specs.Rows.{Row, rows_at}
-use Rattle.schema_reading.specs.Sites.{Site}
+use Rattle.schema_definitions.specs.Bearers.{Document}
+use Rattle.schema_definitions.specs.BuildCauses.{Reached, at_root, by_keyword, IsCauseOf}
+use Rattle.schema_definitions.specs.CompileKeys.{CompileKey}
+use Rattle.schema_definitions.specs.Rows as rows
+use Rattle.schema_definitions.specs.Rows.{Row, rows_at}
+use Rattle.schema_definitions.specs.Sites.{Site}
 use Rattle.schema_patterns.specs.Tables.{texts_of_table}
 use Rattle.schema_patterns.specs.declared.table.PatternTable.{PatternTable}
 use Rattle.asked_matches.specs.Asked.{AreAmong}
-use Rattle.key_laws.specs.Keys.{IsReached, AreWithin, Exceeds, key_of_site}
-use Rattle.key_laws.proofs.Counting.{are-fewer}
+use Rattle.reading_laws.specs.Keys.{IsReached, AreWithin, Exceeds, key_of_site}
+use Rattle.reading_laws.proofs.Counting.{are-fewer}
 use Rattle.marked_nodes.specs.Leading.{LeadsTo, here, along}
 use Rattle.marked_nodes.specs.declared.graph.Edge.{Edge}
 use Rattle.referencing.specs.Resolved.{documents_in}

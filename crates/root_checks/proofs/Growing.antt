@@ -2,10 +2,10 @@
 use Rattle.std.proofs.Common.{◌≡◌, ◌⊎◌, ◌<◌, ◌+◌, ℕ, zero, suc, List, [], ◌∷◌, ◌++◌, Bool, true, false, Some, refl, sym, ap, subst, inl, inr, arith, length, slice_get}
 use Rattle.std.specs.Prelude.{if◌then◌else◌}
 use Rattle.schema_meaning.specs.Members.{In, first}
-use Rattle.schema_documents.specs.Bearers.{Document}
-use Rattle.schema_reading.specs.BuildCauses.{by_keyword}
-use Rattle.schema_reading.specs.Rows.{Row, rows_at}
-use Rattle.schema_reading.specs.Sites.{Site}
+use Rattle.schema_definitions.specs.Bearers.{Document}
+use Rattle.schema_definitions.specs.BuildCauses.{by_keyword}
+use Rattle.schema_definitions.specs.Rows.{Row, rows_at}
+use Rattle.schema_definitions.specs.Sites.{Site}
 use Rattle.schema_patterns.specs.Tables.{texts_of_table}
 use Rattle.schema_patterns.specs.declared.table.PatternTable.{PatternTable}
 use Rattle.marked_nodes.specs.declared.graph.Edge.{Edge}

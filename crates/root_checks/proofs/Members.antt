@@ -3,10 +3,10 @@ use Rattle.std.proofs.Common.{◌≡◌, ◌∙◌, ◌⊎◌, ℕ, List, [], �
 use Rattle.std.proofs.lemmas.Bool.{false≢true}
 use Rattle.serde_json.specs.Data.{Data, Members, no_members, member}
 use Rattle.schema_meaning.specs.Members.{In, is_listed}
-use Rattle.schema_reading.specs.Sites.{Site}
-use Rattle.schema_reading.specs.Rows as rows
-use Rattle.schema_reading.specs.Rows.{Row, Context, rows_of}
-use Rattle.row_laws.proofs.Rows.{wrong-leads-nowhere}
+use Rattle.schema_definitions.specs.Sites.{Site}
+use Rattle.schema_definitions.specs.Rows as rows
+use Rattle.schema_definitions.specs.Rows.{Row, Context, rows_of}
+use Rattle.reading_laws.proofs.WrongRows.{wrong-leads-nowhere}
 use Rattle.applicators.specs.Made.{is_made_by, AreMade}
 use Rattle.schema_patterns.specs.Tables.{texts_of_table}
 use Rattle.schema_patterns.specs.declared.table.PatternTable.{PatternTable}
@@ -27,7 +27,7 @@ use Rattle.reached_sites.proofs.Matching.{adds-none, adds-both}
 use Rattle.reached_sites.proofs.Putting.{in-texts}
 use Rattle.reached_sites.proofs.Walking.{own_of, context_of, row_here}
 use Rattle.reached_sites.proofs.Writing.{every_text, all-made, member-shown}
-use Rattle.walk_laws.proofs.Named.{listed_in}
+use Rattle.certificate_laws.proofs.Named.{listed_in}
 use Rattle.reached_sites.specs.declared.cause.BuildCause.{BuildCause}
 use Rattle.root_checks.specs.Memory.{wants_memory, refuses_memory}
 use Rattle.root_checks.specs.Led.{Tells, written_at, MemberLed, MembersLed}

@@ -4,11 +4,11 @@ use Rattle.serde_json.specs.Data.{Data, boolean, object, Members}
 use Rattle.serde_json.specs.Find.{as_object, as_bool}
 use Rattle.serde_json.specs.View.{view}
 use Rattle.schema_meaning.specs.Members.{In, first}
-use Rattle.schema_documents.specs.Bearers.{Document}
-use Rattle.schema_reading.specs.Rows.{Row, rows_at}
-use Rattle.schema_reading.specs.Sites.{Site}
-use Rattle.site_laws.proofs.Reading.{read_alike}
-use Rattle.site_laws.specs.Laws.{AreAlike}
+use Rattle.schema_definitions.specs.Bearers.{Document}
+use Rattle.schema_definitions.specs.Rows.{Row, rows_at}
+use Rattle.schema_definitions.specs.Sites.{Site}
+use Rattle.reading_laws.proofs.Reading.{read_alike}
+use Rattle.reading_laws.specs.SiteLaws.{AreAlike}
 use Rattle.reached_sites.specs.Led.{leads_in, causes_in}
 use Rattle.reached_sites.specs.Patterns.{written}
 use Rattle.reached_sites.specs.Visits.{site_of, Met, Matches, none}

@@ -2,16 +2,16 @@
 use Rattle.std.proofs.Common.{◌≡◌, ◌∙◌, ◌<◌, ℕ, List, [], ◌∷◌, Bool, true, false, true≢false, Option, Some, None, is_ok, refl, sym, ap, subst, length}
 use Rattle.std.specs.Bool.{Decides}
 use Rattle.std.specs.List.{All, AllZip}
-use Rattle.schema_documents.specs.Bearers.{Document}
-use Rattle.schema_documents.specs.Lookup.{Target}
+use Rattle.schema_definitions.specs.Bearers.{Document}
+use Rattle.schema_definitions.specs.Lookup.{Target}
 use Rattle.schema_meaning.specs.Members.{In, first, later}
-use Rattle.schema_reading.specs.BuildCauses.{IsCauseOf}
-use Rattle.schema_reading.specs.Rows as rows
-use Rattle.schema_reading.specs.Sites.{root_site}
+use Rattle.schema_definitions.specs.BuildCauses.{IsCauseOf}
+use Rattle.schema_definitions.specs.Rows as rows
+use Rattle.schema_definitions.specs.Sites.{root_site}
 use Rattle.schema_patterns.specs.Tables.{AreMadeBy, texts_of_table}
-use Rattle.schema_roots.specs.Roots.{Patterns, IsSound}
-use Rattle.schema_roots.specs.Matched.{HoldsPatterns}
-use Rattle.schema_roots.proofs.Found.{finds_one}
+use Rattle.schema_registries.specs.Roots.{Patterns, IsSound}
+use Rattle.schema_registries.specs.Matched.{HoldsPatterns}
+use Rattle.schema_registries.proofs.Found.{finds_one}
 use Rattle.asked_matches.specs.Asked.{AreAmong}
 use Rattle.marked_nodes.specs.Leading.{LeadsTo}
 use Rattle.marked_nodes.specs.Sources.{IsWithin}

@@ -3,14 +3,14 @@ use Rattle.std.proofs.Common.{◌≡◌, ◌∙◌, ◌⊎◌, ℕ, List, [], �
 use Rattle.std.specs.List.{list_all}
 use Rattle.serde_json.specs.View.{view}
 use Rattle.schema_meaning.specs.Members.{In}
-use Rattle.schema_documents.specs.Bearers.{Document}
-use Rattle.schema_reading.specs.Rows.{Place}
-use Rattle.schema_reading.specs.Sites.{Site}
-use Rattle.target_laws.specs.Laws.{are_apart, contents_rise}
-use Rattle.key_laws.proofs.Lying.{Lies, reached_lies}
-use Rattle.key_laws.proofs.One.{one_value}
-use Rattle.site_laws.specs.Laws.{AreAlike}
-use Rattle.site_laws.proofs.Alike.{joined}
+use Rattle.schema_definitions.specs.Bearers.{Document}
+use Rattle.schema_definitions.specs.Rows.{Place}
+use Rattle.schema_definitions.specs.Sites.{Site}
+use Rattle.document_laws.specs.TargetLaws.{are_apart, contents_rise}
+use Rattle.reading_laws.proofs.Lying.{Lies, reached_lies}
+use Rattle.reading_laws.proofs.One.{one_value}
+use Rattle.reading_laws.specs.SiteLaws.{AreAlike}
+use Rattle.reading_laws.proofs.Alike.{joined}
 use Rattle.referencing.specs.Resolved.{documents_in}
 use Rattle.reached_sites.specs.Visits.{site_of, Met, Belongs, Repeats}
 use Rattle.reached_sites.specs.declared.visit.Visit.{Visit}

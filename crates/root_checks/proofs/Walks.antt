@@ -2,12 +2,12 @@
 use Rattle.std.proofs.Common.{◌≡◌, ◌∙◌, ◌⊎◌, ◌<◌, ◌≤◌, ◌+◌, ℕ, List, [], ◌∷◌, ◌++◌, Bool, true, Option, Some, sym, ap, subst, inl, inr, arith, length, slice_get}
 use Rattle.std.specs.List.{list_all}
 use Rattle.std.proofs.lemmas.List.{length-append}
-use Rattle.schema_documents.specs.Bearers.{Document}
-use Rattle.schema_reading.specs.Sites.{Site}
+use Rattle.schema_definitions.specs.Bearers.{Document}
+use Rattle.schema_definitions.specs.Sites.{Site}
 use Rattle.schema_patterns.specs.Tables.{entries_of, texts_of_table}
 use Rattle.schema_patterns.specs.declared.table.PatternTable.{PatternTable}
 use Rattle.marked_nodes.specs.declared.graph.Edge.{Edge}
-use Rattle.target_laws.specs.Laws.{are_apart, contents_rise}
+use Rattle.document_laws.specs.TargetLaws.{are_apart, contents_rise}
 use Rattle.reached_sites.specs.Filed.{Filed}
 use Rattle.reached_sites.specs.Growing.{Apart}
 use Rattle.reached_sites.specs.Patterns.{written, IsFilled, Holds}

@@ -2,12 +2,12 @@
 use Rattle.std.specs.Prelude.{ℕ, List, [], ◌∷◌, Bool, Option}
 use Rattle.std.specs.Bool.{Decides}
 use Rattle.std.specs.List.{AllZip}
-use Rattle.schema_documents.specs.Bearers.{Document}
+use Rattle.schema_definitions.specs.Bearers.{Document}
 use Rattle.schema_meaning.specs.Members.{In}
-use Rattle.key_laws.specs.Keys.{AreWithin}
+use Rattle.reading_laws.specs.Keys.{AreWithin}
 use Rattle.schema_patterns.specs.Tables.{AreMadeBy, texts_of_table}
-use Rattle.schema_roots.specs.Roots.{Root, Patterns, IsSound}
-use Rattle.schema_roots.specs.Matched.{HoldsPatterns}
+use Rattle.schema_registries.specs.Roots.{Root, Patterns, IsSound}
+use Rattle.schema_registries.specs.Matched.{HoldsPatterns}
 use Rattle.root_checks.specs.Starts.{sites_from}
 use Rattle.root_checks.specs.declared.checking.Checked.{Checked}
 

@@ -1,10 +1,10 @@
 -- The visits that are reached from some roots, as a graph.
 use Rattle.std.specs.Prelude.{◌≡◌, ◌<◌, ℕ, List, [], ◌∷◌, Bool, Some, slice_get}
-use Rattle.schema_documents.specs.Bearers.{Document}
+use Rattle.schema_definitions.specs.Bearers.{Document}
 use Rattle.schema_meaning.specs.Members.{In}
-use Rattle.schema_reading.specs.BuildCauses.{Reached}
-use Rattle.schema_reading.specs.Rows.{BuildCause, rows_at}
-use Rattle.schema_reading.specs.Sites.{Site}
+use Rattle.schema_definitions.specs.BuildCauses.{Reached}
+use Rattle.schema_definitions.specs.Rows.{BuildCause, rows_at}
+use Rattle.schema_definitions.specs.Sites.{Site}
 use Rattle.marked_nodes.specs.declared.graph.Edge.{Edge}
 use Rattle.reached_sites.specs.Led.{leads_in, causes_in}
 use Rattle.reached_sites.specs.Visits.{Met, Belongs}

@@ -2,11 +2,11 @@
 use Rattle.std.specs.Prelude.{◌≡◌, ℕ, List, [], ◌∷◌, Bool, true, false}
 use Rattle.serde_json.specs.Data.{Data, Members}
 use Rattle.schema_drafts.specs.Counts.{counts}
-use Rattle.schema_documents.specs.Bearers.{Document}
-use Rattle.schema_documents.specs.Places.{Dialect}
+use Rattle.schema_definitions.specs.Bearers.{Document}
+use Rattle.schema_definitions.specs.Places.{Dialect}
 use Rattle.schema_meaning.specs.Members.{In}
-use Rattle.schema_reading.specs.Sites.{Site}
-use Rattle.schema_reading.specs.Rows.{BuildCause, Row, has_reference, row_at, rows_of, rows_at}
+use Rattle.schema_definitions.specs.Sites.{Site}
+use Rattle.schema_definitions.specs.Rows.{BuildCause, Row, has_reference, row_at, rows_of, rows_at}
 use Rattle.reached_sites.specs.Led.{leads_in, causes_in}
 use Rattle.reached_sites.specs.Members.{context_in}
 use Rattle.reached_sites.specs.Patterns.{written_by}

@@ -1,9 +1,9 @@
 -- Where references from a base begin.
 use Rattle.std.specs.Prelude.{◌≡◌, ℕ, List, [], ◌∷◌, ◌++◌, Option, Some, None, Result, Ok, Err}
 use Rattle.std.specs.List.{AllZip}
-use Rattle.schema_documents.specs.Bearers.{Document}
-use Rattle.schema_documents.specs.Lookup.{LookupCause, Target, lookup}
-use Rattle.schema_reading.specs.Sites.{Site, root_site}
+use Rattle.schema_definitions.specs.Bearers.{Document}
+use Rattle.schema_definitions.specs.Lookup.{LookupCause, Target, lookup}
+use Rattle.schema_definitions.specs.Sites.{Site, root_site}
 use Rattle.reached_sites.specs.Growing.{AddsOne, StandsAt}
 use Rattle.reached_sites.specs.Visits.{Met, Belongs}
 use Rattle.reached_sites.specs.declared.visit.Visit.{Visit}

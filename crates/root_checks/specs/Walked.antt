@@ -1,8 +1,8 @@
 -- What a walk from several roots leaves.
 use Rattle.std.specs.Prelude.{◌≡◌, ◌<◌, ◌≤◌, ℕ, List, Bool, Option, Some, length, slice_get}
-use Rattle.schema_documents.specs.Bearers.{Document}
+use Rattle.schema_definitions.specs.Bearers.{Document}
 use Rattle.schema_meaning.specs.Members.{In}
-use Rattle.schema_reading.specs.Sites.{Site}
+use Rattle.schema_definitions.specs.Sites.{Site}
 use Rattle.schema_patterns.specs.declared.table.PatternTable.{PatternTable}
 use Rattle.reached_sites.specs.Patterns.{written, IsFilled, Holds}
 use Rattle.reached_sites.specs.Visits.{Met}

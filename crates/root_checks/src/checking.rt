@@ -2,10 +2,9 @@
 
 ghost use Rattle.std.specs.Prelude.{◌≡◌, ◌<◌, ◌∷◌, [], ℕ, Some, true, map, length, slice_get, string_bytes, IfOk, IfErr};
 ghost use Rattle.std.specs.List.{list_all, AllZip};
-ghost use Rattle.target_laws.specs.Laws.{are_apart, contents_rise};
+ghost use Rattle.document_laws.specs.TargetLaws.{are_apart, contents_rise};
 ghost use Rattle.referencing.specs.Resolved.{base_of, documents_in};
 ghost use Rattle.referencing.specs.Seen.{documents_of};
-ghost use Rattle.schema_roots.specs.Roots.{patterns_by};
 ghost use Rattle.root_checks.specs.Causes.{RefusesEach};
 ghost use Rattle.root_checks.specs.Checks.{IsChecked};
 ghost use Rattle.root_checks.specs.Marked.{IsMarked, IsNode, AreNodes, IsClear};
@@ -15,7 +14,7 @@ use crate::graph::walk;
 use marked_nodes::{Edge, leading_to};
 use reached_sites::cause::BuildCause;
 use referencing::{Registry, Resolver};
-use schema_matches::matches::Matches;
+use schema_patterns::matches::Matches;
 use schema_patterns::{PatternMaker, PatternTable};
 use std::alloc::{AllocError, Global};
 use uri_references::uri::Uri;
@@ -68,8 +67,8 @@ fn check<'r, P: PatternMaker>(
 ) -> Result<Checked<P::Matcher>, BuildCause>
     requires apart { are_apart (documents_in resolver.now) ≡ true }
     requires rise { list_all contents_rise (documents_in resolver.now) ≡ true }
-    ensures checked { IfOk result (IsChecked P.Matcher.finds (patterns_by P.makes P.finished maker.now) (documents_in resolver.now) (base_of resolver.now) (map string_bytes references.now) limit) }
-    ensures refused { IfErr result (RefusesEach (documents_in resolver.now ∷ []) (P.makes maker.now) (sites_from (documents_in resolver.now) (base_of resolver.now) (map string_bytes references.now)) limit) }
+    ensures checked { IfOk result (IsChecked P.Matcher.finds (P.patterns maker.now) (documents_in resolver.now) (base_of resolver.now) (map string_bytes references.now) limit) }
+    ensures refused { IfErr result (RefusesEach (documents_in resolver.now ∷ []) (P.patterns maker.now).makes (sites_from (documents_in resolver.now) (base_of resolver.now) (map string_bytes references.now)) limit) }
 {
     let graph = walk(alloc, resolver, references, matches, maker, limit)?;
     let starts = graph.starts;
@@ -90,8 +89,8 @@ fn check_from<P: PatternMaker>(
 ) -> Result<Checked<P::Matcher>, BuildCause>
     requires apart { are_apart (documents_in resolver.now) ≡ true }
     requires rise { list_all contents_rise (documents_in resolver.now) ≡ true }
-    ensures checked { IfOk result (IsChecked P.Matcher.finds (patterns_by P.makes P.finished maker.now) (documents_in resolver.now) (base_of resolver.now) (map string_bytes references.now) limit) }
-    ensures refused { IfErr result (RefusesEach (documents_in resolver.now ∷ []) (P.makes maker.now) (sites_from (documents_in resolver.now) (base_of resolver.now) (map string_bytes references.now)) limit) }
+    ensures checked { IfOk result (IsChecked P.Matcher.finds (P.patterns maker.now) (documents_in resolver.now) (base_of resolver.now) (map string_bytes references.now) limit) }
+    ensures refused { IfErr result (RefusesEach (documents_in resolver.now ∷ []) (P.patterns maker.now).makes (sites_from (documents_in resolver.now) (base_of resolver.now) (map string_bytes references.now)) limit) }
 {
     let matches = Matches::none(alloc);
     check(alloc, &*resolver, references, &matches, maker, limit)
@@ -115,8 +114,8 @@ pub fn check_each<P: PatternMaker>(
     limit: usize,
 ) -> Result<Checked<P::Matcher>, BuildCause>
     requires apart { are_apart (documents_of registry.now) ≡ true }
-    ensures checked { IfOk result (IsChecked P.Matcher.finds (patterns_by P.makes P.finished maker.now) (documents_of registry.now) base.now (map string_bytes references.now) limit) }
-    ensures refused { IfErr result (RefusesEach (documents_of registry.now ∷ []) (P.makes maker.now) (sites_from (documents_of registry.now) base.now (map string_bytes references.now)) limit) }
+    ensures checked { IfOk result (IsChecked P.Matcher.finds (P.patterns maker.now) (documents_of registry.now) base.now (map string_bytes references.now) limit) }
+    ensures refused { IfErr result (RefusesEach (documents_of registry.now ∷ []) (P.patterns maker.now).makes (sites_from (documents_of registry.now) base.now (map string_bytes references.now)) limit) }
 {
     let resolver = registry.resolver(base.clone()?)?;
     registry.names_rise();

@@ -2,7 +2,7 @@
 
 ghost use Rattle.std.specs.Prelude.{◌≡◌, ◌∷◌, [], true, map, string_bytes, IfOk, IfErr};
 ghost use Rattle.std.specs.List.{list_all};
-ghost use Rattle.target_laws.specs.Laws.{are_apart, contents_rise};
+ghost use Rattle.document_laws.specs.TargetLaws.{are_apart, contents_rise};
 ghost use Rattle.referencing.specs.Resolved.{base_of, documents_in};
 ghost use Rattle.root_checks.specs.Causes.{RefusesEach};
 ghost use Rattle.root_checks.specs.Starts.{sites_from};
@@ -15,7 +15,7 @@ use marked_nodes::{Edge, note};
 use reached_sites::cause::BuildCause;
 use reached_sites::visit::Visit;
 use referencing::Resolver;
-use schema_matches::matches::Matches;
+use schema_patterns::matches::Matches;
 use schema_patterns::{PatternMaker, PatternTable};
 use std::alloc::Global;
 
@@ -46,8 +46,8 @@ pub(crate) fn walk<'r, P: PatternMaker>(
 ) -> Result<Graph<'r, P::Matcher>, BuildCause>
     requires apart { are_apart (documents_in resolver.now) ≡ true }
     requires rise { list_all contents_rise (documents_in resolver.now) ≡ true }
-    ensures walked { IfOk result (IsWalked P.Matcher.finds (P.finished maker.now) (P.makes maker.now) (documents_in resolver.now) (base_of resolver.now) (map string_bytes references.now) limit) }
-    ensures refused { IfErr result (RefusesEach (documents_in resolver.now ∷ []) (P.makes maker.now) (sites_from (documents_in resolver.now) (base_of resolver.now) (map string_bytes references.now)) limit) }
+    ensures walked { IfOk result (IsWalked P.Matcher.finds (P.patterns maker.now).finished (P.patterns maker.now).makes (documents_in resolver.now) (base_of resolver.now) (map string_bytes references.now) limit) }
+    ensures refused { IfErr result (RefusesEach (documents_in resolver.now ∷ []) (P.patterns maker.now).makes (sites_from (documents_in resolver.now) (base_of resolver.now) (map string_bytes references.now)) limit) }
 {
     let mut table = PatternTable::new(alloc);
     let mut edges = Vec::new(alloc);

@@ -4,7 +4,7 @@ ghost use Rattle.std.specs.Prelude.{◌≡◌, ◌∷◌, ◌&&◌, [], List, �
 ghost use Rattle.serde_json.specs.View.{view, members_view};
 ghost use Rattle.referencing.specs.Resolved.{documents_in};
 ghost use Rattle.schema_meaning.specs.Members.{In, is_listed};
-ghost use Rattle.schema_reading.specs.Sites as sites;
+ghost use Rattle.schema_definitions.specs.Sites as sites;
 ghost use Rattle.applicators.specs.Made.{is_made_by};
 ghost use Rattle.schema_patterns.specs.Tables.{texts_of_table};
 ghost use Rattle.reached_sites.specs.Patterns.{text_of, texts_of, written, written_members, Holds, IsFilled};
@@ -49,10 +49,10 @@ fn are_made<P: PatternMaker>(
     patterns: &[Pattern<'_>],
     table: &mut PatternTable<P::Matcher>,
 ) -> Result<bool, AllocError>
-    ensures filled { IsFilled P.Matcher.finds (P.finished maker.now) (P.makes maker.now) table.old → IsFilled P.Matcher.finds (P.finished maker.now) (P.makes maker.now) table.new }
+    ensures filled { IsFilled P.Matcher.finds (P.patterns maker.now).finished (P.patterns maker.now).makes table.old → IsFilled P.Matcher.finds (P.patterns maker.now).finished (P.patterns maker.now).makes table.new }
     ensures kept { Holds table.new (texts_of_table table.old) }
     ensures made { IfOk result (λ b. b ≡ true → Holds table.new (texts_of patterns.now)) }
-    ensures unmade { IfOk result (λ b. b ≡ false → (q : Pattern) × In q patterns.now × (is_made_by (P.makes maker.now) (text_of q) ≡ false)) }
+    ensures unmade { IfOk result (λ b. b ≡ false → (q : Pattern) × In q patterns.now × (is_made_by (P.patterns maker.now).makes (text_of q) ≡ false)) }
 {
     match add_patterns(alloc, maker, patterns, table) {
         Ok(()) => Ok(true),
@@ -77,8 +77,8 @@ fn push_member<'r, P: PatternMaker>(
     leads: &mut Vec<Visit<'r>>,
     table: &mut PatternTable<P::Matcher>,
 ) -> Result<bool, AllocError>
-    ensures led { IfOk result (λ b. IsFilled P.Matcher.finds (P.finished maker.now) (P.makes maker.now) table.old → MemberLed (documents_in visit.now.site.resolver) (P.makes maker.now) (site_of visit.now) (members_view members.now.entries) name.now (view value.now) leads.old.items leads.new.items b) }
-    ensures filled { OnOk result (IsFilled P.Matcher.finds (P.finished maker.now) (P.makes maker.now) table.old → IsFilled P.Matcher.finds (P.finished maker.now) (P.makes maker.now) table.new) }
+    ensures led { IfOk result (λ b. IsFilled P.Matcher.finds (P.patterns maker.now).finished (P.patterns maker.now).makes table.old → MemberLed (documents_in visit.now.site.resolver) (P.patterns maker.now).makes (site_of visit.now) (members_view members.now.entries) name.now (view value.now) leads.old.items leads.new.items b) }
+    ensures filled { OnOk result (IsFilled P.Matcher.finds (P.patterns maker.now).finished (P.patterns maker.now).makes table.old → IsFilled P.Matcher.finds (P.patterns maker.now).finished (P.patterns maker.now).makes table.new) }
     ensures kept { OnOk result (Holds table.new (texts_of_table table.old)) }
     ensures written { IfOk result (λ b. b ≡ true → Holds table.new (written_at (site_of visit.now).dialect (members_view members.now.entries) name.now (view value.now))) }
 {
@@ -115,8 +115,8 @@ fn led_by_members<'r, P: PatternMaker>(
     maker: &P,
     table: &mut PatternTable<P::Matcher>,
 ) -> Result<(Vec<Visit<'r>>, bool), AllocError>
-    ensures led { IfOk result (λ l. IsFilled P.Matcher.finds (P.finished maker.now) (P.makes maker.now) table.old → MembersLed (documents_in visit.now.site.resolver) (P.makes maker.now) (site_of visit.now) (members_view members.now.entries) l.0.items l.1) }
-    ensures filled { OnOk result (IsFilled P.Matcher.finds (P.finished maker.now) (P.makes maker.now) table.old → IsFilled P.Matcher.finds (P.finished maker.now) (P.makes maker.now) table.new) }
+    ensures led { IfOk result (λ l. IsFilled P.Matcher.finds (P.patterns maker.now).finished (P.patterns maker.now).makes table.old → MembersLed (documents_in visit.now.site.resolver) (P.patterns maker.now).makes (site_of visit.now) (members_view members.now.entries) l.0.items l.1) }
+    ensures filled { OnOk result (IsFilled P.Matcher.finds (P.patterns maker.now).finished (P.patterns maker.now).makes table.old → IsFilled P.Matcher.finds (P.patterns maker.now).finished (P.patterns maker.now).makes table.new) }
     ensures kept { OnOk result (Holds table.new (texts_of_table table.old)) }
     ensures written { IfOk result (λ l. l.1 ≡ true → Holds table.new (written_members (site_of visit.now).dialect (members_view members.now.entries) (members_view members.now.entries))) }
 {
@@ -143,8 +143,8 @@ pub(crate) fn led_by<'r, P: PatternMaker>(
     maker: &P,
     table: &mut PatternTable<P::Matcher>,
 ) -> Result<(Vec<Visit<'r>>, bool), AllocError>
-    ensures led { IfOk result (λ l. IsFilled P.Matcher.finds (P.finished maker.now) (P.makes maker.now) table.old → (s : sites.Site) → Met visit.now s → IsLed (documents_in visit.now.site.resolver) (P.makes maker.now) s l.0.items l.1) }
-    ensures filled { OnOk result (IsFilled P.Matcher.finds (P.finished maker.now) (P.makes maker.now) table.old → IsFilled P.Matcher.finds (P.finished maker.now) (P.makes maker.now) table.new) }
+    ensures led { IfOk result (λ l. IsFilled P.Matcher.finds (P.patterns maker.now).finished (P.patterns maker.now).makes table.old → (s : sites.Site) → Met visit.now s → IsLed (documents_in visit.now.site.resolver) (P.patterns maker.now).makes s l.0.items l.1) }
+    ensures filled { OnOk result (IsFilled P.Matcher.finds (P.patterns maker.now).finished (P.patterns maker.now).makes table.old → IsFilled P.Matcher.finds (P.patterns maker.now).finished (P.patterns maker.now).makes table.new) }
     ensures kept { OnOk result (Holds table.new (texts_of_table table.old)) }
     ensures written { IfOk result (λ l. l.1 ≡ true → (s : sites.Site) → Met visit.now s → Holds table.new (written s)) }
 {

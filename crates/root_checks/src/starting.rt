@@ -2,7 +2,7 @@
 
 ghost use Rattle.std.specs.Prelude.{◌≡◌, ◌∷◌, [], List, ℕ, Bool, true, map, string_bytes, IfOk, OnOk};
 ghost use Rattle.std.specs.List.{list_all};
-ghost use Rattle.target_laws.specs.Laws.{are_apart, contents_rise};
+ghost use Rattle.document_laws.specs.TargetLaws.{are_apart, contents_rise};
 ghost use Rattle.referencing.specs.Resolved.{base_of, documents_in};
 ghost use Rattle.reached_sites.specs.Filed.{Filed};
 ghost use Rattle.reached_sites.specs.Growing.{Apart};
@@ -13,7 +13,7 @@ use reached_sites::reaching::put;
 use reached_sites::visit::Visit;
 use reached_sites::visited::Visited;
 use referencing::{Error, Resolver};
-use schema_matches::matches::Matches;
+use schema_patterns::matches::Matches;
 use std::alloc::{AllocError, Global};
 
 /// Visits of what some references lead to, and for each reference the position of its visit, or none where it leads nowhere.

@@ -1,8 +1,7 @@
 // Lines that are given back as they came, over devices in memory.
 ghost use Rattle.std.specs.Prelude.{◌≡◌, ◌∷◌, ◌++◌, []};
 
-use line_cuts::{LineAnswers, answer_lines, first_line};
-use line_devices::{MemorySink, MemorySource};
+use line_cuts::{LineAnswers, MemorySink, MemorySource, answer_lines, first_line};
 use std::alloc::{AllocError, Global};
 use std::process::Abort;
 use std::str;

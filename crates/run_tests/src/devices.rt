@@ -1,8 +1,8 @@
 // Bytes in pieces, devices that fail, and the counts of it.
 ghost use Rattle.std.specs.Prelude.{◌≡◌, Some};
-ghost use Rattle.line_devices.specs.Devices.{most};
+ghost use Rattle.line_cuts.specs.Devices.{most};
 
-use line_devices::{ByteSink, ByteSource, MemorySink, MemorySource, OverRead, OverWrite};
+use line_cuts::{ByteSink, ByteSource, MemorySink, MemorySource, OverRead, OverWrite};
 use std::alloc::Global;
 use std::io;
 use std::io::{Cursor, ErrorKind, Read, Write};

@@ -1,5 +1,5 @@
 // Files of a map and of the system.
-use program_files::{FileError, MapFiles, SchemaFiles, SystemFiles};
+use program_inputs::{FileError, MapFiles, SchemaFiles, SystemFiles};
 use std::alloc::Global;
 use std::fs;
 

@@ -1,5 +1,5 @@
 // Runs over bytes in memory.
-use line_devices::{MemorySink, MemorySource};
+use line_cuts::{MemorySink, MemorySource};
 use std::alloc::Global;
 use std::process::Abort;
 use std::str;

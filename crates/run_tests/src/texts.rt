@@ -1,5 +1,5 @@
 // The values of lines, and the texts of errors that stand at given places.
-use line_texts::{line_value, write_faults};
+use line_runs::{line_value, write_faults};
 use schema_reports::{ErrorIterator, ValidationError, ValidationErrorKind};
 use schema_steps::Path;
 use serde_json::Value;

@@ -1,6 +1,6 @@
 // The program's statuses, and what it writes.
-use line_devices::{MemorySink, MemorySource};
-use program_files::MapFiles;
+use line_cuts::{MemorySink, MemorySource};
+use program_inputs::MapFiles;
 use std::alloc::Global;
 use std::process::Abort;
 use std::str;

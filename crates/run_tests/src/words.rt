@@ -1,6 +1,6 @@
 // The words of command lines, and the refusals of clap.
 use clap::error::ErrorKind;
-use program_words::ProgramWords;
+use program_inputs::ProgramWords;
 
 #[test]
 fn a_whole_line(rt: HostRuntime) {

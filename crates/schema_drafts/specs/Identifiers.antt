@@ -2,7 +2,7 @@
 use Rattle.std.specs.Prelude.{ℕ, List, [], ◌∷◌, ◌==◌, Bool, false, ◌&&◌, codes, if◌then◌else◌, Option, Some, None, option_and_then, is_some}
 use Rattle.serde_json.specs.Data.{Data}
 use Rattle.serde_json.specs.Find.{get, as_str}
-use Rattle.ip_literals.specs.Texts.{cut_at}
+use Rattle.uri_grammar.specs.Texts.{cut_at}
 use Rattle.schema_drafts.specs.Drafts.{ignores_siblings, identifier_name}
 use Rattle.schema_drafts.specs.declared.draft.Draft.{Draft}
 

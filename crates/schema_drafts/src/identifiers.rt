@@ -2,7 +2,7 @@
 
 ghost use Rattle.std.specs.Prelude.{◌≡◌, option_map};
 ghost use Rattle.serde_json.specs.View.{view};
-ghost use Rattle.ip_literals.specs.Texts.{cut_at};
+ghost use Rattle.uri_grammar.specs.Texts.{cut_at};
 ghost use Rattle.schema_drafts.specs.Identifiers as spec;
 
 use crate::draft::Draft;

@@ -1,7 +1,7 @@
 -- Certificates: chains of obliged steps that lead from a site at a spot to a keyword that refuses.
 use Rattle.std.specs.Prelude.{◌≡◌, ◌++◌, ℕ, List, map, Bool, false, Some}
 use Rattle.schema_meaning.specs.Members.{In, all_known}
-use Rattle.json_paths.specs.Parts.{Part}
+use Rattle.json_values.specs.Parts.{Part}
 use Rattle.schema_meaning.specs.Places.{Spot}
 use Rattle.schema_meaning.specs.Questions.{Question, asked_at}
 use Rattle.schema_meaning.specs.Rules.{Rule, asks, accepts, refuses_at, obliged}

@@ -2,7 +2,7 @@
 -- It answers on every value; where no chain of references comes back, it gives the decided answer.
 use Rattle.std.specs.Prelude.{◌≡◌, ◌*◌, ◌&&◌, ◌||◌, ◌==◌, ℕ, zero, suc, List, [], ◌∷◌, map, Bool, true, false, Option, Some, None, bytes_eq}
 use Rattle.schema_meaning.specs.Members.{In}
-use Rattle.json_paths.specs.Parts.{Part, name, index}
+use Rattle.json_values.specs.Parts.{Part, name, index}
 use Rattle.schema_meaning.specs.Places.{Spot, Key}
 use Rattle.schema_meaning.specs.Questions.{Question, asked_at}
 use Rattle.schema_meaning.specs.Rules.{Rule, asks}

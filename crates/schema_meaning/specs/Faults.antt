@@ -1,8 +1,8 @@
 -- Faults: what a refused value is told.
 use Rattle.std.specs.Prelude.{ℕ, ℤ, List, [], ◌∷◌, Bool, true, false}
 use Rattle.serde_json.specs.Data.{Data, Items}
-use Rattle.schema_values.specs.Kinds.{Primitive}
-use Rattle.json_paths.specs.Parts.{Part}
+use Rattle.json_values.specs.Kinds.{Primitive}
+use Rattle.json_values.specs.Parts.{Part}
 
 -- A fault has its kind, the value at fault, the path of the instance, the path of the schema, and the evaluation path,
 -- each path with its last part first. A kind carries the values of its keyword, `AnyOf` and its like the faults of

@@ -4,12 +4,12 @@ use Rattle.std.specs.Prelude.{ℕ, ℤ, nat_le, List, [], ◌∷◌, ◌++◌, m
 use Rattle.std.specs.List.{filter, flat_map}
 use Rattle.serde_json.specs.Data.{Data, null, boolean, number, string, array, object, Items, Members}
 use Rattle.serde_json.specs.Find.{get}
-use Rattle.schema_values.specs.Kinds.{Primitive, has_some_type}
-use Rattle.schema_values.specs.Equality.{equal, is_among, all_distinct}
-use Rattle.schema_values.specs.Numbers.{number_is, at_least, at_most, above, below, is_multiple}
-use Rattle.schema_values.specs.Texts.{code_points, count_items, count_members}
-use Rattle.schema_values.specs.Patterns.{matched}
-use Rattle.json_paths.specs.Parts.{name}
+use Rattle.json_values.specs.Kinds.{Primitive, has_some_type}
+use Rattle.json_values.specs.Equality.{equal, is_among, all_distinct}
+use Rattle.json_values.specs.Numbers.{number_is, at_least, at_most, above, below, is_multiple}
+use Rattle.json_values.specs.Texts.{code_points, count_items, count_members}
+use Rattle.json_values.specs.Patterns.{matched}
+use Rattle.json_values.specs.Parts.{name}
 use Rattle.schema_meaning.specs.Places.{stay}
 use Rattle.schema_meaning.specs.Faults.{Kind, AdditionalItems, AdditionalProperties, Constant, Enumeration, ExclusiveMaximum, ExclusiveMinimum, FalseSchema, MaxItems, Maximum, MaxLength, MaxProperties, MinItems, Minimum, MinLength, MinProperties, MultipleOf, Pattern, Required, Types, UniqueItems}
 use Rattle.schema_meaning.specs.Questions.{Question, question, at, here, each_branch, items_of, items_from, each_item, item_by_item, members_of, if_member, each_declared, each_matching, Declared, other_members, each_member, each_name, names_of, each_triggered}

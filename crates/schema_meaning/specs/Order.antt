@@ -1,7 +1,7 @@
 -- Faults that are equal but for their order, at every level: branches stand in their order, the faults within each in any.
 use Rattle.std.specs.Prelude.{List, Option, Some, None}
 use Rattle.serde_json.specs.Data.{Data}
-use Rattle.json_paths.specs.Parts.{Part}
+use Rattle.json_values.specs.Parts.{Part}
 use Rattle.schema_meaning.specs.Faults.{Fault, fault, Kind, AnyOf, OneOfMultipleValid, OneOfNotValid, PropertyNames, Faults, none, also, Branches, no_branch, branch}
 
 mutual

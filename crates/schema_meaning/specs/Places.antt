@@ -1,7 +1,7 @@
 -- Places in documents and in instances.
 use Rattle.std.specs.Prelude.{ℕ, List, [], ◌∷◌, ◌++◌, Option, Some, None}
 use Rattle.serde_json.specs.Data.{Data, string}
-use Rattle.json_paths.specs.Parts.{Part, name, index}
+use Rattle.json_values.specs.Parts.{Part, name, index}
 
 -- A place of an instance with the value there and the road that led to it, both paths with their last part first.
 -- A member's name is a place of its own: its value is the name as a text, its path is the object's.

@@ -3,9 +3,9 @@ use Rattle.std.specs.Prelude.{ℕ, zero, suc, List, [], ◌∷◌, map, Bool, fa
 use Rattle.std.specs.List.{list_any, filter, flat_map}
 use Rattle.serde_json.specs.Data.{Data, null, boolean, number, string, array, object, Items, no_items, item, Members, no_members, member}
 use Rattle.serde_json.specs.Find.{get}
-use Rattle.schema_values.specs.Patterns.{matched}
+use Rattle.json_values.specs.Patterns.{matched}
 use Rattle.schema_meaning.specs.Members.{is_listed}
-use Rattle.json_paths.specs.Parts.{Part, name, index}
+use Rattle.json_values.specs.Parts.{Part, name, index}
 use Rattle.schema_meaning.specs.Places.{Spot, Step, stay, to_item, to_member, to_name, after}
 
 -- One question: the site of the schema asked, the step to the value, what the keyword adds to the road,

@@ -2,7 +2,7 @@
 use Rattle.std.specs.Prelude.{◌≡◌, ◌<◌, ◌≤◌, ℕ, zero, suc, List, map, Bool, true, false, Option, Some, None, option_map}
 use Rattle.serde_json.specs.Data.{Data}
 use Rattle.schema_meaning.specs.Members.{In, all_true, all_known}
-use Rattle.json_paths.specs.Parts.{Part}
+use Rattle.json_values.specs.Parts.{Part}
 use Rattle.schema_meaning.specs.Places.{Spot, SchemaPlace}
 use Rattle.schema_meaning.specs.Faults.{Faults, join}
 use Rattle.schema_meaning.specs.Questions.{Question, asked_at}

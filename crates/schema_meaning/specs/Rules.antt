@@ -2,7 +2,7 @@
 use Rattle.std.specs.Prelude.{ℕ, zero, suc, ◌==◌, nat_le, nat_lt, List, [], ◌∷◌, ◌++◌, map, Bool, true, false, not, ◌&&◌, Option, Some, None, codes, if◌then◌else◌}
 use Rattle.serde_json.specs.Data.{Data}
 use Rattle.schema_meaning.specs.Members.{is_empty, all_true, some_true, count_true}
-use Rattle.json_paths.specs.Parts.{Part}
+use Rattle.json_values.specs.Parts.{Part}
 use Rattle.schema_meaning.specs.Places.{Spot}
 use Rattle.schema_meaning.specs.Faults.{Fault, fault, Kind, AnyOf, Contains, Not, OneOfMultipleValid, OneOfNotValid, PropertyNames, Faults, none, also, joined, join, is_none, Branches, branches_of}
 use Rattle.schema_meaning.specs.Questions.{Question, at, each_name}

@@ -10,7 +10,7 @@ use Rattle.std.proofs.lemmas.Slice.Eq.{bytes_eq-Decides}
 use Rattle.std.proofs.lemmas.Map.Text.{hash_map_updates_text}
 use Rattle.indexmap.specs.IndexMap.{insert_entry}
 use Rattle.indexmap.proofs.CallerLemmas.{insert_entry-new}
-use Rattle.schema_values.specs.Patterns.{literal_of, literal_or, means, known}
+use Rattle.json_values.specs.Patterns.{literal_of, literal_or, means, known}
 use Rattle.value_checks.specs.CodePatterns.{form_of}
 use Rattle.schema_patterns.specs.Compiled.{found_by, optimized}
 use Rattle.schema_patterns.specs.declared.compiled.CompiledPattern.{CompiledPattern}

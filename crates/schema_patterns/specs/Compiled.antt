@@ -1,6 +1,6 @@
 -- What a pattern that is ready to be matched finds.
 use Rattle.std.specs.Prelude.{ℕ, List, Bool, true, false, Option, Some, None}
-use Rattle.schema_values.specs.Patterns.{means}
+use Rattle.json_values.specs.Patterns.{means}
 use Rattle.value_checks.specs.CodePatterns.{form_of}
 use Rattle.value_checks.specs.declared.patterns.PatternOptimization.{PatternOptimization}
 use Rattle.schema_patterns.specs.declared.compiled.CompiledPattern.{CompiledPattern}

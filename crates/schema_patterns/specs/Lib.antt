@@ -1,4 +1,9 @@
+pub mod Makers
 pub mod Answers
 pub mod Compiled
 pub mod Scripts
 pub mod Tables
+pub mod Texts
+pub mod Read
+pub mod Forms
+pub mod LiteralLaws

@@ -1,7 +1,8 @@
 -- Scripted makers of matchers.
-use Rattle.std.specs.Prelude.{ℕ, List, Bool, Option, Some, None, if◌then◌else◌, map, bytes_eq, string_bytes}
+use Rattle.std.specs.Prelude.{ℕ, List, Bool, Option, Some, None, if◌then◌else◌, map, not, bytes_eq, string_bytes}
 use Rattle.std.specs.List.{list_any}
-use Rattle.schema_values.specs.Patterns.{reads_as}
+use Rattle.json_values.specs.Patterns.{reads_as}
+use Rattle.schema_patterns.specs.Makers.{Patterns}
 use Rattle.schema_patterns.specs.declared.bench.ScriptedMaker.{ScriptedMaker}
 use Rattle.schema_patterns.specs.declared.bench.ScriptedMatcher.{ScriptedMatcher}
 
@@ -25,3 +26,7 @@ scripted m pattern text = if list_any (λ p. bytes_eq p pattern) (unfinished_by 
 -- a matcher of a script keeps the texts that match its pattern
 abbrev pub finds_by_script : ScriptedMatcher → List ℕ → Option Bool
 finds_by_script m text = if m.is_unfinished then None else Some (list_any (λ t. bytes_eq (string_bytes t) text) m.texts.items)
+
+-- what the maker of a script makes
+abbrev pub scripted_patterns : ScriptedMaker → Patterns
+scripted_patterns m = record { makes = λ pattern. not (is_refused m pattern); finished = scripted m }

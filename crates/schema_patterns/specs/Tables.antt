@@ -1,7 +1,7 @@
 -- The patterns of a table.
 use Rattle.std.specs.Prelude.{◌≡◌, ℕ, List, [], ◌∷◌, ◌++◌, Bool, Option, Some, map, string_bytes}
 use Rattle.std.specs.HashMap.{get_by_text}
-use Rattle.schema_values.specs.Patterns.{known}
+use Rattle.json_values.specs.Patterns.{known}
 use Rattle.schema_patterns.specs.Compiled.{found_by}
 use Rattle.schema_patterns.specs.declared.compiled.CompiledPattern.{CompiledPattern}
 use Rattle.schema_patterns.specs.declared.table.PatternTable.{PatternTable}

@@ -1,9 +1,9 @@
 //! A maker that answers by a script, for tests.
 
-ghost use Rattle.std.specs.Prelude.{◌≡◌, ◌++◌, ◌∷◌, [], OnOk, OnErr, IfOk, bytes_eq, string_bytes, not};
+ghost use Rattle.std.specs.Prelude.{◌≡◌, ◌++◌, ◌∷◌, [], OnOk, OnErr, IfOk, bytes_eq, string_bytes};
 ghost use Rattle.std.specs.List.{list_any};
-ghost use Rattle.schema_values.specs.Patterns.{reads_as};
-ghost use Rattle.schema_patterns.specs.Scripts.{refused_by, unfinished_by, matches_of, is_refused, scripted, finds_by_script};
+ghost use Rattle.json_values.specs.Patterns.{reads_as};
+ghost use Rattle.schema_patterns.specs.Scripts.{refused_by, unfinished_by, matches_of, scripted_patterns, finds_by_script};
 
 use crate::matcher::{MatchAnswer, PatternError, PatternMaker, PatternMatcher};
 use std::alloc::{AllocError, Global};
@@ -107,9 +107,7 @@ fn is_among(texts: &[String], text: &str) -> bool
 impl PatternMaker for ScriptedMaker {
     type Matcher = ScriptedMatcher;
 
-    ghost makes = { λ m pattern. not (is_refused m pattern) };
-
-    ghost finished = { scripted };
+    ghost patterns = { scripted_patterns };
 
     fn make(&self, alloc: Global, pattern: &str) -> Result<ScriptedMatcher, PatternError> {
         if is_among(&self.refused, pattern) {

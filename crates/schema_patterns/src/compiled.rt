@@ -2,7 +2,7 @@
 
 ghost use Rattle.std.specs.Prelude.{◌≡◌, ◌≢◌, ℕ, List, IsTrue, IfOk, IfErr, Ok, Err, false, is_some, None, option_map};
 ghost use Rattle.value_checks.specs.CodePatterns.{form_of};
-ghost use Rattle.schema_values.specs.Patterns.{literal_of, known};
+ghost use Rattle.json_values.specs.Patterns.{literal_of, known};
 ghost use Rattle.schema_patterns.specs.Answers.{Tells};
 ghost use Rattle.schema_patterns.specs.Compiled.{found_by, is_optimized, optimized};
 ghost use Rattle.schema_patterns.specs.declared.compiled.CompiledPattern.TheVariants.{Made};
@@ -35,9 +35,9 @@ impl<M: PatternMatcher> CompiledPattern<M> {
         maker: &P,
         pattern: &str,
     ) -> Result<CompiledPattern<M>, PatternError>
-        ensures finds { IfOk result (λ c. (text : List ℕ) → found_by M.finds c text ≡ known (P.finished maker.now) pattern.now text) }
+        ensures finds { IfOk result (λ c. (text : List ℕ) → found_by M.finds c text ≡ known (P.patterns maker.now).finished pattern.now text) }
         ensures optimized { IfOk result (λ c. is_optimized c ≡ is_some (literal_of pattern.now)) }
-        ensures refused { IfErr result (λ e. e ≡ BadPattern → (literal_of pattern.now ≡ None) × (P.makes maker.now pattern.now ≡ false)) }
+        ensures refused { IfErr result (λ e. e ≡ BadPattern → (literal_of pattern.now ≡ None) × ((P.patterns maker.now).makes pattern.now ≡ false)) }
     {
         CompiledPattern::new_with(alloc, pattern, || maker.make(alloc, pattern))
     }

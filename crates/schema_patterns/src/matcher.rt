@@ -2,6 +2,7 @@
 
 ghost use Rattle.std.specs.Prelude.{◌≡◌, ℕ, List, Bool, true, false, Option, IfOk, IfErr};
 ghost use Rattle.schema_patterns.specs.Answers.{Tells};
+ghost use Rattle.schema_patterns.specs.Makers.{Patterns};
 ghost use Rattle.schema_patterns.specs.declared.matcher.PatternError.TheVariants.{BadPattern};
 
 use std::alloc::Global;
@@ -43,10 +44,8 @@ pub trait PatternMaker {
     /// What it makes.
     type Matcher: PatternMatcher;
 
-    // Which texts it makes matchers of.
-    ghost makes: { Self → List ℕ → Bool };
-    // What they find, as one relation of pattern and text.
-    ghost finished: { Self → List ℕ → List ℕ → Option Bool };
+    // Which texts it makes matchers of, and what these find, as one relation of pattern and text.
+    ghost patterns: { Self → Patterns };
 
     /// The matcher of a pattern.
     ///
@@ -54,7 +53,7 @@ pub trait PatternMaker {
     ///
     /// Where the text is refused, each time that it is asked for, or where memory was.
     fn make(&self, alloc: Global, pattern: &str) -> Result<Self::Matcher, PatternError>
-        ensures finds { IfOk result (λ m. (text : List ℕ) → Self.Matcher.finds m text ≡ finished self.now pattern.now text) }
-        ensures made { IfOk result (λ m. makes self.now pattern.now ≡ true) }
-        ensures refused { IfErr result (λ e. e ≡ BadPattern → makes self.now pattern.now ≡ false) };
+        ensures finds { IfOk result (λ m. (text : List ℕ) → Self.Matcher.finds m text ≡ (patterns self.now).finished pattern.now text) }
+        ensures made { IfOk result (λ m. (patterns self.now).makes pattern.now ≡ true) }
+        ensures refused { IfErr result (λ e. e ≡ BadPattern → (patterns self.now).makes pattern.now ≡ false) };
 }

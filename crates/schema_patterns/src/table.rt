@@ -1,7 +1,7 @@
 //! The patterns of a build, each text made once.
 
 ghost use Rattle.std.specs.Prelude.{◌≡◌, ℕ, List, [], Bool, Option, Ok, Err, IsOk, IsSome, IfSome, IfOk, IfErr, OnOk, OnErr, Some, None, false, slice_get, option_map, option_copied, length};
-ghost use Rattle.schema_values.specs.Patterns.{literal_of};
+ghost use Rattle.json_values.specs.Patterns.{literal_of};
 ghost use Rattle.schema_patterns.specs.Tables.{pattern_for, entries_of, AreMadeBy, GrowsBy};
 ghost use Rattle.schema_patterns.specs.declared.matcher.PatternError.TheVariants.{BadPattern};
 
@@ -39,11 +39,11 @@ impl<M: PatternMatcher> PatternTable<M> {
         pattern: &str,
     ) -> Result<usize, PatternError>
         ensures numbered { IfOk result (λ n. option_map (λ e. e.0) (slice_get (entries_of self.new) n) ≡ Some pattern.now) }
-        ensures made { AreMadeBy M.finds (P.finished maker.now) self.old → AreMadeBy M.finds (P.finished maker.now) self.new }
+        ensures made { AreMadeBy M.finds (P.patterns maker.now).finished self.old → AreMadeBy M.finds (P.patterns maker.now).finished self.new }
         ensures kept { IsSome (pattern_for self.old pattern.now) → IsOk result × (entries_of self.new ≡ entries_of self.old) }
         ensures grown { pattern_for self.old pattern.now ≡ None → OnOk result (GrowsBy pattern.now (entries_of self.old) (entries_of self.new)) }
         ensures unchanged { OnErr result (entries_of self.new ≡ entries_of self.old) }
-        ensures refused { IfErr result (λ e. e ≡ BadPattern → (literal_of pattern.now ≡ None) × (P.makes maker.now pattern.now ≡ false)) }
+        ensures refused { IfErr result (λ e. e ≡ BadPattern → (literal_of pattern.now ≡ None) × ((P.patterns maker.now).makes pattern.now ≡ false)) }
     {
         self.add_with(alloc, pattern, || maker.make(alloc, pattern))
     }

@@ -2,10 +2,10 @@
 use Rattle.std.proofs.Common.{◌<◌, ℕ, suc, List, [], ◌∷◌, Bool, true, false, if◌then◌else◌, Option, is_some, ap, arith}
 use Rattle.std.specs.List.{AllByRecursion}
 use Rattle.serde_json.specs.Data.{Data, null, boolean, number, string, array, object, Items, no_items, item, Members, no_members, member, depth, items_depth, members_depth}
-use Rattle.json_paths.specs.Parts.{Part, name, index}
+use Rattle.json_values.specs.Parts.{Part, name, index}
 use Rattle.schema_drafts.specs.Subschemas.{Holds, nothing, one, several, one_or_several, by_name, held_by}
-use Rattle.schema_documents.specs.Identifiers.{is_hidden}
-use Rattle.schema_documents.specs.Places.{Dialect, SchemaPlace, entered, if_schema, each_item, each_member, in_list, in_map, held, children_of, children_in, children}
+use Rattle.schema_definitions.specs.Identifiers.{is_hidden}
+use Rattle.schema_definitions.specs.Places.{Dialect, SchemaPlace, entered, if_schema, each_item, each_member, in_list, in_map, held, children_of, children_in, children}
 use Rattle.schema_places.proofs.Entered.{entered-contents}
 use Rattle.schema_places.proofs.Levels.{Falls, both}
 

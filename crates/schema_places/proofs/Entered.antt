@@ -1,9 +1,9 @@
 -- A place that is entered has the contents that are given.
 use Rattle.std.proofs.Common.{◌≡◌, ℕ, List, [], Option, refl}
 use Rattle.serde_json.specs.Data.{Data}
-use Rattle.json_paths.specs.Parts.{Part}
+use Rattle.json_values.specs.Parts.{Part}
 use Rattle.schema_drafts.specs.declared.draft.Draft.{Draft}
-use Rattle.schema_documents.specs.Places.{Dialect, standard, Named, settled, awaited, placed, entered, root_place}
+use Rattle.schema_definitions.specs.Places.{Dialect, standard, Named, settled, awaited, placed, entered, root_place}
 
 placed-contents : (outer : List ℕ) (around : Dialect) (path : List Part) (d : Data) (n : Named) → (placed outer around path d n).contents ≡ d
 placed-contents outer around path d (settled dialect) = refl

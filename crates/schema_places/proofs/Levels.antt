@@ -2,7 +2,7 @@
 use Rattle.std.proofs.Common.{◌≡◌, ◌∙◌, ◌<◌, ◌≤◌, ◌+◌, ℕ, zero, suc, List, [], ◌∷◌, ◌++◌, refl, sym, ap, subst, arith}
 use Rattle.std.specs.List.{flat_map, AllByRecursion}
 use Rattle.std.proofs.lemmas.Grind.{flat_map-append}
-use Rattle.schema_documents.specs.Words.{levels}
+use Rattle.schema_definitions.specs.Words.{levels}
 
 -- children have less height
 pub record Falls (P : Type 0) (children : P → List P) (height : P → ℕ) : Type 0 where

@@ -3,3 +3,5 @@ pub mod Queues
 pub mod Entered
 pub mod Weights
 pub mod Depths
+pub mod ListLemmas
+pub mod WalkLemmas

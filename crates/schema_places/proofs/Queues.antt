@@ -3,7 +3,7 @@ use Rattle.std.proofs.Common.{◌≡◌, ◌∙◌, ◌<◌, ◌≤◌, ◌+◌,
 use Rattle.std.specs.List.{flat_map, sum_by}
 use Rattle.std.proofs.lemmas.List.{take_more, drop_more, take_all, take-append-le, drop-append-le, flat_map_more}
 use Rattle.std.proofs.lemmas.List.Sums.{sum_by-append, sum_by-cons}
-use Rattle.schema_documents.specs.Words.{levels}
+use Rattle.schema_definitions.specs.Words.{levels}
 use Rattle.schema_places.proofs.Levels.{Falls, by_levels}
 
 -- children together have less size

@@ -1,1 +1,5 @@
 pub mod Seen
+pub mod Causes
+pub mod Held
+pub mod Walks
+pub mod Reached

@@ -1,7 +1,7 @@
 -- The schema place that the code's place is.
 use Rattle.serde_json.specs.View.{view}
-use Rattle.schema_documents.specs.Places.{SchemaPlace}
-use Rattle.schema_vocabularies.specs.Dialects.{dialect_of}
+use Rattle.schema_definitions.specs.Places.{SchemaPlace}
+use Rattle.schema_dialects.specs.Dialects.{dialect_of}
 use Rattle.schema_places.specs.declared.place.Place.{Place}
 
 abbrev pub place_of : Place → SchemaPlace

@@ -2,18 +2,18 @@
 
 ghost use Rattle.std.specs.Prelude.{◌≡◌, ◌++◌, ◌∷◌, ◌<◌, length, map, slice_index_or, IfOk, OnOk};
 ghost use Rattle.serde_json.specs.View.{view};
-ghost use Rattle.json_paths.specs.Parts as parts;
+ghost use Rattle.json_values.specs.Parts as parts;
 ghost use Rattle.schema_drafts.specs.Subschemas as tables;
-ghost use Rattle.schema_documents.specs.Places as spec;
+ghost use Rattle.schema_definitions.specs.Places as spec;
 ghost use Rattle.schema_places.specs.Seen.{place_of};
-ghost use Rattle.schema_vocabularies.specs.Dialects.{dialects_in};
+ghost use Rattle.schema_dialects.specs.Dialects.{dialects_in};
 
 use crate::place::{Place, enter, is_schema, root};
+use schema_dialects::MetaSchemas;
+use schema_dialects::identifiers::is_hidden;
 use schema_drafts::draft::Draft;
 use schema_drafts::subschemas::{Subschemas, held_by};
-use schema_identifiers::identifiers::is_hidden;
 use schema_steps::Path;
-use schema_vocabularies::MetaSchemas;
 use serde_json::Value;
 use std::alloc::{AllocError, Global};
 use std::rc::Rc;

@@ -2,6 +2,10 @@
 #![tactic(auto)]
 
 pub mod document;
+pub mod error;
 pub mod place;
+pub mod reached;
+mod walk;
+mod within;
 
-pub use schema_identifiers::identifiers::{anchor, dynamic_anchor, identifier};
+pub use schema_dialects::identifiers::{anchor, dynamic_anchor, identifier};

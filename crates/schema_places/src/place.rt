@@ -2,15 +2,15 @@
 
 ghost use Rattle.std.specs.Prelude.{◌≡◌, IfOk};
 ghost use Rattle.serde_json.specs.View.{view};
-ghost use Rattle.schema_documents.specs.Places as places;
-ghost use Rattle.schema_identifiers.specs.Seen.{place_at};
-ghost use Rattle.schema_vocabularies.specs.Dialects.{dialect_of, dialects_in};
+ghost use Rattle.schema_definitions.specs.Places as places;
+ghost use Rattle.schema_dialects.specs.Seen.{place_at};
+ghost use Rattle.schema_dialects.specs.Dialects.{dialect_of, dialects_in};
 ghost use Rattle.schema_places.specs.Seen.{place_of};
 
+use schema_dialects::bases::{Settled, settle};
+use schema_dialects::{Dialect, MetaSchemas};
 use schema_drafts::draft::Draft;
-use schema_identifiers::bases::{Settled, settle};
 use schema_steps::Path;
-use schema_vocabularies::{Dialect, MetaSchemas};
 use serde_json::Value;
 use std::alloc::{AllocError, Global};
 use std::rc::Rc;

@@ -2,8 +2,8 @@
 use Rattle.std.proofs.Common.{◌≡◌, ◌∙◌, ℕ, List, [], ◌∷◌, ◌&&◌, ◌||◌, not, bytes_eq, refl, ap}
 use Rattle.std.specs.List.{list_any}
 use Rattle.schema_drafts.specs.declared.draft.Draft.{Draft}
-use Rattle.given_documents.specs.Given.{Given, documents_by, are_given_apart}
-use Rattle.target_laws.specs.Laws.{are_apart}
+use Rattle.document_sources.specs.Given.{Given, documents_by, are_given_apart}
+use Rattle.document_laws.specs.TargetLaws.{are_apart}
 
 module _ (draft : Draft) where
   same_any : (u : List ℕ) (gs : List Given) → list_any (λ d. bytes_eq u d.uri) (documents_by draft gs) ≡ list_any (λ h. bytes_eq u h.uri) gs

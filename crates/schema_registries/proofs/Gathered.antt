@@ -4,12 +4,12 @@ use Rattle.std.specs.List.{list_any, flat_map}
 use Rattle.std.proofs.lemmas.Slice.Eq.{bytes_eq-Decides}
 use Rattle.std.proofs.lemmas.List.Folds.{list_any-append}
 use Rattle.std.proofs.lemmas.List.{map-append}
-use Rattle.schema_documents.specs.Words.{has_text}
-use Rattle.schema_documents.specs.Bearers.{Document}
-use Rattle.retrieval_rounds.specs.Rounds.{Asking, is_added, gathered, retrieved, none_twice}
+use Rattle.schema_definitions.specs.Words.{has_text}
+use Rattle.schema_definitions.specs.Bearers.{Document}
+use Rattle.schema_definitions.specs.Rounds.{Asking, is_added, gathered, retrieved, none_twice}
 use Rattle.document_retrieval.specs.Stages.{IsGathered}
 use Rattle.document_retrieval.proofs.OnceLemmas.{asked-once}
-use Rattle.target_laws.specs.Laws.{are_apart}
+use Rattle.document_laws.specs.TargetLaws.{are_apart}
 
 abbrev uris_of : List Document → List (List ℕ)
 uris_of ds = map (λ (d : Document). d.uri) ds

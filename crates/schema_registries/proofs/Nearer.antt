@@ -8,13 +8,13 @@ use Rattle.serde_json.proofs.Views.{Entry}
 use Rattle.serde_json.specs.View.{view, members_view}
 use Rattle.serde_json.specs.Data.{Data, null, boolean, number, string, array, object, Items, no_items, item, Members, no_members, member, depth, items_depth, members_depth}
 use Rattle.serde_json.specs.Find.{get_member, get_item}
-use Rattle.json_paths.specs.Parts.{Part, name, index}
-use Rattle.json_paths.specs.Pointers.{value_in, value_at}
-use Rattle.schema_values.specs.Equality.{rises_from}
-use Rattle.schema_values.proofs.Names.{get_same}
-use Rattle.schema_values.proofs.Kept.{behind_none}
-use Rattle.place_laws.proofs.Leading.{further}
-use Rattle.schema_values.specs.Rising.{are_rising}
+use Rattle.json_values.specs.Parts.{Part, name, index}
+use Rattle.json_values.specs.Pointers.{value_in, value_at}
+use Rattle.json_values.specs.Equality.{rises_from}
+use Rattle.json_values.proofs.Names.{get_same}
+use Rattle.json_values.proofs.Kept.{behind_none}
+use Rattle.document_laws.proofs.Leading.{further}
+use Rattle.json_values.specs.Rising.{are_rising}
 use Rattle.schema_registries.proofs.Trees.{rest_rises}
 use Rattle.schema_registries.specs.Whole.{only_whole, members_only_whole, IsNearer}
 

@@ -5,9 +5,9 @@ use Rattle.std.specs.Cmp.{second_so}
 use Rattle.std.specs.Cmp.Lexicographic.{slice_cmp}
 use Rattle.std.specs.Ordering.{is_lt}
 use Rattle.serde_json.specs.Data.{Members, no_members, member}
-use Rattle.schema_values.specs.Equality.{is_tree, are_member_trees, has_name, rises_from}
-use Rattle.schema_values.proofs.Kept.{behind_none}
-use Rattle.schema_values.specs.Rising.{are_rising}
+use Rattle.json_values.specs.Equality.{is_tree, are_member_trees, has_name, rises_from}
+use Rattle.json_values.proofs.Kept.{behind_none}
+use Rattle.json_values.specs.Rising.{are_rising}
 
 abbrev pub values_are_trees : Members → Bool
 values_are_trees no_members = true

@@ -3,3 +3,9 @@ pub mod Retrieval
 pub mod Seen
 pub mod Refused
 pub mod Passed
+pub mod Roots
+pub mod Answers
+pub mod Certified
+pub mod Matched
+pub mod Pointers
+pub mod ChainAnswers

@@ -6,7 +6,7 @@ use Rattle.serde_json.specs.Read.{read}
 use Rattle.uri_references.specs.Identity.{identity_of}
 use Rattle.uri_references.specs.declared.error.UriError.{UriError}
 use Rattle.uri_references.specs.declared.error.UriError.TheVariants.{Parse, Resolve}
-use Rattle.given_documents.specs.Uris.{is_document_uri}
+use Rattle.document_sources.specs.Uris.{is_document_uri}
 use Rattle.schema_registries.specs.Whole.{IsOtherNumber}
 use Rattle.schema_registries.specs.declared.error.DocumentError.{DocumentError}
 use Rattle.schema_registries.specs.declared.error.DocumentError.TheVariants.{InvalidUri, JsonText, OtherNumber, Memory}

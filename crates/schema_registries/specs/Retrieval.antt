@@ -2,12 +2,12 @@
 use Rattle.std.specs.Prelude.{◌≡◌, ◌⊎◌, ℕ, List, [], ◌∷◌, true, false, Option, Some, None}
 use Rattle.serde_json.specs.Data.{Data}
 use Rattle.schema_drafts.specs.declared.draft.Draft.{Draft}
-use Rattle.schema_documents.specs.Bearers.{Document}
-use Rattle.schema_documents.specs.DocumentCauses.{document_causes}
-use Rattle.retrieval_rounds.specs.Rounds.{Asking, wants, none_twice}
+use Rattle.schema_definitions.specs.Bearers.{Document}
+use Rattle.schema_definitions.specs.DocumentCauses.{document_causes}
+use Rattle.schema_definitions.specs.Rounds.{Asking, wants, none_twice}
 use Rattle.document_retrieval.specs.Stages.{IsGathered, AnswersNothing}
 use Rattle.document_retrieval.specs.Inherited.{inherited}
-use Rattle.given_documents.specs.Given.{Given, with_all, documents_by}
+use Rattle.document_sources.specs.Given.{Given, with_all, documents_by}
 use Rattle.schema_registries.specs.Whole.{only_whole}
 use Rattle.schema_registries.specs.declared.whole_numbers.WholeNumbers.{WholeNumbers}
 

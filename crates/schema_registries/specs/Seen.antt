@@ -2,9 +2,9 @@
 use Rattle.std.specs.Prelude.{◌≡◌, ℕ, List, true, Some, None}
 use Rattle.serde_json.specs.Data.{Data}
 use Rattle.uri_references.specs.Identity.{identity_of}
-use Rattle.schema_documents.specs.Bearers.{Document}
-use Rattle.given_documents.specs.Given.{Given, with_given}
-use Rattle.given_documents.specs.Listed.{givens_of}
+use Rattle.schema_definitions.specs.Bearers.{Document}
+use Rattle.document_sources.specs.Given.{Given, with_given}
+use Rattle.document_sources.specs.Listed.{givens_of}
 use Rattle.referencing.specs.Seen.{documents_of, retrieved_by}
 use Rattle.schema_registries.specs.Whole.{only_whole}
 use Rattle.schema_registries.specs.Refused.{text_value}

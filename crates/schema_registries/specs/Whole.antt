@@ -2,8 +2,8 @@
 use Rattle.std.specs.Prelude.{◌≡◌, List, ◌∷◌, Bool, true, false, ◌&&◌, Some, None, is_some, reverse}
 use Rattle.serde_json.specs.Data.{Num, Data, null, boolean, number, string, array, object, Items, no_items, item, Members, no_members, member}
 use Rattle.serde_json.specs.Find.{as_integer}
-use Rattle.json_paths.specs.Parts.{Part}
-use Rattle.json_paths.specs.Pointers.{value_in, value_at}
+use Rattle.json_values.specs.Parts.{Part}
+use Rattle.json_values.specs.Pointers.{value_in, value_at}
 
 abbrev mutual
   pub only_whole : Data → Bool

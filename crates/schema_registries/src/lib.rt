@@ -1,10 +1,19 @@
-//! Documents handed in, each under its URI and with whole numbers alone, and registries of them that share what they hold.
+//! Documents of whole numbers and registries of them, the JSON Pointers of their schema places, and where validation begins.
 #![tactic(auto)]
 
+pub mod chains;
 pub mod documents;
 pub mod error;
 pub mod numbers;
+pub mod place_pointers;
 pub mod registry;
 mod search;
 mod sharing;
 pub mod whole_numbers;
+
+pub use document_sources::{DefaultRetriever, MapRetriever, Retrieve};
+pub use documents::Documents;
+pub use error::DocumentError;
+pub use numbers::has_only_whole;
+pub use registry::{SchemaRegistry, SharedRegistry};
+pub use whole_numbers::WholeNumbers;

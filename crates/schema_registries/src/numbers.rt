@@ -2,7 +2,7 @@
 
 ghost use Rattle.std.specs.Prelude.{◌≡◌};
 ghost use Rattle.serde_json.specs.View.{view, items_view, members_view};
-ghost use Rattle.schema_values.specs.Equality.{is_tree, are_trees, are_member_trees};
+ghost use Rattle.json_values.specs.Equality.{is_tree, are_trees, are_member_trees};
 ghost use Rattle.schema_registries.specs.Whole.{only_whole, items_only_whole, members_only_whole};
 
 use serde_json::{Map, Value};

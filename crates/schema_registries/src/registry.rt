@@ -3,19 +3,19 @@
 ghost use Rattle.std.specs.Prelude.{◌≡◌, map, true, IfOk, IfErr, option_map};
 ghost use Rattle.document_index.specs.Seen.{document_of};
 ghost use Rattle.document_retrieval.specs.Stages.{asking};
-ghost use Rattle.given_documents.specs.Given.{documents_by};
+ghost use Rattle.document_sources.specs.Given.{documents_by};
 ghost use Rattle.referencing.specs.Prepared.{RefusesRegistry};
 ghost use Rattle.referencing.specs.Seen.{documents_of, retrieved_by};
-ghost use Rattle.target_laws.specs.Laws.{are_apart};
+ghost use Rattle.document_laws.specs.TargetLaws.{are_apart};
 ghost use Rattle.schema_registries.specs.Retrieval.{IsPrepared, beside};
 
 use crate::documents::Documents;
 use crate::sharing::{all_shared, with_shared};
 use document_index::document::Document;
 use document_retrieval::given::{listed_again, with_drafts};
-use document_retrievers::Retrieve;
+use document_sources::Retrieve;
+use document_sources::error::Error;
 use referencing::Registry;
-use referencing_errors::error::Error;
 use schema_drafts::draft::Draft;
 use std::alloc::{AllocError, Global};
 use std::rc::Rc;

@@ -2,13 +2,13 @@
 
 ghost use Rattle.std.specs.Prelude.{◌≡◌, map, IfOk};
 ghost use Rattle.document_index.specs.Seen.{document_of};
-ghost use Rattle.given_documents.specs.Given.{document_by, documents_by, with_given, with_all};
-ghost use Rattle.given_documents.specs.Listed.{givens_of};
-ghost use Rattle.given_documents.specs.Seen.{given_of};
+ghost use Rattle.document_sources.specs.Given.{document_by, documents_by, with_given, with_all};
+ghost use Rattle.document_sources.specs.Listed.{givens_of};
+ghost use Rattle.document_sources.specs.Seen.{given_of};
 
 use document_index::document::Document;
-use given_documents::document::Document as GivenDocument;
-use given_documents::list::DocumentList;
+use document_sources::document::Document as GivenDocument;
+use document_sources::list::DocumentList;
 use schema_drafts::draft::Draft;
 use std::alloc::{AllocError, Global};
 

@@ -4,8 +4,8 @@ ghost use Rattle.std.specs.Prelude.{◌≡◌};
 ghost use Rattle.schema_registries.specs.Retrieval.{may_answer_whole, may_refuse_whole};
 
 use crate::numbers::has_only_whole;
-use document_retrievers::Retrieve;
-use referencing_errors::error::RetrieveError;
+use document_sources::Retrieve;
+use document_sources::error::RetrieveError;
 use serde_json::Value;
 use std::alloc::Global;
 use uri_references::uri::Uri;

@@ -2,11 +2,11 @@
 use Rattle.std.specs.Prelude.{ℕ, ℤ, pos, unsigned_abs, List, map, codes, string_bytes}
 use Rattle.serde_json.specs.Data.{Data}
 use Rattle.serde_json.specs.View.{view}
-use Rattle.schema_values.specs.Numbers.{whole}
+use Rattle.json_values.specs.Numbers.{whole}
 use Rattle.schema_meaning.specs.Faults as told
 use Rattle.schema_meaning.specs.Questions.{items_of}
-use Rattle.schema_documents.specs.Words.{or}
-use Rattle.schema_types.specs.Named.{names_in}
+use Rattle.schema_definitions.specs.Words.{or}
+use Rattle.assertions.specs.Named.{names_in}
 use Rattle.schema_reports.specs.Instances.{value_in}
 use Rattle.schema_reports.specs.declared.kind.ValidationErrorKind.{ValidationErrorKind, Row_of-ValidationError, end_of-ValidationError, more_of-ValidationError, Row_of-ValidationErrorKind-AnyOf-0-1, end_of-ValidationErrorKind-AnyOf-0-1, more_of-ValidationErrorKind-AnyOf-0-1}
 use Rattle.schema_reports.specs.declared.kind.ValidationErrorKind.TheVariants as kind

@@ -1,6 +1,6 @@
 -- What the locations of the code stand for.
 use Rattle.std.specs.Prelude.{List, [], ◌∷◌}
-use Rattle.json_paths.specs.Parts.{Part, name, index}
+use Rattle.json_values.specs.Parts.{Part, name, index}
 use Rattle.schema_reports.specs.declared.location.LazyPart.{LazyPart}
 use Rattle.schema_reports.specs.declared.location.LazyPart.TheVariants.{Name, Index}
 use Rattle.schema_reports.specs.declared.location.LazyLocation.{LazyLocation, LazyLocation', Held-LazyLocation-above, None', Some'}

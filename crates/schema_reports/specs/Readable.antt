@@ -3,7 +3,7 @@ use Rattle.std.specs.Prelude.{ℕ, List, [], ◌∷◌, ◌==◌, Bool, true, if
 use Rattle.std.specs.Str.{is_utf8}
 use Rattle.percent_encoding.specs.Percent.{percent_decode}
 use Rattle.uri_grammar.specs.Texts.{cut_at}
-use Rattle.schema_documents.specs.Words.{or}
+use Rattle.schema_definitions.specs.Words.{or}
 
 abbrev pub reads_as_pointer : List ℕ → Bool
 reads_as_pointer [] = true

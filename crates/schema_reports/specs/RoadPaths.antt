@@ -1,7 +1,7 @@
 -- The paths of the roads to a value and its schema.
 use Rattle.std.specs.Prelude.{List, ◌++◌}
-use Rattle.json_paths.specs.Parts.{Part}
-use Rattle.schema_reading.specs.Sites.{path_of_reference}
+use Rattle.json_values.specs.Parts.{Part}
+use Rattle.schema_definitions.specs.Sites.{path_of_reference}
 use Rattle.schema_reports.specs.Locations.{location_of}
 use Rattle.schema_reports.specs.References.{text_of}
 use Rattle.schema_reports.specs.declared.roads.Roads.{Roads}

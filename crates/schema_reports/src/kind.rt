@@ -2,7 +2,7 @@
 ghost use Rattle.std.specs.Prelude.{◌≡◌, Some};
 
 use crate::error::ValidationError;
-use schema_types::TypeNames;
+use assertions::TypeNames;
 use serde_json::Value;
 use std::fmt;
 

@@ -4,6 +4,7 @@
 mod all_faults;
 mod error;
 mod first_fault;
+pub mod heard;
 mod instance;
 mod iter;
 mod kind;

@@ -1,6 +1,6 @@
 //! Paths as linked, borrowed parts.
 ghost use Rattle.std.specs.Prelude.{◌≡◌, ◌++◌, ◌∷◌, [], IfOk};
-ghost use Rattle.json_paths.specs.Parts.{name, index};
+ghost use Rattle.json_values.specs.Parts.{name, index};
 ghost use Rattle.schema_meaning.specs.Cut.{same_part, same_path};
 ghost use Rattle.schema_reports.specs.Locations.{part_of};
 

@@ -5,7 +5,7 @@ ghost use Rattle.std.specs.Str.{is_utf8};
 ghost use Rattle.percent_encoding.specs.Percent.{percent_decode};
 ghost use Rattle.uri_grammar.specs.Texts.{pieces};
 ghost use Rattle.uri_grammar.specs.Grammar.{begins_slashed};
-ghost use Rattle.schema_reading.specs.Sites as spec;
+ghost use Rattle.schema_definitions.specs.Sites as spec;
 ghost use Rattle.schema_reports.specs.Readable.{reads_as_pointer};
 
 use json_pointers::unescape_segment;

@@ -1,6 +1,6 @@
 //! Where a schema's path begins.
 ghost use Rattle.std.specs.Prelude.{◌≡◌, [], true, IfOk};
-ghost use Rattle.schema_reading.specs.Sites.{path_of_reference};
+ghost use Rattle.schema_definitions.specs.Sites.{path_of_reference};
 ghost use Rattle.schema_reports.specs.Readable.{reads_as_path};
 
 use crate::pointer_path::pointer_path;

@@ -3,7 +3,7 @@ use Rattle.std.proofs.Common.{◌≡◌, ◌∙◌, refl, sym, ap, subst, ℕ, L
 use Rattle.serde_json.specs.Data.{Data, Members}
 use Rattle.serde_json.specs.View.{members_view}
 use Rattle.schema_meaning.specs.Members.{is_listed}
-use Rattle.schema_reading.specs.Rows.{Row, BuildCause, Context, counts_here, nothing_read, readers, read_among, row_at}
+use Rattle.schema_definitions.specs.Rows.{Row, BuildCause, Context, counts_here, nothing_read, readers, read_among, row_at}
 use Rattle.applicator_reading.specs.Beside as beside
 use Rattle.applicator_reading.specs.Names.{applicator_names, valued_names}
 use Rattle.applicator_reading.specs.Reads as applying
@@ -23,7 +23,7 @@ same-cause cause row h = record { stands = h.stands; alone = h.alone }
 
 pub surrounded : (c : code.Site) (ms : Members) (n : Neighbours) (x : Context) → n.dialect ≡ c.dialect → members_view n.members.now.entries ≡ ms → Surrounds c ms x → beside.Surrounds n x
 surrounded c ms n x dialect members s = record {
-  dialect = s.stands.dialect ∙ ap (λ y. Rattle.schema_vocabularies.specs.Dialects.dialect_of y) (sym dialect);
+  dialect = s.stands.dialect ∙ ap (λ y. Rattle.schema_dialects.specs.Dialects.dialect_of y) (sym dialect);
   members = s.members ∙ sym members;
 }
 

@@ -3,11 +3,11 @@ use Rattle.std.proofs.Common.{◌≡◌, ◌∙◌, refl, sym, ap, subst, ℕ, L
 use Rattle.serde_json.specs.Data.{Data, Members}
 use Rattle.serde_json.specs.Find.{get_member}
 use Rattle.schema_drafts.specs.Counts.{counts}
-use Rattle.schema_documents.specs.Places.{Dialect}
+use Rattle.schema_definitions.specs.Places.{Dialect}
 use Rattle.schema_meaning.specs.Members.{first}
 use Rattle.referencing.specs.Resolved.{scope_of}
-use Rattle.schema_reading.specs.Rows.{Row, nothing_read, refused, keyword_value, left_out, place_at, at, bad_value, Context, counts_here, has_reference, beside, if_row, consequent_row, row_at}
-use Rattle.schema_reading.specs.Sites.{Site}
+use Rattle.schema_definitions.specs.Rows.{Row, nothing_read, refused, keyword_value, left_out, place_at, at, bad_value, Context, counts_here, has_reference, beside, if_row, consequent_row, row_at}
+use Rattle.schema_definitions.specs.Sites.{Site}
 use Rattle.schema_sites.specs.Arms.{one_items_row, one_pattern_row, properties_row}
 use Rattle.schema_sites.specs.Read.{IsRowOf, context_at, Surrounds}
 use Rattle.assertions.specs.Reads.{IsCause}

@@ -3,9 +3,9 @@ use Rattle.std.proofs.Common.{◌≡◌, ◌∙◌, refl, sym, ap, subst, ℕ, L
 use Rattle.std.proofs.lemmas.Slice.Eq.{bytes_eq-Decides}
 use Rattle.std.specs.List.{AllByRecursion}
 use Rattle.serde_json.specs.Data.{Data, Members}
-use Rattle.schema_documents.specs.Places.{Dialect}
+use Rattle.schema_definitions.specs.Places.{Dialect}
 use Rattle.schema_meaning.specs.Members.{is_listed}
-use Rattle.schema_reading.specs.Rows.{Row, Context, counts_here, nothing_read, Reader, readers, read_among, row_at}
+use Rattle.schema_definitions.specs.Rows.{Row, Context, counts_here, nothing_read, Reader, readers, read_among, row_at}
 use Rattle.assertions.specs.Names.{assertion_names}
 use Rattle.assertions.specs.Reads.{ReadsAs}
 use Rattle.assertions.specs.Reads as asserting

@@ -3,7 +3,7 @@ use Rattle.std.proofs.Common.{◌≡◌, refl, sym, ap, subst, ℕ, List, Bor, O
 use Rattle.serde_json.specs.Data.{Data}
 use Rattle.serde_json.specs.View.{view}
 use Rattle.serde_json.specs.declared.value.Value.{Value}
-use Rattle.schema_reading.specs.Rows.{Row, Context}
+use Rattle.schema_definitions.specs.Rows.{Row, Context}
 use Rattle.applicators.specs.declared.applicator.Applicator.{Applicator}
 use Rattle.applicators.specs.declared.applicator.Applicator.TheVariants as applied
 use Rattle.applicator_reading.specs.Conditions.{IsIf, IsCondition, IsConsequent}

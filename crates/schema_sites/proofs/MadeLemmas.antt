@@ -5,7 +5,7 @@ use Rattle.serde_json.specs.Data.{Data}
 use Rattle.serde_json.specs.Find.{as_str}
 use Rattle.schema_meaning.specs.Members.{In, first, later}
 use Rattle.schema_meaning.specs.Keywords.{pattern}
-use Rattle.schema_reading.specs.Rows.{Row, Context, BuildCause, bad_pattern, place_at, at, assertion, is_made, pattern_row, reads, refused}
+use Rattle.schema_definitions.specs.Rows.{Row, Context, BuildCause, bad_pattern, place_at, at, assertion, is_made, pattern_row, reads, refused}
 use Rattle.applicators.specs.Made.{is_made_by}
 use Rattle.schema_sites.specs.Read.{row_of, patterns_in, IsRowOf}
 use Rattle.schema_sites.specs.Arms.{one_pattern_row}

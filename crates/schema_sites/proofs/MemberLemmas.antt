@@ -2,12 +2,12 @@
 use Rattle.std.proofs.Common.{◌≡◌, ◌∙◌, refl, sym, ap, subst, ℕ, List, [], ◌∷◌, ◌++◌, Bool, true, false, codes, if◌then◌else◌, Some, None, Result, Ok, Err}
 use Rattle.serde_json.specs.Data.{Data, null, boolean, number, string, array, object, Members, no_members, member}
 use Rattle.serde_json.specs.Find.{as_object}
-use Rattle.json_paths.specs.Parts.{name}
-use Rattle.schema_documents.specs.Places.{is_schema}
+use Rattle.json_values.specs.Parts.{name}
+use Rattle.schema_definitions.specs.Places.{is_schema}
 use Rattle.schema_meaning.specs.Keywords.{properties}
 use Rattle.schema_meaning.specs.Members.{In, first, later}
-use Rattle.schema_reading.specs.Rows.{Row, BuildCause, keyword_value, Context, place_at, expected, and_more, named_result, each_named, row_of, reads, in_object, bad_value, sites_named}
-use Rattle.schema_reading.specs.Sites.{Site, below}
+use Rattle.schema_definitions.specs.Rows.{Row, BuildCause, keyword_value, Context, place_at, expected, and_more, named_result, each_named, row_of, reads, in_object, bad_value, sites_named}
+use Rattle.schema_definitions.specs.Sites.{Site, below}
 use Rattle.schema_sites.specs.Arms.{first_other, properties_row}
 use Rattle.schema_sites.specs.Read.{each_below}
 use Rattle.assertions.specs.Reads.{IsCause}

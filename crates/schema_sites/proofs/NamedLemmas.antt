@@ -2,7 +2,7 @@
 use Rattle.std.proofs.Common.{◌≡◌, ◌∙◌, refl, ap, ℕ, List, Bool, true, false, bytes_eq, codes, if◌then◌else◌, Option, Some, None}
 use Rattle.std.proofs.lemmas.Slice.Eq.{bytes_eq-Decides}
 use Rattle.serde_json.specs.Data.{Data}
-use Rattle.schema_reading.specs.Rows.{Context, counts_here, nothing_read, row_at}
+use Rattle.schema_definitions.specs.Rows.{Context, counts_here, nothing_read, row_at}
 use Rattle.schema_sites.specs.References.{name_of, named, reference_row}
 use Rattle.schema_sites.specs.declared.reference_keyword.ReferenceKeyword.{ReferenceKeyword}
 use Rattle.schema_sites.specs.declared.reference_keyword.ReferenceKeyword.TheVariants.{Ref, DynamicRef, RecursiveRef}

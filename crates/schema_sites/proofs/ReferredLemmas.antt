@@ -5,18 +5,18 @@ use Rattle.serde_json.specs.Data.{Data, Members}
 use Rattle.uri_grammar.specs.Grammar.{is_reference}
 use Rattle.uri_grammar.specs.Parts.{split}
 use Rattle.referencing.specs.Resolved.{base_of, scope_of}
-use Rattle.referencing_errors.specs.Causes.{IsMemory, NamesLookup, RefusesLookup}
-use Rattle.referencing_errors.specs.declared.error.Error.{Error}
-use Rattle.schema_documents.specs.Bearers.{Documents}
-use Rattle.schema_documents.specs.Identifiers.{identifier_text}
-use Rattle.schema_documents.specs.Words.{listed}
-use Rattle.schema_documents.specs.Lookup.{LookupCause, invalid_uri, Target}
-use Rattle.schema_documents.specs.Scopes.{recursive_lookup}
-use Rattle.schema_documents.specs.Places.{is_schema}
+use Rattle.document_sources.specs.Causes.{IsMemory, NamesLookup, RefusesLookup}
+use Rattle.document_sources.specs.declared.error.Error.{Error}
+use Rattle.schema_definitions.specs.Bearers.{Documents}
+use Rattle.schema_definitions.specs.Identifiers.{identifier_text}
+use Rattle.schema_definitions.specs.Words.{listed}
+use Rattle.schema_definitions.specs.Lookup.{LookupCause, invalid_uri, Target}
+use Rattle.schema_definitions.specs.Scopes.{recursive_lookup}
+use Rattle.schema_definitions.specs.Places.{is_schema}
 use Rattle.schema_meaning.specs.Keywords.{Reference, recursive, reference}
 use Rattle.schema_meaning.specs.Members.{In, first}
-use Rattle.schema_reading.specs.Rows.{Row, BuildCause, keyword_value, bad_reference, Context, place_at, at, bad_value, with_causes, target_causes, no_schema_there, is_hash, led_to, ref_row, dynamic_row, reads}
-use Rattle.schema_reading.specs.Sites.{target_site}
+use Rattle.schema_definitions.specs.Rows.{Row, BuildCause, keyword_value, bad_reference, Context, place_at, at, bad_value, with_causes, target_causes, no_schema_there, is_hash, led_to, ref_row, dynamic_row, reads}
+use Rattle.schema_definitions.specs.Sites.{target_site}
 use Rattle.schema_sites.specs.Errors.{IsRefusalOf}
 use Rattle.schema_sites.specs.Read.{Surrounds}
 use Rattle.schema_sites.specs.References.{kind_of, name_of, reference_row, looked_up, Says}

@@ -2,16 +2,16 @@
 use Rattle.std.proofs.Common.{◌≡◌, ◌∙◌, sym, ap, ℕ, List, ◌++◌}
 use Rattle.serde_json.specs.Data.{Data}
 use Rattle.serde_json.specs.View.{view}
-use Rattle.json_paths.specs.Parts.{Part}
-use Rattle.schema_documents.specs.Bearers.{Documents, meta}
-use Rattle.schema_documents.specs.Places.{Dialect, SchemaPlace, entered}
-use Rattle.schema_vocabularies.specs.Dialects.{dialect_of, dialects_in}
-use Rattle.schema_vocabularies.specs.declared.meta_schemas.MetaSchemas.{MetaSchemas}
-use Rattle.schema_identifiers.specs.Seen.{place_at}
-use Rattle.schema_identifiers.specs.declared.bases.Settled.{Settled}
-use Rattle.place_laws.proofs.Alike.{alike_tell}
+use Rattle.json_values.specs.Parts.{Part}
+use Rattle.schema_definitions.specs.Bearers.{Documents, meta}
+use Rattle.schema_definitions.specs.Places.{Dialect, SchemaPlace, entered}
+use Rattle.schema_dialects.specs.Dialects.{dialect_of, dialects_in}
+use Rattle.schema_dialects.specs.declared.meta_schemas.MetaSchemas.{MetaSchemas}
+use Rattle.schema_dialects.specs.Seen.{place_at}
+use Rattle.schema_dialects.specs.declared.bases.Settled.{Settled}
+use Rattle.document_laws.proofs.Alike.{alike_tell}
 use Rattle.referencing.specs.Resolved.{base_of}
-use Rattle.schema_reading.specs.Sites.{Site, below}
+use Rattle.schema_definitions.specs.Sites.{Site, below}
 use Rattle.schema_sites.specs.declared.site.Site as code
 use Rattle.schema_sites.specs.Seen.{Stands}
 

@@ -2,9 +2,9 @@
 use Rattle.std.specs.Prelude.{ℕ, List, codes, if◌then◌else◌, Option, Some, None}
 use Rattle.serde_json.specs.Data.{Data, Members, no_members, member}
 use Rattle.serde_json.specs.Find.{as_str}
-use Rattle.schema_documents.specs.Places.{is_schema}
+use Rattle.schema_definitions.specs.Places.{is_schema}
 use Rattle.schema_meaning.specs.Keywords.{properties}
-use Rattle.schema_reading.specs.Rows.{Row, Context, items_row, pattern_row, schema_map}
+use Rattle.schema_definitions.specs.Rows.{Row, Context, items_row, pattern_row, schema_map}
 
 abbrev pub one_items_row : Context → Data → Row
 one_items_row x d = items_row x (codes "items") d

@@ -1,7 +1,7 @@
 -- The refusal that an error of a lookup is.
 use Rattle.std.specs.Prelude.{◌≡◌}
-use Rattle.referencing_errors.specs.Causes.{IsMemory}
-use Rattle.referencing_errors.specs.declared.error.Error.{Error}
+use Rattle.document_sources.specs.Causes.{IsMemory}
+use Rattle.document_sources.specs.declared.error.Error.{Error}
 use Rattle.schema_sites.specs.declared.keyword.Refusal.{Refusal}
 use Rattle.schema_sites.specs.declared.keyword.Refusal.TheVariants.{Memory, Reference}
 

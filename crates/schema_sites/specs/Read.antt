@@ -2,15 +2,15 @@
 use Rattle.std.specs.Prelude.{◌≡◌, ℕ, List, [], ◌∷◌, Bool, true, false, codes, option_map, Ok}
 use Rattle.serde_json.specs.Data.{Data, object, Members, no_members, member}
 use Rattle.serde_json.specs.View.{view, members_view}
-use Rattle.json_paths.specs.Parts.{Part, name}
-use Rattle.schema_documents.specs.Bearers.{Documents}
+use Rattle.json_values.specs.Parts.{Part, name}
+use Rattle.schema_definitions.specs.Bearers.{Documents}
 use Rattle.schema_meaning.specs.Keywords.{Shape, pattern, items, properties, condition, reference}
-use Rattle.schema_documents.specs.Scopes.{entered_scope}
+use Rattle.schema_definitions.specs.Scopes.{entered_scope}
 use Rattle.referencing.specs.Resolved.{base_of, scope_of, documents_in, target_in}
 use Rattle.referencing.specs.declared.resolver.Resolved.{Resolved}
-use Rattle.schema_reading.specs.Sites.{Site, below, target_site}
+use Rattle.schema_definitions.specs.Sites.{Site, below, target_site}
 use Rattle.schema_meaning.specs.Members.{In}
-use Rattle.schema_reading.specs.Rows.{Row, bad_pattern, reads, at, assertion, sites_named, Context, place_at}
+use Rattle.schema_definitions.specs.Rows.{Row, bad_pattern, reads, at, assertion, sites_named, Context, place_at}
 use Rattle.assertions.specs.Shapes.{assertion_of}
 use Rattle.applicators.specs.Shapes as applied
 use Rattle.applicators.specs.Combined.{is_by_answers}

@@ -2,11 +2,11 @@
 use Rattle.std.specs.Prelude.{◌≡◌, ℕ, List, bytes_eq, codes, if◌then◌else◌, Option, Some, None, Result}
 use Rattle.serde_json.specs.Data.{Data}
 use Rattle.serde_json.specs.Find.{as_str}
-use Rattle.schema_documents.specs.Bearers.{Documents}
-use Rattle.schema_documents.specs.Lookup.{LookupCause, Target, lookup}
-use Rattle.schema_documents.specs.Scopes.{dynamic_lookup, recursive_lookup}
+use Rattle.schema_definitions.specs.Bearers.{Documents}
+use Rattle.schema_definitions.specs.Lookup.{LookupCause, Target, lookup}
+use Rattle.schema_definitions.specs.Scopes.{dynamic_lookup, recursive_lookup}
 use Rattle.schema_meaning.specs.Keywords.{Reference, static, dynamic, recursive, reference_name}
-use Rattle.schema_reading.specs.Rows.{Row, Context, ref_row, dynamic_row, recursive_row}
+use Rattle.schema_definitions.specs.Rows.{Row, Context, ref_row, dynamic_row, recursive_row}
 use Rattle.schema_sites.specs.declared.reference_keyword.ReferenceKeyword.{ReferenceKeyword}
 use Rattle.schema_sites.specs.declared.reference_keyword.ReferenceKeyword.TheVariants.{Ref, DynamicRef, RecursiveRef}
 

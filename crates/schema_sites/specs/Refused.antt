@@ -1,12 +1,12 @@
 -- When a member of a schema is refused.
 use Rattle.std.specs.Prelude.{◌≡◌, ℕ, List, [], ◌∷◌, true, codes}
 use Rattle.serde_json.specs.Data.{Data, Members}
-use Rattle.json_paths.specs.Parts.{name, index}
+use Rattle.json_values.specs.Parts.{name, index}
 use Rattle.assertions.specs.Reads.{IsCause}
-use Rattle.schema_documents.specs.Lookup.{LookupCause}
+use Rattle.schema_definitions.specs.Lookup.{LookupCause}
 use Rattle.referencing.specs.Resolved.{target_in}
-use Rattle.referencing_errors.specs.Causes.{NamesLookup}
-use Rattle.schema_reading.specs.Rows.{Row, keyword_value, left_out, bad_reference, Context, counts_here, place_at, at}
+use Rattle.document_sources.specs.Causes.{NamesLookup}
+use Rattle.schema_definitions.specs.Rows.{Row, keyword_value, left_out, bad_reference, Context, counts_here, place_at, at}
 use Rattle.schema_sites.specs.Read.{Surrounds}
 use Rattle.schema_sites.specs.declared.site.Site as code
 use Rattle.schema_sites.specs.declared.keyword.Refusal.{Refusal}

@@ -4,11 +4,11 @@ use Rattle.serde_json.specs.Data.{Data, Members}
 use Rattle.serde_json.specs.Find.{get_member}
 use Rattle.serde_json.specs.View.{view}
 use Rattle.schema_drafts.specs.Counts.{counts}
-use Rattle.schema_documents.specs.Bearers.{Documents}
-use Rattle.schema_vocabularies.specs.Dialects.{dialect_of}
+use Rattle.schema_definitions.specs.Bearers.{Documents}
+use Rattle.schema_dialects.specs.Dialects.{dialect_of}
 use Rattle.referencing.specs.Resolved.{base_of, documents_in}
-use Rattle.schema_reading.specs.Rows.{has_reference, is_draft_4}
-use Rattle.schema_reading.specs.Sites.{Site}
+use Rattle.schema_definitions.specs.Rows.{has_reference, is_draft_4}
+use Rattle.schema_definitions.specs.Sites.{Site}
 use Rattle.schema_sites.specs.declared.site.Site as code
 
 -- the documents that references there are looked up in

@@ -2,7 +2,7 @@
 
 ghost use Rattle.std.specs.Prelude.{ℕ, List, IfOk, IfErr};
 ghost use Rattle.serde_json.specs.Data.{Data};
-ghost use Rattle.schema_reading.specs.Rows as rows;
+ghost use Rattle.schema_definitions.specs.Rows as rows;
 ghost use Rattle.applicator_reading.specs.Reads.{ReadsAs, IsByAnswers};
 ghost use Rattle.schema_sites.specs.Read.{IsRowOf, Finds};
 ghost use Rattle.schema_sites.specs.Refused.{Refuses};

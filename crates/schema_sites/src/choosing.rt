@@ -5,7 +5,7 @@ ghost use Rattle.std.specs.Prelude.{◌≡◌, IfOk, IfErr, Option, codes};
 ghost use Rattle.serde_json.specs.View.{view, members_view};
 ghost use Rattle.serde_json.specs.declared.value.Value as json;
 ghost use Rattle.applicators.specs.declared.applicator.Applicator.TheVariants as applied;
-ghost use Rattle.schema_reading.specs.Rows as rows;
+ghost use Rattle.schema_definitions.specs.Rows as rows;
 ghost use Rattle.schema_sites.specs.Read.{ReadAs, Finds};
 ghost use Rattle.schema_sites.specs.Refused.{RefusedAs};
 ghost use Rattle.schema_sites.specs.declared.keyword.Keyword.TheVariants as keyword;

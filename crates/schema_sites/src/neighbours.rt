@@ -3,7 +3,7 @@
 ghost use Rattle.std.specs.Prelude.{◌≡◌, codes, Some, option_map};
 ghost use Rattle.serde_json.specs.Find.{get_member};
 ghost use Rattle.serde_json.specs.View.{view, members_view};
-ghost use Rattle.schema_reading.specs.Rows as rows;
+ghost use Rattle.schema_definitions.specs.Rows as rows;
 ghost use Rattle.schema_sites.specs.Seen.{beside_at};
 
 use crate::site::Site;

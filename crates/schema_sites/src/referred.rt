@@ -2,11 +2,11 @@
 
 ghost use Rattle.std.specs.Prelude.{◌≡◌, ◌⊎◌, ◌∷◌, [], List, ℕ, IfOk, IfErr, OnOk, Ok};
 ghost use Rattle.serde_json.specs.Data.{Data};
-ghost use Rattle.schema_documents.specs.Lookup.{invalid_uri as no_reference};
-ghost use Rattle.schema_documents.specs.Scopes.{entered_scope};
+ghost use Rattle.schema_definitions.specs.Lookup.{invalid_uri as no_reference};
+ghost use Rattle.schema_definitions.specs.Scopes.{entered_scope};
 ghost use Rattle.referencing.specs.Resolved.{target_in, base_of, scope_of, documents_in};
-ghost use Rattle.referencing_errors.specs.Causes.{IsMemory, NamesLookup, RefusesLookup};
-ghost use Rattle.schema_reading.specs.Rows as rows;
+ghost use Rattle.document_sources.specs.Causes.{IsMemory, NamesLookup, RefusesLookup};
+ghost use Rattle.schema_definitions.specs.Rows as rows;
 ghost use Rattle.schema_sites.specs.Read.{IsRowOf, Finds, FindsTarget};
 ghost use Rattle.schema_sites.specs.References as references;
 ghost use Rattle.schema_sites.specs.declared.site.Site as code;
@@ -14,9 +14,9 @@ ghost use Rattle.schema_sites.specs.Refused.{Refuses};
 
 use crate::keyword::{Keyword, Refusal};
 use crate::reference_keyword::ReferenceKeyword;
+use document_sources::named::invalid_uri;
 use referencing::{Error, Resolved, Resolver};
-use referencing_errors::named::invalid_uri;
-use schema_identifiers::identifiers::identifier_text;
+use schema_dialects::identifiers::identifier_text;
 use schema_places::place::is_schema;
 use std::alloc::Global;
 use uri_grammar::grammar::is_uri_reference;

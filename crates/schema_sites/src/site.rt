@@ -2,17 +2,17 @@
 
 ghost use Rattle.std.specs.Prelude.{◌≡◌, ◌∷◌, [], ℕ, List, IfOk};
 ghost use Rattle.serde_json.specs.View.{view};
-ghost use Rattle.json_paths.specs.Parts.{Part};
-ghost use Rattle.schema_documents.specs.Scopes.{entered_scope};
+ghost use Rattle.json_values.specs.Parts.{Part};
+ghost use Rattle.schema_definitions.specs.Scopes.{entered_scope};
 ghost use Rattle.referencing.specs.Resolved.{base_of, scope_of, documents_in, target_in};
-ghost use Rattle.schema_reading.specs.Sites as sites;
+ghost use Rattle.schema_definitions.specs.Sites as sites;
 ghost use Rattle.schema_sites.specs.Seen.{documents_at, Stands, counts_at, is_draft_4_at};
 
 use referencing::{Resolved, Resolver};
+use schema_dialects::Dialect;
+use schema_dialects::bases::settle;
 use schema_drafts::draft::Draft;
-use schema_identifiers::bases::settle;
-use schema_matches::matches::Matches;
-use schema_vocabularies::Dialect;
+use schema_patterns::matches::Matches;
 use serde_json::Value;
 use std::alloc::{AllocError, Global};
 

@@ -4,7 +4,7 @@ use Rattle.std.specs.Cmp.Lexicographic.{pointwise}
 use Rattle.std.proofs.lemmas.Bool.{false≢true}
 use Rattle.std.proofs.lemmas.Bool.Decides.{Decides-eqb}
 use Rattle.std.proofs.lemmas.Slice.Eq.{slice_eq-Decides}
-use Rattle.json_paths.specs.Parts.{Part, name, index}
+use Rattle.json_values.specs.Parts.{Part, name, index}
 use Rattle.schema_steps.specs.Parts.{part_eq}
 
 -- a test through a function, at lists

@@ -2,8 +2,8 @@
 use Rattle.std.proofs.Common.{◌≡◌, List, [], ◌∷◌, ◌++◌, map, reverse, Option, Some, None, option_and_then, refl, sym, ap, ◌∙◌, append_assoc, append-nil, subst}
 use Rattle.std.proofs.lemmas.List.{reverse-append}
 use Rattle.serde_json.specs.Data.{Data}
-use Rattle.json_paths.specs.Parts.{Part}
-use Rattle.json_paths.specs.Pointers.{part_text, pointer_text, value_in, value_at, PartFits, PathFits}
+use Rattle.json_values.specs.Parts.{Part}
+use Rattle.json_values.specs.Pointers.{part_text, pointer_text, value_in, value_at, PartFits, PathFits}
 use Rattle.schema_steps.specs.Steps.{step_part}
 use Rattle.schema_steps.specs.declared.step.Step.{Step}
 

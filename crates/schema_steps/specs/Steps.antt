@@ -1,6 +1,6 @@
 -- What the steps of the code stand for.
 use Rattle.std.specs.Rc.{rc_str_bytes}
-use Rattle.json_paths.specs.Parts.{Part, name, index}
+use Rattle.json_values.specs.Parts.{Part, name, index}
 use Rattle.schema_steps.specs.declared.step.Step.{Step}
 use Rattle.schema_steps.specs.declared.step.Step.TheVariants.{Name, Item}
 

@@ -2,8 +2,8 @@
 ghost use Rattle.std.specs.Prelude.{◌≡◌, ◌==◌, [], ◌∷◌, ◌++◌, ◌<◌, ◌≤◌, ◌+◌, length, map, string_bytes, string_len, OnOk, OnErr, IfOk, option_map, reverse};
 ghost use Rattle.std.specs.String.{string_capacity};
 ghost use Rattle.serde_json.specs.View.{view};
-ghost use Rattle.json_paths.specs.Parts.{name, index};
-ghost use Rattle.json_paths.specs.Pointers as spec;
+ghost use Rattle.json_values.specs.Parts.{name, index};
+ghost use Rattle.json_values.specs.Pointers as spec;
 ghost use Rattle.json_pointers.specs.Buffers.{Grows};
 ghost use Rattle.schema_steps.specs.Steps.{step_part};
 
@@ -22,7 +22,7 @@ pub struct Path {
 
 impl Model for Path {
     ghost use Rattle.std.specs.Prelude.{List, map};
-    ghost use Rattle.json_paths.specs.Parts.{Part};
+    ghost use Rattle.json_values.specs.Parts.{Part};
 
     ghost Value = { List Part };
 

@@ -2,7 +2,7 @@
 ghost use Rattle.std.specs.Prelude.{◌≡◌, ◌++◌, ◌<◌, ◌≤◌, ◌+◌, length, string_bytes, string_len, OnOk, OnErr, option_map};
 ghost use Rattle.std.specs.String.{string_capacity};
 ghost use Rattle.serde_json.specs.View.{view};
-ghost use Rattle.json_paths.specs.Pointers as spec;
+ghost use Rattle.json_values.specs.Pointers as spec;
 
 use json_pointers::{write_escaped_str, write_index};
 use serde_json::Value;

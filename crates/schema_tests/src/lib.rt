@@ -4,11 +4,19 @@
 #[cfg(test)]
 mod drafts;
 #[cfg(test)]
+mod keywords;
+#[cfg(test)]
+mod makers;
+#[cfg(test)]
+mod read;
+#[cfg(test)]
 mod reports;
 #[cfg(test)]
 mod retrievers;
 #[cfg(test)]
 mod rows;
+#[cfg(test)]
+mod tables;
 #[cfg(test)]
 mod values;
 #[cfg(test)]

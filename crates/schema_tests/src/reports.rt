@@ -1,11 +1,11 @@
 // Paths, references, and what each observer hears.
 use crate::rows::assert_text;
+use assertions::read;
 use schema_reports::{
     AllFaults, ErrorIterator, FirstFault, LazyLocation, Observation, Observer, Reference, Roads,
     ValidationError, ValidationErrorKind, Verdict,
 };
 use schema_steps::Path;
-use schema_types::read;
 use serde_json::Value;
 use std::alloc::Global;
 use std::process::Abort;

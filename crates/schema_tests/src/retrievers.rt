@@ -1,6 +1,6 @@
 // Documents that are given, and others, which are refused.
 use crate::rows::assert_text;
-use document_retrievers::{DefaultRetriever, MapRetriever, Retrieve};
+use document_sources::{DefaultRetriever, MapRetriever, Retrieve};
 use serde_json::Value;
 use std::alloc::Global;
 use std::process::Abort;

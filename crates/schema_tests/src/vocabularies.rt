@@ -1,9 +1,7 @@
 // Vocabularies by their URIs, sets of them, and keywords with and without their vocabulary.
 use crate::rows::{assert_answer, assert_text};
+use schema_dialects::{Dialect, MetaSchemas, Vocabulary, VocabularySet, counts, find_vocabularies};
 use schema_drafts::draft::Draft;
-use schema_vocabularies::{
-    Dialect, MetaSchemas, Vocabulary, VocabularySet, counts, find_vocabularies,
-};
 use serde_json::Value;
 use std::alloc::Global;
 use std::process::Abort;

@@ -1,10 +1,10 @@
 // The schema places of documents: the pointer of each, its base, its draft, and what it awaits.
 use crate::rows::assert_text;
+use schema_dialects::{Dialect, MetaSchemas};
 use schema_drafts::draft::Draft;
 use schema_places::document::places;
 use schema_places::place::{Place, enter, is_schema, root};
 use schema_steps::Path;
-use schema_vocabularies::{Dialect, MetaSchemas};
 use serde_json::Value;
 use std::alloc::Global;
 use std::process::Abort;

@@ -1,6 +1,6 @@
 // Documents handed in, refused and prepared. Normal forms of URIs are those of RFC 3986, section 6.2.2.
 use crate::rows::assert_text;
-use document_retrievers::{DefaultRetriever, MapRetriever, Retrieve};
+use document_sources::{DefaultRetriever, MapRetriever, Retrieve};
 use schema_drafts::draft::Draft;
 use schema_registries::documents::Documents;
 use schema_registries::numbers::has_only_whole;

@@ -1,10 +1,10 @@
 // What pointers lead to from the root of a document: the pointer of the value, its base, its draft, and whether it is a schema place.
 use crate::places::{entered, uri_of};
 use crate::rows::assert_text;
-use reference_walks::reached::{Reached, follow_pointer};
+use schema_dialects::MetaSchemas;
 use schema_drafts::draft::Draft;
 use schema_places::place::{Place, root};
-use schema_vocabularies::MetaSchemas;
+use schema_places::reached::{Reached, follow_pointer};
 use serde_json::Value;
 use std::alloc::Global;
 use std::process::Abort;

@@ -8,11 +8,11 @@ use Rattle.uri_grammar.specs.Texts.{cut_at, cut_at_last, has, all_or_none, is_di
 use Rattle.uri_grammar.specs.Parts.{before, behind}
 use Rattle.uri_grammar.specs.Addresses.{is_unreserved, is_sub_delim, is_ip_literal, is_ipv4_address, is_closed}
 use Rattle.uri_grammar.specs.Grammar.{AuthorityParts, authority_parts, written_authority, is_authority_of, is_userinfo, is_host, is_reg_name, is_port, port_of, port_in, userinfo_of}
-use Rattle.ip_literals.proofs.Halves.{cut_behind, cut_none, cut_whole}
+use Rattle.uri_grammar.proofs.Halves.{cut_behind, cut_none, cut_whole}
 use Rattle.uri_grammar.proofs.Lasts.{last_view, last_behind}
-use Rattle.ip_literals.proofs.Bytes.{has_append, all_lacks}
+use Rattle.uri_grammar.proofs.Bytes.{has_append, all_lacks}
 use Rattle.uri_grammar.proofs.Lacks.{host_lacks, port_lacks, port_whole, encoded_lacks}
-use Rattle.ip_literals.proofs.Lacks.{outside_at, ipv4_lacks}
+use Rattle.uri_grammar.proofs.AddressLacks.{outside_at, ipv4_lacks}
 
 last_none : (c : ℕ) (bs : List ℕ) → has c bs ≡ false → cut_at_last c bs ≡ (bs, None)
 last_none c bs h = ap (λ t. if t then (before_last (λ x. x == c) bs, Some (after_last (λ x. x == c) bs)) else (bs, None)) h

@@ -7,10 +7,10 @@ use Rattle.uri_grammar.specs.Texts.{cut_at, has, is_empty, is_none, all_or_none}
 use Rattle.uri_grammar.specs.Parts.{Parts, split, recompose, before, behind, scheme_of, authority_of, authority_in, after_slashes, from_slash}
 use Rattle.uri_grammar.specs.Grammar.{stands_behind, lacks_colon, is_scheme, is_authority, is_path, is_query, is_fragment, is_placed, is_reference, is_pchar}
 use Rattle.uri_grammar.proofs.Cuts.{scheme_named}
-use Rattle.ip_literals.proofs.Halves.{cut_on, cut_behind, cut_none, cut_whole}
-use Rattle.ip_literals.proofs.Bytes.{has_append}
+use Rattle.uri_grammar.proofs.Halves.{cut_on, cut_behind, cut_none, cut_whole}
+use Rattle.uri_grammar.proofs.Bytes.{has_append}
 use Rattle.uri_grammar.proofs.Lacks.{scheme_lacks, authority_lacks, encoded_lacks}
-use Rattle.ip_literals.proofs.Lacks.{outside_hash, outside_slash, outside_question}
+use Rattle.uri_grammar.proofs.AddressLacks.{outside_hash, outside_slash, outside_question}
 
 -- a cut behind what lacks c
 cut_past : (c : ℕ) (xs ys : List ℕ) → has c xs ≡ false → cut_at c (xs ++ ys) ≡ (xs ++ (cut_at c ys).0, (cut_at c ys).1)

@@ -6,9 +6,9 @@ use Rattle.std.proofs.lemmas.List.{append-nil}
 use Rattle.uri_grammar.specs.Texts.{cut_at, cut_at_last, all_or_none, has, is_digit, is_hex, is_letter}
 use Rattle.uri_grammar.specs.Parts.{behind}
 use Rattle.uri_grammar.specs.Addresses.{is_unreserved, is_sub_delim, is_ip_literal, is_ipv4_address}
-use Rattle.ip_literals.proofs.Bytes.{has_append, other, all_lacks}
-use Rattle.ip_literals.proofs.Halves.{cut_whole}
-use Rattle.ip_literals.proofs.Lacks.{Outside, ipv4_lacks, literal_lacks}
+use Rattle.uri_grammar.proofs.Bytes.{has_append, other, all_lacks}
+use Rattle.uri_grammar.proofs.Halves.{cut_whole}
+use Rattle.uri_grammar.proofs.AddressLacks.{Outside, ipv4_lacks, literal_lacks}
 use Rattle.uri_grammar.proofs.Lasts.{last_view}
 use Rattle.uri_grammar.specs.Grammar.{is_encoded, fits, due_after, is_host, is_reg_name, is_userinfo, is_port, port_of, port_in, userinfo_of, is_authority, is_scheme, is_scheme_byte}
 

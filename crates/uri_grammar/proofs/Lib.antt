@@ -1,3 +1,10 @@
+pub mod Bytes
+pub mod Halves
+pub mod Groups
+pub mod Forms
+pub mod Bracketed
+pub mod AddressLacks
+pub mod AddressExamples
 pub mod Cuts
 pub mod Lasts
 pub mod Whole
@@ -5,4 +12,3 @@ pub mod Lacks
 pub mod Back
 pub mod Authorities
 pub mod Examples
-pub mod Passed

@@ -5,7 +5,7 @@ use Rattle.std.proofs.lemmas.Bool.{eqb-true, and_parts}
 use Rattle.uri_grammar.specs.Texts.{cut_at, has, is_empty, is_none}
 use Rattle.uri_grammar.specs.Parts.{split, recompose, before, behind, scheme_of, authority_of, authority_in, after_slashes, from_slash}
 use Rattle.uri_grammar.specs.Grammar.{stands_behind, begins_slashed}
-use Rattle.ip_literals.proofs.Halves.{cut_whole}
+use Rattle.uri_grammar.proofs.Halves.{cut_whole}
 
 scheme_whole : (p : List ℕ × Option (List ℕ)) (text : List ℕ) → p.0 ++ behind (58 ∷ []) p.1 ≡ text → before (scheme_of p text).0 (codes ":") ++ (scheme_of p text).1 ≡ text
 scheme_whole (front, None) text e = refl

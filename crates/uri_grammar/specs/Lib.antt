@@ -1,6 +1,7 @@
 pub mod Texts
-pub mod Parts
 pub mod Addresses
+pub mod Groups
+pub mod Parts
 pub mod Grammar
 pub mod Classes
 pub mod Lent

@@ -1,7 +1,7 @@
 -- The five components of a URI reference (RFC 3986, section 3), how any text is cut into them (appendix B), and how they are written (section 5.3).
 use Rattle.std.specs.Prelude.{ℕ, List, [], ◌∷◌, ◌++◌, ◌==◌, ◌&&◌, ◌||◌, if◌then◌else◌, Option, Some, None, codes}
 use Rattle.uri_grammar.specs.Texts.{cut_at, is_empty, has}
-pub use Rattle.ip_literals.specs.Texts.{behind}
+pub use Rattle.uri_grammar.specs.Texts.{behind}
 
 pub record Parts : Type 0 where
   pub scheme : Option (List ℕ)

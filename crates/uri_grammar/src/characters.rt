@@ -4,7 +4,7 @@ ghost use Rattle.std.specs.Prelude.{◌≡◌};
 ghost use Rattle.uri_grammar.specs.Grammar as spec;
 ghost use Rattle.uri_grammar.specs.Classes.{allows};
 
-pub use ip_literals::characters::{is_digit, is_hex, is_letter, is_sub_delim, is_unreserved};
+pub use crate::character_classes::{is_digit, is_hex, is_letter, is_sub_delim, is_unreserved};
 
 /// A character of a path's segment (section 3.3), a percent triplet apart.
 pub fn is_pchar(byte: u8) -> bool

@@ -7,9 +7,9 @@ ghost use Rattle.uri_grammar.specs.Grammar as spec;
 ghost use Rattle.uri_grammar.specs.Parts.{split};
 ghost use Rattle.uri_grammar.specs.Lent.{parts_of, authority_parts_of};
 
+use crate::addresses::{is_ip_literal, is_ipv4_address};
 use crate::characters::{Class, is_digit, is_encoded, is_letter};
 use crate::components::{Components, after_slashes, split_at_slash, split_reference};
-use ip_literals::addresses::{is_ip_literal, is_ipv4_address};
 
 /// A character of a scheme behind the first.
 fn is_scheme_byte(byte: u8) -> bool

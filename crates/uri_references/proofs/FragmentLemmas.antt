@@ -1,11 +1,11 @@
 -- A fragment set, or cut off, and the other components.
 use Rattle.std.proofs.Common.{◌≡◌, ◌∙◌, List, ℕ, true, ap, refl, subst, append-nil, Option, None}
 use Rattle.std.specs.Prelude.{not}
-use Rattle.uri_resolution.specs.Passed.{cut_at, all_or_none, is_none}
-use Rattle.uri_resolution.specs.Passed.{Parts, split, scheme_of, authority_of}
-use Rattle.uri_resolution.specs.Passed.{is_reference, is_uri, is_fragment}
-use Rattle.uri_resolution.proofs.Passed.{cut_behind, cut_lacks}
-use Rattle.uri_resolution.proofs.Bools.{and_left, and_right, and_both}
+use Rattle.uri_references.specs.Passed.{cut_at, all_or_none, is_none}
+use Rattle.uri_references.specs.Passed.{Parts, split, scheme_of, authority_of}
+use Rattle.uri_references.specs.Passed.{is_reference, is_uri, is_fragment}
+use Rattle.uri_references.proofs.Passed.{cut_behind, cut_lacks}
+use Rattle.uri_references.proofs.Bools.{and_left, and_right, and_both}
 use Rattle.uri_references.specs.Fragments.{fragment_of, without_fragment, with_fragment}
 
 from_cut : List ℕ × Option (List ℕ) → Parts

@@ -1,14 +1,14 @@
 -- The URIs by which documents are known.
 use Rattle.std.proofs.Common.{◌≡◌, List, [], ◌∷◌, ℕ, ap, sym, refl, Bool, true, false, Option, Some, None, if◌then◌else◌}
 use Rattle.std.specs.Prelude.{not}
-use Rattle.uri_resolution.specs.Passed.{is_none, all_or_none}
-use Rattle.uri_resolution.specs.Passed.{Parts, split, recompose}
-use Rattle.uri_resolution.specs.Passed.{is_reference, is_uri, is_fragment}
-use Rattle.uri_resolution.specs.Resolution.{resolve}
-use Rattle.uri_resolution.specs.NormalForm.{normal_text}
-use Rattle.uri_resolution.proofs.Bools.{and_left, and_right, and_both}
-use Rattle.uri_resolution.proofs.ResolveLemmas.{resolve-valid}
-use Rattle.uri_resolution.proofs.NormalLemmas.{normal-valid}
+use Rattle.uri_references.specs.Passed.{is_none, all_or_none}
+use Rattle.uri_references.specs.Passed.{Parts, split, recompose}
+use Rattle.uri_references.specs.Passed.{is_reference, is_uri, is_fragment}
+use Rattle.uri_references.specs.Resolution.{resolve}
+use Rattle.uri_references.specs.NormalForm.{normal_text}
+use Rattle.uri_references.proofs.Bools.{and_left, and_right, and_both}
+use Rattle.uri_references.proofs.ResolveLemmas.{resolve-valid}
+use Rattle.uri_references.proofs.NormalLemmas.{normal-valid}
 use Rattle.uri_references.specs.Identity.{without_empty, identity, default_base, absolute}
 use Rattle.uri_references.proofs.FragmentLemmas.{fragment-valid}
 use Rattle.uri_references.proofs.TextLemmas.{back-uri, recompose-uri, normal-parts-again}

@@ -1,15 +1,15 @@
 -- Resolved and normalised texts are URIs; a second normal form changes nothing.
 use Rattle.std.proofs.Common.{◌≡◌, ◌∙◌, List, ℕ, ap, sym, refl, true, not, Bool, false, if◌then◌else◌}
-use Rattle.uri_resolution.specs.Passed.{is_none}
-use Rattle.uri_resolution.specs.Passed.{Parts, split, recompose}
-use Rattle.uri_resolution.specs.Passed.{is_reference, is_uri}
-use Rattle.uri_resolution.proofs.Passed.{back}
-use Rattle.uri_resolution.specs.Resolution.{resolve, guarded, target_path, target_query, resolved_text}
-use Rattle.uri_resolution.specs.Dots.{remove_dots}
-use Rattle.uri_resolution.specs.NormalForm.{normal, normal_text}
-use Rattle.uri_resolution.proofs.Bools.{and_left}
-use Rattle.uri_resolution.proofs.ResolveLemmas.{resolve-valid}
-use Rattle.uri_resolution.proofs.NormalLemmas.{normal-valid, normal-again}
+use Rattle.uri_references.specs.Passed.{is_none}
+use Rattle.uri_references.specs.Passed.{Parts, split, recompose}
+use Rattle.uri_references.specs.Passed.{is_reference, is_uri}
+use Rattle.uri_references.proofs.Passed.{back}
+use Rattle.uri_references.specs.Resolution.{resolve, guarded, target_path, target_query, resolved_text}
+use Rattle.uri_references.specs.Dots.{remove_dots}
+use Rattle.uri_references.specs.NormalForm.{normal, normal_text}
+use Rattle.uri_references.proofs.Bools.{and_left}
+use Rattle.uri_references.proofs.ResolveLemmas.{resolve-valid}
+use Rattle.uri_references.proofs.NormalLemmas.{normal-valid, normal-again}
 use Rattle.uri_references.specs.Fragments.{fragment_of}
 use Rattle.uri_references.proofs.FragmentLemmas.{split-fragment}
 

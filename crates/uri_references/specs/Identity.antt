@@ -1,9 +1,9 @@
 -- The URIs by which documents are known: in normal form, where an empty fragment equals none.
 use Rattle.std.specs.Prelude.{ℕ, List, [], ◌∷◌, Option, Some, None, if◌then◌else◌, codes}
-use Rattle.uri_resolution.specs.Passed.{is_none}
-use Rattle.uri_resolution.specs.Passed.{Parts, split, recompose}
-use Rattle.uri_resolution.specs.Resolution.{resolve}
-use Rattle.uri_resolution.specs.NormalForm.{normal}
+use Rattle.uri_references.specs.Passed.{is_none}
+use Rattle.uri_references.specs.Passed.{Parts, split, recompose}
+use Rattle.uri_references.specs.Resolution.{resolve}
+use Rattle.uri_references.specs.NormalForm.{normal}
 
 abbrev pub without_empty : Option (List ℕ) → Option (List ℕ)
 without_empty None = None

@@ -1,6 +1,9 @@
+pub mod Dots
+pub mod Resolution
+pub mod NormalForm
+pub mod Passed
 pub mod Fragments
 pub mod Identity
 pub mod Lent
 pub mod Refusals
 pub mod Owned
-pub mod Passed

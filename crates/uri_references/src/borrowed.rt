@@ -1,17 +1,17 @@
 //! URI references that borrow their text.
 
 ghost use Rattle.std.specs.Prelude.{◌≡◌, IsTrue};
-ghost use Rattle.uri_resolution.specs.Passed.{split};
-ghost use Rattle.uri_resolution.specs.Passed.{is_reference};
+ghost use Rattle.uri_references.specs.Passed.{split};
+ghost use Rattle.uri_references.specs.Passed.{is_reference};
 
 use crate::error::Error;
 use crate::fragment::{has_fragment, is_fragment_or_none, with_fragment};
+use crate::normal::normalize;
 use crate::owned::Uri;
 use crate::refusal::refusal;
+use crate::resolution::resolve;
+use crate::{Components, is_uri_reference, split_fragment, split_reference};
 use std::alloc::{AllocError, Global};
-use uri_resolution::normal::normalize;
-use uri_resolution::resolution::resolve;
-use uri_resolution::{Components, is_uri_reference, split_fragment, split_reference};
 
 /// A URI or a relative reference (RFC 3986, section 4.1), as part of a text.
 #[derive(Clone, Copy)]
@@ -22,11 +22,11 @@ pub struct UriRef<'a> {
 
 impl<'a> UriRef<'a> {
     ghost use Rattle.std.specs.Prelude.{IfOk, IfErr, OnOk, option_map, unwrap_or, is_some, not, [], string_bytes};
-    ghost use Rattle.uri_resolution.specs.Passed.{is_none, all_or_none};
-    ghost use Rattle.uri_resolution.specs.Passed.{is_fragment};
-    ghost use Rattle.uri_resolution.specs.Passed.{parts_of};
-    ghost use Rattle.uri_resolution.specs.Resolution.{resolved_text};
-    ghost use Rattle.uri_resolution.specs.NormalForm.{normal_text};
+    ghost use Rattle.uri_references.specs.Passed.{is_none, all_or_none};
+    ghost use Rattle.uri_references.specs.Passed.{is_fragment};
+    ghost use Rattle.uri_references.specs.Passed.{parts_of};
+    ghost use Rattle.uri_references.specs.Resolution.{resolved_text};
+    ghost use Rattle.uri_references.specs.NormalForm.{normal_text};
     ghost use Rattle.uri_references.specs.Lent.{text_of};
     ghost use Rattle.uri_references.specs.Fragments as fragments;
     ghost use Rattle.uri_references.specs.Fragments.{fragment_of, without_fragment};

@@ -1,14 +1,14 @@
 //! Fragments of texts (RFC 3986, section 3.5).
 
 ghost use Rattle.std.specs.Prelude.{◌≡◌, ◌++◌, IfOk, OnOk, option_map, is_some, string_bytes, codes};
-ghost use Rattle.uri_resolution.specs.Passed.{behind};
-ghost use Rattle.uri_resolution.specs.Passed.{all_or_none};
-ghost use Rattle.uri_resolution.specs.Passed as grammar;
+ghost use Rattle.uri_references.specs.Passed.{behind};
+ghost use Rattle.uri_references.specs.Passed.{all_or_none};
+ghost use Rattle.uri_references.specs.Passed as grammar;
 ghost use Rattle.uri_references.specs.Fragments as spec;
 ghost use Rattle.uri_references.specs.Fragments.{fragment_of};
 
+use crate::{is_fragment, split_fragment};
 use std::alloc::{AllocError, Global};
-use uri_resolution::{is_fragment, split_fragment};
 
 /// Whether a text has a fragment.
 pub fn has_fragment(text: &str) -> bool

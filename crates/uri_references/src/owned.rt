@@ -3,11 +3,11 @@
 use crate::borrowed::UriRef;
 use crate::error::Error;
 use crate::fragment::{has_fragment, is_fragment_or_none, with_fragment};
+use crate::normal::normalize;
 use crate::refusal::refusal;
+use crate::{is_uri, split_reference};
 use std::alloc::{AllocError, Global};
 use std::marker::Model;
-use uri_resolution::normal::normalize;
-use uri_resolution::{is_uri, split_reference};
 
 /// A URI (RFC 3986, section 3).
 #[derive(Drop)]
@@ -19,8 +19,8 @@ pub struct Uri {
 impl Model for Uri {
     ghost use Rattle.std.specs.Prelude.{ℕ, List, IsTrue, string_bytes};
     ghost use Rattle.std.specs.Coded.{codes};
-    ghost use Rattle.uri_resolution.specs.Passed.{split};
-    ghost use Rattle.uri_resolution.specs.Passed.{is_uri};
+    ghost use Rattle.uri_references.specs.Passed.{split};
+    ghost use Rattle.uri_references.specs.Passed.{is_uri};
 
     ghost Value = { List ℕ };
 
@@ -33,12 +33,12 @@ impl Model for Uri {
 
 impl Uri {
     ghost use Rattle.std.specs.Prelude.{◌≡◌, IsTrue, IfOk, IfErr, OnOk, OnErr, option_map, unwrap_or, is_some, [], string_bytes};
-    ghost use Rattle.uri_resolution.specs.Passed.{all_or_none};
-    ghost use Rattle.uri_resolution.specs.Passed.{split};
-    ghost use Rattle.uri_resolution.specs.Passed as grammar;
-    ghost use Rattle.uri_resolution.specs.Passed.{is_fragment};
-    ghost use Rattle.uri_resolution.specs.Resolution.{resolved_text};
-    ghost use Rattle.uri_resolution.specs.NormalForm.{normal_text};
+    ghost use Rattle.uri_references.specs.Passed.{all_or_none};
+    ghost use Rattle.uri_references.specs.Passed.{split};
+    ghost use Rattle.uri_references.specs.Passed as grammar;
+    ghost use Rattle.uri_references.specs.Passed.{is_fragment};
+    ghost use Rattle.uri_references.specs.Resolution.{resolved_text};
+    ghost use Rattle.uri_references.specs.NormalForm.{normal_text};
     ghost use Rattle.uri_references.specs.Lent.{text_of};
     ghost use Rattle.uri_references.specs.Fragments as fragments;
     ghost use Rattle.uri_references.specs.Fragments.{fragment_of, without_fragment};

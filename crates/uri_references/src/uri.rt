@@ -1,21 +1,21 @@
 //! URIs and URI references, and the URIs by which documents are known: in normal form, where an empty fragment equals none.
 
 ghost use Rattle.std.specs.Prelude.{◌≡◌, IsTrue, IfOk, IfErr, OnOk, option_map, string_bytes};
-ghost use Rattle.uri_resolution.specs.Passed.{split, recompose};
-ghost use Rattle.uri_resolution.specs.Passed.{is_reference, is_uri};
-ghost use Rattle.uri_resolution.specs.Passed.{parts_of};
-ghost use Rattle.uri_resolution.specs.NormalForm.{normal_text};
+ghost use Rattle.uri_references.specs.Passed.{split, recompose};
+ghost use Rattle.uri_references.specs.Passed.{is_reference, is_uri};
+ghost use Rattle.uri_references.specs.Passed.{parts_of};
+ghost use Rattle.uri_references.specs.NormalForm.{normal_text};
 ghost use Rattle.uri_references.specs.Identity as spec;
 ghost use Rattle.uri_references.specs.Refusals.{Refuses};
 
 pub use crate::borrowed::UriRef;
 use crate::error::Error;
+use crate::normal::normalize;
 pub use crate::owned::Uri;
 use crate::refusal::refusal;
+use crate::resolution::resolve;
+use crate::{Components, is_uri_reference, split_reference};
 use std::alloc::{AllocError, Global};
-use uri_resolution::normal::normalize;
-use uri_resolution::resolution::resolve;
-use uri_resolution::{Components, is_uri_reference, split_reference};
 
 /// The base of a text without a scheme.
 const DEFAULT_BASE: &str = "json-schema:///";

@@ -1,8 +1,8 @@
 -- Files added in their turn.
 use Rattle.std.proofs.Common.{◌<◌, ◌≤◌, ℕ, suc, List, [], ◌∷◌, sym, refl, subst, map, drop, length, drop-cons, drop_of_length-le}
 use Rattle.std.specs.List.{slice_index_or}
-use Rattle.given_documents.specs.Given.{Given}
-use Rattle.program_files.specs.Held.{Held}
+use Rattle.document_sources.specs.Given.{Given}
+use Rattle.program_inputs.specs.Held.{Held}
 use Rattle.validator_program.specs.Given.{AddsFile, AddsFiles, Pair, pair_of}
 use Rattle.validator_program.specs.declared.documents.Further.{Further}
 

@@ -2,7 +2,7 @@
 use Rattle.std.proofs.Common.{◌≡◌, ◌∙◌, ℕ, List, Option, ap}
 use Rattle.serde_json.specs.Data.{Data}
 use Rattle.schema_drafts.specs.declared.draft.Draft.{Draft}
-use Rattle.given_documents.specs.Given.{Given}
+use Rattle.document_sources.specs.Given.{Given}
 use Rattle.line_runs.specs.Passed.{Patterns}
 use Rattle.line_runs.specs.Passed.{root_in, root_of}
 use Rattle.line_runs.specs.Passed.{asking_by, meta_schemas_given, documents_alone}

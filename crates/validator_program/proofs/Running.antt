@@ -2,8 +2,8 @@
 use Rattle.std.proofs.Common.{ℕ, List, Option, codes, option_map, if◌then◌else◌, refl, subst}
 use Rattle.clap.specs.Words.{Row, first_of}
 use Rattle.clap.specs.Walk.{texts}
-use Rattle.program_words.specs.Read.{HasWordsOf}
-use Rattle.program_words.specs.declared.words.ProgramWords.{ProgramWords}
+use Rattle.program_inputs.specs.Read.{HasWordsOf}
+use Rattle.program_inputs.specs.declared.words.ProgramWords.{ProgramWords}
 use Rattle.regex_patterns.specs.Matchers.{finds_by_regex}
 use Rattle.regex_patterns.specs.declared.RegexMatcher.{RegexMatcher}
 use Rattle.line_cuts.specs.Runs.{RunsThrough, Stops}
@@ -12,7 +12,7 @@ use Rattle.line_cuts.specs.declared.report.RunError.{RunError}
 use Rattle.line_runs.specs.Runs.{IsLineText}
 use Rattle.line_runs.specs.Passed.{root_in, IsMadeBy}
 use Rattle.line_runs.specs.Passed.{Root, Patterns}
-use Rattle.program_files.specs.Held.{Held}
+use Rattle.program_inputs.specs.Held.{Held}
 use Rattle.line_runs.specs.Passed.{Validator}
 use Rattle.validator_program.specs.Given.{IsBuiltOf}
 use Rattle.validator_program.specs.Answered.{patterns_of_regex, IsNamed, AnswersAll, StopsEarly}

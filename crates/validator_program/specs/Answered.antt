@@ -7,7 +7,7 @@ use Rattle.line_cuts.specs.declared.report.RunError.{RunError}
 use Rattle.line_runs.specs.Runs.{IsLineText}
 use Rattle.regex_patterns.specs.Searches.{is_regex, searched}
 use Rattle.line_runs.specs.Passed.{Root, Patterns}
-use Rattle.program_files.specs.Held.{Held}
+use Rattle.program_inputs.specs.Held.{Held}
 use Rattle.validator_program.specs.Given.{IsBuiltOf}
 
 -- the patterns of schemas are those that `regex` reads

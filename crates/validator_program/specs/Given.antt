@@ -10,14 +10,14 @@ use Rattle.schema_drafts.specs.Drafts.{newest, detected, draft_among}
 use Rattle.schema_drafts.specs.Identifiers.{identifier}
 use Rattle.schema_drafts.specs.declared.draft.Draft.{Draft}
 use Rattle.schema_drafts.specs.declared.draft.Draft.TheVariants.{Draft4, Draft6, Draft7, Draft201909, Draft202012}
-use Rattle.given_documents.specs.Given.{Given, with_given}
+use Rattle.document_sources.specs.Given.{Given, with_given}
 use Rattle.schema_registries.specs.Refused.{text_value}
 use Rattle.schema_registries.specs.Seen.{AddsText, given_under}
 use Rattle.schema_registries.specs.Whole.{only_whole}
 use Rattle.line_runs.specs.Passed.{Root}
 use Rattle.line_runs.specs.Passed.{root_of}
 use Rattle.line_runs.specs.Passed.{documents_alone}
-use Rattle.program_files.specs.Held.{Held, Unknown, Missing, Holds}
+use Rattle.program_inputs.specs.Held.{Held, Unknown, Missing, Holds}
 use Rattle.validator_program.specs.declared.documents.Further.{Further}
 
 -- what a file holds may be this text

@@ -8,7 +8,7 @@ ghost use Rattle.validator_program.specs.Given.{AddsFile, AddsFiles, AreCut, May
 
 use crate::fault::ProgramFault;
 use line_runs::{Documents, RunError};
-use program_files::{FileError, SchemaFiles};
+use program_inputs::{FileError, SchemaFiles};
 use std::alloc::Global;
 use std::str;
 

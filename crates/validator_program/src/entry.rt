@@ -3,16 +3,15 @@
 ghost use Rattle.std.specs.Prelude.{◌≡◌, ◌≤◌, ◌⊎◌, IfOk, IfErr, if◌then◌else◌};
 ghost use Rattle.clap.specs.Words.{matches_of};
 ghost use Rattle.clap.specs.Walk.{texts};
-ghost use Rattle.program_words.specs.Program.{program_app};
+ghost use Rattle.program_inputs.specs.Program.{program_app};
 ghost use Rattle.validator_program.specs.Answered.{AnswersAll, StopsEarly};
 ghost use Rattle.validator_program.specs.Status.{status_of};
 
 use crate::fault::ProgramFault;
 use crate::preparing::prepare;
-use line_devices::{ByteSink, ByteSource};
+use line_cuts::{ByteSink, ByteSource};
 use line_runs::{RunError, RunReport, run};
-use program_files::SchemaFiles;
-use program_words::ProgramWords;
+use program_inputs::{ProgramWords, SchemaFiles};
 use std::alloc::Global;
 use std::env;
 use std::io::ErrorKind;

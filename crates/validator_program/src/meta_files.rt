@@ -10,7 +10,7 @@ ghost use Rattle.validator_program.specs.Given.{AddsOwn, AreMetaSchemas};
 use crate::documents::read_file;
 use crate::fault::ProgramFault;
 use line_runs::{Documents, Draft, RunError};
-use program_files::SchemaFiles;
+use program_inputs::SchemaFiles;
 use serde_json::Value;
 use serde_json::error::Category;
 use std::alloc::Global;

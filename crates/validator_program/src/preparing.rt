@@ -14,8 +14,7 @@ use crate::documents::{cut_words, read_documents};
 use crate::fault::ProgramFault;
 use crate::meta_files::read_meta_schemas;
 use line_runs::{Documents, Draft, ValidationOptions, Validator};
-use program_files::SchemaFiles;
-use program_words::ProgramWords;
+use program_inputs::{ProgramWords, SchemaFiles};
 use std::alloc::{AllocError, Global};
 use uri_references::uri::{Uri, from_str};
 

@@ -83,9 +83,7 @@ struct CountingMaker<'c> {
 impl PatternMaker for CountingMaker<'_> {
     type Matcher = RegexMatcher;
 
-    ghost makes = { λ _ pattern. is_regex pattern };
-
-    ghost finished = { λ _ pattern text. searched pattern text };
+    ghost patterns = { λ _. record { makes = λ pattern. is_regex pattern; finished = λ pattern text. searched pattern text } };
 
     fn make(&self, alloc: Global, pattern: &str) -> Result<RegexMatcher, PatternError> {
         self.asked.set(self.asked.get().wrapping_add(1));

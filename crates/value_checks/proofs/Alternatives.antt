@@ -1,6 +1,6 @@
 -- Words read one by one.
 use Rattle.std.proofs.Common.{◌≡◌, ℕ, length, ◌<◌, ◌≤◌, List, [], ◌∷◌, ◌++◌, map, Option, Some, None, option_map, option_and_then, refl, sym, ap, ◌∙◌, append_assoc, append-nil, arith}
-use Rattle.schema_values.specs.Patterns.{word, words, if_several}
+use Rattle.json_values.specs.Patterns.{word, words, if_several}
 
 then_more : (o : Option (List (List ℕ))) (done : List (List ℕ)) (w : List ℕ) → option_map (λ ls. done ++ ls) (option_map (λ ls. w ∷ ls) o) ≡ option_map (λ ls. (done ++ w ∷ []) ++ ls) o
 then_more None done w = refl

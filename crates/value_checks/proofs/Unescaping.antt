@@ -3,8 +3,8 @@ use borrow.Author.Tests.{eqb-true}
 use Rattle.std.proofs.Common.{◌≡◌, ℕ, length, ◌<◌, List, [], ◌∷◌, ◌++◌, Bool, true, false, ◌==◌, Option, Some, None, option_map, option_and_then, refl, sym, ap, ◌∙◌, append_assoc, append-nil, arith}
 use Rattle.std.proofs.lemmas.Bool.Decides.{nat_tests}
 use Rattle.std.specs.Prelude.{if◌then◌else◌}
-use Rattle.schema_values.specs.Patterns.{is_plain, is_escapable, unescaped, if_any, word}
-use Rattle.schema_values.proofs.Marks.{plain_first}
+use Rattle.json_values.specs.Patterns.{is_plain, is_escapable, unescaped, if_any, word}
+use Rattle.json_values.proofs.Marks.{plain_first}
 
 -- what is left of a text, behind a backslash or not
 unfoldable pub rest_of : Bool → List ℕ → Option (List ℕ)

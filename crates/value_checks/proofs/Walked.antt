@@ -14,10 +14,10 @@ use Rattle.serde_json.specs.Data.{Data, Items, no_items, item, Members, no_membe
 use Rattle.serde_json.specs.Events.{items_len, members_len}
 use Rattle.serde_json.specs.Find.{get_member}
 use Rattle.serde_json.specs.View.{members_view}
-use Rattle.schema_values.specs.Equality.{equal, equal_items, equal_members, names_in, has_name, found_and, rises_from}
-use Rattle.schema_values.specs.Rising.{are_rising}
-use Rattle.schema_values.proofs.Names.{both, get_same, get_greater}
-use Rattle.schema_values.proofs.Kept.{first_rise, rises_before, members_less, names_less, first_names}
+use Rattle.json_values.specs.Equality.{equal, equal_items, equal_members, names_in, has_name, found_and, rises_from}
+use Rattle.json_values.specs.Rising.{are_rising}
+use Rattle.json_values.proofs.Names.{both, get_same, get_greater}
+use Rattle.json_values.proofs.Kept.{first_rise, rises_before, members_less, names_less, first_names}
 
 -- lists of other lengths
 pub other_lengths : (ds es : Items) → (items_len ds ≡ items_len es → ⊥) → equal_items ds es ≡ false

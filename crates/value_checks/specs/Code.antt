@@ -1,5 +1,5 @@
 -- What the types of the code stand for.
-use Rattle.schema_values.specs.Kinds.{Primitive, null_type, boolean_type, object_type, array_type, number_type, string_type, integer_type}
+use Rattle.json_values.specs.Kinds.{Primitive, null_type, boolean_type, object_type, array_type, number_type, string_type, integer_type}
 use Rattle.value_checks.specs.declared.json_types.JsonType.{JsonType}
 use Rattle.value_checks.specs.declared.json_types.JsonType.TheVariants.{Null, Boolean, Object, Array, Number, String, Integer}
 

@@ -1,6 +1,6 @@
 -- What the code's patterns stand for.
 use Rattle.std.specs.Prelude.{map, string_bytes}
-use Rattle.schema_values.specs.Patterns.{Literal, prefix, exact, one_of, no_white_space}
+use Rattle.json_values.specs.Patterns.{Literal, prefix, exact, one_of, no_white_space}
 use Rattle.value_checks.specs.declared.patterns.PatternOptimization.{PatternOptimization}
 use Rattle.value_checks.specs.declared.patterns.PatternOptimization.TheVariants.{Prefix, Exact, Alternation, NoWhitespace}
 

@@ -1,2 +1,5 @@
 pub mod Code
 pub mod CodePatterns
+pub mod Order
+pub mod Laws
+pub mod Sorts

@@ -1,6 +1,6 @@
 //! Equality of values.
 ghost use Rattle.std.specs.Prelude.{◌≡◌, ◌&&◌};
-ghost use Rattle.schema_values.specs.Equality.{equal as are_equal, equal_items as are_items_equal, equal_members as are_members_found, names_in, same_whole as are_same_whole};
+ghost use Rattle.json_values.specs.Equality.{equal as are_equal, equal_items as are_items_equal, equal_members as are_members_found, names_in, same_whole as are_same_whole};
 ghost use Rattle.serde_json.specs.Find.{as_integer};
 ghost use Rattle.serde_json.specs.View.{view, number_view, items_view, members_view};
 

@@ -1,6 +1,6 @@
 //! The types of JSON values.
 ghost use Rattle.std.specs.Prelude.{◌≡◌, ◌≢◌, IfSome, IfNone};
-ghost use Rattle.schema_values.specs.Kinds.{type_name, has_type as is_of_type};
+ghost use Rattle.json_values.specs.Kinds.{type_name, has_type as is_of_type};
 ghost use Rattle.value_checks.specs.Code.{primitive_of};
 ghost use Rattle.serde_json.specs.View.{view};
 

@@ -1,6 +1,6 @@
 //! Whole numbers.
 ghost use Rattle.std.specs.Prelude.{◌≡◌, ◌<◌, ℕ};
-ghost use Rattle.schema_values.specs.Numbers.{whole as whole_of, is_multiple as is_whole_multiple};
+ghost use Rattle.json_values.specs.Numbers.{whole as whole_of, is_multiple as is_whole_multiple};
 ghost use Rattle.serde_json.specs.View.{view};
 
 use serde_json::Value;

@@ -1,6 +1,6 @@
 //! Patterns with a plain meaning.
 ghost use Rattle.std.specs.Prelude.{◌≡◌, IfOk, option_map, string_bytes, bytes_eq, map};
-ghost use Rattle.schema_values.specs.Patterns.{means, literal_of, closed_of, before, behind, word, words, if_several, is_plain as is_plain_character, is_escapable as is_escapable_character};
+ghost use Rattle.json_values.specs.Patterns.{means, literal_of, closed_of, before, behind, word, words, if_several, is_plain as is_plain_character, is_escapable as is_escapable_character};
 ghost use Rattle.std.specs.List.{slice_split, list_any};
 ghost use Rattle.std.specs.Prelude.{◌==◌, option_and_then};
 ghost use Rattle.value_checks.specs.CodePatterns.{form_of};

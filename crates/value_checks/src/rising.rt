@@ -1,7 +1,7 @@
 //! Values as they are kept: in each object the names stand in the order of their bytes, each once. These functions have no result.
 ghost use Rattle.std.specs.Prelude.{◌≡◌, true};
 ghost use Rattle.serde_json.specs.View.{view, items_view, members_view};
-ghost use Rattle.schema_values.specs.Rising.{rises, items_rise as do_items_rise, members_rise as do_members_rise, are_rising};
+ghost use Rattle.json_values.specs.Rising.{rises, items_rise as do_items_rise, members_rise as do_members_rise, are_rising};
 
 use serde_json::{Map, Value};
 

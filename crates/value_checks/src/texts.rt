@@ -1,6 +1,6 @@
 //! Texts by their code points.
 ghost use Rattle.std.specs.Prelude.{◌≡◌};
-ghost use Rattle.schema_values.specs.Texts.{code_points as count_of, is_ecma_space as is_space, has_no_space as lacks_space};
+ghost use Rattle.json_values.specs.Texts.{code_points as count_of, is_ecma_space as is_space, has_no_space as lacks_space};
 
 /// The length of a text in Unicode code points (Validation 6.3.1). It reads the whole text.
 pub fn code_points(text: &str) -> usize

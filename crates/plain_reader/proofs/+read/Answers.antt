@@ -1,14 +1,14 @@
 use Rattle.std.proofs.Common.{rules, string_bytes, arith, None, ◌≡◌, ◌<◌, ℕ, List, [], ◌∷◌, ◌++◌, true, false, refl, sym, ap, ap₂, ◌∙◌, subst, ◌+◌, length, Bor, drop, add-one, codes}
 use Rattle.serde_json.specs.Data.{member, object, array, string, no_items, boolean}
 use Rattle.serde_json.specs.View.{view, members_view, items_view}
-use Rattle.json_paths.specs.Parts.{Part, name}
+use Rattle.json_values.specs.Parts.{Part, name}
 use Rattle.schema_meaning.specs.Cut.{is_in_progress}
-use Rattle.schema_documents.specs.Scopes.{entered_scope}
-use Rattle.schema_reading.specs.Sites.{path_of_reference}
+use Rattle.schema_definitions.specs.Scopes.{entered_scope}
+use Rattle.schema_definitions.specs.Sites.{path_of_reference}
 use Rattle.schema_sites.specs.Passed.{base_of, scope_of, target_in}
 use Rattle.schema_sites.specs.References.{kind_of, name_of}
 use Rattle.schema_sites.specs.Seen.{documents_at}
-use Rattle.schema_matches.specs.Read.{reads}
+use Rattle.schema_patterns.specs.Read.{reads}
 use Rattle.schema_reports.specs.RoadPaths.{instance_in, evaluation_in}
 use Rattle.plain_reader.specs.Spots.{spots_of}
 use Rattle.plain_reader.specs.Keys.{key, keys_in}
@@ -26,12 +26,12 @@ use Rattle.std.proofs.lemmas.List.{drop_more, drop_all}
 use Rattle.serde_json.proofs.Views.{view-Array, view-Object}
 use Rattle.serde_json.specs.declared.value.Value.{Value, the_lemmas}
 use Rattle.serde_json.specs.declared.value.Value.TheVariants as json
-use Rattle.schema_reading.specs.AllKeys.{spots_in, spots_of_items}
+use Rattle.schema_definitions.specs.AllKeys.{spots_in, spots_of_items}
 use Rattle.plain_reader.proofs.ItemTelling.{Child, Where, child_falls, child_shallow, item_within, member_within, drop-items, no_items_told, items_init, items_settled, items_step, items_done, item_asked, member_asked, property_told, declared_init, declared_settled, declared_absent, none_declared, declared_step, declared_done}
-use Rattle.schema_values.specs.Rising.{are_rising}
-use Rattle.schema_values.specs.Equality.{rises_from}
+use Rattle.json_values.specs.Rising.{are_rising}
+use Rattle.json_values.specs.Equality.{rises_from}
 use Rattle.serde_json.specs.Find.{get, get_member}
-use Rattle.schema_values.proofs.Walked.{entries_rise}
+use Rattle.json_values.proofs.Walked.{entries_rise}
 use Rattle.member_walks.specs.Left.{left_in}
 use Rattle.member_walks.specs.Found.{AreFound}
 use Rattle.member_walks.proofs.Found.{all_found, still_found, rest_rises}

@@ -2,12 +2,12 @@ use Rattle.std.proofs.Common.{[], ◌≡◌, true, ◌≤◌, ◌+◌, ◌*◌, 
 use Rattle.serde_json.specs.View.{view, items_view, members_view}
 use Rattle.schema_sites.specs.Seen.{documents_at}
 use Rattle.plain_reader.specs.Spots.{spots_of}
-use Rattle.schema_reading.specs.AllKeys.{spots_in}
+use Rattle.schema_definitions.specs.AllKeys.{spots_in}
 use Rattle.schema_reports.specs.RoadPaths.{instance_in}
 use Rattle.plain_reader.specs.Keys.{keys_in}
 use Rattle.plain_reader.specs.Tellings.{room}
 use Rattle.plain_reader.proofs.Left.{MembersLeft, ItemsLeft, QuestionsLeft, NamedLeft, DeclaredLeft, CountLeft, BranchesLeft}
-use Rattle.schema_values.specs.Rising.{are_rising}
+use Rattle.json_values.specs.Rising.{are_rising}
 use Rattle.member_walks.specs.Left.{left_in}
 use Rattle.member_walks.specs.Found.{AreFound}
 use Rattle.plain_reader.proofs.+read.Given as goal

@@ -1,7 +1,7 @@
 use Rattle.std.proofs.Common.{◌≡◌, ℕ, List, Option, IfNone, Ok, subst}
 use Rattle.serde_json.proofs.Views.{Entry}
 use Rattle.serde_json.specs.View.{view, members_view}
-use Rattle.schema_reading.specs.Rows.{Context, dependency_entry}
+use Rattle.schema_definitions.specs.Rows.{Context, dependency_entry}
 use Rattle.applicators.specs.Shapes.{dependency_at}
 use Rattle.applicator_reading.specs.Dependencies.{IsWrong}
 use Rattle.applicator_reading.specs.Reads.{site_in}

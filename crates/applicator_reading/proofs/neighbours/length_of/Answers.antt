@@ -1,6 +1,6 @@
 use Rattle.std.proofs.Common.{◌≡◌, ◌∙◌, Some, sym, ap, length, vec_len, option_map}
 use Rattle.serde_json.proofs.Views.{items_len-items_view}
-use Rattle.schema_values.specs.Texts.{count_items}
+use Rattle.json_values.specs.Texts.{count_items}
 use Rattle.applicator_reading.proofs.neighbours.length_of.Goals as goal
 
 pub returns-in-Some : goal.returns-in-Some

@@ -1,8 +1,8 @@
 use Rattle.std.proofs.Common.{◌≡◌, ◌∙◌, [], Option, None, Some, Bor, option_map, refl, ap}
 use Rattle.serde_json.specs.Data.{Members}
 use Rattle.serde_json.specs.View.{members_view}
-use Rattle.schema_documents.specs.Words.{or}
-use Rattle.schema_reading.specs.Rows.{member_names, names_of_object}
+use Rattle.schema_definitions.specs.Words.{or}
+use Rattle.schema_definitions.specs.Rows.{member_names, names_of_object}
 use Rattle.applicators.specs.Shapes.{Schemas, names_declared}
 use Rattle.applicator_reading.proofs.neighbours.object_beside.Goals as goal
 

@@ -2,9 +2,9 @@ use Rattle.std.proofs.Common.{◌≡◌, [], ◌∷◌, ◌∙◌, ℕ, Option, 
 use Rattle.std.specs.Prelude.{option_and_then}
 use Rattle.serde_json.specs.Find.{as_array}
 use Rattle.serde_json.specs.View.{view}
-use Rattle.schema_values.specs.Texts.{count_items}
+use Rattle.json_values.specs.Texts.{count_items}
 use Rattle.schema_meaning.specs.Keywords.{additional_items, no_additional_items}
-use Rattle.schema_reading.specs.Rows.{Row, Context, reads, at, beside, is_false}
+use Rattle.schema_definitions.specs.Rows.{Row, Context, reads, at, beside, is_false}
 use Rattle.applicator_reading.specs.Beside.{Surrounds, list_in, beside_in}
 use Rattle.applicator_reading.specs.Reads.{ReadsAs, site_in}
 use Rattle.applicator_reading.specs.declared.neighbours.Neighbours.{Neighbours}

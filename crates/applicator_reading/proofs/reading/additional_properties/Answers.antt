@@ -2,7 +2,7 @@ use Rattle.std.proofs.Common.{[], ◌∷◌, ◌∙◌, Some, codes, refl, sym, 
 use Rattle.serde_json.specs.View.{view}
 use Rattle.schema_meaning.specs.Questions.{Declared}
 use Rattle.schema_meaning.specs.Keywords.{additional_properties}
-use Rattle.schema_reading.specs.Rows.{Row, reads, at, declared_beside}
+use Rattle.schema_definitions.specs.Rows.{Row, reads, at, declared_beside}
 use Rattle.applicator_reading.specs.Reads.{ReadsAs, site_in}
 use Rattle.applicator_reading.proofs.RowLemmas.{plainly}
 use Rattle.applicator_reading.proofs.ArmLemmas.{others-row, others-allowed, others-refused, declared-there}

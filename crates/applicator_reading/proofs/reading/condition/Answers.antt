@@ -2,7 +2,7 @@ use Rattle.std.proofs.Common.{◌≡◌, [], ◌∷◌, ◌∙◌, ◌||◌, cod
 use Rattle.std.specs.Prelude.{is_some}
 use Rattle.serde_json.specs.View.{view}
 use Rattle.schema_meaning.specs.Keywords.{condition}
-use Rattle.schema_reading.specs.Rows.{Row, Context, reads, at, beside}
+use Rattle.schema_definitions.specs.Rows.{Row, Context, reads, at, beside}
 use Rattle.applicator_reading.specs.Beside.{Surrounds, schema_in, beside_in}
 use Rattle.applicator_reading.specs.Reads.{ReadsAs, site_in}
 use Rattle.applicator_reading.specs.declared.neighbours.Neighbours.{Neighbours}

@@ -1,7 +1,7 @@
 use Rattle.std.proofs.Common.{[], ◌∙◌, codes, refl, sym, ap, subst}
 use Rattle.std.specs.Prelude.{is_some}
 use Rattle.serde_json.specs.View.{view}
-use Rattle.schema_reading.specs.Rows.{Row}
+use Rattle.schema_definitions.specs.Rows.{Row}
 use Rattle.applicator_reading.specs.Reads.{ReadsAs}
 use Rattle.applicator_reading.proofs.RowLemmas.{neighbour}
 use Rattle.applicator_reading.proofs.ArmLemmas.{consequent-there, consequent-alone}

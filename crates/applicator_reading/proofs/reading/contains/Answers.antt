@@ -2,8 +2,8 @@ use Rattle.std.proofs.Common.{[], ◌∷◌, ◌∙◌, codes, refl, sym, ap, ap
 use Rattle.std.specs.Prelude.{option_and_then}
 use Rattle.serde_json.specs.View.{view}
 use Rattle.schema_meaning.specs.Keywords.{contains}
-use Rattle.schema_reading.specs.Values.{count_of}
-use Rattle.schema_reading.specs.Rows.{reads, at, beside}
+use Rattle.schema_definitions.specs.Values.{count_of}
+use Rattle.schema_definitions.specs.Rows.{reads, at, beside}
 use Rattle.applicator_reading.specs.Reads.{site_in}
 use Rattle.applicator_reading.proofs.RowLemmas.{neighbour, plainly}
 use Rattle.applicator_reading.proofs.reading.contains.Goals as goal

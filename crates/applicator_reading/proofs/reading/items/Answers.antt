@@ -1,7 +1,7 @@
 use Rattle.std.proofs.Common.{◌≡◌, ◌∙◌, Bool, true, false, codes, refl, sym, ap, subst}
 use Rattle.serde_json.specs.View.{view}
-use Rattle.schema_documents.specs.Places.{Dialect}
-use Rattle.schema_reading.specs.Rows.{Row, Context, length_of_list, takes_list}
+use Rattle.schema_definitions.specs.Places.{Dialect}
+use Rattle.schema_definitions.specs.Rows.{Row, Context, length_of_list, takes_list}
 use Rattle.applicator_reading.specs.Beside.{Surrounds}
 use Rattle.applicator_reading.specs.Reads.{ReadsAs}
 use Rattle.applicator_reading.specs.declared.neighbours.Neighbours.{Neighbours}

@@ -1,6 +1,6 @@
 use Rattle.std.proofs.Common.{◌∙◌, codes, sym}
 use Rattle.serde_json.specs.View.{view}
-use Rattle.schema_reading.specs.Rows.{at}
+use Rattle.schema_definitions.specs.Rows.{at}
 use Rattle.applicator_reading.specs.Reads.{site_in}
 use Rattle.applicator_reading.proofs.ArmLemmas.{declared-there, alone-there, others-named, others-alone}
 use Rattle.applicator_reading.proofs.reading.refusing_others.Goals as goal

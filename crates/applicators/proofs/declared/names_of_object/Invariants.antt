@@ -1,7 +1,7 @@
 use Rattle.std.proofs.Common.{◌≡◌, ◌++◌, map, string_bytes}
 use Rattle.serde_json.specs.View.{members_view}
 use Rattle.schema_meaning.specs.Questions.{listed_members}
-use Rattle.schema_matches.specs.Read.{reads}
+use Rattle.schema_patterns.specs.Read.{reads}
 use Rattle.applicators.specs.Shapes.{declared_by, others_among}
 use Rattle.applicators.proofs.declared.names_of_object.Given as goal
 

@@ -3,7 +3,7 @@ use Rattle.std.proofs.lemmas.List.{map-append}
 use Rattle.serde_json.specs.View.{view, members_view}
 use Rattle.schema_meaning.specs.Questions.{at_name, listed_members}
 use Rattle.applicators.specs.Questions.{question_of, questions_of}
-use Rattle.schema_matches.specs.Read.{reads}
+use Rattle.schema_patterns.specs.Read.{reads}
 use Rattle.applicators.proofs.MatchingLemmas.{matched_step}
 use Rattle.applicators.proofs.patterns.push_matching.Goals as goal
 

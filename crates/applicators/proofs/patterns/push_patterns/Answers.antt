@@ -2,7 +2,7 @@ use Rattle.std.proofs.Common.{◌++◌, ◌∙◌, sym, ap, append-nil, codes}
 use Rattle.serde_json.specs.View.{view, members_view}
 use Rattle.applicators.specs.Shapes.{sites_of_map}
 use Rattle.applicators.specs.Questions.{questions_of}
-use Rattle.schema_matches.specs.Read.{reads}
+use Rattle.schema_patterns.specs.Read.{reads}
 use Rattle.applicators.specs.Matching.{by_patterns}
 use Rattle.applicators.proofs.MatchingLemmas.{none_matching, members_none}
 use Rattle.applicators.proofs.patterns.push_patterns.Goals as goal

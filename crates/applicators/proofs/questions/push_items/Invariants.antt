@@ -1,8 +1,8 @@
 use Rattle.std.proofs.Common.{◌≡◌, ◌++◌, List, drop}
 use Rattle.serde_json.specs.Data.{Data}
 use Rattle.serde_json.specs.View.{view, items_view}
-use Rattle.json_paths.specs.Parts.{Part}
-use Rattle.schema_reading.specs.Sites.{Site}
+use Rattle.json_values.specs.Parts.{Part}
+use Rattle.schema_definitions.specs.Sites.{Site}
 use Rattle.schema_meaning.specs.Questions.{items_from, each_item}
 use Rattle.applicators.specs.Shapes.{site_of}
 use Rattle.applicators.specs.Questions.{questions_of}

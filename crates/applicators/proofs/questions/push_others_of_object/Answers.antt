@@ -1,7 +1,7 @@
 use Rattle.std.proofs.Common.{◌∙◌, ◌∷◌, ℕ, List, codes, sym, ap}
 use Rattle.serde_json.specs.View.{view, members_view}
 use Rattle.schema_meaning.specs.Questions.{listed_members}
-use Rattle.schema_matches.specs.Read.{reads}
+use Rattle.schema_patterns.specs.Read.{reads}
 use Rattle.applicators.specs.Shapes.{site_of, declared_by}
 use Rattle.applicators.proofs.MatchingLemmas.{others_step}
 use Rattle.applicators.proofs.questions.push_others_of_object.Goals as goal

@@ -1,10 +1,10 @@
 use Rattle.std.proofs.Common.{◌≡◌, ◌++◌, List, codes}
 use Rattle.serde_json.specs.Data.{Data}
 use Rattle.serde_json.specs.View.{view, members_view}
-use Rattle.json_paths.specs.Parts.{Part}
-use Rattle.schema_reading.specs.Sites.{Site}
+use Rattle.json_values.specs.Parts.{Part}
+use Rattle.schema_definitions.specs.Sites.{Site}
 use Rattle.schema_meaning.specs.Questions.{listed_members, each_member}
-use Rattle.schema_matches.specs.Read.{reads}
+use Rattle.schema_patterns.specs.Read.{reads}
 use Rattle.applicators.specs.Shapes.{site_of, declared_by, others_among}
 use Rattle.applicators.specs.Questions.{questions_of}
 use Rattle.applicators.proofs.questions.push_others_of_object.Given as goal

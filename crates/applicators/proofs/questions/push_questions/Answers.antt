@@ -3,11 +3,11 @@ use Rattle.std.specs.Prelude.{OnOk}
 use Rattle.std.proofs.lemmas.Result.{on_ok_weaker}
 use Rattle.serde_json.specs.Data.{Data}
 use Rattle.serde_json.specs.View.{view}
-use Rattle.json_paths.specs.Parts.{Part}
-use Rattle.schema_reading.specs.Sites.{Site}
+use Rattle.json_values.specs.Parts.{Part}
+use Rattle.schema_definitions.specs.Sites.{Site}
 use Rattle.schema_meaning.specs.Rules.{asks}
 use Rattle.schema_meaning.specs.Keywords.{rule}
-use Rattle.schema_matches.specs.Read.{reads}
+use Rattle.schema_patterns.specs.Read.{reads}
 use Rattle.applicators.specs.Shapes.{site_of, shape_of}
 use Rattle.applicators.specs.Questions.{questions_of}
 use Rattle.applicators.specs.declared.applicator.Applicator.{Applicator}

@@ -1,5 +1,5 @@
 use Rattle.serde_json.specs.View.{view}
-use Rattle.schema_matches.specs.Read.{reads}
+use Rattle.schema_patterns.specs.Read.{reads}
 use Rattle.assertion_faults.proofs.PatternLemmas.{tells_matched}
 use Rattle.assertion_faults.proofs.patterns.tell_pattern.Goals as goal
 

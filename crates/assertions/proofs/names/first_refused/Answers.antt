@@ -1,7 +1,7 @@
 use Rattle.std.proofs.Common.{List, ℕ, subst}
 use Rattle.serde_json.proofs.Views.{Entry}
 use Rattle.serde_json.specs.View.{view, members_view}
-use Rattle.schema_reading.specs.Rows.{Context, required_entry}
+use Rattle.schema_definitions.specs.Rows.{Context, required_entry}
 use Rattle.assertions.specs.Reads.{cause_of, IsRefusedFor}
 use Rattle.assertions.proofs.EntryLemmas.{Left, left_stop}
 use Rattle.assertions.proofs.names.first_refused.Goals as goal

@@ -1,6 +1,6 @@
 use Rattle.std.proofs.Common.{sym, ap, ◌∙◌, option_map}
 use Rattle.serde_json.specs.View.{view}
-use Rattle.schema_reading.specs.Values.{whole_number}
+use Rattle.schema_definitions.specs.Values.{whole_number}
 use Rattle.assertions.specs.Shapes.{bound_assertion}
 use Rattle.assertions.proofs.ReadLemmas.{strict-row}
 use Rattle.assertions.proofs.reading.exclusive_limit.Goals as goal

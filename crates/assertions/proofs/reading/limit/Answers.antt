@@ -1,6 +1,6 @@
 use Rattle.std.proofs.Common.{sym, ap, ◌∙◌, option_map}
 use Rattle.serde_json.specs.View.{view}
-use Rattle.schema_reading.specs.Values.{whole_number}
+use Rattle.schema_definitions.specs.Values.{whole_number}
 use Rattle.assertions.specs.Shapes.{bound_assertion, old_assertion}
 use Rattle.assertions.proofs.ReadLemmas.{old-row, later-row}
 use Rattle.assertions.proofs.reading.limit.Goals as goal

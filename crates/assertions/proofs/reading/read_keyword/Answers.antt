@@ -2,7 +2,7 @@ use Rattle.std.proofs.Common.{codes}
 use Rattle.serde_json.specs.View.{view}
 use Rattle.serde_json.specs.Find.{as_array}
 use Rattle.schema_meaning.specs.Keywords as told
-use Rattle.schema_reading.specs.Values.{type_names, positive_of, count_of}
+use Rattle.schema_definitions.specs.Values.{type_names, positive_of, count_of}
 use Rattle.assertions.specs.Names.{count_name}
 use Rattle.assertions.specs.Shapes.{count_assertion}
 use Rattle.assertions.specs.declared.keyword.AssertionKeyword.TheVariants as keyword

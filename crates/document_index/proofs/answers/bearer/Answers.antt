@@ -1,6 +1,6 @@
 use Rattle.std.proofs.Common.{◌∙◌, ◌∷◌, [], map, None, Some}
 use Rattle.std.proofs.lemmas.List.{length-map}
-use Rattle.schema_documents.specs.Bearers.{bears, last_standing}
+use Rattle.schema_definitions.specs.Bearers.{bears, last_standing}
 use Rattle.document_index.specs.Seen.{document_of}
 use Rattle.document_index.specs.Indexes.{bearer_of}
 use Rattle.document_index.proofs.AnswerLemmas.{settled, answers, answer-within}

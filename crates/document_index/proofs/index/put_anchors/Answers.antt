@@ -1,8 +1,8 @@
 use Rattle.std.proofs.Common.{◌≡◌, ◌∙◌, ◌++◌, ap, sym, false, is_some, option_map, bytes_eq}
 use Rattle.std.proofs.lemmas.Result.{on_ok_weaker}
 use Rattle.serde_json.specs.View.{view}
-use Rattle.schema_documents.specs.Words.{listed}
-use Rattle.schema_documents.specs.Identifiers.{anchors}
+use Rattle.schema_definitions.specs.Words.{listed}
+use Rattle.schema_definitions.specs.Identifiers.{anchors}
 use Rattle.document_index.specs.Located.{kept_of}
 use Rattle.document_index.specs.Seen.{located_of}
 use Rattle.document_index.specs.Indexes.{anchor_named}

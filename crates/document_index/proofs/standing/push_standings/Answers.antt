@@ -1,6 +1,6 @@
 use Rattle.std.proofs.Common.{◌≡◌, ◌∙◌, ◌++◌, [], map, ap, sym, append-nil}
-use Rattle.schema_documents.specs.Places.{places}
-use Rattle.schema_vocabularies.specs.Dialects.{dialects_in}
+use Rattle.schema_definitions.specs.Places.{places}
+use Rattle.schema_dialects.specs.Dialects.{dialects_in}
 use Rattle.schema_places.specs.declared.place.Place.{Place}
 use Rattle.schema_places.specs.Seen.{place_of}
 use Rattle.document_index.specs.Located.{standings_at}

@@ -1,6 +1,6 @@
 use Rattle.std.proofs.Common.{◌≡◌, ◌∙◌, ◌++◌, ◌∷◌, [], ◌+◌, map, take, length, ap, sym, arith}
 use Rattle.std.proofs.lemmas.List.{take_more, take_all, map-append, length-take-le, length-map}
-use Rattle.schema_vocabularies.specs.Dialects.{dialects_in}
+use Rattle.schema_dialects.specs.Dialects.{dialects_in}
 use Rattle.document_index.specs.Located.{Located, located_standings, standings_at}
 use Rattle.document_index.specs.Seen.{document_of, located_of}
 use Rattle.document_index.proofs.LocatedLemmas.{map-through, located-push, standings-located}

@@ -1,5 +1,5 @@
 use Rattle.std.proofs.Common.{◌≡◌, map, take}
-use Rattle.schema_vocabularies.specs.Dialects.{dialects_in}
+use Rattle.schema_dialects.specs.Dialects.{dialects_in}
 use Rattle.document_index.specs.Located.{located_standings}
 use Rattle.document_index.specs.Seen.{document_of, located_of}
 use Rattle.document_index.proofs.standing.standings.Given as goal

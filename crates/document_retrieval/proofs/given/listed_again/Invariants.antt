@@ -1,7 +1,7 @@
 use Rattle.std.proofs.Common.{◌≡◌, map, drop}
 use Rattle.document_index.specs.Seen.{document_of}
-use Rattle.given_documents.specs.Given.{with_all}
-use Rattle.given_documents.specs.Listed.{givens_of}
+use Rattle.document_sources.specs.Given.{with_all}
+use Rattle.document_sources.specs.Listed.{givens_of}
 use Rattle.document_retrieval.specs.Inherited.{given_again, inherited}
 use Rattle.document_retrieval.proofs.given.listed_again.Given as goal
 

@@ -1,9 +1,9 @@
 use Rattle.std.proofs.Common.{◌≡◌, ◌∙◌, ◌++◌, [], map, ap, sym, append-nil}
 use Rattle.document_index.specs.Seen.{document_of}
 use Rattle.document_index.proofs.LocatedLemmas.{map-through, no_items}
-use Rattle.given_documents.specs.Given.{document_by}
-use Rattle.given_documents.specs.Seen.{given_of}
-use Rattle.given_documents.specs.declared.document.Document.{Document}
+use Rattle.document_sources.specs.Given.{document_by}
+use Rattle.document_sources.specs.Seen.{given_of}
+use Rattle.document_sources.specs.declared.document.Document.{Document}
 use Rattle.document_retrieval.proofs.given.with_drafts.Goals as goal
 
 pub returns : goal.returns

@@ -1,8 +1,8 @@
 use Rattle.std.proofs.Common.{◌≡◌, ◌++◌, map}
 use Rattle.std.specs.Vec.Iter.{into_iter_items}
 use Rattle.document_index.specs.Seen.{document_of}
-use Rattle.given_documents.specs.Given.{document_by}
-use Rattle.given_documents.specs.Seen.{given_of}
+use Rattle.document_sources.specs.Given.{document_by}
+use Rattle.document_sources.specs.Seen.{given_of}
 use Rattle.document_retrieval.proofs.given.with_drafts.Given as goal
 
 abbrev pub invariant-loop-document : goal.invariant-loop-document

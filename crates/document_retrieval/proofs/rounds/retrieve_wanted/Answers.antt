@@ -1,7 +1,7 @@
 use Rattle.std.proofs.Common.{◌≡◌, ◌∙◌, ◌++◌, ◌∷◌, [], map, sym, ap}
-use Rattle.schema_documents.specs.Bearers.{Document}
+use Rattle.schema_definitions.specs.Bearers.{Document}
 use Rattle.document_index.specs.Seen.{document_of}
-use Rattle.retrieval_rounds.specs.Rounds.{Want, wants, wanted_by, gathered, none_twice}
+use Rattle.schema_definitions.specs.Rounds.{Want, wants, wanted_by, gathered, none_twice}
 use Rattle.document_retrieval.specs.Known.{want_of}
 use Rattle.document_retrieval.specs.Stages.{asking, uris_in}
 use Rattle.document_retrieval.proofs.StageLemmas.{rounds-push, gathered-push, retrieved-push, gathered-alone, retrieved-alone}

@@ -1,9 +1,9 @@
 use Rattle.std.proofs.Common.{◌≡◌, ◌∙◌, ◌++◌, ◌∷◌, [], ℕ, List, ◌||◌, map, false, ap, sym, is_some, option_map, bytes_eq, append_assoc}
 use Rattle.std.proofs.lemmas.List.{map-append}
-use Rattle.schema_documents.specs.Words.{listed}
+use Rattle.schema_definitions.specs.Words.{listed}
 use Rattle.document_index.specs.Indexes.{bearer_in}
 use Rattle.document_index.specs.Seen.{standing_of}
-use Rattle.retrieval_rounds.specs.Rounds.{further, wanted_at}
+use Rattle.schema_definitions.specs.Rounds.{further, wanted_at}
 use Rattle.document_retrieval.specs.Known.{want_of, has_name, is_known_by}
 use Rattle.document_retrieval.proofs.KnownLemmas.{further-first, or-in-turn}
 use Rattle.document_retrieval.proofs.wants.push_wanted.Goals as goal

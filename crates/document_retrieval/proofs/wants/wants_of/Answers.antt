@@ -1,8 +1,8 @@
 use Rattle.std.proofs.Common.{◌∙◌, ◌∷◌, [], map}
-use Rattle.schema_documents.specs.Bearers.{meta}
-use Rattle.schema_vocabularies.specs.Dialects.{dialects_in}
+use Rattle.schema_definitions.specs.Bearers.{meta}
+use Rattle.schema_dialects.specs.Dialects.{dialects_in}
 use Rattle.document_index.specs.Seen.{document_of}
-use Rattle.meta_schemas.proofs.StageLemmas.{if_ok_weaker}
+use Rattle.document_index.proofs.StageLemmas.{if_ok_weaker}
 use Rattle.document_retrieval.proofs.ToldLemmas.{wants-alike}
 use Rattle.document_retrieval.proofs.wants.wants_of.Goals as goal
 

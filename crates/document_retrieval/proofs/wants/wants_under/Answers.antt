@@ -1,12 +1,12 @@
 use Rattle.std.proofs.Common.{◌≡◌, ◌∙◌, ◌++◌, ◌∷◌, [], ℕ, List, ◌||◌, map, ap, sym, is_some, option_map, bytes_eq, append-nil, drop, arith}
 use Rattle.std.proofs.lemmas.List.{drop_all}
 use Rattle.std.specs.List.{flat_map, list_any}
-use Rattle.schema_documents.specs.Bearers.{bears, standings, bearer_under}
-use Rattle.schema_vocabularies.specs.Dialects.{dialects_in}
+use Rattle.schema_definitions.specs.Bearers.{bears, standings, bearer_under}
+use Rattle.schema_dialects.specs.Dialects.{dialects_in}
 use Rattle.document_index.specs.Located.{Located, located_standings, last_located, kept_of}
 use Rattle.document_index.specs.Seen.{document_of, standing_of, located_of}
 use Rattle.document_index.proofs.AnswerLemmas.{last-of-own}
-use Rattle.retrieval_rounds.specs.Rounds.{further, wanted_at, is_at_hand, wants_under}
+use Rattle.schema_definitions.specs.Rounds.{further, wanted_at, is_at_hand, wants_under}
 use Rattle.document_retrieval.specs.Known.{want_of, has_name, is_known_by}
 use Rattle.document_retrieval.proofs.KnownLemmas.{further-same, borne, or-empty}
 use Rattle.document_retrieval.proofs.wants.wants_under.Goals as goal

@@ -1,7 +1,7 @@
 use Rattle.std.proofs.Common.{◌≡◌, ◌++◌, map, drop}
 use Rattle.std.specs.List.{flat_map}
 use Rattle.document_index.specs.Seen.{standing_of}
-use Rattle.retrieval_rounds.specs.Rounds.{further, wanted_at}
+use Rattle.schema_definitions.specs.Rounds.{further, wanted_at}
 use Rattle.document_retrieval.specs.Known.{want_of, is_known_by}
 use Rattle.document_retrieval.proofs.wants.wants_under.Given as goal
 

@@ -2,15 +2,15 @@ use Rattle.std.specs.Borrow.{Bor}
 use Rattle.std.proofs.Common.{◌≡◌, ◌≤◌, ◌∙◌, ◌∷◌, [], sym, ap₂, subst, inl, inr, true, false, Option, option_copied}
 use Rattle.serde_json.specs.Data.{depth}
 use Rattle.serde_json.specs.View.{view}
-use Rattle.schema_documents.specs.Lookup.{lookup}
-use Rattle.schema_reading.specs.Plain.{deepest}
-use Rattle.fault_steps.specs.Passed.{documents_in, base_of, target_in}
-use Rattle.schema_roots.specs.Passed.{documents_in_registry}
-use Rattle.schema_matches.specs.declared.matches.Matches.{Matches}
-use Rattle.target_laws.proofs.Looked.{lookups_lie}
-use Rattle.schema_roots.specs.Roots.{Root, Finds, root_on}
+use Rattle.schema_definitions.specs.Lookup.{lookup}
+use Rattle.schema_definitions.specs.Plain.{deepest}
+use Rattle.fault_checks.specs.Passed.{documents_in, base_of, target_in}
+use Rattle.schema_registries.specs.Seen.{documents_in_registry}
+use Rattle.schema_patterns.specs.declared.matches.Matches.{Matches}
+use Rattle.document_laws.proofs.TargetsLooked.{lookups_lie}
+use Rattle.schema_registries.specs.Roots.{Root, Finds, root_on}
 use Rattle.fault_checks.specs.Checked.{AreReadIn, DecidesRoot}
-use Rattle.path_parts.specs.Texts.{text_left}
+use Rattle.fault_paths.specs.Texts.{text_left}
 use Rattle.fault_checks.proofs.Checked.{accepted_by, refused_by, no_instance, no_evaluation, not_found}
 use Rattle.fault_checks.proofs.checking.check_by.Goals as goal
 

@@ -1,9 +1,9 @@
 use Rattle.std.proofs.Common.{◌++◌, ◌∷◌, [], ap₂, List, ℕ}
 use Rattle.std.proofs.lemmas.Result.{IfOk-weaker}
-use Rattle.schema_reading.specs.Sites.{path_of_reference}
-use Rattle.fault_steps.specs.Passed.{documents_in, target_in}
-use Rattle.fault_steps.proofs.Passed.{root_shallow}
-use Rattle.fault_steps.specs.Passed.{behind}
+use Rattle.schema_definitions.specs.Sites.{path_of_reference}
+use Rattle.fault_checks.specs.Passed.{documents_in, target_in}
+use Rattle.fault_checks.proofs.Passed.{root_shallow}
+use Rattle.fault_checks.specs.Scenes.{behind}
 use Rattle.fault_checks.proofs.Checked.{decided_at}
 use Rattle.fault_checks.proofs.checking.is_spelled.Goals as goal
 

@@ -2,18 +2,18 @@ use Rattle.std.proofs.Common.{◌≡◌, ◌∙◌, ◌∷◌, [], Ok, sym, ap, 
 use Rattle.std.specs.List.{list_all}
 use Rattle.std.proofs.lemmas.Result.{IfOk-weaker}
 use Rattle.serde_json.specs.View.{view}
-use Rattle.schema_documents.specs.Lookup.{lookup}
-use Rattle.target_laws.specs.Laws.{are_apart, contents_rise}
-use Rattle.fault_steps.specs.Passed.{documents_in, base_of, target_in}
-use Rattle.schema_roots.specs.Passed.{documents_in_registry, documents_shared}
-use Rattle.schema_roots.specs.Roots.{patterns_by, root_on}
+use Rattle.schema_definitions.specs.Lookup.{lookup}
+use Rattle.document_laws.specs.TargetLaws.{are_apart, contents_rise}
+use Rattle.fault_checks.specs.Passed.{documents_in, base_of, target_in}
+use Rattle.schema_registries.specs.Seen.{documents_in_registry, documents_shared}
+use Rattle.schema_registries.specs.Roots.{root_on}
 use Rattle.fault_checks.proofs.ReadLemmas.{read_there, one_root}
 use Rattle.fault_checks.proofs.reading.read_matches.Goals as goal
 
 pub returns-in-Ok : goal.returns-in-Ok
 returns-in-Ok g c =
     let registry = c.args.registry.now in
-    let p = patterns_by g.P.PatternMaker.makes g.P.PatternMaker.finished c.args.maker.now in
+    let p = g.P.PatternMaker.patterns c.args.maker.now in
     let resolver = c.in_ok-resolver.resolver in
     let own = documents_in c.in-Ok.found.resolver in
     let t = target_in c.in-Ok.found in

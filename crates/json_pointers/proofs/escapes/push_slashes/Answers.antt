@@ -1,7 +1,7 @@
 use Rattle.std.proofs.Common.{◌++◌, Some, None, ap, ◌∙◌, lit<, rules, string_bytes, string_len, ◌<◌, ◌+◌, codes, length, length-append, arith}
 use Rattle.std.specs.String.{string_capacity}
 use Rattle.std.proofs.lemmas.Str.Pattern.{split_parts}
-use Rattle.json_paths.specs.Pointers.{escape_slashes}
+use Rattle.json_values.specs.Pointers.{escape_slashes}
 use Rattle.json_pointers.proofs.EscapeLemmas.{slashes_cut, escape_slashes_plain, onto, onto_last}
 use Rattle.json_pointers.proofs.GrowLemmas.{grows_by, appended, full_on, on_err}
 use Rattle.json_pointers.proofs.escapes.push_slashes.Goals as goal

@@ -1,7 +1,7 @@
 use Rattle.std.proofs.Common.{◌≡◌, ◌++◌, length, string_bytes}
 use denote.Text.{Utf8}
 use denote.Shadow.{shadow}
-use Rattle.json_paths.specs.Pointers.{escape_slashes}
+use Rattle.json_values.specs.Pointers.{escape_slashes}
 use Rattle.json_pointers.specs.Buffers.{Grows}
 use Rattle.json_pointers.proofs.escapes.push_slashes.Given as goal
 

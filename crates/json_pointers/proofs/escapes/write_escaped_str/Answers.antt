@@ -1,7 +1,7 @@
 use Rattle.std.proofs.Common.{◌++◌, drop, string_bytes, ap, ◌∙◌, arith}
 use Rattle.std.proofs.Math.Seq.{drop-append_seam}
 use Rattle.serde_json.specs.Find.{unescape}
-use Rattle.json_paths.specs.Pointers.{escape}
+use Rattle.json_values.specs.Pointers.{escape}
 use Rattle.json_pointers.proofs.EscapeLemmas.{unescape-escape}
 use Rattle.json_pointers.proofs.GrowLemmas.{cut_back}
 use Rattle.json_pointers.proofs.escapes.write_escaped_str.Goals as goal

@@ -3,7 +3,7 @@ use denote.Text.{Utf8}
 use denote.Shadow.{shadow}
 use Rattle.std.specs.List.{slice_split}
 use Rattle.serde_json.specs.View.{view}
-use Rattle.json_paths.specs.Pointers.{follow}
+use Rattle.json_values.specs.Pointers.{follow}
 use Rattle.json_pointers.proofs.pointers.locate.Given as goal
 
 abbrev pub invariant-loop-token : goal.invariant-loop-token

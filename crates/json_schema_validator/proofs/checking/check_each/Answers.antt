@@ -2,8 +2,8 @@ use Rattle.std.proofs.Common.{◌≡◌, ◌∙◌, ◌++◌, ap, sym, subst, ap
 use Rattle.serde_json.specs.View.{view}
 use Rattle.schema_reports.specs.Left.{errors_left}
 use Rattle.schema_reports.specs.Told.{fault_of, faults_of}
-use Rattle.schema_roots.specs.Roots.{root_on}
-use Rattle.schema_roots.specs.Certified.{HaveCertificates}
+use Rattle.schema_registries.specs.Roots.{root_on}
+use Rattle.schema_registries.specs.Certified.{HaveCertificates}
 use Rattle.json_schema_validator.specs.Joined.{each_accepted}
 use Rattle.json_schema_validator.proofs.Joining.{fault_accepted, first_certified, rest_certified, one_accepted}
 use Rattle.json_schema_validator.proofs.checking.check_each.Goals as goal

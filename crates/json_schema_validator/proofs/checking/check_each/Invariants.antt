@@ -2,8 +2,8 @@ use Rattle.std.proofs.Common.{◌≡◌, ◌++◌, option_copied}
 use Rattle.serde_json.specs.View.{view}
 use Rattle.schema_reports.specs.Left.{errors_left}
 use Rattle.schema_reports.specs.Told.{faults_of}
-use Rattle.schema_roots.specs.Roots.{Patterns, IsSound, root_on}
-use Rattle.schema_roots.specs.Certified.{HaveCertificates}
+use Rattle.schema_registries.specs.Roots.{Patterns, IsSound, root_on}
+use Rattle.schema_registries.specs.Certified.{HaveCertificates}
 use Rattle.fault_checks.specs.Checked.{AreReadIn}
 use Rattle.json_schema_validator.specs.Joined.{WhereStraight, each_accepted}
 use Rattle.json_schema_validator.proofs.checking.check_each.Given as goal

@@ -1,16 +1,16 @@
 use Rattle.std.proofs.Common.{Option, sym, subst}
 use Rattle.std.proofs.lemmas.Result.{IfOk-weaker}
 use Rattle.serde_json.specs.View.{view}
-use Rattle.schema_matches.specs.declared.matches.Matches.{Matches}
+use Rattle.schema_patterns.specs.declared.matches.Matches.{Matches}
 use Rattle.schema_reports.specs.Told.{fault_of}
-use Rattle.schema_roots.specs.Roots.{patterns_by, root_on}
+use Rattle.schema_registries.specs.Roots.{root_on}
 use Rattle.fault_checks.specs.Checked.{AreReadIn}
 use Rattle.json_schema_validator.proofs.Joining.{fault_accepted}
 use Rattle.json_schema_validator.proofs.checking.check_error.Goals as goal
 
 pub returns-clause-accepted : goal.returns-clause-accepted
 returns-clause-accepted g c =
-    let p = patterns_by g.P.PatternMaker.makes g.P.PatternMaker.finished c.args.maker.now in
+    let p = g.P.PatternMaker.patterns c.args.maker.now in
     let r = root_on c.args.registry.now c.args.root.now in
     let d = view c.args.value.now in
     let read = subst (λ (o : Option Matches). AreReadIn p r d o) (sym c.as_ref.ensures.value) c.in_ok-matches.ensures in

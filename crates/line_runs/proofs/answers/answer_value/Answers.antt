@@ -1,10 +1,10 @@
 use Rattle.std.proofs.Common.{Option, option_map, refl, sym, subst}
 use Rattle.serde_json.specs.View.{view}
 use Rattle.serde_json.specs.declared.value.Value.{Value}
-use Rattle.schema_reading.specs.Lines.{faults_text}
+use Rattle.schema_definitions.specs.Lines.{faults_text}
 use Rattle.schema_reports.specs.Left.{errors_left}
 use Rattle.schema_reports.specs.Told.{faults_of}
-use Rattle.json_schema_validator.specs.Seen.{root_in}
+use Rattle.schema_validators.specs.Seen.{root_in}
 use Rattle.line_runs.specs.Runs.{ValueText}
 use Rattle.line_runs.proofs.answers.answer_value.Goals as goal
 

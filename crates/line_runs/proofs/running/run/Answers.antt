@@ -1,6 +1,6 @@
 use Rattle.std.proofs.lemmas.Result.{IfOk-weaker, IfErr-weaker}
 use Rattle.line_runs.specs.Runs.{IsLineTextBy, IsLineText}
-use Rattle.json_schema_validator.specs.Seen.{root_in}
+use Rattle.schema_validators.specs.Seen.{root_in}
 use Rattle.line_runs.proofs.Others.{runs_so, stops_so}
 use Rattle.line_runs.proofs.running.run.Goals as goal
 

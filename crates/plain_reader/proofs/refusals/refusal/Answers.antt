@@ -1,6 +1,6 @@
 use Rattle.std.proofs.Common.{arith}
 use Rattle.serde_json.specs.View.{view}
-use Rattle.schema_matches.specs.Read.{reads}
+use Rattle.schema_patterns.specs.Read.{reads}
 use Rattle.plain_reader.proofs.RefusalLemmas.{any_refused, several_refused, none_refused, not_refused, no_more_refused, no_others_refused, others_refused, counted_refused}
 use Rattle.plain_reader.proofs.refusals.refusal.Goals.{in-NoAdditionalItems, in-NoAdditionalProperties+in_ok-undeclared_names-in-NoAdditionalProperties, in-AnyOf, in-OneOf, then-accepted-gt0, else-accepted-gt0, in-Not+in_ok-clone-in-Not, in_default, in-Contains}
 use Rattle.plain_reader.proofs.refusals.refusal.Goals as goal

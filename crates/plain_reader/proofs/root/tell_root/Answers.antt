@@ -1,8 +1,8 @@
 use Rattle.std.proofs.Common.{ap₂, List, ℕ, ◌++◌}
-use Rattle.json_paths.specs.Parts.{Part}
+use Rattle.json_values.specs.Parts.{Part}
 use Rattle.serde_json.specs.View.{view}
 use Rattle.schema_sites.specs.Passed.{target_in}
-use Rattle.schema_reading.specs.Sites.{path_of_reference}
+use Rattle.schema_definitions.specs.Sites.{path_of_reference}
 use Rattle.plain_reader.proofs.RootTelling.{root_told}
 use Rattle.std.proofs.lemmas.Result.{on_ok_weaker}
 use Rattle.plain_reader.proofs.root.tell_root.Goals as goal

@@ -12,7 +12,7 @@ loop-next-init g c =
     let root = c.args.root.now in
     let maker = c.args.maker.now in
     let first = c.in_ok-first_visits.ensures in
-    counting-begins g.P.Matcher.PatternMatcher.finds (g.P.PatternMaker.finished maker) (g.P.PatternMaker.makes maker) (documents_in root.resolver) (target_in root) c.args.limit
+    counting-begins g.P.Matcher.PatternMatcher.finds (g.P.PatternMaker.patterns maker).finished (g.P.PatternMaker.patterns maker).makes (documents_in root.resolver) (target_in root) c.args.limit
     c.new-visited.result c.add_new.new.visited c.new-table.result c.new-visits.result.items c.add_new.new.visits.items c.in_ok-first_visits.field-0.items
     first.visit c.new-table.ensures c.new-visits.ensures.items first.alone first.met first.belongs c.in_ok-add_new.ensures.grows c.in_ok-add_new.ensures.apart
 
@@ -22,12 +22,12 @@ returns-then-len-limit-clause-refused g c =
     let vs = c.loop-next.visits.items in
     let known = c.loop-next.invariant in
     let more : c.args.limit < length vs = omega (arith, c.if-len-limit.true, c.len-in-loop-next.ensures) in
-    inl (keys-exceed (documents_in root.resolver) (g.P.PatternMaker.makes c.args.maker.now) (target_in root) vs c.loop-next.next known.progress known.apart c.args.limit more _ refl)
+    inl (keys-exceed (documents_in root.resolver) (g.P.PatternMaker.patterns c.args.maker.now).makes (target_in root) vs c.loop-next.next known.progress known.apart c.args.limit more _ refl)
 
 pub returns-in_err-found-clause-refused : goal.returns-in_err-found-clause-refused
 returns-in_err-found-clause-refused g c =
     let root = c.args.root.now in
-    let makes = g.P.PatternMaker.makes c.args.maker.now in
+    let makes = (g.P.PatternMaker.patterns c.args.maker.now).makes in
     let vs = c.loop-next.visits.items in
     let within : c.loop-next.next < length vs = omega (arith, c.loop-next-test.true, c.len.ensures) in
     let p = err_from_is_err_and c.from_residual-in_err-found.result c.from_residual-in_err-found.ensures.1 in
@@ -38,7 +38,7 @@ pub returns-in_err-add_patterns-clause-refused : goal.returns-in_err-add_pattern
 returns-in_err-add_patterns-clause-refused g c =
     let root = c.args.root.now in
     let own = documents_in root.resolver in
-    let makes = g.P.PatternMaker.makes c.args.maker.now in
+    let makes = (g.P.PatternMaker.patterns c.args.maker.now).makes in
     let vs = c.loop-next.visits.items in
     let v = c.index.result.now in
     let qs = c.in_ok-found.found.patterns.items in
@@ -54,8 +54,8 @@ loop-next-preserved g c =
     let root = c.args.root.now in
     let maker = c.args.maker.now in
     let finds = g.P.Matcher.PatternMatcher.finds in
-    let finished = g.P.PatternMaker.finished maker in
-    let makes = g.P.PatternMaker.makes maker in
+    let finished = (g.P.PatternMaker.patterns maker).finished in
+    let makes = (g.P.PatternMaker.patterns maker).makes in
     let vs = c.loop-next.visits.items in
     let table = c.loop-next.table in
     let larger = c.add_patterns.new.table in
@@ -75,14 +75,14 @@ returns-clause-accepted g c = λ placed cause h.
     let root = c.args.root.now in
     let vs = c.loop-next.visits.items in
     let all : length vs ≤ c.loop-next.next = omega (arith, c.loop-next-test.false, c.len.ensures) in
-    no-cause (documents_in root.resolver) (g.P.PatternMaker.makes c.args.maker.now) (target_in root) vs c.loop-next.next all c.loop-next.invariant.progress placed cause h
+    no-cause (documents_in root.resolver) (g.P.PatternMaker.patterns c.args.maker.now).makes (target_in root) vs c.loop-next.next all c.loop-next.invariant.progress placed cause h
 
 pub returns-clause-within : goal.returns-clause-within
 returns-clause-within g c = λ placed.
     let root = c.args.root.now in
     let vs = c.loop-next.visits.items in
     let all : length vs ≤ c.loop-next.next = omega (arith, c.loop-next-test.false, c.len.ensures) in
-    keys-within (documents_in root.resolver) (g.P.PatternMaker.makes c.args.maker.now) (target_in root) vs c.loop-next.next all c.loop-next.invariant.progress placed c.args.limit
+    keys-within (documents_in root.resolver) (g.P.PatternMaker.patterns c.args.maker.now).makes (target_in root) vs c.loop-next.next all c.loop-next.invariant.progress placed c.args.limit
     (few-at-end vs c.args.limit c.loop-next.next c.loop-next.invariant.few all)
 
 pub returns-clause-patterns : goal.returns-clause-patterns
@@ -90,7 +90,7 @@ returns-clause-patterns g c = λ placed.
     let root = c.args.root.now in
     let vs = c.loop-next.visits.items in
     let all : length vs ≤ c.loop-next.next = omega (arith, c.loop-next-test.false, c.len.ensures) in
-    all-among (documents_in root.resolver) (g.P.PatternMaker.makes c.args.maker.now) (target_in root) vs c.loop-next.next all c.loop-next.invariant.progress placed c.loop-next.table c.loop-next.invariant.noted
+    all-among (documents_in root.resolver) (g.P.PatternMaker.patterns c.args.maker.now).makes (target_in root) vs c.loop-next.next all c.loop-next.invariant.progress placed c.loop-next.table c.loop-next.invariant.noted
 
 pub returns-clause-made : goal.returns-clause-made
 returns-clause-made g c = c.loop-next.invariant.filled.made

@@ -8,5 +8,5 @@ decreases-loop-next g l = l.limit - l.next
 
 abbrev pub invariant-loop-next : goal.invariant-loop-next
 invariant-loop-next g l =
-    Counting g.P.Matcher.PatternMatcher.finds (g.P.PatternMaker.finished l.maker) (g.P.PatternMaker.makes l.maker)
+    Counting g.P.Matcher.PatternMatcher.finds (g.P.PatternMaker.patterns l.maker).finished (g.P.PatternMaker.patterns l.maker).makes
     (documents_in l.root.resolver) (target_in l.root) l.limit l.visited l.table l.visits.items l.next

@@ -3,10 +3,10 @@ use Rattle.std.proofs.lemmas.Result.{IfOk-weaker, IfErr-weaker}
 use Rattle.serde_json.specs.Find.{as_object}
 use Rattle.serde_json.specs.View.{view, members_view}
 use Rattle.schema_meaning.specs.Members.{In}
-use Rattle.schema_reading.specs.Rows.{Place, keyword_value}
+use Rattle.schema_definitions.specs.Rows.{Place, keyword_value}
 use Rattle.schema_sites.specs.Seen.{documents_at}
-use Rattle.site_laws.proofs.Alike.{turned}
-use Rattle.site_laws.proofs.Reaching.{alike_have_causes}
+use Rattle.reading_laws.proofs.Alike.{turned}
+use Rattle.reading_laws.proofs.Reaching.{alike_have_causes}
 use Rattle.reached_sites.specs.Visits.{site_of}
 use Rattle.reached_sites.specs.declared.pattern.Pattern.{Pattern}
 use Rattle.reached_sites.proofs.Listing.{none-in}

@@ -1,7 +1,7 @@
 use Rattle.std.proofs.Common.{◌≡◌, refl, subst, List, ℕ, string_bytes}
 use Rattle.serde_json.specs.View.{view, members_view}
 use Rattle.schema_meaning.specs.Members.{In}
-use Rattle.schema_reading.specs.Rows.{BuildCause}
+use Rattle.schema_definitions.specs.Rows.{BuildCause}
 use Rattle.schema_sites.specs.Read.{IsRowOf, patterns_in, pattern_parts}
 use Rattle.reached_sites.specs.Causes.{NamesCause}
 use Rattle.reached_sites.specs.Patterns.{Puts}

@@ -1,7 +1,7 @@
 use Rattle.std.proofs.Common.{◌∙◌, List, map, ap, subst}
 use Rattle.std.proofs.lemmas.Result.{on_ok_weaker}
 use Rattle.referencing.specs.Resolved.{documents_in}
-use Rattle.schema_reading.specs.Sites.{Site, below}
+use Rattle.schema_definitions.specs.Sites.{Site, below}
 use Rattle.applicators.specs.Shapes.{place_of}
 use Rattle.schema_sites.specs.Seen.{documents_at}
 use Rattle.reached_sites.specs.Visits.{site_of, Adds}

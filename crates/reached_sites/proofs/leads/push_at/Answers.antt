@@ -1,8 +1,8 @@
 use Rattle.std.proofs.Common.{sym}
 use Rattle.serde_json.specs.View.{view}
 use Rattle.referencing.specs.Resolved.{documents_in}
-use Rattle.schema_reading.specs.Sites.{below}
-use Rattle.schema_reading.specs.Rows.{at}
+use Rattle.schema_definitions.specs.Sites.{below}
+use Rattle.schema_definitions.specs.Rows.{at}
 use Rattle.schema_sites.specs.Seen.{documents_at}
 use Rattle.reached_sites.specs.Visits.{site_of}
 use Rattle.reached_sites.proofs.Matching.{adds-one}

@@ -1,9 +1,9 @@
 use Rattle.std.proofs.Common.{◌≡◌, ap, sym, subst, ◌∙◌, [], ◌∷◌, codes, string_bytes}
 use Rattle.serde_json.specs.View.{view, members_view}
-use Rattle.json_paths.specs.Parts.{name}
+use Rattle.json_values.specs.Parts.{name}
 use Rattle.referencing.specs.Resolved.{documents_in}
-use Rattle.schema_reading.specs.Sites.{below}
-use Rattle.schema_reading.specs.Rows.{sites_named}
+use Rattle.schema_definitions.specs.Sites.{below}
+use Rattle.schema_definitions.specs.Rows.{sites_named}
 use Rattle.schema_sites.specs.Read.{each_below}
 use Rattle.schema_sites.specs.Seen.{documents_at}
 use Rattle.reached_sites.specs.Visits.{site_of, Adds}

@@ -1,7 +1,7 @@
 use Rattle.std.proofs.Common.{List, codes}
 use Rattle.serde_json.specs.View.{members_view}
 use Rattle.referencing.specs.Resolved.{documents_in}
-use Rattle.schema_reading.specs.Rows.{sites_named}
+use Rattle.schema_definitions.specs.Rows.{sites_named}
 use Rattle.schema_sites.specs.Read.{each_below}
 use Rattle.schema_sites.specs.Seen.{documents_at}
 use Rattle.reached_sites.specs.Visits.{site_of, Adds}

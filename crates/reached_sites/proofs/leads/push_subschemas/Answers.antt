@@ -2,7 +2,7 @@ use Rattle.std.proofs.Common.{◌≡◌, ◌∙◌, ◌+◌, [], ◌∷◌, List
 use Rattle.std.proofs.lemmas.List.{drop_more, drop_all}
 use Rattle.serde_json.specs.View.{view}
 use Rattle.referencing.specs.Resolved.{documents_in}
-use Rattle.schema_reading.specs.Sites.{below}
+use Rattle.schema_definitions.specs.Sites.{below}
 use Rattle.applicators.specs.Shapes.{place_of, added_at}
 use Rattle.applicators.specs.declared.subschema.Subschema.{Subschema}
 use Rattle.schema_sites.specs.Seen.{documents_at}

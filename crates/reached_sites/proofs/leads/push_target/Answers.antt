@@ -1,5 +1,5 @@
 use Rattle.referencing.specs.Resolved.{base_of, scope_of, documents_in, target_in}
-use Rattle.schema_reading.specs.Sites.{target_site}
+use Rattle.schema_definitions.specs.Sites.{target_site}
 use Rattle.schema_sites.specs.Seen.{documents_at}
 use Rattle.reached_sites.specs.Visits.{site_of}
 use Rattle.reached_sites.proofs.Matching.{adds-one, belongs-too}

@@ -1,14 +1,14 @@
 use Rattle.std.proofs.Common.{◌≡◌, sym, ap, rules, false, inr}
 use Rattle.schema_meaning.specs.Members.{first}
-use Rattle.schema_reading.specs.Rows.{Place, bad_pattern}
+use Rattle.schema_definitions.specs.Rows.{Place, bad_pattern}
 use Rattle.reached_sites.proofs.Filling.{addition-filled, addition-holds, added-made, numbered-listed, not-made, refused-filled, refused-holds}
 use Rattle.reached_sites.proofs.making.add_pattern.Goals as goal
 
 pub returns-in-Ok-clause-filled : goal.returns-in-Ok-clause-filled
 returns-in-Ok-clause-filled g c =
     let finds = g.P.Matcher.PatternMatcher.finds in
-    let finished = g.P.PatternMaker.finished c.args.maker.now in
-    let makes = g.P.PatternMaker.makes c.args.maker.now in
+    let finished = (g.P.PatternMaker.patterns c.args.maker.now).finished in
+    let makes = (g.P.PatternMaker.patterns c.args.maker.now).makes in
     let old = c.args.table.now in
     let new = c.add_with.new.self in
     let text = c.args.pattern.now.text.now in
@@ -25,7 +25,7 @@ returns-in-Ok-clause-held g c = numbered-listed c.add_with.new.self c.in-Ok.fiel
 
 pub returns-in_ok-shared-in-Err-BadPattern-clause-refused : goal.returns-in_ok-shared-in-Err-BadPattern-clause-refused
 returns-in_ok-shared-in-Err-BadPattern-clause-refused g c =
-    let makes = g.P.PatternMaker.makes c.args.maker.now in
+    let makes = (g.P.PatternMaker.patterns c.args.maker.now).makes in
     let q = c.args.pattern.now in
     let r = c.in-Err-BadPattern.ensures.refused c.in-Err-BadPattern.field-0-is in
     let k = r.1 in
@@ -34,24 +34,24 @@ returns-in_ok-shared-in-Err-BadPattern-clause-refused g c =
 
 pub returns-in_err-shared-in-Err-BadPattern-clause-filled : goal.returns-in_err-shared-in-Err-BadPattern-clause-filled
 returns-in_err-shared-in-Err-BadPattern-clause-filled g c =
-    refused-filled c.args.table.now c.add_with.new.self c.in-Err-BadPattern.ensures.unchanged g.P.Matcher.PatternMatcher.finds (g.P.PatternMaker.finished c.args.maker.now) (g.P.PatternMaker.makes c.args.maker.now)
-    (c.in-Err-BadPattern.ensures.made (g.P.PatternMaker.finished c.args.maker.now) (λ m k. search rules))
+    refused-filled c.args.table.now c.add_with.new.self c.in-Err-BadPattern.ensures.unchanged g.P.Matcher.PatternMatcher.finds (g.P.PatternMaker.patterns c.args.maker.now).finished (g.P.PatternMaker.patterns c.args.maker.now).makes
+    (c.in-Err-BadPattern.ensures.made (g.P.PatternMaker.patterns c.args.maker.now).finished (λ m k. search rules))
 
 pub returns-in_err-shared-in-Err-BadPattern-clause-kept : goal.returns-in_err-shared-in-Err-BadPattern-clause-kept
 returns-in_err-shared-in-Err-BadPattern-clause-kept g c = refused-holds c.args.table.now c.add_with.new.self c.in-Err-BadPattern.ensures.unchanged
 
 pub returns-in_ok-shared-in-Err-BadPattern-clause-filled : goal.returns-in_ok-shared-in-Err-BadPattern-clause-filled
 returns-in_ok-shared-in-Err-BadPattern-clause-filled g c =
-    refused-filled c.args.table.now c.add_with.new.self c.in-Err-BadPattern.ensures.unchanged g.P.Matcher.PatternMatcher.finds (g.P.PatternMaker.finished c.args.maker.now) (g.P.PatternMaker.makes c.args.maker.now)
-    (c.in-Err-BadPattern.ensures.made (g.P.PatternMaker.finished c.args.maker.now) (λ m k. search rules))
+    refused-filled c.args.table.now c.add_with.new.self c.in-Err-BadPattern.ensures.unchanged g.P.Matcher.PatternMatcher.finds (g.P.PatternMaker.patterns c.args.maker.now).finished (g.P.PatternMaker.patterns c.args.maker.now).makes
+    (c.in-Err-BadPattern.ensures.made (g.P.PatternMaker.patterns c.args.maker.now).finished (λ m k. search rules))
 
 pub returns-in_ok-shared-in-Err-BadPattern-clause-kept : goal.returns-in_ok-shared-in-Err-BadPattern-clause-kept
 returns-in_ok-shared-in-Err-BadPattern-clause-kept g c = refused-holds c.args.table.now c.add_with.new.self c.in-Err-BadPattern.ensures.unchanged
 
 pub returns-in-Err-Memory-clause-filled : goal.returns-in-Err-Memory-clause-filled
 returns-in-Err-Memory-clause-filled g c =
-    refused-filled c.args.table.now c.add_with.new.self c.in-Err-Memory.ensures.unchanged g.P.Matcher.PatternMatcher.finds (g.P.PatternMaker.finished c.args.maker.now) (g.P.PatternMaker.makes c.args.maker.now)
-    (c.in-Err-Memory.ensures.made (g.P.PatternMaker.finished c.args.maker.now) (λ m k. search rules))
+    refused-filled c.args.table.now c.add_with.new.self c.in-Err-Memory.ensures.unchanged g.P.Matcher.PatternMatcher.finds (g.P.PatternMaker.patterns c.args.maker.now).finished (g.P.PatternMaker.patterns c.args.maker.now).makes
+    (c.in-Err-Memory.ensures.made (g.P.PatternMaker.patterns c.args.maker.now).finished (λ m k. search rules))
 
 pub returns-in-Err-Memory-clause-kept : goal.returns-in-Err-Memory-clause-kept
 returns-in-Err-Memory-clause-kept g c = refused-holds c.args.table.now c.add_with.new.self c.in-Err-Memory.ensures.unchanged

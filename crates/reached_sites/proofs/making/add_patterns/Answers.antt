@@ -17,7 +17,7 @@ returns-in_err-add_pattern-clause-refused g c =
     let q = c.pattern-item.result in
     let p = err_from_is_err_and c.from_residual.result c.from_residual.ensures.1 in
     let listed = in-at qs c.loop-pattern.pattern-index q c.loop-pattern-test.true c.pattern-item.is in
-    rw (p.1, p.2) (refuses-more (g.P.PatternMaker.makes c.args.maker.now) q qs c.in_err-add_pattern.field-0.0 listed c.in_err-add_pattern.ensures.refused)
+    rw (p.1, p.2) (refuses-more (g.P.PatternMaker.patterns c.args.maker.now).makes q qs c.in_err-add_pattern.field-0.0 listed c.in_err-add_pattern.ensures.refused)
 
 pub loop-pattern-preserved : goal.loop-pattern-preserved
 loop-pattern-preserved g c =

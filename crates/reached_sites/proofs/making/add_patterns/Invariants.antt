@@ -6,8 +6,8 @@ use Rattle.reached_sites.proofs.making.add_patterns.Given as goal
 abbrev pub invariant-loop-pattern : goal.invariant-loop-pattern
 invariant-loop-pattern g l =
     let finds = g.P.Matcher.PatternMatcher.finds in
-    let finished = g.P.PatternMaker.finished l.maker in
-    let makes = g.P.PatternMaker.makes l.maker in
+    let finished = (g.P.PatternMaker.patterns l.maker).finished in
+    let makes = (g.P.PatternMaker.patterns l.maker).makes in
     record {
       filled : IsFilled finds finished makes l.fn.table → IsFilled finds finished makes l.table;
       kept : Holds l.table (texts_of_table l.fn.table);

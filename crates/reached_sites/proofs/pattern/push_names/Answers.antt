@@ -1,7 +1,7 @@
 use Rattle.std.proofs.Common.{refl, sym, subst, ℕ, List, [], ◌∷◌, string_bytes}
 use Rattle.serde_json.specs.View.{members_view}
-use Rattle.json_paths.specs.Parts.{Part, name}
-use Rattle.schema_reading.specs.Rows.{member_names}
+use Rattle.json_values.specs.Parts.{Part, name}
+use Rattle.schema_definitions.specs.Rows.{member_names}
 use Rattle.reached_sites.specs.Patterns.{Puts}
 use Rattle.reached_sites.specs.Places.{place_in}
 use Rattle.reached_sites.proofs.Placing.{member-in}

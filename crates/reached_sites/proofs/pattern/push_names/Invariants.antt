@@ -1,7 +1,7 @@
 use Rattle.std.proofs.Common.{List, [], ◌∷◌}
 use Rattle.serde_json.specs.View.{members_view}
-use Rattle.json_paths.specs.Parts.{name}
-use Rattle.schema_reading.specs.Rows.{member_names}
+use Rattle.json_values.specs.Parts.{name}
+use Rattle.schema_definitions.specs.Rows.{member_names}
 use Rattle.reached_sites.specs.Patterns.{Puts}
 use Rattle.reached_sites.specs.Places.{place_in}
 use Rattle.reached_sites.specs.declared.pattern.Pattern.{Pattern}

@@ -1,7 +1,7 @@
 use Rattle.std.proofs.Common.{subst, ap, ◌∷◌, codes}
-use Rattle.json_paths.specs.Parts.{name, index}
+use Rattle.json_values.specs.Parts.{name, index}
 use Rattle.referencing.specs.Resolved.{target_in}
-use Rattle.schema_reading.specs.Rows.{Place, keyword_value, bad_reference, left_out}
+use Rattle.schema_definitions.specs.Rows.{Place, keyword_value, bad_reference, left_out}
 use Rattle.schema_sites.specs.Refused.{Refuses}
 use Rattle.schema_sites.specs.declared.keyword.Refusal.{Refusal}
 use Rattle.reached_sites.proofs.Placing.{placed, placed-in, member-in, item-in}

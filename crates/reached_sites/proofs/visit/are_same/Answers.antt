@@ -1,4 +1,4 @@
-use Rattle.meta_schemas.proofs.SameLemmas.{equal_decides}
+use Rattle.document_index.proofs.SameLemmas.{equal_decides}
 use Rattle.reached_sites.proofs.visit.are_same.Goals as goal
 
 pub returns : goal.returns

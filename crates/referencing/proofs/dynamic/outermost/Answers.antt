@@ -1,8 +1,8 @@
 use Rattle.std.proofs.Common.{◌∙◌, sym, ap, [], ◌∷◌, map, Option, option_map}
-use Rattle.schema_documents.specs.Words.{result_map, ok_or}
-use Rattle.schema_documents.specs.Bearers.{Standing}
-use Rattle.schema_documents.specs.Lookup.{no_such_anchor, target_of}
-use Rattle.schema_documents.specs.Scopes.{outermost}
+use Rattle.schema_definitions.specs.Words.{result_map, ok_or}
+use Rattle.schema_definitions.specs.Bearers.{Standing}
+use Rattle.schema_definitions.specs.Lookup.{no_such_anchor, target_of}
+use Rattle.schema_definitions.specs.Scopes.{outermost}
 use Rattle.document_index.specs.Seen.{standing_of}
 use Rattle.referencing.specs.Seen.{documents_of}
 use Rattle.referencing.proofs.RefusedLemmas.{refused-one}

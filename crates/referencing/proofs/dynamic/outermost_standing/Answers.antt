@@ -1,5 +1,5 @@
 use Rattle.std.proofs.Common.{rules, ◌≡◌, ◌∙◌, sym, ap, [], ◌∷◌, map, List, ℕ, option_map}
-use Rattle.schema_documents.specs.Bearers.{dynamically_anchored}
+use Rattle.schema_definitions.specs.Bearers.{dynamically_anchored}
 use Rattle.document_index.specs.Seen.{standing_of}
 use Rattle.referencing.specs.Seen.{documents_of}
 use Rattle.referencing.proofs.DynamicLemmas.{outer_all, outer_from}

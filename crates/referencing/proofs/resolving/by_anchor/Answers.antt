@@ -1,7 +1,7 @@
 use Rattle.std.proofs.Common.{◌≡◌, ◌∙◌, sym, ap, [], ◌∷◌, Option, None, Err, option_map, if◌then◌else◌}
-use Rattle.schema_documents.specs.Words.{result_map, ok_or}
-use Rattle.schema_documents.specs.Bearers.{Standing, anchored}
-use Rattle.schema_documents.specs.Lookup.{by_anchor, invalid_anchor, no_such_anchor, target_of}
+use Rattle.schema_definitions.specs.Words.{result_map, ok_or}
+use Rattle.schema_definitions.specs.Bearers.{Standing, anchored}
+use Rattle.schema_definitions.specs.Lookup.{by_anchor, invalid_anchor, no_such_anchor, target_of}
 use Rattle.document_index.specs.Seen.{standing_of}
 use Rattle.referencing.specs.Seen.{documents_of, told_by}
 use Rattle.referencing.proofs.RefusedLemmas.{refused-one}

@@ -1,6 +1,6 @@
 use Rattle.std.proofs.Common.{◌≡◌, ◌∙◌, ◌≤◌, ◌∷◌, [], sym, subst, length, get_or}
 use Rattle.document_index.specs.Seen.{standing_of}
-use Rattle.referencing_errors.specs.Causes.{RefusesLookup}
+use Rattle.document_sources.specs.Causes.{RefusesLookup}
 use Rattle.referencing.specs.Seen.{documents_of, told_by}
 use Rattle.referencing.proofs.KeptLemmas.{if-ok}
 use Rattle.referencing.proofs.RefusedLemmas.{by-name, if-err}

@@ -1,10 +1,10 @@
 use Rattle.std.proofs.Common.{◌∙◌, sym, subst}
 use Rattle.percent_encoding.specs.Percent.{percent_decode}
-use Rattle.schema_documents.specs.Lookup.{by_pointer}
-use Rattle.schema_vocabularies.specs.Dialects.{dialects_in}
+use Rattle.schema_definitions.specs.Lookup.{by_pointer}
+use Rattle.schema_dialects.specs.Dialects.{dialects_in}
 use Rattle.document_index.specs.Seen.{standing_of}
-use Rattle.reference_walks.specs.Causes.{cause_of}
-use Rattle.referencing_errors.specs.Causes.{RefusesLookup}
+use Rattle.schema_places.specs.Causes.{cause_of}
+use Rattle.document_sources.specs.Causes.{RefusesLookup}
 use Rattle.referencing.specs.Seen.{told_by}
 use Rattle.referencing.proofs.RefusedLemmas.{walked}
 use Rattle.referencing.proofs.ToldLemmas.{same_pointer}

@@ -1,14 +1,14 @@
 use Rattle.std.proofs.Common.{◌≡◌, ◌∙◌, sym, ap, subst, [], ◌∷◌, Ok}
 use Rattle.uri_grammar.specs.Texts.{cut_at}
-use Rattle.schema_documents.specs.Words.{or, and_then}
-use Rattle.schema_documents.specs.Bearers.{Standing}
-use Rattle.schema_documents.specs.Lookup.{by_fragment}
+use Rattle.schema_definitions.specs.Words.{or, and_then}
+use Rattle.schema_definitions.specs.Bearers.{Standing}
+use Rattle.schema_definitions.specs.Lookup.{by_fragment}
 use Rattle.document_index.specs.Seen.{standing_of}
-use Rattle.referencing_errors.specs.Causes.{RefusesLookup}
+use Rattle.document_sources.specs.Causes.{RefusesLookup}
 use Rattle.referencing.specs.Found.{bearer_wanted}
 use Rattle.referencing.specs.Seen.{documents_of, told_by}
 use Rattle.referencing.proofs.KeptLemmas.{if-ok}
-use Rattle.document_causes.proofs.NamedLemmas.{kept}
+use Rattle.document_index.proofs.CauseNames.{kept}
 use Rattle.referencing.proofs.RefusedLemmas.{refused-through, looked-up, if-err}
 use Rattle.referencing.proofs.resolving.look_up.Goals as goal
 

@@ -1,10 +1,10 @@
 use Rattle.std.proofs.Common.{◌≡◌, ◌∙◌, sym, ap, subst, [], ◌∷◌, Some, None, option_map, ◌⊎◌}
-use Rattle.schema_documents.specs.Words.{ok_or, and_then}
-use Rattle.schema_documents.specs.Identifiers.{resolved}
-use Rattle.schema_documents.specs.Bearers.{bearer}
-use Rattle.schema_documents.specs.Lookup.{invalid_uri, unretrievable}
+use Rattle.schema_definitions.specs.Words.{ok_or, and_then}
+use Rattle.schema_definitions.specs.Identifiers.{resolved}
+use Rattle.schema_definitions.specs.Bearers.{bearer}
+use Rattle.schema_definitions.specs.Lookup.{invalid_uri, unretrievable}
 use Rattle.document_index.specs.Seen.{standing_of}
-use Rattle.referencing_errors.specs.Causes.{IsMemory, NamesLookup}
+use Rattle.document_sources.specs.Causes.{IsMemory, NamesLookup}
 use Rattle.referencing.specs.Found.{bearer_at, bearer_wanted}
 use Rattle.referencing.specs.Seen.{documents_of}
 use Rattle.referencing.proofs.RefusedLemmas.{refused-one}

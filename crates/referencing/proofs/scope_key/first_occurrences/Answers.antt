@@ -3,7 +3,7 @@ use Rattle.std.specs.List.{list_any}
 use Rattle.std.specs.BTreeSet.{contains_text}
 use Rattle.std.specs.Vec.Iter.{into_iter_items}
 use Rattle.std.proofs.lemmas.List.{reverse-append, map-append}
-use Rattle.schema_reading.specs.CompileKeys.{first_ones}
+use Rattle.schema_definitions.specs.CompileKeys.{first_ones}
 use Rattle.referencing.proofs.KeyLemmas.{seen_before, one_more}
 use Rattle.referencing.proofs.scope_key.first_occurrences.Goals as goal
 

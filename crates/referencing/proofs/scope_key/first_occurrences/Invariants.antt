@@ -2,7 +2,7 @@ use Rattle.std.proofs.Common.{◌≡◌, ◌++◌, ℕ, List, [], map, reverse, 
 use Rattle.std.specs.List.{list_any}
 use Rattle.std.specs.BTreeSet.{contains_text}
 use Rattle.std.specs.Vec.Iter.{into_iter_items}
-use Rattle.schema_reading.specs.CompileKeys.{first_ones}
+use Rattle.schema_definitions.specs.CompileKeys.{first_ones}
 use Rattle.referencing.proofs.scope_key.first_occurrences.Given as goal
 
 abbrev pub invariant-loop-resource : goal.invariant-loop-resource

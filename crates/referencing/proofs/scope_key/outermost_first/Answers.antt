@@ -1,5 +1,5 @@
 use Rattle.std.proofs.Common.{rules, ◌≡◌, ◌∙◌, ◌++◌, [], map, ap, sym, append-nil}
-use Rattle.schema_reading.specs.CompileKeys.{reversed_onto}
+use Rattle.schema_definitions.specs.CompileKeys.{reversed_onto}
 use Rattle.referencing.proofs.KeyLemmas.{turned}
 use Rattle.referencing.proofs.scope_key.outermost_first.Goals as goal
 

@@ -12,16 +12,16 @@ loop-next-init g c =
     let own = documents_in c.args.resolver.now in
     let s = c.in_ok-started.started in
     let apart = c.in_ok-started.ensures.apart in
-    walking-begins g.P.Matcher.PatternMatcher.finds (g.P.PatternMaker.finished maker) (g.P.PatternMaker.makes maker) own (base_of c.args.resolver.now) (map string_bytes c.args.references.now) c.args.limit
+    walking-begins g.P.Matcher.PatternMatcher.finds (g.P.PatternMaker.patterns maker).finished (g.P.PatternMaker.patterns maker).makes own (base_of c.args.resolver.now) (map string_bytes c.args.references.now) c.args.limit
     s.visited c.new-table.result s.visits.items c.new-edges.result.items c.new-wrong.result.items s.starts.items c.new-table.ensures c.new-edges.ensures.items c.new-wrong.ensures.items
-    c.in_ok-started.ensures.starts (c.in_ok-started.ensures.graph (g.P.PatternMaker.makes maker)) apart.0 apart.1
+    c.in_ok-started.ensures.starts (c.in_ok-started.ensures.graph (g.P.PatternMaker.patterns maker).makes) apart.0 apart.1
 
 pub returns-then-len-limit-clause-refused : goal.returns-then-len-limit-clause-refused
 returns-then-len-limit-clause-refused g c =
     let own = documents_in c.args.resolver.now in
     let base = base_of c.args.resolver.now in
     let rs = map string_bytes c.args.references.now in
-    let makes = g.P.PatternMaker.makes c.args.maker.now in
+    let makes = (g.P.PatternMaker.patterns c.args.maker.now).makes in
     let vs = c.loop-next.visits.items in
     let known = c.loop-next.invariant in
     let more : c.args.limit < length vs = omega (arith, c.if-len-limit.true, c.len-in-loop-next.ensures) in
@@ -34,8 +34,8 @@ loop-next-preserved g c =
     let rs = map string_bytes c.args.references.now in
     let maker = c.args.maker.now in
     let finds = g.P.Matcher.PatternMatcher.finds in
-    let finished = g.P.PatternMaker.finished maker in
-    let makes = g.P.PatternMaker.makes maker in
+    let finished = (g.P.PatternMaker.patterns maker).finished in
+    let makes = (g.P.PatternMaker.patterns maker).makes in
     let vs = c.loop-next.visits.items in
     let i = c.loop-next.next in
     let v = c.index.result.now in
@@ -54,7 +54,7 @@ loop-next-preserved g c =
 pub returns-clause-walked : goal.returns-clause-walked
 returns-clause-walked g c =
     let own = documents_in c.args.resolver.now in
-    let makes = g.P.PatternMaker.makes c.args.maker.now in
+    let makes = (g.P.PatternMaker.patterns c.args.maker.now).makes in
     let vs = c.loop-next.visits.items in
     let i = c.loop-next.next in
     let known = c.loop-next.invariant in

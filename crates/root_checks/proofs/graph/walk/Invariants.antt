@@ -8,5 +8,5 @@ decreases-loop-next g l = l.limit - l.next
 
 abbrev pub invariant-loop-next : goal.invariant-loop-next
 invariant-loop-next g l =
-    Walking g.P.Matcher.PatternMatcher.finds (g.P.PatternMaker.finished l.maker) (g.P.PatternMaker.makes l.maker) (documents_in l.resolver) (base_of l.resolver) (map string_bytes l.references) l.limit
+    Walking g.P.Matcher.PatternMatcher.finds (g.P.PatternMaker.patterns l.maker).finished (g.P.PatternMaker.patterns l.maker).makes (documents_in l.resolver) (base_of l.resolver) (map string_bytes l.references) l.limit
     l.visited l.table l.visits.items l.edges.items l.wrong.items l.started.starts.items l.next

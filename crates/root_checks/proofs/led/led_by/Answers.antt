@@ -11,7 +11,7 @@ use Rattle.root_checks.proofs.led.led_by.Goals as goal
 pub returns-in-Some-clause-led : goal.returns-in-Some-clause-led
 returns-in-Some-clause-led g c =
     let v = c.args.visit.now in
-    let makes = g.P.PatternMaker.makes c.args.maker.now in
+    let makes = (g.P.PatternMaker.patterns c.args.maker.now).makes in
     let ms = members_view c.in-Some.members.now.entries in
     let is : as_object (view v.site.contents.now) ≡ Some ms = sym c.as_object.ensures ∙ ap (option_map (λ m. members_view m.now.entries)) c.in-Some.is in
     IfOk-weaker c.led_by_members.result _ _ (λ l h filled s m. led-object v makes s m l.0.items l.1 ms (object-of (view v.site.contents.now) ms is) (h filled)) c.led_by_members.ensures.led
@@ -28,7 +28,7 @@ pub returns-clause-led : goal.returns-clause-led
 returns-clause-led g c = λ filled s m.
     let v = c.args.visit.now in
     let none : as_object (view v.site.contents.now) ≡ None = sym c.as_object.ensures ∙ gone (λ m. members_view m.now.entries) c.as_object.result c.in_default.not-Some in
-    led-else v (g.P.PatternMaker.makes c.args.maker.now) s m c.new.result.items c.is_boolean.result c.new.ensures.items none c.is_boolean.ensures
+    led-else v (g.P.PatternMaker.patterns c.args.maker.now).makes s m c.new.result.items c.is_boolean.result c.new.ensures.items none c.is_boolean.ensures
 
 pub returns-clause-kept : goal.returns-clause-kept
 returns-clause-kept g c = holds-itself c.args.table.now

@@ -12,7 +12,7 @@ use Rattle.root_checks.proofs.led.led_by_members.Goals as goal
 pub loop-name-init : goal.loop-name-init
 loop-name-init g c =
     let v = c.args.visit.now in
-    let makes = g.P.PatternMaker.makes c.args.maker.now in
+    let makes = (g.P.PatternMaker.patterns c.args.maker.now).makes in
     let all = members_view c.args.members.now.entries in
     let table = c.args.table.now in
     let leads = c.new-leads.result.items in
@@ -28,7 +28,7 @@ pub loop-name-preserved : goal.loop-name-preserved
 loop-name-preserved g c =
     let v = c.args.visit.now in
     let maker = c.args.maker.now in
-    let makes = g.P.PatternMaker.makes maker in
+    let makes = (g.P.PatternMaker.patterns maker).makes in
     let all = members_view c.args.members.now.entries in
     let k = string_bytes c.in-Some.name.now in
     let d = view c.in-Some.value.now in
@@ -57,7 +57,7 @@ loop-name-preserved g c =
 pub returns-clause-led : goal.returns-clause-led
 returns-clause-led g c = λ f.
     let v = c.args.visit.now in
-    let makes = g.P.PatternMaker.makes c.args.maker.now in
+    let makes = (g.P.PatternMaker.patterns c.args.maker.now).makes in
     let all = members_view c.args.members.now.entries in
     let leads = c.loop-name.leads.items in
     let b = c.loop-name.is_right in

@@ -7,8 +7,8 @@ use Rattle.root_checks.proofs.led.led_by_members.Given as goal
 abbrev pub invariant-loop-name : goal.invariant-loop-name
 invariant-loop-name g l =
     let finds = g.P.Matcher.PatternMatcher.finds in
-    let finished = g.P.PatternMaker.finished l.maker in
-    let makes = g.P.PatternMaker.makes l.maker in
+    let finished = (g.P.PatternMaker.patterns l.maker).finished in
+    let makes = (g.P.PatternMaker.patterns l.maker).makes in
     let all = members_view l.members.entries in
     let rest = members_view l.name-iterator in
     record {

@@ -16,7 +16,7 @@ push_leads-requires g c = (view c.args.value.now, c.in-Ok.ensures.found)
 pub returns-then-not-branch-clause-led : goal.returns-then-not-branch-clause-led
 returns-then-not-branch-clause-led g c = λ filled.
     let v = c.args.visit.now in
-    let makes = g.P.PatternMaker.makes c.args.maker.now in
+    let makes = (g.P.PatternMaker.patterns c.args.maker.now).makes in
     let all = members_view c.args.members.now.entries in
     let k = c.args.name.now in
     let d = view c.args.value.now in
@@ -30,8 +30,8 @@ returns-in-Ok-clause-led g c = λ filled.
     let v = c.args.visit.now in
     let maker = c.args.maker.now in
     let finds = g.P.Matcher.PatternMatcher.finds in
-    let finished = g.P.PatternMaker.finished maker in
-    let makes = g.P.PatternMaker.makes maker in
+    let finished = (g.P.PatternMaker.patterns maker).finished in
+    let makes = (g.P.PatternMaker.patterns maker).makes in
     let all = members_view c.args.members.now.entries in
     let k = c.args.name.now in
     let d = view c.args.value.now in
@@ -45,7 +45,7 @@ returns-in-Ok-clause-led g c = λ filled.
 pub returns-in-Ok-clause-written : goal.returns-in-Ok-clause-written
 returns-in-Ok-clause-written g c = λ t.
     let v = c.args.visit.now in
-    let makes = g.P.PatternMaker.makes c.args.maker.now in
+    let makes = (g.P.PatternMaker.patterns c.args.maker.now).makes in
     let all = members_view c.args.members.now.entries in
     let k = c.args.name.now in
     let d = view c.args.value.now in
@@ -60,7 +60,7 @@ returns-in-Ok-clause-written g c = λ t.
 pub returns-clause-led : goal.returns-clause-led
 returns-clause-led g c = λ filled.
     let v = c.args.visit.now in
-    let makes = g.P.PatternMaker.makes c.args.maker.now in
+    let makes = (g.P.PatternMaker.patterns c.args.maker.now).makes in
     let all = members_view c.args.members.now.entries in
     let k = c.args.name.now in
     let d = view c.args.value.now in

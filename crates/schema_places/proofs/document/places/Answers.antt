@@ -2,9 +2,9 @@ use Rattle.std.proofs.Common.{◌∷◌, ◌<◌, [], ap, ◌∙◌, arith, map,
 use Rattle.std.proofs.lemmas.List.{length-map}
 use Rattle.serde_json.specs.Data.{depth}
 use Rattle.serde_json.specs.View.{view}
-use Rattle.schema_documents.specs.Places.{SchemaPlace, children, places, root_place}
-use Rattle.schema_documents.specs.Words.{levels}
-use Rattle.schema_vocabularies.specs.Dialects.{dialects_in}
+use Rattle.schema_definitions.specs.Places.{SchemaPlace, children, places, root_place}
+use Rattle.schema_definitions.specs.Words.{levels}
+use Rattle.schema_dialects.specs.Dialects.{dialects_in}
 use Rattle.schema_places.specs.Seen.{place_of}
 use Rattle.schema_places.proofs.Depths.{height, falls}
 use Rattle.schema_places.proofs.Entered.{root-contents}

@@ -1,8 +1,8 @@
 use Rattle.std.proofs.Common.{◌≡◌, ◌++◌, ◌∷◌, ◌≤◌, [], map, take, drop, length}
 use Rattle.std.specs.List.{flat_map, sum_by}
 use Rattle.serde_json.specs.View.{view}
-use Rattle.schema_documents.specs.Places.{children, root_place}
-use Rattle.schema_vocabularies.specs.Dialects.{dialects_in}
+use Rattle.schema_definitions.specs.Places.{children, root_place}
+use Rattle.schema_dialects.specs.Dialects.{dialects_in}
 use Rattle.schema_places.specs.Seen.{place_of}
 use Rattle.schema_places.proofs.Weights.{size}
 use Rattle.schema_places.proofs.document.places.Given as goal

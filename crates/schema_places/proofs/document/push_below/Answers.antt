@@ -1,8 +1,8 @@
 use Rattle.std.proofs.Common.{◌≡◌, ◌++◌, map, get_or, sym, ap, ◌∙◌}
 use Rattle.std.proofs.lemmas.List.{get_or-map}
 use Rattle.std.proofs.lemmas.Result.{on_ok_weaker}
-use Rattle.schema_documents.specs.Places.{SchemaPlace, children}
-use Rattle.schema_vocabularies.specs.Dialects.{dialects_in}
+use Rattle.schema_definitions.specs.Places.{SchemaPlace, children}
+use Rattle.schema_dialects.specs.Dialects.{dialects_in}
 use Rattle.schema_places.specs.Seen.{place_of}
 use Rattle.schema_places.proofs.document.push_below.Goals as goal
 

@@ -1,7 +1,7 @@
 use Rattle.std.proofs.Common.{◌≡◌, ◌++◌, map}
 use Rattle.serde_json.specs.View.{members_view}
-use Rattle.schema_documents.specs.Places.{children, children_of}
-use Rattle.schema_vocabularies.specs.Dialects.{dialects_in}
+use Rattle.schema_definitions.specs.Places.{children, children_of}
+use Rattle.schema_dialects.specs.Dialects.{dialects_in}
 use Rattle.schema_places.specs.Seen.{place_of}
 use Rattle.schema_places.proofs.document.push_children.Given as goal
 

@@ -1,7 +1,7 @@
 use Rattle.std.proofs.Common.{◌≡◌, ◌++◌, map, drop}
 use Rattle.serde_json.specs.View.{view, items_view}
-use Rattle.schema_documents.specs.Places.{each_item, in_list}
-use Rattle.schema_vocabularies.specs.Dialects.{dialects_in}
+use Rattle.schema_definitions.specs.Places.{each_item, in_list}
+use Rattle.schema_dialects.specs.Dialects.{dialects_in}
 use Rattle.schema_places.specs.Seen.{place_of}
 use Rattle.schema_places.proofs.document.push_list.Given as goal
 

@@ -1,6 +1,6 @@
 use Rattle.std.proofs.Common.{◌∙◌, ◌&&◌, ap, sym}
 use Rattle.serde_json.specs.View.{members_view}
-use Rattle.schema_values.proofs.Walked.{entries_rise}
+use Rattle.json_values.proofs.Walked.{entries_rise}
 use Rattle.schema_registries.proofs.Trees.{values_are_trees, member_trees}
 use Rattle.schema_registries.proofs.numbers.+whole.Goals as goal
 

@@ -1,6 +1,6 @@
 use Rattle.std.proofs.Common.{◌≡◌, drop}
 use Rattle.serde_json.specs.View.{items_view, members_view}
-use Rattle.schema_values.specs.Equality.{are_trees}
+use Rattle.json_values.specs.Equality.{are_trees}
 use Rattle.schema_registries.specs.Whole.{items_only_whole, members_only_whole}
 use Rattle.schema_registries.proofs.Trees.{values_are_trees}
 use Rattle.schema_registries.proofs.numbers.+whole.Given as goal

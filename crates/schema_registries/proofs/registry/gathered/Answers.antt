@@ -1,7 +1,7 @@
 use Rattle.std.proofs.Common.{◌≡◌, ◌∙◌, map, ap}
 use Rattle.document_index.specs.Seen.{document_of}
 use Rattle.referencing.specs.Seen.{documents_of}
-use Rattle.target_laws.specs.Laws.{are_apart}
+use Rattle.document_laws.specs.TargetLaws.{are_apart}
 use Rattle.schema_registries.proofs.Gathered.{gathered_apart}
 use Rattle.schema_registries.proofs.registry.gathered.Goals as goal
 

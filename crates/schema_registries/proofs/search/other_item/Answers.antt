@@ -1,7 +1,7 @@
 use Rattle.std.proofs.Common.{◌<◌, ◌∙◌, Some, ap, arith, length, sym}
 use Rattle.serde_json.proofs.Views.{get_item_within}
 use Rattle.serde_json.specs.View.{view}
-use Rattle.json_paths.specs.Parts.{index}
+use Rattle.json_values.specs.Parts.{index}
 use Rattle.schema_registries.proofs.search.other_item.Goals as goal
 
 pub returns-then-not-has_only_whole : goal.returns-then-not-has_only_whole

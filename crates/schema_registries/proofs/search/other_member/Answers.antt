@@ -1,7 +1,7 @@
 use Rattle.std.proofs.Common.{◌≡◌, ◌∙◌, ◌∷◌, ap, rules, string_bytes, subst, sym}
 use Rattle.serde_json.specs.View.{members_view}
-use Rattle.json_paths.specs.Parts.{name}
-use Rattle.schema_values.proofs.Walked.{entries_rise}
+use Rattle.json_values.specs.Parts.{name}
+use Rattle.json_values.proofs.Walked.{entries_rise}
 use Rattle.schema_registries.proofs.Nearer.{Left, left_at_first, left_behind, first_left}
 use Rattle.schema_registries.proofs.search.other_member.Goals as goal
 

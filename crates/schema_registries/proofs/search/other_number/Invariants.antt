@@ -1,7 +1,7 @@
 use Rattle.std.proofs.Common.{◌≡◌, false, Some, reverse}
 use Rattle.serde_json.specs.Data.{depth}
 use Rattle.serde_json.specs.View.{view}
-use Rattle.json_paths.specs.Pointers.{value_at}
+use Rattle.json_values.specs.Pointers.{value_at}
 use Rattle.schema_registries.specs.Whole.{only_whole}
 use Rattle.schema_registries.proofs.search.other_number.Given as goal
 

@@ -1,7 +1,7 @@
 use Rattle.std.proofs.Common.{◌≡◌, ◌++◌, map, drop}
 use Rattle.document_index.specs.Seen.{document_of}
-use Rattle.given_documents.specs.Given.{documents_by}
-use Rattle.given_documents.specs.Seen.{given_of}
+use Rattle.document_sources.specs.Given.{documents_by}
+use Rattle.document_sources.specs.Seen.{given_of}
 use Rattle.schema_registries.proofs.sharing.all_shared.Given as goal
 
 -- the documents that were shared, and those that are left

@@ -1,7 +1,7 @@
 use Rattle.std.proofs.Common.{◌≡◌, map, drop}
-use Rattle.given_documents.specs.Given.{with_all}
-use Rattle.given_documents.specs.Listed.{givens_of}
-use Rattle.given_documents.specs.Seen.{given_of}
+use Rattle.document_sources.specs.Given.{with_all}
+use Rattle.document_sources.specs.Listed.{givens_of}
+use Rattle.document_sources.specs.Seen.{given_of}
 use Rattle.schema_registries.proofs.sharing.with_shared.Given as goal
 
 -- the list so far, with those that are left

@@ -1,7 +1,7 @@
 use Rattle.std.proofs.Common.{[], ℕ, List, sym, ap, ◌∙◌}
 use Rattle.std.proofs.lemmas.Result.{IfOk-weaker}
 use Rattle.json_pointers.proofs.PointerLemmas.{parts_some, parts_none}
-use Rattle.schema_reading.specs.Sites.{pushed, behind_first}
+use Rattle.schema_definitions.specs.Sites.{pushed, behind_first}
 use Rattle.schema_reports.proofs.pointer_path.path_behind.Goals as goal
 
 pub returns-in-Some : goal.returns-in-Some

@@ -2,9 +2,9 @@ use Rattle.std.proofs.Common.{◌≡◌, ◌<◌, ◌∷◌, length, get_or, dro
 use Rattle.std.proofs.lemmas.Iterator.Splits.{YieldsList-from_str_split}
 use Rattle.std.proofs.lemmas.Iterator.Consumers.{YieldsList-at, YieldsList-turn, YieldsList-end}
 use Rattle.std.proofs.lemmas.List.{length_push, at_drop_all}
-use Rattle.json_paths.specs.Parts.{name}
+use Rattle.json_values.specs.Parts.{name}
 use Rattle.uri_grammar.specs.Texts.{pieces}
-use Rattle.schema_reading.specs.Sites.{pushed}
+use Rattle.schema_definitions.specs.Sites.{pushed}
 use Rattle.schema_reports.proofs.PathLemmas.{pushed_on}
 use Rattle.schema_reports.proofs.pointer_path.path_of_parts.Goals as goal
 use Rattle.schema_reports.proofs.pointer_path.path_of_parts.Goals.{In-Some}

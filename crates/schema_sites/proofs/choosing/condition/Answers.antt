@@ -1,6 +1,6 @@
 use Rattle.std.proofs.Common.{refl, codes}
 use Rattle.serde_json.specs.View.{view, members_view}
-use Rattle.schema_reading.specs.Rows.{if_row}
+use Rattle.schema_definitions.specs.Rows.{if_row}
 use Rattle.schema_sites.proofs.ApplyingLemmas.{surrounded}
 use Rattle.schema_sites.proofs.ChoosingLemmas.{if-read, if-found, nothing-read, value-read, no-condition}
 use Rattle.schema_sites.proofs.choosing.condition.Goals as goal

@@ -1,6 +1,6 @@
 use Rattle.std.proofs.Common.{refl}
 use Rattle.serde_json.specs.View.{view, members_view}
-use Rattle.schema_reading.specs.Rows.{consequent_row}
+use Rattle.schema_definitions.specs.Rows.{consequent_row}
 use Rattle.schema_sites.proofs.ApplyingLemmas.{surrounded}
 use Rattle.schema_sites.proofs.ChoosingLemmas.{consequent-read, nothing-read, value-read, consequent-schema, no-consequent}
 use Rattle.schema_sites.proofs.choosing.consequent.Goals as goal

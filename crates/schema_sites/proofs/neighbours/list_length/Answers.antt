@@ -1,8 +1,8 @@
 use Rattle.std.proofs.Common.{◌≡◌, ◌∙◌, sym, ap, length, vec_len, option_map, Option}
 use Rattle.serde_json.specs.Data.{Items}
 use Rattle.serde_json.proofs.Views.{items_len-items_view}
-use Rattle.schema_documents.specs.Words.{or}
-use Rattle.schema_values.specs.Texts.{count_items}
+use Rattle.schema_definitions.specs.Words.{or}
+use Rattle.json_values.specs.Texts.{count_items}
 use Rattle.schema_sites.proofs.neighbours.list_length.Goals as goal
 
 pub returns-in-Some : goal.returns-in-Some

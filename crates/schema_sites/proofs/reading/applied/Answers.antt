@@ -9,7 +9,7 @@ use Rattle.schema_sites.proofs.AssertingLemmas.{applied_names, none-listed, none
 use Rattle.schema_sites.proofs.ApplyingLemmas.{refused-counted, read-counted}
 use Rattle.schema_sites.proofs.MadeLemmas.{plain-row}
 use Rattle.schema_sites.proofs.ResultLemmas.{if-err, if-ok}
-use Rattle.schema_reading.specs.Rows.{readers, read_among, if_row, consequent_row}
+use Rattle.schema_definitions.specs.Rows.{readers, read_among, if_row, consequent_row}
 use Rattle.schema_sites.specs.Read.{IsRowOf}
 use Rattle.schema_sites.specs.Refused.{Refuses}
 use Rattle.schema_sites.proofs.reading.applied.Goals as goal

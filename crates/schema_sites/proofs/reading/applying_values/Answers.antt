@@ -1,6 +1,6 @@
 use Rattle.std.proofs.Common.{refl}
 use Rattle.serde_json.specs.View.{view, members_view}
-use Rattle.schema_reading.specs.Rows.{readers, read_among}
+use Rattle.schema_definitions.specs.Rows.{readers, read_among}
 use Rattle.schema_sites.proofs.ApplyingLemmas.{surrounded, always-read}
 use Rattle.schema_sites.proofs.ResultLemmas.{if-ok, if-err}
 use Rattle.schema_sites.proofs.reading.applying_values.Goals as goal

@@ -1,6 +1,6 @@
 use Rattle.std.proofs.Common.{sym, ap, codes}
 use Rattle.serde_json.specs.View.{view}
-use Rattle.schema_reading.specs.Rows.{pattern_row}
+use Rattle.schema_definitions.specs.Rows.{pattern_row}
 use Rattle.schema_sites.specs.Arms.{one_pattern_row}
 use Rattle.schema_sites.proofs.ArmLemmas.{value-refused}
 use Rattle.schema_sites.proofs.MadeLemmas.{pattern-read}

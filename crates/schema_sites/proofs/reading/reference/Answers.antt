@@ -1,8 +1,8 @@
 use Rattle.std.proofs.Common.{◌∙◌, sym, ap, subst, Result}
 use Rattle.serde_json.specs.View.{view}
-use Rattle.schema_documents.specs.Lookup.{LookupCause, Target}
+use Rattle.schema_definitions.specs.Lookup.{LookupCause, Target}
 use Rattle.referencing.specs.Resolved.{base_of, scope_of}
-use Rattle.schema_reading.specs.Rows.{Row, led_to}
+use Rattle.schema_definitions.specs.Rows.{Row, led_to}
 use Rattle.schema_sites.specs.Errors.{IsRefusalOf}
 use Rattle.schema_sites.specs.References.{kind_of, name_of, reference_row, looked_up}
 use Rattle.schema_sites.specs.Refused.{Refuses}

@@ -1,6 +1,6 @@
 use Rattle.std.proofs.Common.{sym, subst, ◌≡◌}
 use Rattle.serde_json.specs.View.{view}
-use Rattle.schema_reading.specs.Rows.{bad_value}
+use Rattle.schema_definitions.specs.Rows.{bad_value}
 use Rattle.schema_sites.specs.References.{name_of, reference_row}
 use Rattle.schema_sites.specs.declared.reference_keyword.ReferenceKeyword.{ReferenceKeyword}
 use Rattle.schema_sites.proofs.ResultLemmas.{if-err}

@@ -1,7 +1,7 @@
 use Rattle.std.proofs.Common.{◌≡◌, ◌∙◌, sym, ap, false, Some, Bor, inl, inr}
 use Rattle.serde_json.specs.View.{view}
 use Rattle.serde_json.specs.declared.value.Value.{Value}
-use Rattle.schema_documents.specs.Identifiers.{identifier_text}
+use Rattle.schema_definitions.specs.Identifiers.{identifier_text}
 use Rattle.schema_drafts.specs.declared.draft.Draft.{Draft}
 use Rattle.referencing.specs.Resolved.{target_in}
 use Rattle.schema_sites.proofs.ReferredLemmas.{wrong-identifier}

@@ -1,7 +1,7 @@
 use Rattle.std.proofs.Common.{◌≡◌, ◌∙◌, sym, ap, false, Bor}
 use Rattle.serde_json.specs.View.{view}
 use Rattle.serde_json.specs.declared.value.Value.{Value}
-use Rattle.schema_documents.specs.Places.{is_schema}
+use Rattle.schema_definitions.specs.Places.{is_schema}
 use Rattle.referencing.specs.Resolved.{target_in}
 use Rattle.schema_sites.specs.Errors.{IsRefusalOf}
 use Rattle.schema_sites.specs.References.{kind_of, name_of}

@@ -1,6 +1,6 @@
 use Rattle.std.proofs.Common.{◌++◌, ◌∷◌, [], ◌<◌, ◌+◌, length, map, reverse, string_bytes, string_len, ap, ◌∙◌, arith, length-append}
 use Rattle.std.specs.String.{string_capacity}
-use Rattle.json_paths.specs.Pointers.{part_text, pointer_text}
+use Rattle.json_values.specs.Pointers.{part_text, pointer_text}
 use Rattle.json_pointers.proofs.EscapeLemmas.{onto}
 use Rattle.json_pointers.proofs.GrowLemmas.{completed, full_on, on_err, then_on}
 use Rattle.schema_steps.specs.Steps.{step_part}

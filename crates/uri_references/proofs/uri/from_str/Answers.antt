@@ -1,7 +1,7 @@
 use Rattle.std.proofs.Common.{◌≡◌, ◌∙◌, sym, subst, true}
-use Rattle.uri_resolution.specs.Passed.{split}
-use Rattle.uri_resolution.specs.Passed.{is_uri}
-use Rattle.uri_resolution.specs.NormalForm.{normal_text}
+use Rattle.uri_references.specs.Passed.{split}
+use Rattle.uri_references.specs.Passed.{is_uri}
+use Rattle.uri_references.specs.NormalForm.{normal_text}
 use Rattle.uri_references.specs.Identity.{absolute}
 use Rattle.uri_references.proofs.IdentityLemmas.{identity-uri, identity-again, absolute-uri}
 use Rattle.uri_references.proofs.uri.from_str.Goals as goal

@@ -1,7 +1,7 @@
 use Rattle.std.proofs.Common.{◌≡◌, ◌∙◌, ap, subst, string_bytes, IfOk}
-use Rattle.uri_resolution.specs.Passed.{split, recompose}
-use Rattle.uri_resolution.specs.Passed.{parts_of}
-use Rattle.uri_resolution.specs.Resolution.{resolve}
+use Rattle.uri_references.specs.Passed.{split, recompose}
+use Rattle.uri_references.specs.Passed.{parts_of}
+use Rattle.uri_references.specs.Resolution.{resolve}
 use Rattle.uri_references.specs.Identity.{identity}
 use Rattle.uri_references.proofs.IdentityLemmas.{against-parts}
 use Rattle.uri_references.proofs.uri.identity_against.Goals as goal

@@ -1,9 +1,9 @@
 use Rattle.std.proofs.Common.{◌≡◌, ◌∙◌, ap, refl, sym, subst, string_bytes, IfOk, Bool, true, false, if◌then◌else◌}
 use Rattle.std.specs.Prelude.{not}
-use Rattle.uri_resolution.specs.Passed.{is_none}
-use Rattle.uri_resolution.specs.Passed.{split, recompose}
-use Rattle.uri_resolution.specs.Resolution.{resolve}
-use Rattle.uri_resolution.proofs.Resolved.{some_kept}
+use Rattle.uri_references.specs.Passed.{is_none}
+use Rattle.uri_references.specs.Passed.{split, recompose}
+use Rattle.uri_references.specs.Resolution.{resolve}
+use Rattle.uri_references.proofs.Resolved.{some_kept}
 use Rattle.uri_references.specs.Identity.{identity, default_base}
 use Rattle.uri_references.proofs.IdentityLemmas.{default-uri}
 use Rattle.uri_references.proofs.uri.identity_of.Goals as goal

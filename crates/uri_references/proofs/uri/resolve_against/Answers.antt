@@ -1,8 +1,8 @@
 use Rattle.std.proofs.Common.{◌≡◌, ◌∙◌, ap, sym, subst, true}
-use Rattle.uri_resolution.specs.Passed.{split}
-use Rattle.uri_resolution.specs.Passed.{is_uri}
-use Rattle.uri_resolution.specs.Resolution.{resolve}
-use Rattle.uri_resolution.specs.NormalForm.{normal_text}
+use Rattle.uri_references.specs.Passed.{split}
+use Rattle.uri_references.specs.Passed.{is_uri}
+use Rattle.uri_references.specs.Resolution.{resolve}
+use Rattle.uri_references.specs.NormalForm.{normal_text}
 use Rattle.uri_references.specs.Identity.{identity_against}
 use Rattle.uri_references.proofs.IdentityLemmas.{identity-uri, identity-again, against-uri}
 use Rattle.uri_references.proofs.uri.resolve_against.Goals as goal

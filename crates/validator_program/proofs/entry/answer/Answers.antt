@@ -1,6 +1,6 @@
 use Rattle.clap.specs.Words.{matches_of}
 use Rattle.clap.specs.Walk.{texts}
-use Rattle.program_words.specs.Program.{program_app}
+use Rattle.program_inputs.specs.Program.{program_app}
 use Rattle.line_runs.specs.Passed.{root_in}
 use Rattle.validator_program.proofs.Running.{named_by, answers_all}
 use Rattle.validator_program.proofs.entry.answer.Goals as goal

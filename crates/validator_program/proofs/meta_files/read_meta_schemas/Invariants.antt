@@ -1,7 +1,7 @@
 use Rattle.std.proofs.Common.{List, map}
 use Rattle.std.specs.Vec.Iter.{into_iter_items}
 use Rattle.serde_json.specs.View.{view}
-use Rattle.given_documents.specs.Given.{Given}
+use Rattle.document_sources.specs.Given.{Given}
 use Rattle.schema_registries.specs.Seen.{documents_given}
 use Rattle.validator_program.specs.Given.{AddsEach}
 use Rattle.validator_program.proofs.meta_files.read_meta_schemas.Given as goal

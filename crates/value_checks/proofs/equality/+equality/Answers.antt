@@ -1,6 +1,6 @@
 use Rattle.std.proofs.Common.{◌≡◌, length, false, [], ◌∷◌, sym, ap, ◌∙◌, string_bytes, bytes_eq}
 use Rattle.value_checks.proofs.Walked.{other_lengths, in_step, same_in_step, other_counts, names_differ, values_differ, flipped, nothing_left}
-use Rattle.schema_values.proofs.Walked.{entries_rise}
+use Rattle.json_values.proofs.Walked.{entries_rise}
 use Rattle.serde_json.specs.Data.{member}
 use Rattle.serde_json.proofs.Views.{items_len-items_view, members_len-members_view}
 use Rattle.serde_json.specs.View.{view, items_view, members_view}

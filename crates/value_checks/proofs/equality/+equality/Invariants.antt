@@ -1,5 +1,5 @@
 use Rattle.std.proofs.Common.{◌≡◌, drop, length}
-use Rattle.schema_values.specs.Equality.{equal_items}
+use Rattle.json_values.specs.Equality.{equal_items}
 use Rattle.value_checks.proofs.Walked.{in_step}
 use Rattle.serde_json.specs.View.{items_view, members_view}
 use Rattle.value_checks.proofs.equality.+equality.Given as goal

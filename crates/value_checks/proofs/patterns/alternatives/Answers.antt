@@ -3,7 +3,7 @@ use Rattle.std.proofs.lemmas.Iterator.Consumers.{YieldsList-turn, YieldsList-end
 use Rattle.std.proofs.lemmas.Iterator.Splits.{YieldsList-from_str_split}
 use Rattle.std.proofs.lemmas.List.{drop_more, drop_all, length_push, length-map}
 use Rattle.std.specs.List.{slice_split}
-use Rattle.schema_values.specs.Patterns.{word, words, if_several}
+use Rattle.json_values.specs.Patterns.{word, words, if_several}
 use Rattle.value_checks.proofs.Alternatives.{WordsLeft, words_pushed, words_refused, words_done, several, too_few, map_pushed}
 use Rattle.value_checks.proofs.patterns.alternatives.Goals as goal
 use Rattle.value_checks.proofs.patterns.alternatives.Goals.{then-len-lt2, else-len-lt2}

@@ -1,8 +1,8 @@
 use Rattle.std.proofs.Common.{◌≡◌, option_map, option_and_then, string_bytes, Option, Some, None, IfOk, sym, ap, ◌∙◌, lit<, subst}
 use Rattle.std.proofs.lemmas.Str.Pattern.{strip_prefix_char, strip_suffix_char}
 use Rattle.value_checks.specs.CodePatterns.{form_of}
-use Rattle.schema_values.specs.Patterns.{Literal, before, behind, word, opened_of, closed_of, literal_of}
-use Rattle.schema_values.proofs.Marks.{stripped_start, stripped_end, opened_here, closed_here}
+use Rattle.json_values.specs.Patterns.{Literal, before, behind, word, opened_of, closed_of, literal_of}
+use Rattle.json_values.proofs.Marks.{stripped_start, stripped_end, opened_here, closed_here}
 use Rattle.value_checks.proofs.patterns.analyze_pattern.Goals as goal
 
 pub returns-in_default : goal.returns-in_default

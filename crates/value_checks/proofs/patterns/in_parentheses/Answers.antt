@@ -1,7 +1,7 @@
 use Rattle.std.proofs.Common.{◌≡◌, option_map, option_and_then, Some, None, sym, ap, ◌∙◌, lit<}
 use Rattle.std.proofs.lemmas.Str.Pattern.{strip_prefix_char, strip_suffix_char}
-use Rattle.schema_values.specs.Patterns.{before, behind}
-use Rattle.schema_values.proofs.Marks.{stripped_start, stripped_end}
+use Rattle.json_values.specs.Patterns.{before, behind}
+use Rattle.json_values.proofs.Marks.{stripped_start, stripped_end}
 use Rattle.value_checks.proofs.patterns.in_parentheses.Goals as goal
 
 pub returns-in_err-strip_prefix : goal.returns-in_err-strip_prefix

@@ -1,7 +1,7 @@
 use borrow.Author.Tests.{eqb-true, eq-eqb}
 use Rattle.std.proofs.Common.{rules, ◌≡◌, option_map, string_bytes, ℕ, ◌+◌, length, Bool, true, false, List, [], ◌∷◌, ◌++◌, drop, get_or, sym, ap, ◌∙◌, subst, arith, true≢false, string_len, ◌==◌}
 use Rattle.std.proofs.lemmas.List.{drop_more, drop_all}
-use Rattle.schema_values.specs.Patterns.{word, if_any}
+use Rattle.json_values.specs.Patterns.{word, if_any}
 use Rattle.value_checks.proofs.Unescaping.{Left, stands, left_whole, left_pushed, left_escaped, left_refused, left_open, left_done, stands_behind, stands_bare, stands_ascii, no_backslash, none_of, some_of}
 use Rattle.value_checks.proofs.patterns.unescape_word.Goals as goal
 use Rattle.value_checks.proofs.patterns.unescape_word.Goals.{then-is_escape, else-is_escape, else-not-is_escape-via-then-not-is_escape+else-byte-eq92, else-not-is_escape-via-else-not-is_escape, then-stands+in_ok-push, else-stands+then-not-is_escape+then-byte-eq92, then-is_escape-2, else-is_escape-2, then-is_empty, else-is_empty}

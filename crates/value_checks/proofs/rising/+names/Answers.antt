@@ -1,4 +1,4 @@
-use Rattle.schema_values.proofs.Walked.{entries_rise}
+use Rattle.json_values.proofs.Walked.{entries_rise}
 use Rattle.value_checks.proofs.rising.+names.Goals as goal
 
 pub members_rise-returns-clause-names : goal.members_rise-returns-clause-names

@@ -1,6 +1,6 @@
 use Rattle.std.proofs.Common.{◌≡◌, drop}
 use Rattle.serde_json.specs.View.{items_view, members_view}
-use Rattle.schema_values.specs.Rising.{items_rise, members_rise}
+use Rattle.json_values.specs.Rising.{items_rise, members_rise}
 use Rattle.value_checks.proofs.rising.+names.Given as goal
 
 abbrev pub invariant-items_rise-loop-item : goal.invariant-items_rise-loop-item

@@ -1,4 +1,4 @@
-use Rattle.schema_values.proofs.Walked.{entries_rise}
+use Rattle.json_values.proofs.Walked.{entries_rise}
 use Rattle.value_checks.proofs.rising.entries_rise.Goals as goal
 
 pub returns : goal.returns

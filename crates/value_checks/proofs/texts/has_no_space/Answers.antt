@@ -1,7 +1,7 @@
 use Rattle.std.proofs.Common.{rules, tests, not, ap}
 use Rattle.std.proofs.lemmas.Iterator.{YieldsList-from_chars}
 use Rattle.std.proofs.lemmas.Iterator.Search.{any_from_yields_List}
-use Rattle.schema_values.specs.Texts.{is_ecma_space}
+use Rattle.json_values.specs.Texts.{is_ecma_space}
 use Rattle.value_checks.proofs.texts.has_no_space.Goals as goal
 
 pub returns : goal.returns

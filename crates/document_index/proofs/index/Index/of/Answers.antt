@@ -1,7 +1,7 @@
 use Rattle.std.proofs.Common.{◌≡◌, ◌∙◌, ◌++◌, ◌∷◌, [], ◌+◌, map, take, option_map, ap, sym}
 use Rattle.std.proofs.lemmas.List.{take_more, take_all, map-append}
-use Rattle.schema_documents.specs.Identifiers.{anchors, dynamic_anchors}
-use Rattle.schema_documents.specs.Bearers.{bears, bears_anchor}
+use Rattle.schema_definitions.specs.Identifiers.{anchors, dynamic_anchors}
+use Rattle.schema_definitions.specs.Bearers.{bears, bears_anchor}
 use Rattle.document_index.specs.Located.{kept_of, last_located}
 use Rattle.document_index.specs.Seen.{located_of}
 use Rattle.document_index.specs.Indexes.{bearer_in, anchored_in, dynamically_anchored_in}

@@ -1,6 +1,6 @@
 use Rattle.std.proofs.Common.{◌≡◌, ℕ, List, map, option_map, take}
-use Rattle.schema_documents.specs.Identifiers.{anchors, dynamic_anchors}
-use Rattle.schema_documents.specs.Bearers.{bears, bears_anchor}
+use Rattle.schema_definitions.specs.Identifiers.{anchors, dynamic_anchors}
+use Rattle.schema_definitions.specs.Bearers.{bears, bears_anchor}
 use Rattle.document_index.specs.Located.{kept_of, last_located}
 use Rattle.document_index.specs.Seen.{located_of}
 use Rattle.document_index.specs.Indexes.{named, anchor_named}

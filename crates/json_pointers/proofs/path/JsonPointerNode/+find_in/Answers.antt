@@ -2,7 +2,7 @@ use Rattle.std.proofs.Common.{ap, sym, ◌∙◌, None, Some, Bor, option_map}
 use Rattle.serde_json.specs.Find.{get}
 use Rattle.serde_json.specs.View.{view}
 use Rattle.serde_json.specs.declared.value.Value.{Value}
-use Rattle.json_paths.specs.Pointers.{value_in}
+use Rattle.json_values.specs.Pointers.{value_in}
 use Rattle.json_pointers.specs.Lent.{part_of}
 use Rattle.json_pointers.proofs.NodeLemmas.{value_step}
 use Rattle.json_pointers.proofs.path.JsonPointerNode.+find_in.Goals as goal

@@ -1,6 +1,6 @@
 use Rattle.std.proofs.Common.{◌++◌, ◌∷◌, [], ◌<◌, ◌+◌, length, string_bytes, string_len, ap, ◌∙◌, arith, length-append}
 use Rattle.std.specs.String.{string_capacity}
-use Rattle.json_paths.specs.Pointers.{part_text, pointer_text}
+use Rattle.json_values.specs.Pointers.{part_text, pointer_text}
 use Rattle.json_pointers.specs.Lent.{part_of, path_of}
 use Rattle.json_pointers.specs.declared.path.JsonPointerNode.{out-JsonPointerNode}
 use Rattle.json_pointers.proofs.EscapeLemmas.{onto}

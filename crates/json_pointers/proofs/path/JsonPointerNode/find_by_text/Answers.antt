@@ -1,7 +1,7 @@
 use Rattle.std.proofs.Common.{ap, ◌∙◌}
 use Rattle.std.specs.Result.{result_ok}
 use Rattle.serde_json.specs.View.{view}
-use Rattle.json_paths.specs.Pointers.{locate}
+use Rattle.json_values.specs.Pointers.{locate}
 use Rattle.json_pointers.specs.Lent.{path_of}
 use Rattle.json_pointers.proofs.PathLemmas.{locate_path}
 use Rattle.json_pointers.proofs.path.JsonPointerNode.find_by_text.Goals as goal

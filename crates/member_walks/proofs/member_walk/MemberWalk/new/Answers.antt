@@ -1,6 +1,6 @@
 use Rattle.std.proofs.Common.{ap, ◌∙◌, rules}
-use Rattle.schema_values.specs.Rising.{are_rising}
-use Rattle.schema_values.proofs.Walked.{entries_rise}
+use Rattle.json_values.specs.Rising.{are_rising}
+use Rattle.json_values.proofs.Walked.{entries_rise}
 use Rattle.member_walks.proofs.member_walk.MemberWalk.new.Goals as goal
 
 pub returns-clause-left : goal.returns-clause-left

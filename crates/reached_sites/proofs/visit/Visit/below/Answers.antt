@@ -1,8 +1,8 @@
 use Rattle.std.proofs.Common.{◌∙◌, ap, sym}
 use Rattle.serde_json.specs.View.{view}
-use Rattle.schema_documents.specs.Scopes.{entered_scope}
+use Rattle.schema_definitions.specs.Scopes.{entered_scope}
 use Rattle.referencing.specs.Resolved.{base_of, scope_of}
-use Rattle.schema_reading.specs.Sites.{below}
+use Rattle.schema_definitions.specs.Sites.{below}
 use Rattle.schema_sites.specs.Seen.{documents_at}
 use Rattle.reached_sites.specs.Visits.{site_of}
 use Rattle.reached_sites.proofs.Meeting.{stands-itself, met-exactly, below-path, spelled-behind}

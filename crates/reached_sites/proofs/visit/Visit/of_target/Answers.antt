@@ -1,6 +1,6 @@
 use Rattle.std.proofs.Common.{◌∙◌, ap, sym}
-use Rattle.site_laws.specs.Spelled.{spelled}
-use Rattle.schema_reading.specs.Sites.{target_site}
+use Rattle.reading_laws.specs.Spelled.{spelled}
+use Rattle.schema_definitions.specs.Sites.{target_site}
 use Rattle.referencing.specs.Resolved.{target_in}
 use Rattle.reached_sites.proofs.Meeting.{met-exactly}
 use Rattle.reached_sites.proofs.visit.Visit.of_target.Goals as goal

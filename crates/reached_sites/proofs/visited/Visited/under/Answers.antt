@@ -1,6 +1,6 @@
 use Rattle.std.proofs.Common.{[], ap}
 use Rattle.std.specs.BTreeMap.{get_by_text}
-use Rattle.schema_documents.specs.Words.{or}
+use Rattle.schema_definitions.specs.Words.{or}
 use Rattle.reached_sites.proofs.Filing.{lent}
 use Rattle.reached_sites.proofs.visited.Visited.under.Goals as goal
 

@@ -1,7 +1,7 @@
 use Rattle.std.proofs.Common.{◌≡◌, ◌∙◌, ap, rules, subst, sym, true, Result, Ok, Err, IfErr}
 use Rattle.std.specs.Result.{IsErrAnd}
-use Rattle.given_documents.specs.Given.{with_given}
-use Rattle.given_documents.specs.Uris.{is_document_uri, RefusesUri}
+use Rattle.document_sources.specs.Given.{with_given}
+use Rattle.document_sources.specs.Uris.{is_document_uri, RefusesUri}
 use Rattle.referencing.specs.Built.{given_in, given_by, AsksAlike}
 use Rattle.referencing.proofs.Extending.{givens_by-more, are_document_uris-more}
 use Rattle.referencing.proofs.builder.RegistryBuilder.extend.Goals as goal

@@ -1,6 +1,6 @@
 use Rattle.std.proofs.Common.{◌≡◌, ◌∙◌, sym, subst, map, [], ◌∷◌, Some, None, slice_get}
-use Rattle.schema_documents.specs.Bearers.{bearer_under}
-use Rattle.schema_vocabularies.specs.Dialects.{dialects_in}
+use Rattle.schema_definitions.specs.Bearers.{bearer_under}
+use Rattle.schema_dialects.specs.Dialects.{dialects_in}
 use Rattle.document_index.specs.Seen.{document_of}
 use Rattle.document_index.specs.Located.{located_standings}
 use Rattle.document_index.specs.Indexes.{Indexes, bearer_of}

@@ -1,11 +1,11 @@
 use Rattle.std.proofs.Common.{◌∙◌, sym, subst, ap, map, [], ◌∷◌, option_map, is_some}
-use Rattle.schema_documents.specs.Bearers.{bearer_under}
-use Rattle.schema_vocabularies.specs.Dialects.{dialects_in}
+use Rattle.schema_definitions.specs.Bearers.{bearer_under}
+use Rattle.schema_dialects.specs.Dialects.{dialects_in}
 use Rattle.document_index.specs.Seen.{document_of}
 use Rattle.document_index.specs.Located.{located_standings}
 use Rattle.document_index.specs.Indexes.{Indexes, bearer_of}
 use Rattle.document_index.specs.Answers.{IsAnswer}
-use Rattle.document_causes.proofs.NamedLemmas.{is_some-map}
+use Rattle.document_index.proofs.CauseNames.{is_some-map}
 use Rattle.referencing.specs.Seen.{documents_of}
 use Rattle.referencing.proofs.KeptLemmas.{some-answered}
 use Rattle.referencing.proofs.ToldLemmas.{told-bearer}

@@ -1,8 +1,8 @@
 use Rattle.std.proofs.Common.{◌≡◌, ◌∙◌, ap, sym, subst, map, [], ◌∷◌, Some, None, slice_get, option_map, reverse}
 use Rattle.serde_json.specs.View.{view}
-use Rattle.json_paths.specs.Pointers.{value_at}
-use Rattle.schema_documents.specs.Bearers.{Standing, bearer_under}
-use Rattle.schema_vocabularies.specs.Dialects.{dialects_in}
+use Rattle.json_values.specs.Pointers.{value_at}
+use Rattle.schema_definitions.specs.Bearers.{Standing, bearer_under}
+use Rattle.schema_dialects.specs.Dialects.{dialects_in}
 use Rattle.document_index.specs.Seen.{document_of}
 use Rattle.document_index.specs.Located.{located_standings}
 use Rattle.document_index.specs.Indexes.{Indexes, bearer_of}

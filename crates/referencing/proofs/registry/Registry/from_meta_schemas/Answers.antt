@@ -1,6 +1,6 @@
 use Rattle.std.proofs.Common.{◌≡◌, rules, inl}
 use Rattle.std.specs.Result.{IsErrAnd}
-use Rattle.document_causes.proofs.NamedLemmas.{kept}
+use Rattle.document_index.proofs.CauseNames.{kept}
 use Rattle.referencing.proofs.registry.Registry.from_meta_schemas.Goals as goal
 
 pub returns-in_err-extend-clause-refused : goal.returns-in_err-extend-clause-refused

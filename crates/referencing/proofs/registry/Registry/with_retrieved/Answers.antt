@@ -1,8 +1,8 @@
 use Rattle.std.proofs.Common.{subst, map, [], ◌∷◌}
-use Rattle.schema_documents.specs.DocumentCauses.{document_causes}
+use Rattle.schema_definitions.specs.DocumentCauses.{document_causes}
 use Rattle.document_index.specs.Seen.{document_of}
-use Rattle.document_causes.specs.Named.{NamesOne}
-use Rattle.document_causes.proofs.NamedLemmas.{kept}
+use Rattle.document_index.specs.Named.{NamesOne}
+use Rattle.document_index.proofs.CauseNames.{kept}
 use Rattle.referencing.proofs.registry.Registry.with_retrieved.Goals as goal
 
 pub returns-in_err-known-clause-refused : goal.returns-in_err-known-clause-refused

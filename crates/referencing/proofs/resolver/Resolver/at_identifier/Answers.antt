@@ -1,8 +1,8 @@
 use Rattle.std.proofs.Common.{◌≡◌, ◌∙◌, sym, ap, ℕ, List, Option, None}
-use Rattle.schema_documents.specs.Words.{ok_or, result_map}
-use Rattle.schema_documents.specs.Identifiers.{resolved}
-use Rattle.schema_documents.specs.Lookup.{invalid_uri}
-use Rattle.schema_documents.specs.Scopes.{entered_scope}
+use Rattle.schema_definitions.specs.Words.{ok_or, result_map}
+use Rattle.schema_definitions.specs.Identifiers.{resolved}
+use Rattle.schema_definitions.specs.Lookup.{invalid_uri}
+use Rattle.schema_definitions.specs.Scopes.{entered_scope}
 use Rattle.referencing.specs.Resolved.{base_of, scope_of, entered_at}
 use Rattle.referencing.proofs.RefusedLemmas.{refused-one}
 use Rattle.referencing.proofs.resolver.Resolver.at_identifier.Goals as goal

@@ -1,8 +1,8 @@
 use Rattle.std.proofs.Common.{◌∙◌, ap, [], ◌∷◌, is_some, option_and_then}
 use Rattle.std.specs.Cmp.{first_so}
-use Rattle.schema_documents.specs.Identifiers.{dynamic_anchors}
-use Rattle.schema_documents.specs.Bearers.{bears_anchor}
-use Rattle.schema_vocabularies.specs.Dialects.{dialects_in}
+use Rattle.schema_definitions.specs.Identifiers.{dynamic_anchors}
+use Rattle.schema_definitions.specs.Bearers.{bears_anchor}
+use Rattle.schema_dialects.specs.Dialects.{dialects_in}
 use Rattle.document_index.specs.Indexes.{named}
 use Rattle.document_index.specs.Answers.{dynamically_anchored_under}
 use Rattle.document_index.proofs.AnswerLemmas.{settled, answers}

@@ -1,9 +1,9 @@
 use Rattle.std.proofs.Common.{◌≡◌, ◌∙◌, sym, ap, subst, [], ◌∷◌, Ok}
-use Rattle.schema_documents.specs.Lookup.{lookup}
-use Rattle.referencing_errors.specs.Causes.{RefusesLookup}
+use Rattle.schema_definitions.specs.Lookup.{lookup}
+use Rattle.document_sources.specs.Causes.{RefusesLookup}
 use Rattle.referencing.specs.Found.{found_target}
 use Rattle.referencing.specs.Resolved.{documents_in}
-use Rattle.document_causes.proofs.NamedLemmas.{kept}
+use Rattle.document_index.proofs.CauseNames.{kept}
 use Rattle.referencing.proofs.resolver.Resolver.lookup.Goals as goal
 
 pub returns-in_err-found-clause-refused : goal.returns-in_err-found-clause-refused

@@ -1,11 +1,11 @@
 use Rattle.std.proofs.Common.{◌≡◌, ◌∙◌, sym, ap, subst, [], ◌∷◌, Ok}
 use Rattle.uri_grammar.specs.Texts.{cut_at}
-use Rattle.schema_documents.specs.Words.{or}
-use Rattle.schema_documents.specs.Lookup.{lookup}
-use Rattle.referencing_errors.specs.Causes.{RefusesLookup}
+use Rattle.schema_definitions.specs.Words.{or}
+use Rattle.schema_definitions.specs.Lookup.{lookup}
+use Rattle.document_sources.specs.Causes.{RefusesLookup}
 use Rattle.referencing.specs.Found.{found_target, redirect}
 use Rattle.referencing.specs.Resolved.{base_of, scope_of, documents_in}
-use Rattle.document_causes.proofs.NamedLemmas.{kept}
+use Rattle.document_index.proofs.CauseNames.{kept}
 use Rattle.referencing.proofs.RefusedLemmas.{refused-through}
 use Rattle.referencing.proofs.ToldLemmas.{dynamic-at}
 use Rattle.referencing.proofs.resolver.Resolver.lookup_dynamic_ref.Goals as goal

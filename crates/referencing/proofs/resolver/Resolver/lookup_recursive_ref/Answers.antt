@@ -1,9 +1,9 @@
 use Rattle.std.proofs.Common.{◌≡◌, ◌∙◌, sym, ap, subst, Some, None, Ok, ◌⊎◌, [], ◌∷◌, option_map}
-use Rattle.schema_documents.specs.Lookup.{unretrievable}
-use Rattle.schema_documents.specs.Scopes.{recursive_lookup}
-use Rattle.schema_reading.specs.CompileKeys.{run_end}
+use Rattle.schema_definitions.specs.Lookup.{unretrievable}
+use Rattle.schema_definitions.specs.Scopes.{recursive_lookup}
+use Rattle.schema_definitions.specs.CompileKeys.{run_end}
 use Rattle.document_index.specs.Seen.{standing_of}
-use Rattle.referencing_errors.specs.Causes.{IsMemory, NamesLookup}
+use Rattle.document_sources.specs.Causes.{IsMemory, NamesLookup}
 use Rattle.referencing.specs.Resolved.{base_of, scope_of, documents_in}
 use Rattle.referencing.proofs.RefusedLemmas.{refused-one}
 use Rattle.referencing.proofs.ToldLemmas.{recursive-at}

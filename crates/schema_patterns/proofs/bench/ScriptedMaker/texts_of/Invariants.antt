@@ -1,6 +1,6 @@
 use Rattle.std.proofs.Common.{◌≡◌, ℕ, List, map, bytes_eq, string_bytes, take}
 use Rattle.std.specs.List.{list_any}
-use Rattle.schema_values.specs.Patterns.{reads_as}
+use Rattle.json_values.specs.Patterns.{reads_as}
 use Rattle.schema_patterns.proofs.bench.ScriptedMaker.texts_of.Given as goal
 
 abbrev pub invariant-loop-matched : goal.invariant-loop-matched

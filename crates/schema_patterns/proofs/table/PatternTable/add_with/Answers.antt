@@ -1,6 +1,6 @@
 use Rattle.std.proofs.Common.{◌≡◌, ℕ, List, ◌∙◌, None, is_some, option_map, slice_get, sym, ap}
 use Rattle.std.specs.HashMap.{get_by_text}
-use Rattle.schema_values.specs.Patterns.{known}
+use Rattle.json_values.specs.Patterns.{known}
 use Rattle.schema_patterns.specs.Compiled.{found_by}
 use Rattle.schema_patterns.specs.declared.compiled.CompiledPattern.{CompiledPattern}
 use Rattle.schema_patterns.proofs.Tables.{number_found, number_added, entries_grown, each_kept, none_there, found_is_known}

@@ -1,7 +1,7 @@
 use Rattle.std.proofs.Common.{◌≡◌, ◌∙◌, map, ap}
 use Rattle.document_index.specs.Seen.{document_of}
-use Rattle.given_documents.specs.Given.{documents_by}
-use Rattle.target_laws.specs.Laws.{are_apart}
+use Rattle.document_sources.specs.Given.{documents_by}
+use Rattle.document_laws.specs.TargetLaws.{are_apart}
 use Rattle.schema_registries.specs.Seen.{documents_given}
 use Rattle.schema_registries.proofs.Apart.{apart_by}
 use Rattle.schema_registries.proofs.registry.SharedRegistry.prepare.Goals as goal

@@ -1,8 +1,8 @@
 use Rattle.std.proofs.Common.{◌≡◌, ◌∙◌, map, ap}
 use Rattle.document_index.specs.Seen.{document_of}
-use Rattle.given_documents.specs.Given.{documents_by}
-use Rattle.given_documents.specs.Listed.{givens_of}
-use Rattle.target_laws.specs.Laws.{are_apart}
+use Rattle.document_sources.specs.Given.{documents_by}
+use Rattle.document_sources.specs.Listed.{givens_of}
+use Rattle.document_laws.specs.TargetLaws.{are_apart}
 use Rattle.schema_registries.proofs.Apart.{apart_by}
 use Rattle.schema_registries.proofs.registry.SharedRegistry.prepare_beside.Goals as goal
 

@@ -1,7 +1,7 @@
 use Rattle.std.proofs.Common.{◌∙◌, refl, ap, ℕ, List}
 use Rattle.serde_json.specs.View.{view}
-use Rattle.schema_documents.specs.Places.{entered}
-use Rattle.schema_vocabularies.specs.Dialects.{dialect_of, dialects_in}
+use Rattle.schema_definitions.specs.Places.{entered}
+use Rattle.schema_dialects.specs.Dialects.{dialect_of, dialects_in}
 use Rattle.schema_sites.specs.Seen.{documents_at}
 use Rattle.schema_sites.proofs.Standing.{below-stands}
 use Rattle.schema_sites.proofs.site.Site.below.Goals as goal

@@ -1,8 +1,8 @@
 use Rattle.std.proofs.Common.{◌≡◌, ◌∙◌, ap, subst, sym, true}
-use Rattle.uri_resolution.specs.Passed.{split, recompose}
-use Rattle.uri_resolution.specs.Passed.{is_uri}
-use Rattle.uri_resolution.specs.Passed.{parts_of}
-use Rattle.uri_resolution.specs.Resolution.{resolve}
+use Rattle.uri_references.specs.Passed.{split, recompose}
+use Rattle.uri_references.specs.Passed.{is_uri}
+use Rattle.uri_references.specs.Passed.{parts_of}
+use Rattle.uri_references.specs.Resolution.{resolve}
 use Rattle.uri_references.specs.Fragments.{fragment_of}
 use Rattle.uri_references.proofs.TextLemmas.{resolved-text-uri, resolved-fragment}
 use Rattle.uri_references.proofs.borrowed.UriRef.resolve_against.Goals as goal

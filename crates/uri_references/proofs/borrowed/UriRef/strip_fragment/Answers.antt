@@ -1,6 +1,6 @@
 use Rattle.std.proofs.Common.{◌≡◌, subst, sym, true}
-use Rattle.uri_resolution.specs.Passed.{split}
-use Rattle.uri_resolution.specs.Passed.{is_reference}
+use Rattle.uri_references.specs.Passed.{split}
+use Rattle.uri_references.specs.Passed.{is_reference}
 use Rattle.uri_references.proofs.FragmentLemmas.{without-valid}
 use Rattle.uri_references.proofs.borrowed.UriRef.strip_fragment.Goals as goal
 

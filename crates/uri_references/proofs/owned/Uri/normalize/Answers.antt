@@ -1,7 +1,7 @@
 use Rattle.std.proofs.Common.{◌≡◌, ◌∙◌, ap, subst, sym, true, string_bytes}
-use Rattle.uri_resolution.specs.Passed.{split, recompose}
-use Rattle.uri_resolution.specs.Passed.{is_uri}
-use Rattle.uri_resolution.specs.NormalForm.{normal, normal_text}
+use Rattle.uri_references.specs.Passed.{split, recompose}
+use Rattle.uri_references.specs.Passed.{is_uri}
+use Rattle.uri_references.specs.NormalForm.{normal, normal_text}
 use Rattle.uri_references.proofs.TextLemmas.{normal-text-uri, normal-text-again}
 use Rattle.uri_references.proofs.owned.Uri.normalize.Goals as goal
 

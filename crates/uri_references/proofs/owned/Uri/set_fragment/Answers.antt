@@ -1,6 +1,6 @@
 use Rattle.std.proofs.Common.{◌≡◌, ◌∙◌, ap, subst, sym, true, string_bytes, option_map}
-use Rattle.uri_resolution.specs.Passed.{split}
-use Rattle.uri_resolution.specs.Passed.{is_uri}
+use Rattle.uri_references.specs.Passed.{split}
+use Rattle.uri_references.specs.Passed.{is_uri}
 use Rattle.uri_references.specs.Fragments.{with_fragment}
 use Rattle.uri_references.proofs.FragmentLemmas.{with-uri}
 use Rattle.uri_references.proofs.owned.Uri.set_fragment.Goals as goal

@@ -2,7 +2,7 @@ use Rattle.std.proofs.Common.{◌≡◌, ℕ, List, [], ◌∷◌, map, Bool, by
 use Rattle.std.proofs.lemmas.Str.Pattern.{starts_text}
 use Rattle.std.specs.List.{list_any, starts_with}
 use Rattle.value_checks.specs.CodePatterns.{form_of}
-use Rattle.schema_values.specs.Patterns.{means}
+use Rattle.json_values.specs.Patterns.{means}
 use Rattle.value_checks.proofs.patterns.PatternOptimization.is_match.Goals as goal
 
 any_mapped : {X Y : Type 0} (p : Y → Bool) (f : X → Y) (xs : List X) → list_any (λ x. p (f x)) xs ≡ list_any p (map f xs)

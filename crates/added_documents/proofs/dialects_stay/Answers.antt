@@ -1,5 +1,0 @@
-use Rattle.added_documents.proofs.Stages.{dialects_stay}
-use Rattle.added_documents.proofs.dialects_stay.Goals as goal
-
-pub returns : goal.returns
-returns c = dialects_stay

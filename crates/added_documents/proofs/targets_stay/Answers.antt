@@ -1,5 +1,0 @@
-use Rattle.added_documents.proofs.Targets.{targets_stay}
-use Rattle.added_documents.proofs.targets_stay.Goals as goal
-
-pub returns : goal.returns
-returns c = targets_stay

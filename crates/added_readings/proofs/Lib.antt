@@ -1,4 +1,0 @@
-pub mod Rows
-pub mod Sites
-pub mod Readings
-pub mod Computed

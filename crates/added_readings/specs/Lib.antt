@@ -1,3 +1,0 @@
-pub mod Laws
-pub mod Needed
-pub mod Passed

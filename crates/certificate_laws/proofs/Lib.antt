@@ -1,0 +1,12 @@
+pub mod Parts
+pub mod Values
+pub mod Shifted
+pub mod Steps
+pub mod Straight
+pub mod Answers
+pub mod Cuts
+pub mod Named
+pub mod Listed
+pub mod Added
+pub mod Begun
+pub mod BesideLed

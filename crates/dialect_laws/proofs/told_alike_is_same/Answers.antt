@@ -1,5 +1,0 @@
-use Rattle.dialect_laws.proofs.Same.{told_alike_is_same}
-use Rattle.dialect_laws.proofs.told_alike_is_same.Goals as goal
-
-pub returns : goal.returns
-returns c = told_alike_is_same

@@ -1,2 +1,0 @@
-pub mod Alternating
-pub mod Stages

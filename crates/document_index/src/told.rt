@@ -1,0 +1,86 @@
+//! What documents tell of meta-schemas.
+
+ghost use Rattle.std.specs.Prelude.{◌≡◌, ℕ, suc, List, [], ◌∷◌, map, IfOk, None, option_map, slice_get};
+ghost use Rattle.schema_definitions.specs.Bearers as bearers;
+ghost use Rattle.schema_definitions.specs.DocumentCauses as causes;
+ghost use Rattle.schema_dialects.specs.Dialects.{dialects_in};
+ghost use Rattle.document_index.specs.Seen.{document_of};
+ghost use Rattle.document_laws.specs.Stages as laws;
+ghost use Rattle.document_index.specs.Told.{Tells};
+
+use crate::counting::how_many;
+use crate::document::Document;
+use crate::stages::{borne_by, first_anew};
+use crate::standing::standings;
+use schema_dialects::MetaSchemas;
+use std::alloc::{AllocError, Global};
+use uri_references::uri::Uri;
+
+/// What some stages tell of meta-schemas.
+#[derive(Debug, Drop)]
+pub struct Told {
+    /// The meta-schemas told of.
+    pub meta_schemas: MetaSchemas,
+    /// The first meta-schema that is named at a schema place and of which the last stage tells another dialect than the one before. Where
+    /// there is none the stages are at rest: no later one tells anything else.
+    pub anew: Option<Uri>,
+}
+
+// One stage more.
+fn one_more(
+    alloc: Global,
+    documents: &[Document<'_>],
+    told: &MetaSchemas,
+) -> Result<Told, AllocError>
+    ensures next { IfOk result (λ t. (n : ℕ) → Tells told.now (bearers.dialects (map document_of documents.now ∷ []) n) → Tells t.meta_schemas (bearers.dialects (map document_of documents.now ∷ []) (suc n))) }
+    ensures anew { IfOk result (λ t. (n : ℕ) → Tells told.now (bearers.dialects (map document_of documents.now ∷ []) n) → option_map causes.circular_metaschema t.anew ≡ slice_get (laws.anew_after (map document_of documents.now ∷ []) n) 0) }
+{
+    let places = standings(alloc, told, documents)?;
+    let meta_schemas = borne_by(alloc, &places)?;
+    let anew = first_anew(alloc, &places, told, &meta_schemas)?;
+    Ok(Told { meta_schemas, anew })
+}
+
+/// What one stage more than that many tells of meta-schemas, each stage by what the places of the documents bear under what the one before
+/// tells.
+///
+/// A stage walks each document once, and copies the URIs borne. There is none after one that is at rest, so where no `$schema` names a
+/// meta-schema of one's own there is one.
+///
+/// # Errors
+///
+/// Where memory was refused, or a count of owners is full.
+pub fn told_after(
+    alloc: Global,
+    documents: &[Document<'_>],
+    stages: usize,
+) -> Result<Told, AllocError>
+    ensures told { IfOk result (λ t. (uri : List ℕ) → dialects_in t.meta_schemas uri ≡ bearers.dialects (map document_of documents.now ∷ []) (suc stages) uri) }
+    ensures anew { IfOk result (λ t. option_map causes.circular_metaschema t.anew ≡ slice_get (laws.anew_after (map document_of documents.now ∷ []) stages) 0) }
+{
+    let mut next = one_more(alloc, documents, &MetaSchemas::none(alloc))?;
+    let mut stage: usize = 0;
+    while stage < stages && next.anew.is_some() {
+        next = one_more(alloc, documents, &next.meta_schemas)?;
+        stage += 1;
+    }
+    Ok(next)
+}
+
+/// What documents tell of meta-schemas: the dialect of each, and one that is told anew where there are some.
+///
+/// It takes at most one stage more than there are members named `$schema`.
+///
+/// # Errors
+///
+/// Where memory was refused, a count of owners is full, or a `usize` does not count the members named `$schema`.
+pub fn meta_schemas(alloc: Global, documents: &[Document<'_>]) -> Result<Told, AllocError>
+    ensures told { IfOk result (λ t. (uri : List ℕ) → dialects_in t.meta_schemas uri ≡ bearers.meta (map document_of documents.now ∷ []) uri) }
+    ensures anew { IfOk result (λ t. option_map causes.circular_metaschema t.anew ≡ slice_get (causes.told_anew (map document_of documents.now ∷ [])) 0) }
+    ensures rests { IfOk result (λ t. t.anew ≡ None → causes.told_anew (map document_of documents.now ∷ []) ≡ []) }
+{
+    match how_many(documents) {
+        Some(stages) => told_after(alloc, documents, stages),
+        None => Err(AllocError),
+    }
+}

@@ -1,0 +1,68 @@
+-- Among documents whose URIs are apart, one place holds one value.
+use Rattle.std.proofs.Common.{◌≡◌, List, [], ◌∷◌, Bool, true, false, not, ◌&&◌, ◌||◌, Some, refl, sym, ap, ◌∙◌, subst, reverse}
+use Rattle.std.proofs.lemmas.Slice.Eq.{bytes_eq-Decides}
+use Rattle.std.specs.Cmp.{first_so, second_so}
+use Rattle.std.specs.List.{list_any, list_all}
+use Rattle.std.specs.Prelude.{bytes_eq}
+use Rattle.json_values.specs.Parts.{Part}
+use Rattle.json_values.specs.Pointers.{value_at}
+use Rattle.schema_meaning.specs.Members.{In, first, later}
+use Rattle.schema_definitions.specs.Bearers.{Document}
+use Rattle.schema_definitions.specs.Lookup.{Target}
+use Rattle.json_values.specs.Rising.{rises}
+use Rattle.document_laws.specs.TargetLaws.{are_apart, contents_rise, ContentsAreOne}
+use Rattle.document_laws.proofs.Origins.{Comes}
+use Rattle.document_laws.proofs.TargetsLooked.{target_comes_of}
+
+uri_among : (d e : Document) (ds : List Document) → In e ds → d.uri ≡ e.uri → list_any (λ x. bytes_eq d.uri x.uri) ds ≡ true
+uri_among d e [] i same = elim i [ ]
+uri_among d e (x ∷ ds) first same = (let here = (bytes_eq-Decides d.uri e.uri).1 same in rw here refl)
+uri_among d e (x ∷ ds) (later i) same = so_too (bytes_eq d.uri x.uri) (list_any (λ y. bytes_eq d.uri y.uri) ds) (uri_among d e ds i same)
+  where
+    so_too : (a b : Bool) → b ≡ true → (a || b) ≡ true
+    so_too true b h = refl
+    so_too false b h = h
+
+not_among : (d e : Document) (ds : List Document) → (not (list_any (λ x. bytes_eq d.uri x.uri) ds) && are_apart ds) ≡ true → In e ds → d.uri ≡ e.uri → ⊥
+not_among d e ds h i same =
+    let lacks : not (list_any (λ x. bytes_eq d.uri x.uri) ds) ≡ true = first_so (not (list_any (λ x. bytes_eq d.uri x.uri) ds)) (are_apart ds) h in
+    let no : false ≡ true = subst (λ b. not b ≡ true) (uri_among d e ds i same) lacks in cc
+
+same_document : (own : List Document) → are_apart own ≡ true → (d e : Document) → In d own → In e own → d.uri ≡ e.uri → d ≡ e
+same_document [] h d e i j same = elim i [ ]
+same_document (x ∷ own) h d e first first same = refl
+same_document (x ∷ own) h d e first (later j) same = absurd (not_among d e own h j same)
+same_document (x ∷ own) h d e (later i) first same = absurd (not_among e d own h i (sym same))
+same_document (x ∷ own) h d e (later i) (later j) same =
+    same_document own (second_so (not (list_any (λ y. bytes_eq x.uri y.uri) own)) (are_apart own) h) d e i j same
+
+each_rises : (own : List Document) → list_all contents_rise own ≡ true → (d : Document) → In d own → rises d.contents ≡ true
+each_rises [] h d i = elim i [ ]
+each_rises (x ∷ own) h d first = first_so (contents_rise d) (list_all contents_rise own) h
+each_rises (x ∷ own) h d (later i) = each_rises own (second_so (contents_rise x) (list_all contents_rise own) h) d i
+
+only_list : (own other : List Document) → In other (own ∷ []) → other ≡ own
+only_list own other first = refl
+only_list own other (later i) = elim i [ ]
+
+-- a document of the list, with the value that lies at the path in it
+record Found (own : List Document) (t : Target) : Type 0 where
+  document : Document
+  listed : In document own
+  named : document.uri ≡ t.document
+  leads : value_at (reverse t.path) document.contents ≡ Some t.contents
+
+found : (own : List Document) → list_all contents_rise own ≡ true → (t : Target) → Comes (own ∷ []) t → Found own t
+found own r t c =
+    let o = c.origin in
+    let listed = subst (λ ds. In o.document ds) (only_list own o.own o.given) o.listed in
+    record { document = o.document; listed = listed; named = o.named; leads = o.inside.leads (each_rises own r o.document listed) }
+
+pub contents_are_one : ContentsAreOne
+contents_are_one own apart r t u e f same_uri same_path =
+    let a = found own r t (target_comes_of (own ∷ []) t e) in
+    let b = found own r u (target_comes_of (own ∷ []) u f) in
+    let one = same_document own apart a.document b.document a.listed b.listed (a.named ∙ same_uri ∙ sym b.named) in
+    let value : Some t.contents ≡ Some u.contents =
+    sym a.leads ∙ ap (λ (p : List Part). value_at (reverse p) a.document.contents) same_path
+    ∙ ap (λ (d : Document). value_at (reverse u.path) d.contents) one ∙ b.leads in cc

@@ -1,0 +1,141 @@
+-- Under which name keywords refuse.
+use Rattle.std.proofs.Common.{◌≡◌, ◌∙◌, ℕ, List, [], ◌∷◌, Bool, true, false, true≢false, suc, Option, None, Some, Bor, length, map, refl, sym, ap, subst, arith}
+use Rattle.std.proofs.lemmas.List.{length-map}
+use Rattle.std.specs.List.{AllByRecursion}
+use Rattle.serde_json.specs.Data.{Data, null, boolean, number, string, array, object}
+use Rattle.serde_json.specs.declared.value.Value.{Value}
+use Rattle.json_values.specs.Parts.{Part}
+use Rattle.schema_definitions.specs.Bearers.{Documents}
+use Rattle.schema_meaning.specs.Members.{known_too, all_known, all_true, count_true}
+use Rattle.schema_meaning.specs.Places.{whole}
+use Rattle.schema_meaning.specs.Questions.{at, asked_at}
+use Rattle.schema_meaning.specs.Rules.{Rule, asks, accepts, refuses_at}
+use Rattle.schema_meaning.specs.Keywords.{rule}
+use Rattle.schema_meaning.specs.Readings.{Reading, verdicts, told}
+use Rattle.schema_meaning.specs.Certificates.{AreAnswers}
+use Rattle.schema_definitions.specs.Sites.{Site, below}
+use Rattle.applicators.specs.Shapes.{shape_of}
+use Rattle.applicators.specs.Combined.{is_by_answers, is_every, refused_name}
+use Rattle.applicators.specs.declared.applicator.Applicator.{Applicator}
+use Rattle.applicators.specs.declared.applicator.Applicator.TheVariants as applied
+use Rattle.plain_reader.specs.Passed.{row_of}
+use Rattle.plain_reader.specs.Passed as code
+use Rattle.certificate_laws.specs.Words.{IsOf, Bears}
+use Rattle.certificate_laws.proofs.Begun.{shape_begins}
+use Rattle.certificate_laws.proofs.Listed.{each_in, in_mapped}
+use Rattle.fault_checks.specs.Verdicts.{IsRefusal, IsRefusalAt}
+
+-- ---- keywords that refuse under one name
+
+one_name : (site : List Part → Data → Site) (a : Applicator) (n : List ℕ) → is_every a ≡ true → Bears n (shape_of site a) → IsOf n (shape_of site a)
+one_name site (applied.Items start schema) n h g = g
+one_name site (applied.ItemList schemas) n h g = g
+one_name site (applied.PrefixItems schemas) n h g = g
+one_name site (applied.AdditionalItems start schema) n h g = g
+one_name site (applied.NoAdditionalItems start schema) n h g = g
+one_name site (applied.Contains schema least most) n h g = cc
+one_name site (applied.Properties schemas) n h g = g
+one_name site (applied.PatternProperties schemas) n h g = g
+one_name site (applied.AdditionalProperties declared schema) n h g = g
+one_name site (applied.NoAdditionalProperties declared schema) n h g = g
+one_name site (applied.Dependencies entries) n h g = g
+one_name site (applied.NoProperties schema) n h g = g
+one_name site (applied.PropertyNames schema) n h g = g
+one_name site (applied.NoPropertyNames schema) n h g = g
+one_name site (applied.DependentSchemas schemas) n h g = g
+one_name site (applied.AllOf schemas) n h g = g
+one_name site (applied.AnyOf schemas) n h g = g
+one_name site (applied.OneOf schemas) n h g = g
+one_name site (applied.Not schema) n h g = g
+one_name site (applied.If condition then_schema else_schema) n h g = cc
+
+-- of those that apply subschemas, the ones whose answers all have to be yes
+abbrev pub HasOneName : code.Keyword → Type 0
+HasOneName code.Nothing = Unit {0}
+HasOneName (code.Assertion a) = Unit {0}
+HasOneName (code.Pattern p) = Unit {0}
+HasOneName (code.Items start schema) = Unit {0}
+HasOneName (code.Properties map) = Unit {0}
+HasOneName (code.If schema then_schema else_schema) = ⊥
+HasOneName (code.Consequent k schema) = Unit {0}
+HasOneName (code.Applicator a) = is_every a ≡ true
+HasOneName (code.Reference keyword text target) = Unit {0}
+
+only_named : (k : code.Keyword) (n : List ℕ) (docs : Documents) (s : Site) → HasOneName k → AllByRecursion (Bears n) (row_of docs s k).shapes → AllByRecursion (IsOf n) (row_of docs s k).shapes
+only_named code.Nothing n docs s one h = tt
+only_named (code.Assertion a) n docs s one h = h
+only_named (code.Pattern p) n docs s one h = h
+only_named (code.Items start schema) n docs s one h = h
+only_named (code.Properties map) n docs s one h = h
+only_named (code.If schema then_schema else_schema) n docs s one h = absurd one
+only_named (code.Consequent k schema) n docs s one h = tt
+only_named (code.Applicator a) n docs s one h = (one_name (below docs s) a n one h.0, tt)
+only_named (code.Reference keyword text target) n docs s one h = h
+
+pub under_name : (c : code.Site) (path : List Part) (d : Data) (k : code.Keyword) (n : List ℕ) (b : Bool) → HasOneName k → IsRefusal c path d k b → IsRefusalAt c path d k n b
+under_name c path d k n true one h = record {
+  decides = λ x s stage.
+      let shapes = (row_of x.documents s k).shapes in
+      let f = h.decides x s n stage in
+      let shape = in_mapped (rule x.matches d) shapes f.2 in
+      let named = each_in (IsOf n) shapes (only_named k n x.documents s one stage.named) shape.0 shape.1 in
+      let at_k : refuses_at f.0 f.1 ≡ at n = subst (λ (r : Rule Site). refuses_at r f.1 ≡ at n) shape.2 ((shape_begins x.matches d n shape.0 named).own f.1) in
+      (f.0, f.1, f.2, f.3, f.4, at_k);
+}
+under_name c path d k n false one h = record { decides = λ x s stage f. h.decides x s n stage (f.0, f.1, f.2, f.3, f.4) }
+
+-- ---- the name by the number of answers that are yes
+
+known_length : {A : Type 0} (os : List (Option A)) (xs : List A) → all_known os ≡ Some xs → length xs ≡ length os
+known_length [] xs e = cc
+known_length (None ∷ os) xs e = cc
+known_length {A} (Some y ∷ os) xs e = by (all_known os) (λ ys is. known_length os ys is) e
+  where
+    by : (rest : Option (List A)) → ((ys : List A) → rest ≡ Some ys → length ys ≡ length os) → known_too (Some y) rest ≡ Some xs → length xs ≡ length (Some y ∷ os)
+    by None more f = cc
+    by (Some ys) more f = (let same : y ∷ ys ≡ xs = cc in ap length (sym same) ∙ ap suc (more ys refl))
+
+pub as_many_answers : (r : Reading Site) (d : Data) (k : Rule Site) (bs : List Bool) → AreAnswers r (whole d) k bs → length bs ≡ length (asks k)
+as_many_answers r d k bs a = known_length _ bs a.are ∙ length-map (asks k) (λ q. told verdicts r a.unfoldings q.site (asked_at (whole d) q))
+
+nothing_refused : (bs : List Bool) → length bs ≡ 0 → all_true bs ≡ false → ⊥
+nothing_refused [] many wrong = true≢false wrong
+nothing_refused (b ∷ bs) many wrong = absurd (omega (arith, many))
+
+module _ (site : List Part → Data → Site) (matches : List ℕ → List ℕ → Bool) (bs : List Bool) where
+  abbrev rule_of : Applicator → Data → Rule Site
+  rule_of a d = rule matches d (shape_of site a)
+
+  abbrev Names : Applicator → Data → Type 0
+  Names a d = refuses_at (rule_of a d) bs ≡ at (refused_name a (count_true bs))
+
+  counts_under : (schema : Bor Value) (least most : Option ℕ) (d : Data) → length bs ≡ length (asks (rule_of (applied.Contains schema least most) d))
+      → accepts (rule_of (applied.Contains schema least most) d) bs ≡ false → Names (applied.Contains schema least most) d
+  counts_under schema least most null many wrong = absurd (nothing_refused bs many wrong)
+  counts_under schema least most (boolean b) many wrong = absurd (nothing_refused bs many wrong)
+  counts_under schema least most (number n) many wrong = absurd (nothing_refused bs many wrong)
+  counts_under schema least most (string s) many wrong = absurd (nothing_refused bs many wrong)
+  counts_under schema least most (array ds) many wrong = refl
+  counts_under schema least most (object ms) many wrong = absurd (nothing_refused bs many wrong)
+
+  pub refused_under : (a : Applicator) (d : Data) → is_by_answers a ≡ true → length bs ≡ length (asks (rule_of a d)) → accepts (rule_of a d) bs ≡ false → Names a d
+  refused_under (applied.Items start schema) d by_answers many wrong = refl
+  refused_under (applied.ItemList schemas) d by_answers many wrong = refl
+  refused_under (applied.PrefixItems schemas) d by_answers many wrong = refl
+  refused_under (applied.AdditionalItems start schema) d by_answers many wrong = refl
+  refused_under (applied.NoAdditionalItems start schema) d by_answers many wrong = refl
+  refused_under (applied.Contains schema least most) d by_answers many wrong = counts_under schema least most d many wrong
+  refused_under (applied.Properties schemas) d by_answers many wrong = refl
+  refused_under (applied.PatternProperties schemas) d by_answers many wrong = refl
+  refused_under (applied.AdditionalProperties declared schema) d by_answers many wrong = refl
+  refused_under (applied.NoAdditionalProperties declared schema) d by_answers many wrong = refl
+  refused_under (applied.Dependencies entries) d by_answers many wrong = refl
+  refused_under (applied.NoProperties schema) d by_answers many wrong = refl
+  refused_under (applied.PropertyNames schema) d by_answers many wrong = refl
+  refused_under (applied.NoPropertyNames schema) d by_answers many wrong = refl
+  refused_under (applied.DependentSchemas schemas) d by_answers many wrong = refl
+  refused_under (applied.AllOf schemas) d by_answers many wrong = refl
+  refused_under (applied.AnyOf schemas) d by_answers many wrong = refl
+  refused_under (applied.OneOf schemas) d by_answers many wrong = refl
+  refused_under (applied.Not schema) d by_answers many wrong = refl
+  refused_under (applied.If condition then_schema else_schema) d by_answers many wrong = cc

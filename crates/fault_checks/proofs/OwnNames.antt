@@ -1,0 +1,139 @@
+-- The names under which the shapes of a keyword may refuse.
+use Rattle.std.proofs.Common.{◌≡◌, ◌∙◌, ℕ, List, [], ◌∷◌, Bool, true, false, ◌||◌, bytes_eq, codes, refl, sym, ap}
+use Rattle.std.specs.List.{AllByRecursion}
+use Rattle.std.proofs.lemmas.Slice.Eq.{bytes_eq-Decides}
+use Rattle.json_values.specs.Parts.{Part}
+use Rattle.json_values.specs.Pointers.{escape}
+use Rattle.serde_json.specs.Data.{Data}
+use Rattle.schema_definitions.specs.Bearers.{Documents}
+use Rattle.schema_meaning.specs.Members.{In, first, later, is_listed}
+use Rattle.schema_meaning.specs.Keywords.{Shape, named, static, dynamic, recursive, reference_name}
+use Rattle.schema_meaning.specs.Keywords as told
+use Rattle.schema_definitions.specs.Sites.{Site, below}
+use Rattle.applicators.specs.Shapes.{shape_of}
+use Rattle.applicators.specs.declared.applicator.Applicator as code
+use Rattle.applicators.specs.declared.applicator.Applicator.TheVariants as applied
+use Rattle.certificate_laws.specs.Words.{Bears, IsUnder, member_of, count_names, choice_names}
+use Rattle.certificate_laws.proofs.Named.{listed_in}
+use Rattle.fault_checks.specs.Passed.{Keyword, assertion_of, kind_of, row_of}
+use Rattle.fault_checks.specs.Passed.{Nothing, Assertion, Pattern, Items, Properties, If, Consequent, Applicator, Reference}
+use Rattle.fault_checks.specs.Names.{bears, applicator_bears}
+
+-- a shape that may refuse under a name, which is written as it is
+pub record IsOwn (n : List ℕ) (shape : Shape Site) : Type 0 where
+  pub named : Bears n shape
+  pub plain : escape n ≡ n
+
+pub are_named : (n : List ℕ) (shapes : List (Shape Site)) → AllByRecursion (IsOwn n) shapes → AllByRecursion (Bears n) shapes
+are_named n [] h = tt
+are_named n (s ∷ shapes) h = (h.0.named, are_named n shapes h.1)
+
+same_bytes : (k n : List ℕ) → bytes_eq k n ≡ true → k ≡ n
+same_bytes k n e = (bytes_eq-Decides k n).0 e
+
+bytes_same : (k n : List ℕ) → k ≡ n → bytes_eq k n ≡ true
+bytes_same k n e = (bytes_eq-Decides k n).1 e
+
+or_later : (b c : Bool) → c ≡ true → (b || c) ≡ true
+or_later true c e = refl
+or_later false c e = e
+
+in_listed : (k : List ℕ) (names : List (List ℕ)) → In k names → is_listed k names ≡ true
+in_listed k [] i = elim i [ ]
+in_listed _ (n ∷ names) first = ap (λ (b : Bool). b || is_listed n names) (bytes_same n n refl)
+in_listed k (n ∷ names) (later i) = or_later (bytes_eq k n) (is_listed k names) (in_listed k names i)
+
+module _ (old : Bool) (member n : List ℕ) where
+  owned : (shape : Shape Site) → IsUnder old member shape → Bears n shape → IsOwn n shape
+  owned shape u g = record { named = g; plain = (u.back n g).plain }
+
+  -- the keyword's own name is that of its member
+  to_own : (k : List ℕ) (shape : Shape Site) → IsUnder old member shape → Bears k shape → member_of old k ≡ k → bytes_eq member n ≡ true → k ≡ n
+  to_own k shape u g own e = sym own ∙ (u.back k g).of_member ∙ same_bytes member n e
+
+  of_own : (k : List ℕ) (shape : Shape Site) → IsUnder old member shape → Bears k shape → member_of old k ≡ k → k ≡ n → bytes_eq member n ≡ true
+  of_own k shape u g own e = bytes_same member n (sym (u.back k g).of_member ∙ own ∙ e)
+
+  reference_member : (r : told.Reference) → member_of old (reference_name r) ≡ reference_name r
+  reference_member static = refl
+  reference_member dynamic = refl
+  reference_member recursive = refl
+
+  module _ (site : List Part → Data → Site) where
+    applied_named : (a : code.Applicator) → IsUnder old member (shape_of site a) → applicator_bears a member n ≡ true → Bears n (shape_of site a)
+    applied_named (applied.Items start schema) u e = to_own (codes "items") _ u refl refl e
+    applied_named (applied.ItemList schemas) u e = to_own (codes "items") _ u refl refl e
+    applied_named (applied.PrefixItems schemas) u e = to_own (codes "prefixItems") _ u refl refl e
+    applied_named (applied.AdditionalItems start schema) u e = to_own (codes "additionalItems") _ u refl refl e
+    applied_named (applied.NoAdditionalItems start schema) u e = to_own (codes "additionalItems") _ u refl refl e
+    applied_named (applied.Contains schema least most) u e = listed_in n count_names e
+    applied_named (applied.Properties schemas) u e = to_own (codes "properties") _ u refl refl e
+    applied_named (applied.PatternProperties schemas) u e = to_own (codes "patternProperties") _ u refl refl e
+    applied_named (applied.AdditionalProperties declared schema) u e = to_own (codes "additionalProperties") _ u refl refl e
+    applied_named (applied.NoAdditionalProperties declared schema) u e = to_own (codes "additionalProperties") _ u refl refl e
+    applied_named (applied.Dependencies entries) u e = to_own (codes "dependencies") _ u refl refl e
+    applied_named (applied.NoProperties schema) u e = to_own (codes "additionalProperties") _ u refl refl e
+    applied_named (applied.PropertyNames schema) u e = to_own (codes "propertyNames") _ u refl refl e
+    applied_named (applied.NoPropertyNames schema) u e = to_own (codes "propertyNames") _ u refl refl e
+    applied_named (applied.DependentSchemas schemas) u e = to_own (codes "dependentSchemas") _ u refl refl e
+    applied_named (applied.AllOf schemas) u e = to_own (codes "allOf") _ u refl refl e
+    applied_named (applied.AnyOf schemas) u e = to_own (codes "anyOf") _ u refl refl e
+    applied_named (applied.OneOf schemas) u e = to_own (codes "oneOf") _ u refl refl e
+    applied_named (applied.Not schema) u e = to_own (codes "not") _ u refl refl e
+    applied_named (applied.If condition then_schema else_schema) u e = listed_in n choice_names e
+
+    applied_bears : (a : code.Applicator) → IsUnder old member (shape_of site a) → Bears n (shape_of site a) → applicator_bears a member n ≡ true
+    applied_bears (applied.Items start schema) u g = of_own (codes "items") _ u refl refl g
+    applied_bears (applied.ItemList schemas) u g = of_own (codes "items") _ u refl refl g
+    applied_bears (applied.PrefixItems schemas) u g = of_own (codes "prefixItems") _ u refl refl g
+    applied_bears (applied.AdditionalItems start schema) u g = of_own (codes "additionalItems") _ u refl refl g
+    applied_bears (applied.NoAdditionalItems start schema) u g = of_own (codes "additionalItems") _ u refl refl g
+    applied_bears (applied.Contains schema least most) u g = in_listed n count_names g
+    applied_bears (applied.Properties schemas) u g = of_own (codes "properties") _ u refl refl g
+    applied_bears (applied.PatternProperties schemas) u g = of_own (codes "patternProperties") _ u refl refl g
+    applied_bears (applied.AdditionalProperties declared schema) u g = of_own (codes "additionalProperties") _ u refl refl g
+    applied_bears (applied.NoAdditionalProperties declared schema) u g = of_own (codes "additionalProperties") _ u refl refl g
+    applied_bears (applied.Dependencies entries) u g = of_own (codes "dependencies") _ u refl refl g
+    applied_bears (applied.NoProperties schema) u g = of_own (codes "additionalProperties") _ u refl refl g
+    applied_bears (applied.PropertyNames schema) u g = of_own (codes "propertyNames") _ u refl refl g
+    applied_bears (applied.NoPropertyNames schema) u g = of_own (codes "propertyNames") _ u refl refl g
+    applied_bears (applied.DependentSchemas schemas) u g = of_own (codes "dependentSchemas") _ u refl refl g
+    applied_bears (applied.AllOf schemas) u g = of_own (codes "allOf") _ u refl refl g
+    applied_bears (applied.AnyOf schemas) u g = of_own (codes "anyOf") _ u refl refl g
+    applied_bears (applied.OneOf schemas) u g = of_own (codes "oneOf") _ u refl refl g
+    applied_bears (applied.Not schema) u g = of_own (codes "not") _ u refl refl g
+    applied_bears (applied.If condition then_schema else_schema) u g = in_listed n choice_names g
+
+  -- the shapes of a keyword that may refuse under the name
+  pub own_named : (k : Keyword) (docs : Documents) (s : Site) → AllByRecursion (IsUnder old member) (row_of docs s k).shapes → bears k member n ≡ true
+      → AllByRecursion (IsOwn n) (row_of docs s k).shapes
+  own_named Nothing docs s h e = tt
+  own_named (Assertion a) docs s h e = (owned _ h.0 (same_bytes (named (assertion_of a)) n e), tt)
+  own_named (Pattern p) docs s h e = (owned _ h.0 (to_own (codes "pattern") _ h.0 refl refl e), tt)
+  own_named (Items start schema) docs s h e = (owned _ h.0 (to_own (codes "items") _ h.0 refl refl e), tt)
+  own_named (Properties map) docs s h e = (owned _ h.0 (to_own (codes "properties") _ h.0 refl refl e), tt)
+  own_named (If schema then_schema else_schema) docs s h e = (owned _ h.0 (listed_in n choice_names e), tt)
+  own_named (Consequent k schema) docs s h e = tt
+  own_named (Applicator a) docs s h e = (owned _ h.0 (applied_named (below docs s) a h.0 e), tt)
+  own_named (Reference by text target) docs s h e =
+      (owned _ h.0 (to_own (reference_name (kind_of by)) _ h.0 refl (reference_member (kind_of by)) e), tt)
+
+  -- and the keyword that a shape of it tells
+  pub named_own : (k : Keyword) (docs : Documents) (s : Site) (shape : Shape Site) → In shape (row_of docs s k).shapes → AllByRecursion (IsUnder old member) (row_of docs s k).shapes
+      → Bears n shape → bears k member n ≡ true
+  named_own Nothing docs s shape i h g = elim i [ ]
+  named_own (Assertion a) docs s _ first h g = bytes_same (named (assertion_of a)) n g
+  named_own (Assertion a) docs s shape (later i) h g = elim i [ ]
+  named_own (Pattern p) docs s _ first h g = of_own (codes "pattern") _ h.0 refl refl g
+  named_own (Pattern p) docs s shape (later i) h g = elim i [ ]
+  named_own (Items start schema) docs s _ first h g = of_own (codes "items") _ h.0 refl refl g
+  named_own (Items start schema) docs s shape (later i) h g = elim i [ ]
+  named_own (Properties map) docs s _ first h g = of_own (codes "properties") _ h.0 refl refl g
+  named_own (Properties map) docs s shape (later i) h g = elim i [ ]
+  named_own (If schema then_schema else_schema) docs s _ first h g = in_listed n choice_names g
+  named_own (If schema then_schema else_schema) docs s shape (later i) h g = elim i [ ]
+  named_own (Consequent k schema) docs s shape i h g = elim i [ ]
+  named_own (Applicator a) docs s _ first h g = applied_bears (below docs s) a h.0 g
+  named_own (Applicator a) docs s shape (later i) h g = elim i [ ]
+  named_own (Reference by text target) docs s _ first h g = of_own (reference_name (kind_of by)) _ h.0 refl (reference_member (kind_of by)) g
+  named_own (Reference by text target) docs s shape (later i) h g = elim i [ ]

@@ -1,0 +1,36 @@
+use Rattle.std.proofs.Common.{◌++◌, ap, not, Bor}
+use Rattle.std.proofs.lemmas.Result.{IfOk-weaker}
+use Rattle.serde_json.specs.View.{view}
+use Rattle.serde_json.specs.declared.value.Value.{Value}
+use Rattle.schema_definitions.specs.Sites.{path_of_reference}
+use Rattle.schema_reports.specs.Locations.{location_of}
+use Rattle.schema_reports.specs.References.{text_of}
+use Rattle.plain_reader.proofs.ItemTelling.{Child, child_shallow}
+use Rattle.fault_checks.proofs.Chosen.{inner_verdict}
+use Rattle.fault_checks.proofs.choice_refusals.is_inner_refused.Goals as goal
+
+pub is_refused-requires : goal.is_refused-requires
+is_refused-requires c =
+    let child : Child c.args.site.now c.in_ok-inner.inner (view c.args.part.now) = record {
+      contents = ap (λ (b : Bor Value). view b.now) c.in_ok-inner.ensures.contents;
+      documents = c.in_ok-inner.ensures.documents;
+      scope = c.in_ok-inner.ensures.scope;
+      stands = λ s added. c.in_ok-inner.ensures.stands s added;
+      matches = c.in_ok-inner.ensures.matches;
+    } in
+    record { shallow = child_shallow c.args.site.now _ _ child c.requires.inside c.requires.shallow }
+
+pub returns : goal.returns
+returns c =
+    let child : Child c.args.site.now c.in_ok-inner.inner (view c.args.part.now) = record {
+      contents = ap (λ (b : Bor Value). view b.now) c.in_ok-inner.ensures.contents;
+      documents = c.in_ok-inner.ensures.documents;
+      scope = c.in_ok-inner.ensures.scope;
+      stands = λ s added. c.in_ok-inner.ensures.stands s added;
+      matches = c.in_ok-inner.ensures.matches;
+    } in
+    let rest = path_of_reference (text_of c.args.reference) in
+    IfOk-weaker c.is_refused.result _ _
+    (λ b verdict. inner_verdict c.args.site.now c.in_ok-inner.inner (location_of c.args.schema.now ++ rest) _ (view c.args.value.now) c.args.name.now (view c.args.part.now) (not b) child
+    (ap (λ p. p ++ rest) c.push_name-road.ensures) verdict)
+    c.is_refused.ensures

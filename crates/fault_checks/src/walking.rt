@@ -1,0 +1,106 @@
+//! Walks to their end.
+ghost use Rattle.std.specs.Prelude.{◌≡◌, [], IfOk};
+ghost use Rattle.serde_json.specs.View.{view};
+ghost use Rattle.fault_checks.specs.Roads.{part_of};
+ghost use Rattle.fault_checks.specs.Scenes.{behind};
+ghost use Rattle.fault_checks.specs.Steps.{Passes};
+ghost use Rattle.fault_checks.specs.NamedSteps.{IsAtName, IsLeftAtName, IsLeftAtSome};
+
+use crate::road::RoadPart;
+use crate::stepping::step;
+use crate::walk::{AtNames, Step, Walk};
+use serde_json::Value;
+use std::alloc::{AllocError, Global};
+use std::borrow::CowStr;
+
+// The same part, its name that of the other.
+fn shared_part<'a, 'r>(part: &'a RoadPart<'r, '_>) -> RoadPart<'r, 'a>
+    ensures { part_of result ≡ part_of part.now }
+{
+    match part {
+        RoadPart::Written(name) => RoadPart::Written(CowStr::Borrowed(name.as_str())),
+        RoadPart::Name(name) => RoadPart::Name(name),
+        RoadPart::Index(index) => RoadPart::Index(*index),
+    }
+}
+
+fn shared_parts<'a, 'r>(
+    alloc: Global,
+    parts: &'a [RoadPart<'r, '_>],
+) -> Result<Vec<RoadPart<'r, 'a>>, AllocError>
+    ensures { IfOk result (λ v. behind v.items [] ≡ behind parts.now []) }
+{
+    let mut shared = Vec::new(alloc);
+    for part in parts {
+        shared.push(shared_part(part))?;
+    }
+    Ok(shared)
+}
+
+// The walk at a name, by its text.
+fn at_text<'a, 'r>(
+    alloc: Global,
+    names: &'a AtNames<'r, '_, '_>,
+    text: &'a Value,
+) -> Result<Walk<'r, 'a, 'a>, AllocError>
+    ensures { IfOk result (IsAtName names.now (view text.now)) }
+{
+    let site = names.walk.site.below(alloc, names.schema)?;
+    let mut parts = shared_parts(alloc, &names.walk.parts)?;
+    parts.push(RoadPart::Name("propertyNames"))?;
+    Ok(Walk {
+        site,
+        parts,
+        reference: names.walk.reference,
+        value: text,
+        instance: names.walk.instance,
+        evaluation: names.evaluation,
+    })
+}
+
+// The walk at a name to its end.
+#[cycle(walks)]
+fn at_name(alloc: Global, names: &AtNames<'_, '_, '_>, name: &str) -> Result<bool, AllocError>
+    ensures { IfOk result (IsLeftAtName names.now name.now) }
+{
+    let text = Value::String(String::from_str(alloc, name)?);
+    let walk = at_text(alloc, names, &text)?;
+    walked(alloc, walk)
+}
+
+// The walks at the names, until one of them is accepted.
+#[cycle(walks)]
+fn through_names(alloc: Global, names: &AtNames<'_, '_, '_>) -> Result<bool, AllocError>
+    ensures { IfOk result (IsLeftAtSome names.now) }
+{
+    let Value::Object(members) = names.walk.value else {
+        return Ok(false);
+    };
+    for (name, _member) in members.iter() {
+        if at_name(alloc, names, name.as_str())? {
+            return Ok(true);
+        }
+    }
+    Ok(false)
+}
+
+/// The walk to its end: whether what is left of its paths is spelled.
+///
+/// It takes a step for each part of the evaluation path, and at `propertyNames` walks on at one name after another, each a new text.
+///
+/// # Errors
+///
+/// Where memory was refused or a count of owners is full.
+#[cycle(walks)]
+pub fn walked<'r, 'i, 'p>(alloc: Global, walk: Walk<'r, 'i, 'p>) -> Result<bool, AllocError>
+    ensures { IfOk result (λ b. Passes walk.entry (Step.Answered b)) }
+{
+    let mut now = walk;
+    loop {
+        match step(alloc, now)? {
+            Step::Answered(accepted) => return Ok(accepted),
+            Step::On(next) => now = next,
+            Step::Named(names) => return through_names(alloc, &names),
+        }
+    }
+}

@@ -1,0 +1,9 @@
+pub mod ItemFacts
+pub mod TextFacts
+pub mod AheadFacts
+pub mod BehindFacts
+pub mod AddedFacts
+pub mod AskedFacts
+pub mod AlikeFacts
+pub mod OnceFacts
+pub mod UnnamedFacts

@@ -1,2 +1,0 @@
-mod Positions
-mod Apart

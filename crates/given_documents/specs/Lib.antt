@@ -1,4 +1,0 @@
-pub mod Given
-pub mod Seen
-pub mod Listed
-pub mod Uris

@@ -1,3 +1,0 @@
-pub mod Texts
-pub mod Addresses
-pub mod Groups

@@ -1,6 +1,0 @@
-use Rattle.std.proofs.Common.{◌≡◌, map, take, string_bytes}
-use Rattle.place_pointers.specs.Pointers.{reference_to}
-use Rattle.json_schema_validator.proofs.mapping.references_to.Given as goal
-
-abbrev pub invariant-loop-pointer : goal.invariant-loop-pointer
-invariant-loop-pointer l = map string_bytes l.references.items ≡ map reference_to (map string_bytes (take l.pointer-index l.pointers))

@@ -1,9 +1,0 @@
-use Rattle.std.proofs.Common.{sym, subst}
-use Rattle.schema_roots.specs.Roots.{Root, IsSoundBySome}
-use Rattle.json_schema_validator.proofs.Placing.{one_root}
-use Rattle.json_schema_validator.proofs.validator.Validator.with.Goals as goal
-
-pub invariant_of-result : goal.invariant_of-result
-invariant_of-result g c = record {
-  sound = subst (λ (r : Root). IsSoundBySome r) (one_root (sym c.in_ok-share.ensures) (sym c.in_ok-clone.ensures.cases) (sym c.in_ok-from_str.ensures.ok)) c.requires.sound;
-}

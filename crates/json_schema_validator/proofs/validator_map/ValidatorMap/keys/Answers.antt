@@ -1,6 +1,0 @@
-use Rattle.std.proofs.Common.{◌∙◌, ap, map, string_bytes}
-use Rattle.json_schema_validator.proofs.Entries.{key-texts}
-use Rattle.json_schema_validator.proofs.validator_map.ValidatorMap.keys.Goals as goal
-
-pub returns : goal.returns
-returns g c = ap (map string_bytes) c.keys.ensures.rest ∙ key-texts c.args.self.now.validators.entries

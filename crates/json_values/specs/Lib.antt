@@ -1,0 +1,9 @@
+pub mod Parts
+pub mod Pointers
+pub mod Kinds
+pub mod Equality
+pub mod Numbers
+pub mod Texts
+pub mod Patterns
+pub mod Laws
+pub mod Rising

@@ -1,6 +1,0 @@
-use Rattle.schema_reading.specs.CompileKeys.{CompileKey}
-use Rattle.key_laws.proofs.Counting.{are-fewer}
-use Rattle.key_laws.proofs.keys.keys_are_fewer.Goals as goal
-
-pub returns : goal.returns
-returns c = λ keys others distinct within. are-fewer {A = CompileKey} keys others distinct within

@@ -1,5 +1,0 @@
-use Rattle.keyword_examples.proofs.DependenciesRows.{dependent_schemas_and_names_hold}
-use Rattle.keyword_examples.proofs.dependent_schemas_and_names.Goals as goal
-
-pub returns : goal.returns
-returns c = dependent_schemas_and_names_hold

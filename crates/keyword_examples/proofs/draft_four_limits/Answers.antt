@@ -1,5 +1,0 @@
-use Rattle.keyword_examples.proofs.DraftFourLimitsRows.{draft_four_limits_hold}
-use Rattle.keyword_examples.proofs.draft_four_limits.Goals as goal
-
-pub returns : goal.returns
-returns c = draft_four_limits_hold

@@ -1,4 +1,0 @@
-mod Values
-mod Orders
-mod Sorting
-mod Listed

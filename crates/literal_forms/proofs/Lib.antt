@@ -1,4 +1,0 @@
-pub mod Grammar
-pub mod Literals
-pub mod Completions
-pub mod LawProofs

@@ -1,5 +1,0 @@
-use Rattle.meaning_laws.proofs.Refuses.{certificate_refuses}
-use Rattle.meaning_laws.proofs.certificate_refuses.Goals as goal
-
-pub returns : goal.returns
-returns g c = certificate_refuses _

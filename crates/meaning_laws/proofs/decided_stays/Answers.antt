@@ -1,5 +1,0 @@
-use Rattle.meaning_laws.proofs.Stays.{decided_stays}
-use Rattle.meaning_laws.proofs.decided_stays.Goals as goal
-
-pub returns : goal.returns
-returns g c = decided_stays _ _

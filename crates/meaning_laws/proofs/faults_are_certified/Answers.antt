@@ -1,5 +1,0 @@
-use Rattle.meaning_laws.proofs.Certified.{faults_are_certified}
-use Rattle.meaning_laws.proofs.faults_are_certified.Goals as goal
-
-pub returns : goal.returns
-returns g c = faults_are_certified _

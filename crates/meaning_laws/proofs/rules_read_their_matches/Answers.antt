@@ -1,5 +1,0 @@
-use Rattle.meaning_laws.proofs.MatchLemmas.{rules_read_their_matches}
-use Rattle.meaning_laws.proofs.rules_read_their_matches.Goals as goal
-
-pub returns : goal.returns
-returns g c = rules_read_their_matches _

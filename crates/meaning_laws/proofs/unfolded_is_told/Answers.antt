@@ -1,5 +1,0 @@
-use Rattle.meaning_laws.proofs.Unfolded.{unfolded_is_told}
-use Rattle.meaning_laws.proofs.unfolded_is_told.Goals as goal
-
-pub returns : goal.returns
-returns g c = unfolded_is_told _ _

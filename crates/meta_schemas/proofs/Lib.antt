@@ -1,4 +1,0 @@
-pub mod SameLemmas
-pub mod StageLemmas
-pub mod AwaitedLemmas
-pub mod Passed

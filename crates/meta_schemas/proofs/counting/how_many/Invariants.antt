@@ -1,7 +1,0 @@
-use Rattle.std.proofs.Common.{◌≡◌, ◌<◌, ◌^◌, ◌+◌, map, drop}
-use Rattle.schema_documents.specs.Bearers.{schemas_of_each}
-use Rattle.document_index.specs.Seen.{document_of}
-use Rattle.meta_schemas.proofs.counting.how_many.Given as goal
-
-abbrev pub invariant-loop-document : goal.invariant-loop-document
-invariant-loop-document l = record { fits : l.count < 2 ^ 64; counted : schemas_of_each (map document_of l.documents) ≡ l.count + schemas_of_each (map document_of (drop l.document-index l.documents)) }

@@ -1,5 +1,0 @@
-use Rattle.meta_schemas.proofs.SameLemmas.{equal_decides}
-use Rattle.meta_schemas.proofs.stages.are_same.Goals as goal
-
-pub returns : goal.returns
-returns c = equal_decides c.args.left c.args.right c.eq.result c.eq.ensures

@@ -1,9 +1,0 @@
--- What is told of meta-schemas.
-use Rattle.std.specs.Prelude.{◌≡◌, ℕ, List, Option}
-use Rattle.schema_documents.specs.Places.{Dialect}
-use Rattle.schema_vocabularies.specs.Dialects.{dialects_in}
-use Rattle.schema_vocabularies.specs.declared.meta_schemas.MetaSchemas.{MetaSchemas}
-
--- those known are those of which something is told, and their dialects are told
-abbrev pub Tells : MetaSchemas → (List ℕ → Option Dialect) → Type 0
-Tells known told = (uri : List ℕ) → dialects_in known uri ≡ told uri

@@ -1,2 +1,0 @@
-pub mod ItemFacts
-pub mod TextFacts

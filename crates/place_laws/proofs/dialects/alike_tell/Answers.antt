@@ -1,5 +1,0 @@
-use Rattle.place_laws.proofs.Alike.{alike_tell}
-use Rattle.place_laws.proofs.dialects.alike_tell.Goals as goal
-
-pub returns : goal.returns
-returns c = alike_tell

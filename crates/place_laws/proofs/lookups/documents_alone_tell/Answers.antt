@@ -1,5 +1,0 @@
-use Rattle.place_laws.proofs.Alone.{documents_alone_tell}
-use Rattle.place_laws.proofs.lookups.documents_alone_tell.Goals as goal
-
-pub returns : goal.returns
-returns c = documents_alone_tell

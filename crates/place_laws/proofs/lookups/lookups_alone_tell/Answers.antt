@@ -1,5 +1,0 @@
-use Rattle.place_laws.proofs.Looked.{lookups_alone_tell}
-use Rattle.place_laws.proofs.lookups.lookups_alone_tell.Goals as goal
-
-pub returns : goal.returns
-returns c = lookups_alone_tell

@@ -1,6 +1,0 @@
-use Rattle.serde_json.specs.View.{view}
-use Rattle.place_laws.proofs.Leading.{places_lead}
-use Rattle.place_laws.proofs.places.places_lead.Goals as goal
-
-pub returns : goal.returns
-returns c = places_lead (view c.args.contents.now) c.names_rise.ensures

@@ -1,5 +1,0 @@
-use Rattle.place_laws.proofs.Contents.{children_contents}
-use Rattle.place_laws.proofs.subschemas.children_are_subschemas.Goals as goal
-
-pub returns : goal.returns
-returns c = children_contents

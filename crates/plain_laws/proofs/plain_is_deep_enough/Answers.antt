@@ -1,5 +1,0 @@
-use Rattle.plain_laws.proofs.Roots.{plain_is_deep_enough}
-use Rattle.plain_laws.proofs.plain_is_deep_enough.Goals as goal
-
-pub returns : goal.returns
-returns g c = plain_is_deep_enough _

@@ -1,0 +1,4 @@
+pub mod Program
+pub mod Read
+pub mod Held
+pub mod Maps

@@ -1,2 +1,0 @@
-mod Chain
-mod Given

@@ -1,7 +1,0 @@
-use Rattle.std.proofs.Common.{drop}
-use Rattle.path_parts.specs.Texts.{text_left}
-use Rattle.question_paths.proofs.AheadFacts.{Rest}
-use Rattle.question_paths.proofs.ahead.question_ahead.Given as goal
-
-abbrev pub invariant-loop-question : goal.invariant-loop-question
-invariant-loop-question l = Rest l.asked (drop l.question-index l.asked) (text_left l.instance) (text_left l.after)

@@ -1,4 +1,0 @@
-pub mod Behind
-pub mod Ahead
-pub mod Laws
-pub mod Obliged

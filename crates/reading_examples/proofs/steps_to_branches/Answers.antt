@@ -1,5 +1,0 @@
-use Rattle.reading_examples.proofs.StepsRows.{branch_steps_hold}
-use Rattle.reading_examples.proofs.steps_to_branches.Goals as goal
-
-pub returns : goal.returns
-returns c = branch_steps_hold

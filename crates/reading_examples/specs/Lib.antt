@@ -1,4 +1,0 @@
-pub mod Circles
-pub mod Certified
-pub mod Steps
-pub mod Unfoldings

@@ -1,0 +1,5 @@
+use Rattle.reading_laws.proofs.Roots.{plain_is_deep_enough}
+use Rattle.reading_laws.proofs.plain_readings.plain_is_deep_enough.Goals as goal
+
+pub returns : goal.returns
+returns g c = plain_is_deep_enough _

@@ -1,4 +1,0 @@
-pub mod Causes
-pub mod Held
-pub mod Walks
-pub mod Reached

@@ -1,4 +1,0 @@
-//! Laws on registries.
-#![tactic(auto)]
-
-pub mod chains;

@@ -1,0 +1,47 @@
+-- References against a base, and the anchors of schemas (Core 8.2; Draft 7, Core 8.2; Draft 4, Core 7.2).
+use Rattle.std.specs.Prelude.{ℕ, List, [], ◌∷◌, ◌++◌, ◌==◌, Bool, false, not, ◌&&◌, codes, if◌then◌else◌, Option, Some, None, option_and_then, is_some}
+use Rattle.std.specs.List.{flat_map}
+use Rattle.serde_json.specs.Data.{Data}
+use Rattle.serde_json.specs.Find.{get}
+use Rattle.uri_references.specs.Passed.{cut_at, is_empty, has, split, is_reference}
+use Rattle.uri_references.specs.Identity.{identity_against}
+pub use Rattle.schema_drafts.specs.Identifiers.{is_hidden, identifier_text, begins_with_hash, without_fragment, identifier}
+use Rattle.schema_drafts.specs.declared.draft.Draft.{Draft}
+use Rattle.schema_drafts.specs.declared.draft.Draft.TheVariants.{Draft4, Draft6, Draft7, Draft201909, Draft202012, Unknown}
+use Rattle.schema_definitions.specs.Words.{text_at, listed}
+
+-- a reference against a base, in normal form (RFC 3986, sections 5.2 and 6.2.2); none where the text is no URI reference
+unfoldable pub resolved : List ℕ → List ℕ → Option (List ℕ)
+resolved base reference = if is_reference (split reference) then Some (identity_against base reference) else None
+
+-- ---- anchors
+
+-- a name of an anchor: not empty, and no `/` in it
+abbrev pub is_name : List ℕ → Bool
+is_name k = not (is_empty k) && not (has 47 k)
+
+-- the name of an identifier that is a fragment alone (Draft 7, Core 8.2.3)
+abbrev pub after_hash : List ℕ → List (List ℕ)
+after_hash [] = []
+after_hash (b ∷ t) = if b == 35 then t ∷ [] else []
+
+abbrev pub fragment_anchor : Draft → Data → List (List ℕ)
+fragment_anchor draft d = flat_map after_hash (listed (identifier_text draft d))
+
+-- by `$dynamicAnchor` (Core 8.2.2)
+abbrev pub dynamic_anchors : Draft → Data → List (List ℕ)
+dynamic_anchors Draft4 d = []
+dynamic_anchors Draft6 d = []
+dynamic_anchors Draft7 d = []
+dynamic_anchors Draft201909 d = []
+dynamic_anchors Draft202012 d = listed (text_at (codes "$dynamicAnchor") d)
+dynamic_anchors Unknown d = listed (text_at (codes "$dynamicAnchor") d)
+
+-- the anchors that a schema bears (Core 8.2.2; before 2019-09 by its identifier)
+abbrev pub anchors : Draft → Data → List (List ℕ)
+anchors Draft4 d = fragment_anchor Draft4 d
+anchors Draft6 d = fragment_anchor Draft6 d
+anchors Draft7 d = fragment_anchor Draft7 d
+anchors Draft201909 d = listed (text_at (codes "$anchor") d)
+anchors Draft202012 d = listed (text_at (codes "$anchor") d) ++ dynamic_anchors Draft202012 d
+anchors Unknown d = listed (text_at (codes "$anchor") d) ++ dynamic_anchors Unknown d

@@ -1,8 +1,0 @@
-pub mod Words
-pub mod Identifiers
-pub mod Places
-pub mod Bearers
-pub mod Lookup
-pub mod Scopes
-pub mod DocumentCauses
-pub mod Passed

@@ -1,2 +1,0 @@
-pub mod Unknown
-pub mod Seen

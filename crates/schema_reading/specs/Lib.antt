@@ -1,9 +1,0 @@
-pub mod Sites
-pub mod Values
-pub mod Rows
-pub mod Plain
-pub mod BuildCauses
-pub mod CompileKeys
-pub mod AllKeys
-pub mod PathTexts
-pub mod Lines

@@ -1,5 +1,0 @@
-pub mod Roots
-pub mod Answers
-pub mod Certified
-pub mod Matched
-pub mod Passed

@@ -1,5 +1,0 @@
-use Rattle.schema_types.proofs.NameLemmas.{by_name}
-use Rattle.schema_types.proofs.names.named.Goals as goal
-
-pub returns : goal.returns
-returns c = by_name c.args.name.now c.from_name.result c.from_name.ensures.some c.from_name.ensures.none

@@ -1,0 +1,76 @@
+-- What is said of a root by its meta-schema.
+use Rattle.std.proofs.Common.{◌≡◌, ◌∙◌, ◌⊎◌, inl, inr, ap, codes, ℕ, List, Bool, true, false, not, Option, Some, Result, Ok, Err, OnOk, IfErr, IsErrAnd, sym, subst}
+use Rattle.serde_json.specs.Data.{Data}
+use Rattle.schema_definitions.specs.Words.{has_text}
+use Rattle.schema_definitions.specs.Lookup.{Target}
+use Rattle.schema_registries.specs.declared.registry.SharedRegistry.{SharedRegistry}
+use Rattle.schema_registries.specs.declared.registry.SchemaRegistry.{SchemaRegistry}
+use Rattle.schema_registries.specs.Seen.{documents_shared, retrieved_shared}
+use Rattle.schema_registries.specs.Roots.{Root, Patterns, Finds, IsSound}
+use Rattle.schema_registries.proofs.Found.{finds_one}
+use Rattle.schema_meaning.specs.Readings.{verdicts}
+use Rattle.schema_registries.specs.Answers.{IsAnswer}
+use Rattle.schema_validators.specs.Asked.{meta_root, meta_schema_of, Accepts, IsHandedIn, IsMetIn, IsMet}
+use Rattle.schema_validators.specs.Counted.{IsWithin}
+use Rattle.schema_validators.specs.Refused.{RefusesAt, RefusesBuild, RefusesByMeta, RefusesRoot, RefusesValue}
+use Rattle.schema_validators.specs.Seen.{root_of}
+use Rattle.schema_validators.specs.declared.error.BuildError.{BuildError}
+use Rattle.schema_validators.specs.declared.error.BuildError.TheVariants as error
+
+pub handed_in : (p : SharedRegistry) (uri : List ℕ) (t : Target) (r : Bool) → Finds (meta_root p uri) t → r ≡ has_text t.document (retrieved_shared p) → not r ≡ true → IsHandedIn p uri
+handed_in p uri t true found is e = absurd (cc e)
+handed_in p uri t false found is e = record { target = t; found = found; not_retrieved = sym is }
+
+-- what the meta-schema of a root says is said of the root
+module _ (patterns : Patterns) (r : SchemaRegistry) (root : Root) (p : SharedRegistry) (is : r.parent ≡ Some p) (t : Target) (found : Finds root t) where
+  pub met_by : {T : Type 0} (limit : ℕ) (x : Result T BuildError) → OnOk x (IsMetIn patterns limit p t) → OnOk x ((target : Target) → Finds root target → IsMet patterns limit r.parent target)
+  met_by limit (Ok y) h = λ target there. subst (λ (o : Option SharedRegistry). IsMet patterns limit o target) (sym is) (subst (IsMetIn patterns limit p) (finds_one root t target found there) h)
+  met_by limit (Err e) h = tt
+
+  pub refused_by : {T : Type 0} (limit : ℕ) (x : Result T BuildError) → IfErr x (RefusesByMeta patterns limit p t) → IfErr x (RefusesRoot patterns limit r root)
+  refused_by limit (Ok y) h = tt
+  refused_by limit (Err e) h = inr (record { parent = p; is_parent = is; target = t; found = found; refused = h })
+
+-- ---- the meta-schema that was asked
+
+pub meta_root_by : (p : SharedRegistry) (base text : List ℕ) → base ≡ codes "json-schema:///" → root_of (documents_shared p) base text ≡ meta_root p text
+meta_root_by p base text b = ap (λ (u : List ℕ). root_of (documents_shared p) u text) b
+
+one_named : (o : Option (List ℕ)) (u w : List ℕ) → o ≡ Some u → o ≡ Some w → u ≡ w
+one_named o u w e f = cc (e, f)
+
+-- want of memory says nothing of a meta-schema
+pub of_memory : {T : Type 0} (Made : Patterns → Type 0) (r : Root) (d : Data) (x : Result T BuildError) → IsErrAnd x (λ e. e ≡ error.Memory)
+    → IfErr x (λ e. (p : Patterns) → Made p → (e ≡ error.Memory) ⊎ RefusesValue p r d e)
+of_memory Made r d (Ok y) h = tt
+of_memory Made r d (Err e) h = λ p made. inl h
+
+-- what a validator says of a value is said of the root that it validates by
+module _ (p : Patterns) (limit : ℕ) (Made : Patterns → Type 0) (made : Made p) (r other : Root) (d : Data) (is : r ≡ other) where
+  pub accepts_by : {T : Type 0} (x : Result T BuildError) → IsSound p r → IsWithin p limit r → OnOk x ((q : Patterns) → Made q → IsAnswer verdicts q r d true) → OnOk x (Accepts p limit other d)
+  accepts_by (Ok y) sound within h = subst (λ (s : Root). Accepts p limit s d) is (sound, within, h p made)
+  accepts_by (Err e) sound within h = tt
+
+  by_reason : (e : BuildError) → (e ≡ error.Memory) ⊎ RefusesValue p r d e → RefusesAt p limit other d e
+  by_reason e (inl memory) = inl (subst (RefusesBuild p limit other) (sym memory) tt)
+  by_reason e (inr refused) = inr (subst (λ (s : Root). RefusesValue p s d e) is refused)
+
+  pub refuses_by : {T : Type 0} (x : Result T BuildError) → IfErr x (λ e. (q : Patterns) → Made q → (e ≡ error.Memory) ⊎ RefusesValue q r d e) → IfErr x (RefusesAt p limit other d)
+  refuses_by (Ok y) h = tt
+  refuses_by (Err e) h = by_reason e (h p made)
+
+-- so it is for the meta-schema of a root
+module _ (p : Patterns) (limit : ℕ) (parent : SharedRegistry) (t : Target) (uri text : List ℕ) (d : Data) (named : meta_schema_of t ≡ Some uri) (is : text ≡ uri) (contents : d ≡ t.contents) where
+  pub met_there : {T : Type 0} (x : Result T BuildError) → OnOk x (Accepts p limit (meta_root parent text) d) → OnOk x (IsMetIn p limit parent t)
+  met_there (Ok y) h = λ other asked.
+      subst (Accepts p limit (meta_root parent other)) contents
+      (subst (λ (u : List ℕ). Accepts p limit (meta_root parent u) d) (is ∙ one_named (meta_schema_of t) uri other named asked.named) h)
+  met_there (Err e) h = tt
+
+  pub refused_there : {T : Type 0} (x : Result T BuildError) → IsHandedIn parent text → IfErr x (RefusesAt p limit (meta_root parent text) d) → IfErr x (RefusesByMeta p limit parent t)
+  refused_there (Ok y) handed h = tt
+  refused_there (Err e) handed h = inr (record {
+    uri = text;
+    asked = record { named = named ∙ ap Some (sym is); handed_in = handed };
+    why = subst (λ (c : Data). RefusesAt p limit (meta_root parent text) c e) contents h;
+  })

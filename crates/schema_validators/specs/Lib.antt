@@ -1,0 +1,13 @@
+pub mod Seen
+pub mod Made
+pub mod Heard
+pub mod Counted
+pub mod Asked
+pub mod Prepared
+pub mod Refused
+pub mod Built
+pub mod New
+pub mod Passed
+pub mod Hashes
+pub mod Maps
+pub mod Mapped

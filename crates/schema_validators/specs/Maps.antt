@@ -1,0 +1,107 @@
+-- Validators for the schemas of a document, by their JSON Pointers.
+use Rattle.std.specs.Prelude.{◌≡◌, ◌↔◌, ◌⊎◌, ℕ, List, [], ◌∷◌, ◌++◌, map, Bool, true, false, Option, Some, is_some, string_bytes}
+use Rattle.std.specs.HashMap.{get_by_text}
+use Rattle.schema_meaning.specs.Members.{In}
+use Rattle.schema_definitions.specs.Bearers.{Document}
+use Rattle.schema_definitions.specs.Lookup.{Target}
+use Rattle.schema_patterns.specs.declared.table.PatternTable.{PatternTable}
+use Rattle.schema_registries.specs.Pointers.{pointers_of, reference_to, IsDocumentAt}
+use Rattle.reached_sites.specs.Passed.{AreWithin}
+use Rattle.root_checks.specs.Causes.{AreExceeded}
+use Rattle.root_checks.specs.Starts.{sites_from}
+use Rattle.schema_registries.specs.declared.registry.SchemaRegistry.{SchemaRegistry}
+use Rattle.schema_registries.specs.Seen.{documents_in_registry}
+use Rattle.schema_registries.specs.Roots.{Root, Patterns, Finds, IsSound, root_on}
+use Rattle.schema_validators.specs.Refused.{RefusesReference}
+use Rattle.schema_validators.specs.Seen.{root_of, root_in}
+use Rattle.schema_validators.specs.Made.{IsMadeBy}
+use Rattle.schema_validators.specs.declared.error.BuildError.{BuildError}
+use Rattle.schema_validators.specs.declared.error.BuildError.TheVariants as error
+use Rattle.schema_validators.specs.declared.validator.Validator.{Validator}
+use Rattle.schema_validators.specs.declared.validator_map.ValidatorMap.{ValidatorMap}
+
+-- the pointers, in their order
+abbrev pub keys_of : {M : Type 0} → ValidatorMap M → List (List ℕ)
+keys_of m = map (λ e. string_bytes e.0) m.validators.entries
+
+-- the pointers with their validators, in their order
+abbrev pub entries_in : {M : Type 0} → ValidatorMap M → List (List ℕ × Validator M)
+entries_in m = map (λ e. (string_bytes e.0, e.1)) m.validators.entries
+
+-- the validator under a pointer
+abbrev pub entry_at : {M : Type 0} → ValidatorMap M → List ℕ → Option (Validator M)
+entry_at m pointer = get_by_text m.validators pointer
+
+-- a schema place as a root: the pointer is looked up, as a fragment, from its document's URI
+abbrev pub place_root : List Document → List ℕ → List ℕ → Root
+place_root own document pointer = root_of own document (reference_to pointer)
+
+-- of some pointers those at which nothing is wrong, in their order
+pub data SortsOut (p : Patterns) (own : List Document) (document : List ℕ) : List (List ℕ) → List (List ℕ) → Type 0 where
+  none : SortsOut p own document [] []
+  taken : {pointers keys : List (List ℕ)} (k : List ℕ) → IsSound p (place_root own document k) → SortsOut p own document pointers keys → SortsOut p own document (k ∷ pointers) (k ∷ keys)
+  left : {pointers keys : List (List ℕ)} (k : List ℕ) → (IsSound p (place_root own document k) → ⊥) → SortsOut p own document pointers keys → SortsOut p own document (k ∷ pointers) keys
+
+-- a validator at a schema place, of its draft
+pub record ReadsPlace {M : Type 0} (finds : M → List ℕ → Option Bool) (p : Patterns) (own : List Document) (document pointer : List ℕ) (v : Validator M) : Type 0 where
+  pub root : root_in v ≡ place_root own document pointer
+  pub made : IsMadeBy finds p v
+  pub draft : (target : Target) → Finds (root_in v) target → v.draft ≡ target.dialect.draft
+
+-- the schema places of a document at which nothing is wrong, each with a validator that reads it, and no more compile keys than a limit that are reached from all places together
+pub record IsMapOf {M : Type 0} (finds : M → List ℕ → Option Bool) (p : Patterns) (own : List Document) (d : Document) (limit : ℕ) (m : ValidatorMap M) : Type 0 where
+  pub keys : SortsOut p own d.uri (pointers_of own d) (keys_of m)
+  pub exactly : (k : List ℕ) → (is_some (entry_at m k) ≡ true) ↔ (In k (pointers_of own d) × IsSound p (place_root own d.uri k))
+  pub reads : (k : List ℕ) (v : Validator M) → entry_at m k ≡ Some v → ReadsPlace finds p own d.uri k v
+  pub within : AreWithin (own ∷ []) p.makes (sites_from own d.uri (map reference_to (pointers_of own d))) limit
+
+-- ---- how it is made
+
+-- a validator at a schema place, by a table of patterns
+pub record StandsAtPlace {M : Type 0} (own : List Document) (document : List ℕ) (table : PatternTable M) (pointer : List ℕ) (v : Validator M) : Type 0 where
+  pub root : root_in v ≡ place_root own document pointer
+  pub table_is : v.table.value ≡ table
+  pub draft : (target : Target) → Finds (root_in v) target → v.draft ≡ target.dialect.draft
+
+-- a validator was put behind others where a mark says so
+abbrev pub PutsPlace : {M : Type 0} → List Document → List ℕ → PatternTable M → List ℕ → Bool → List (List ℕ × Validator M) → List (List ℕ × Validator M) → Type 0
+PutsPlace own document table pointer false old new = new ≡ old
+PutsPlace {M = M} own document table pointer true old new = (v : Validator M) × StandsAtPlace own document table pointer v × (new ≡ old ++ (pointer, v) ∷ [])
+
+-- one for each pointer that is marked, in their order
+pub data Enters {M : Type 0} (own : List Document) (document : List ℕ) (table : PatternTable M) : List (List ℕ) → List Bool → List (List ℕ × Validator M) → Type 0 where
+  none : Enters own document table [] [] []
+  taken : {pointers : List (List ℕ)} {marks : List Bool} {entries : List (List ℕ × Validator M)} (k : List ℕ) (v : Validator M) → StandsAtPlace own document table k v
+      → Enters own document table pointers marks entries → Enters own document table (k ∷ pointers) (true ∷ marks) ((k, v) ∷ entries)
+  left : {pointers : List (List ℕ)} {marks : List Bool} {entries : List (List ℕ × Validator M)} (k : List ℕ) → Enters own document table pointers marks entries
+      → Enters own document table (k ∷ pointers) (false ∷ marks) entries
+
+-- ---- of a root
+
+-- a map of the document in which a root lies
+pub record IsMapAt {M : Type 0} (finds : M → List ℕ → Option Bool) (p : Patterns) (r : SchemaRegistry) (reference : List ℕ) (limit : ℕ) (m : ValidatorMap M) : Type 0 where
+  pub target : Target
+  pub found : Finds (root_on r reference) target
+  pub document : Document
+  pub is_at : IsDocumentAt (documents_in_registry r) target.document document
+  pub is_map : IsMapOf finds p (documents_in_registry r) document limit m
+
+-- from the schema places of a document more compile keys are reached than a limit
+abbrev pub ArePlacesExceeded : Patterns → List Document → Document → ℕ → BuildError → Type 0
+ArePlacesExceeded p own d limit (error.Document e) = ⊥
+ArePlacesExceeded p own d limit (error.Registry e) = ⊥
+ArePlacesExceeded p own d limit (error.Root e) = ⊥
+ArePlacesExceeded p own d limit (error.Schema e) = AreExceeded (own ∷ []) p.makes (sites_from own d.uri (map reference_to (pointers_of own d))) limit e
+ArePlacesExceeded p own d limit (error.MetaSchema i e) = ⊥
+ArePlacesExceeded p own d limit error.Memory = Unit {0}
+
+-- the same of the document in which a root lies
+pub record AreMore (p : Patterns) (r : SchemaRegistry) (reference : List ℕ) (limit : ℕ) (e : BuildError) : Type 0 where
+  pub target : Target
+  pub found : Finds (root_on r reference) target
+  pub document : Document
+  pub is_at : IsDocumentAt (documents_in_registry r) target.document document
+  pub exceeded : ArePlacesExceeded p (documents_in_registry r) document limit e
+
+abbrev pub RefusesMapAt : Patterns → SchemaRegistry → List ℕ → ℕ → BuildError → Type 0
+RefusesMapAt p r reference limit e = RefusesReference (root_on r reference) e ⊎ AreMore p r reference limit e

@@ -1,0 +1,129 @@
+-- Which error comes when. Each but want of memory names a cause.
+use Rattle.std.specs.Prelude.{◌≡◌, ◌⊎◌, ℕ, List, Option, Some, None, Err, string_bytes}
+use Rattle.serde_json.specs.Data.{Data}
+use Rattle.schema_drafts.specs.declared.draft.Draft.{Draft}
+use Rattle.schema_meaning.specs.Faults.{Fault, instance_path, evaluation_path}
+use Rattle.schema_definitions.specs.Bearers.{Document}
+use Rattle.schema_definitions.specs.Lookup.{Target, LookupCause, lookup}
+use Rattle.schema_definitions.specs.PathTexts.{path_text}
+use Rattle.schema_definitions.specs.Sites.{root_site}
+use Rattle.schema_definitions.specs.Rows as rows
+use Rattle.schema_definitions.specs.BuildCauses.{IsCauseOf}
+use Rattle.document_sources.specs.Given.{Given, documents_by}
+use Rattle.document_sources.specs.Causes.{IsMemory, NamesLookup}
+use Rattle.document_sources.specs.declared.error.Error as reference
+use Rattle.reached_sites.specs.Causes.{NamesCause, IsExceeded}
+use Rattle.reached_sites.specs.declared.cause.BuildCause.{BuildCause}
+use Rattle.reached_sites.specs.declared.cause.BuildCause.TheVariants as reached
+use Rattle.schema_registries.specs.Passed.{Asking, IsGathered, Stops, HasCause}
+use Rattle.schema_registries.specs.declared.registry.SharedRegistry.{SharedRegistry}
+use Rattle.schema_registries.specs.declared.registry.SchemaRegistry.{SchemaRegistry}
+use Rattle.schema_registries.specs.Retrieval.{beside}
+use Rattle.schema_registries.specs.Roots.{Root, Patterns, Finds, IsSound}
+use Rattle.schema_registries.specs.Answers.{IsFault}
+use Rattle.schema_validators.specs.Asked.{IsAsked, meta_root}
+use Rattle.schema_validators.specs.Prepared.{asking_by, meta_schemas_given}
+use Rattle.schema_validators.specs.declared.options.ValidationOptions.{ValidationOptions}
+use Rattle.schema_validators.specs.declared.error.BuildError.{BuildError}
+use Rattle.schema_validators.specs.declared.error.BuildError.TheVariants as error
+
+-- ---- documents
+
+-- they could not be retrieved, or have a cause to be refused
+abbrev pub RefusesDocuments : Asking → ℕ → List Document → reference.Error → Type 0
+RefusesDocuments a limit own e = Stops a limit own e ⊎ HasCause a limit own e
+
+-- those of the meta-schemas were prepared, and the documents beside them are refused
+pub record RefusesBeside (a : Asking) (limit : ℕ) (draft : Draft) (metas given : List Given) (e : reference.Error) : Type 0 where
+  pub parent : List Document
+  pub uris : List (List ℕ)
+  pub gathered : IsGathered a limit (documents_by draft metas) parent uris
+  pub refused : RefusesDocuments a limit (beside parent draft given) e
+
+abbrev pub RefusesGiven : Asking → ℕ → Draft → Option (List Given) → List Given → reference.Error → Type 0
+RefusesGiven a limit draft None given e = RefusesDocuments a limit (documents_by draft given) e
+RefusesGiven a limit draft (Some metas) given e = RefusesDocuments a limit (documents_by draft metas) e ⊎ RefusesBeside a limit draft metas given e
+
+abbrev pub RefusesPreparing : {P R : Type 0} → (R → List ℕ → Data → Type 0) → (R → List ℕ → Type 0) → ValidationOptions P R → List Given → BuildError → Type 0
+RefusesPreparing may_answer may_refuse o given (error.Document e) = ⊥
+RefusesPreparing may_answer may_refuse o given (error.Registry e) = RefusesGiven (asking_by may_answer may_refuse o) o.limit o.draft (meta_schemas_given o) given e
+RefusesPreparing may_answer may_refuse o given (error.Root e) = ⊥
+RefusesPreparing may_answer may_refuse o given (error.Schema e) = ⊥
+RefusesPreparing may_answer may_refuse o given (error.MetaSchema i e) = ⊥
+RefusesPreparing may_answer may_refuse o given error.Memory = Unit {0}
+
+-- the error that one of a registry becomes
+abbrev pub IsOfRegistry : reference.Error → BuildError → Type 0
+IsOfRegistry e b = (IsMemory e × (b ≡ error.Memory)) ⊎ ((IsMemory e → ⊥) × (b ≡ error.Registry e))
+
+-- ---- roots
+
+-- a root is refused because its reference leads nowhere, for a cause at what is reached from it, or because that is too much
+abbrev pub RefusesBuild : Patterns → ℕ → Root → BuildError → Type 0
+RefusesBuild p limit r (error.Document e) = ⊥
+RefusesBuild p limit r (error.Registry e) = ⊥
+RefusesBuild p limit r (error.Root e) = (cause : LookupCause) × (lookup r.documents r.base r.reference ≡ Err cause) × NamesLookup cause e
+RefusesBuild p limit r (error.Schema e) =
+    (target : Target) × Finds r target
+    × (IsExceeded r.documents p.makes (root_site target) limit e ⊎ ((cause : rows.BuildCause) × NamesCause cause e × IsCauseOf r.documents p.makes (root_site target) cause))
+RefusesBuild p limit r (error.MetaSchema i e) = ⊥
+RefusesBuild p limit r error.Memory = Unit {0}
+
+-- the reference to the root leads nowhere
+abbrev pub RefusesReference : Root → BuildError → Type 0
+RefusesReference r (error.Document e) = ⊥
+RefusesReference r (error.Registry e) = ⊥
+RefusesReference r (error.Root e) = (cause : LookupCause) × (lookup r.documents r.base r.reference ≡ Err cause) × NamesLookup cause e
+RefusesReference r (error.Schema e) = ⊥
+RefusesReference r (error.MetaSchema i e) = ⊥
+RefusesReference r error.Memory = Unit {0}
+
+-- the error that a refusal of several roots becomes
+abbrev pub IsOfPlaces : BuildCause → BuildError → Type 0
+IsOfPlaces e b = ((e ≡ reached.Memory) × (b ≡ error.Memory)) ⊎ ((e ≡ reached.Memory → ⊥) × (b ≡ error.Schema e))
+
+-- ---- meta-schemas
+
+-- the paths of a fault
+pub record SpellsFault (f : Fault) (i e : List ℕ) : Type 0 where
+  pub instance : i ≡ path_text (instance_path f)
+  pub evaluation : e ≡ path_text (evaluation_path f)
+
+abbrev pub TellsFault : Fault → BuildError → Type 0
+TellsFault f (error.Document x) = ⊥
+TellsFault f (error.Registry x) = ⊥
+TellsFault f (error.Root x) = ⊥
+TellsFault f (error.Schema x) = ⊥
+TellsFault f (error.MetaSchema i e) = SpellsFault f (string_bytes i) (string_bytes e)
+TellsFault f error.Memory = ⊥
+
+-- a meta-schema that may be read refuses the value, with this fault
+pub record RefusesValue (p : Patterns) (r : Root) (d : Data) (e : BuildError) : Type 0 where
+  pub sound : IsSound p r
+  pub fault : Fault
+  pub is_fault : IsFault p r d fault
+  pub told : TellsFault fault e
+
+-- one may not be read, or refuses the value
+abbrev pub RefusesAt : Patterns → ℕ → Root → Data → BuildError → Type 0
+RefusesAt p limit r d e = RefusesBuild p limit r e ⊎ RefusesValue p r d e
+
+-- so does one that is asked
+pub record RefusesAsked (p : Patterns) (limit : ℕ) (parent : SharedRegistry) (t : Target) (e : BuildError) : Type 0 where
+  pub uri : List ℕ
+  pub asked : IsAsked parent t uri
+  pub why : RefusesAt p limit (meta_root parent uri) t.contents e
+
+abbrev pub RefusesByMeta : Patterns → ℕ → SharedRegistry → Target → BuildError → Type 0
+RefusesByMeta p limit parent t e = (e ≡ error.Memory) ⊎ RefusesAsked p limit parent t e
+
+pub record RefusesMeta (p : Patterns) (limit : ℕ) (r : SchemaRegistry) (root : Root) (e : BuildError) : Type 0 where
+  pub parent : SharedRegistry
+  pub is_parent : r.parent ≡ Some parent
+  pub target : Target
+  pub found : Finds root target
+  pub refused : RefusesByMeta p limit parent target e
+
+-- a root is refused for its own sake, or by its meta-schema
+abbrev pub RefusesRoot : Patterns → ℕ → SchemaRegistry → Root → BuildError → Type 0
+RefusesRoot p limit r root e = RefusesBuild p limit root e ⊎ RefusesMeta p limit r root e

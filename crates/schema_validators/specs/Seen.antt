@@ -1,0 +1,13 @@
+-- The roots of validators.
+use Rattle.std.specs.Prelude.{ℕ, List, [], ◌∷◌, string_bytes}
+use Rattle.schema_definitions.specs.Bearers.{Document}
+use Rattle.reached_sites.specs.Passed.{documents_of}
+use Rattle.schema_registries.specs.Roots.{Root}
+use Rattle.schema_validators.specs.declared.validator.Validator.{Validator}
+
+-- a reference from a base into documents
+abbrev pub root_of : List Document → List ℕ → List ℕ → Root
+root_of documents base reference = record { documents = documents ∷ []; base = base; reference = reference }
+
+abbrev pub root_in : {M : Type 0} → Validator M → Root
+root_in v = root_of (documents_of v.registry.value) v.base (string_bytes v.root)

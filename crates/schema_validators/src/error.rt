@@ -1,0 +1,130 @@
+//! Why there is no validator.
+
+ghost use Rattle.std.specs.Prelude.{◌≡◌, ℕ, IfOk};
+ghost use Rattle.schema_definitions.specs.Lookup.{Target, lookup};
+ghost use Rattle.schema_definitions.specs.Sites.{root_site};
+ghost use Rattle.schema_reports.specs.Told.{fault_of};
+ghost use Rattle.document_sources.specs.Causes.{RefusesLookup};
+ghost use Rattle.reached_sites.specs.Causes as reached;
+ghost use Rattle.schema_registries.specs.Roots.{Root, Patterns, Finds};
+ghost use Rattle.schema_validators.specs.Refused.{IsOfRegistry, RefusesBuild, TellsFault};
+ghost use Rattle.schema_validators.specs.New.{IsOfDocument};
+ghost use Rattle.schema_validators.specs.Refused.{RefusesReference, IsOfPlaces};
+
+use reached_sites::Error as ReferenceError;
+use reached_sites::cause::BuildCause;
+use schema_registries::DocumentError;
+use schema_reports::ValidationError;
+use std::alloc::{AllocError, Global};
+use thiserror::Error;
+
+/// Why no validator is built.
+#[derive(Debug, Drop, Error)]
+pub enum BuildError {
+    /// The schema is no document.
+    #[error(transparent)]
+    Document(DocumentError),
+    /// The documents, or the meta-schemas handed in, are no registry.
+    #[error(transparent)]
+    Registry(ReferenceError),
+    /// The reference to the root leads nowhere.
+    #[error(transparent)]
+    Root(ReferenceError),
+    /// Something is wrong at a schema that the root leads to, or it leads to more schemas than are allowed.
+    #[error(transparent)]
+    Schema(BuildCause),
+    /// The meta-schema of the root, which was handed in, refuses the root's value: the paths of one of its faults, as JSON Pointers.
+    #[error("Schema refused by its meta-schema at '{instance_path}', '{evaluation_path}'")]
+    MetaSchema {
+        instance_path: String,
+        evaluation_path: String,
+    },
+    /// Memory was refused.
+    #[error("No memory")]
+    Memory,
+}
+
+impl From<AllocError> for BuildError {
+    ghost use Rattle.schema_validators.specs.declared.error.BuildError.TheVariants.{Memory};
+
+    ghost from_gives = { λ _ e. e ≡ Memory };
+
+    fn from(_error: AllocError) -> BuildError {
+        BuildError::Memory
+    }
+}
+
+impl BuildError {
+    /// The error of a schema that is no document.
+    pub(crate) fn of_document(error: DocumentError) -> BuildError
+        ensures { IsOfDocument error result }
+    {
+        match error {
+            DocumentError::Memory => BuildError::Memory,
+            error => BuildError::Document(error),
+        }
+    }
+
+    /// The error of documents that are refused.
+    pub(crate) fn of_registry(error: ReferenceError) -> BuildError
+        ensures { IsOfRegistry error result }
+    {
+        match error {
+            ReferenceError::Memory => BuildError::Memory,
+            error => BuildError::Registry(error),
+        }
+    }
+
+    /// The error of a root that is not found.
+    pub(crate) fn of_root(error: ReferenceError) -> BuildError
+        ensures { (p : Patterns) (limit : ℕ) (root : Root) → RefusesLookup (lookup root.documents root.base root.reference) error → RefusesBuild p limit root result }
+    {
+        match error {
+            ReferenceError::Memory => BuildError::Memory,
+            error => BuildError::Root(error),
+        }
+    }
+
+    /// The error of a root that leads to a cause, or to too much.
+    pub(crate) fn of_schema(cause: BuildCause) -> BuildError
+        ensures { (p : Patterns) (limit : ℕ) (root : Root) (target : Target) → Finds root target → reached.RefusesWithin root.documents p.makes (root_site target) limit cause → RefusesBuild p limit root result }
+    {
+        match cause {
+            BuildCause::Memory => BuildError::Memory,
+            cause => BuildError::Schema(cause),
+        }
+    }
+
+    /// The error of a reference to a root that leads nowhere.
+    pub(crate) fn of_reference(error: ReferenceError) -> BuildError
+        ensures { (root : Root) → RefusesLookup (lookup root.documents root.base root.reference) error → RefusesReference root result }
+    {
+        match error {
+            ReferenceError::Memory => BuildError::Memory,
+            error => BuildError::Root(error),
+        }
+    }
+
+    /// The error of places from which too much is reached.
+    pub(crate) fn of_places(cause: BuildCause) -> BuildError
+        ensures { IsOfPlaces cause result }
+    {
+        match cause {
+            BuildCause::Memory => BuildError::Memory,
+            cause => BuildError::Schema(cause),
+        }
+    }
+
+    /// The error of a root whose value has this fault by its meta-schema.
+    pub(crate) fn of_fault(
+        alloc: Global,
+        error: &ValidationError<'_>,
+    ) -> Result<BuildError, AllocError>
+        ensures { IfOk result (TellsFault (fault_of error.now)) }
+    {
+        Ok(BuildError::MetaSchema {
+            instance_path: error.instance_path().to_pointer(alloc)?,
+            evaluation_path: error.evaluation_path().to_pointer(alloc)?,
+        })
+    }
+}

@@ -1,0 +1,29 @@
+//! Validators of JSON values by JSON Schema, and maps of them.
+//!
+//! [`Validator::options`] says how documents are read. Documents are prepared once, and validators are built on what was prepared,
+//! each at a root that a reference leads to.
+#![tactic(auto)]
+
+mod building;
+mod error;
+mod mapping;
+mod meta_schema;
+mod options;
+mod validator;
+mod validator_map;
+
+pub use error::BuildError;
+pub use options::ValidationOptions;
+pub use reached_sites::cause::BuildCause;
+pub use reached_sites::place::SchemaPlace;
+pub use reached_sites::{Draft, Error, uri};
+pub use regex_patterns::{RegexMaker, RegexMatcher};
+pub use schema_patterns::{MatchAnswer, PatternError, PatternMaker, PatternMatcher};
+pub use schema_registries::{
+    DefaultRetriever, DocumentError, Documents, MapRetriever, Retrieve, SchemaRegistry,
+    SharedRegistry, WholeNumbers, has_only_whole,
+};
+pub use schema_reports::{ErrorIterator, ValidationError, ValidationErrorKind};
+pub use uri_references::uri::Uri;
+pub use validator::Validator;
+pub use validator_map::ValidatorMap;

@@ -1,0 +1,311 @@
+//! How validators are built.
+
+ghost use Rattle.std.specs.Prelude.{◌≡◌, ◌⊎◌, IfOk, IfErr, OnOk, codes, None, Some};
+ghost use Rattle.schema_drafts.specs.Drafts as drafts;
+ghost use Rattle.schema_definitions.specs.Lookup.{Target};
+ghost use Rattle.document_sources.specs.Causes.{IsMemory};
+ghost use Rattle.schema_registries.specs.Seen.{documents_given};
+ghost use Rattle.schema_registries.specs.Roots.{Finds, root_on};
+ghost use Rattle.schema_validators.specs.Counted.{IsWithin};
+ghost use Rattle.schema_validators.specs.Made.{IsMadeBy};
+ghost use Rattle.schema_validators.specs.Asked.{IsMet};
+ghost use Rattle.schema_validators.specs.Prepared.{asking_by, meta_schemas_given, AreDocuments, IsRegistry};
+ghost use Rattle.schema_validators.specs.Refused.{RefusesGiven, RefusesPreparing, RefusesRoot};
+ghost use Rattle.schema_validators.specs.Built.{IsBuilt, RefusesBuilding};
+ghost use Rattle.schema_validators.specs.Mapped.{IsMapBuilt, RefusesMapping};
+ghost use Rattle.schema_validators.specs.Seen.{root_in};
+
+use crate::error::BuildError;
+use crate::mapping::map_at;
+use crate::meta_schema::ask_meta_schema;
+use crate::validator::Validator;
+use crate::validator_map::ValidatorMap;
+use reached_sites::Error;
+use regex_patterns::RegexMaker;
+use schema_drafts::draft::Draft;
+use schema_patterns::PatternMaker;
+use schema_registries::{
+    DefaultRetriever, Documents, Retrieve, SchemaRegistry, SharedRegistry, WholeNumbers,
+};
+use std::alloc::{AllocError, Global};
+use uri_references::uri::Uri;
+
+/// The base URI until another is given.
+const DEFAULT_BASE: &str = "json-schema:///";
+
+/// How many documents are retrieved at most until another limit is set.
+const DEFAULT_LIMIT: u64 = 256;
+
+/// How many compile keys are reached at most until another limit is set.
+const DEFAULT_NODE_LIMIT: usize = 65_536;
+
+/// How validators are built.
+#[derive(Drop)]
+pub struct ValidationOptions<P = RegexMaker, R = DefaultRetriever> {
+    alloc: Global,
+    draft: Draft,
+    base: Uri,
+    maker: P,
+    retriever: WholeNumbers<R>,
+    limit: u64,
+    node_limit: usize,
+    meta_schemas: Option<Documents>,
+}
+
+impl ValidationOptions {
+    /// The newest draft, the base URI `json-schema:///`, the patterns that `regex` reads, nobody who is asked, at most 256 documents
+    /// retrieved, at most 65,536 compile keys, and no meta-schemas.
+    ///
+    /// # Errors
+    ///
+    /// Where memory was refused.
+    pub(crate) fn new(alloc: Global) -> Result<ValidationOptions, AllocError>
+        ensures draft { IfOk result (λ o. o.draft ≡ drafts.newest) }
+        ensures base { IfOk result (λ o. o.base ≡ codes "json-schema:///") }
+        ensures limit { IfOk result (λ o. o.limit ≡ 256) }
+        ensures node_limit { IfOk result (λ o. o.node_limit ≡ 65536) }
+        ensures meta_schemas { IfOk result (λ o. o.meta_schemas ≡ None) }
+    {
+        match Uri::parse(alloc, DEFAULT_BASE) {
+            Ok(base) => Ok(ValidationOptions {
+                alloc,
+                draft: Draft::default(),
+                base,
+                maker: RegexMaker,
+                retriever: WholeNumbers::new(DefaultRetriever),
+                limit: DEFAULT_LIMIT,
+                node_limit: DEFAULT_NODE_LIMIT,
+                meta_schemas: None,
+            }),
+            Err(_) => Err(AllocError),
+        }
+    }
+}
+
+// Asks the meta-schema of the root that a reference leads to, where meta-schemas were handed in.
+fn meet<P: PatternMaker>(
+    alloc: Global,
+    registry: &SchemaRegistry,
+    root: &str,
+    maker: &P,
+    node_limit: usize,
+) -> Result<(), BuildError>
+    ensures met { OnOk result ((target : Target) → Finds (root_on registry.now root.now) target → IsMet (P.patterns maker.now) node_limit registry.now.parent target) }
+    ensures refused { IfErr result (RefusesRoot (P.patterns maker.now) node_limit registry.now (root_on registry.now root.now)) }
+{
+    let Some(parent) = registry.parent() else {
+        return Ok(());
+    };
+    let resolver = registry.registry().resolver(registry.base().clone()?)?;
+    match resolver.lookup(root) {
+        Ok(found) => ask_meta_schema(alloc, parent, &found, maker, node_limit),
+        Err(error) => Err(BuildError::of_root(error)),
+    }
+}
+
+impl<P: Drop, R: Drop> ValidationOptions<P, R> {
+    /// Sets the draft of the documents that name none, the meta-schemas among them.
+    pub fn with_draft(self, draft: Draft) -> ValidationOptions<P, R>
+        ensures { result ≡ record self { draft = draft } }
+    {
+        ValidationOptions { draft, ..self }
+    }
+
+    /// Sets the URI that references to roots are resolved against.
+    pub fn with_base(self, base: Uri) -> ValidationOptions<P, R>
+        ensures { result ≡ record self { base = base } }
+    {
+        ValidationOptions { base, ..self }
+    }
+
+    /// Sets the meta-schemas: a root is then refused where its own is among them and refuses its value. They are at hand for each
+    /// document's `$schema` and `$ref` besides.
+    pub fn with_meta_schemas(self, documents: Documents) -> ValidationOptions<P, R>
+        ensures { result ≡ record self { meta_schemas = Some documents } }
+    {
+        ValidationOptions {
+            meta_schemas: Some(documents),
+            ..self
+        }
+    }
+
+    /// Sets how many documents are retrieved at most, for the meta-schemas and then anew for the documents.
+    pub fn with_retrieval_limit(self, limit: u64) -> ValidationOptions<P, R>
+        ensures { result ≡ record self { limit = limit } }
+    {
+        ValidationOptions { limit, ..self }
+    }
+
+    /// Sets how many compile keys are reached at most from a root, and from its meta-schema where that is asked: a schema counts once for
+    /// each base, dialect, scope key and schema path with which it is reached.
+    pub fn with_node_limit(self, node_limit: usize) -> ValidationOptions<P, R>
+        ensures { result ≡ record self { node_limit = node_limit } }
+    {
+        ValidationOptions { node_limit, ..self }
+    }
+
+    /// Sets what makes the matchers of patterns. The literal forms of patterns never go to it.
+    pub fn with_pattern_maker<Q: PatternMaker>(self, maker: Q) -> ValidationOptions<Q, R>
+        ensures draft { result.draft ≡ self.draft }
+        ensures base { result.base ≡ self.base }
+        ensures maker { result.maker ≡ maker }
+        ensures retriever { result.retriever ≡ self.retriever }
+        ensures limit { result.limit ≡ self.limit }
+        ensures node_limit { result.node_limit ≡ self.node_limit }
+        ensures meta_schemas { result.meta_schemas ≡ self.meta_schemas }
+    {
+        ValidationOptions {
+            alloc: self.alloc,
+            draft: self.draft,
+            base: self.base,
+            maker,
+            retriever: self.retriever,
+            limit: self.limit,
+            node_limit: self.node_limit,
+            meta_schemas: self.meta_schemas,
+        }
+    }
+
+    /// Sets whom the documents that are wanted are asked of. An answer with a number that is no whole number of 64 bits counts as refused.
+    pub fn with_retriever<T: Retrieve>(self, retriever: T) -> ValidationOptions<P, T>
+        ensures draft { result.draft ≡ self.draft }
+        ensures base { result.base ≡ self.base }
+        ensures maker { result.maker ≡ self.maker }
+        ensures retriever { result.retriever.retriever ≡ retriever }
+        ensures limit { result.limit ≡ self.limit }
+        ensures node_limit { result.node_limit ≡ self.node_limit }
+        ensures meta_schemas { result.meta_schemas ≡ self.meta_schemas }
+    {
+        ValidationOptions {
+            alloc: self.alloc,
+            draft: self.draft,
+            base: self.base,
+            maker: self.maker,
+            retriever: WholeNumbers::new(retriever),
+            limit: self.limit,
+            node_limit: self.node_limit,
+            meta_schemas: self.meta_schemas,
+        }
+    }
+}
+
+impl<P: PatternMaker + Drop, R: Drop> ValidationOptions<P, R> {
+    /// A validator by the schema that a reference leads to, against the registry's base. Where meta-schemas were handed in, that of the
+    /// root is asked. No document is retrieved.
+    ///
+    /// It walks what is reached from there once, and makes each pattern there once. The registry is shared.
+    ///
+    /// # Errors
+    ///
+    /// Where the reference leads nowhere, where something is wrong at a schema reached from there, a pattern that the maker refuses among
+    /// it, where more compile keys are reached than the limit, where the root's meta-schema refuses its value or is not read for such a
+    /// reason, or want of memory.
+    pub fn build_on(
+        &self,
+        registry: &SchemaRegistry,
+        root: &str,
+    ) -> Result<Validator<P::Matcher>, BuildError>
+        ensures root { IfOk result (λ v. root_in v ≡ root_on registry.now root.now) }
+        ensures made { IfOk result (IsMadeBy P.Matcher.finds (P.patterns self.now.maker)) }
+        ensures draft { IfOk result (λ v. (target : Target) → Finds (root_in v) target → v.draft ≡ target.dialect.draft) }
+        ensures within { IfOk result (λ v. IsWithin (P.patterns self.now.maker) self.now.node_limit (root_in v)) }
+        ensures met { IfOk result (λ v. (target : Target) → Finds (root_in v) target → IsMet (P.patterns self.now.maker) self.now.node_limit registry.now.parent target) }
+        ensures refused { IfErr result (RefusesRoot (P.patterns self.now.maker) self.now.node_limit registry.now (root_on registry.now root.now)) }
+    {
+        let (alloc, limit) = (self.alloc, self.node_limit);
+        let validator = Validator::at(
+            alloc,
+            registry.own(),
+            registry.base(),
+            root,
+            &self.maker,
+            limit,
+        )?;
+        meet(alloc, registry, root, &self.maker, limit)?;
+        Ok(validator)
+    }
+}
+
+impl<P: Drop, R: Retrieve + Drop> ValidationOptions<P, R> {
+    // The documents with what they want, beside those of the meta-schemas with what these want.
+    fn gather(&self, documents: &Documents, base: Uri) -> Result<SchemaRegistry, Error>
+        ensures documents { IfOk result (AreDocuments (asking_by R.may_answer R.may_refuse self.now) self.now.limit self.now.draft (meta_schemas_given self.now) (documents_given documents.now)) }
+        ensures base { IfOk result (λ r. r.base ≡ base) }
+        ensures refused { IfErr result (λ e. IsMemory e ⊎ RefusesGiven (asking_by R.may_answer R.may_refuse self.now) self.now.limit self.now.draft (meta_schemas_given self.now) (documents_given documents.now) e) }
+    {
+        let (alloc, draft, limit) = (self.alloc, self.draft, self.limit);
+        match &self.meta_schemas {
+            None => {
+                let own = SharedRegistry::prepare(alloc, documents, draft, &self.retriever, limit)?;
+                Ok(SchemaRegistry::new(own, base, None))
+            }
+            Some(given) => {
+                let parent = SharedRegistry::prepare(alloc, given, draft, &self.retriever, limit)?;
+                let own = parent.prepare_beside(alloc, documents, draft, &self.retriever, limit)?;
+                Ok(SchemaRegistry::new(own, base, Some(parent)))
+            }
+        }
+    }
+
+    /// A registry of documents, for any number of validators: the meta-schemas and what they want are gathered first, by themselves, and
+    /// then the documents and what they want and is not there yet.
+    ///
+    /// It costs what `SharedRegistry::prepare` costs for each of the two. No value is copied.
+    ///
+    /// # Errors
+    ///
+    /// Where the retriever refuses what is wanted, where more is wanted than may be retrieved, a cause that the documents or the
+    /// meta-schemas have to be refused, or want of memory.
+    pub fn prepare(&self, documents: &Documents) -> Result<SchemaRegistry, BuildError>
+        ensures prepared { IfOk result (IsRegistry R.may_answer R.may_refuse self.now (documents_given documents.now)) }
+        ensures refused { IfErr result (RefusesPreparing R.may_answer R.may_refuse self.now (documents_given documents.now)) }
+    {
+        let base = self.base.clone()?;
+        match self.gather(documents, base) {
+            Ok(registry) => Ok(registry),
+            Err(error) => Err(BuildError::of_registry(error)),
+        }
+    }
+}
+
+impl<P: PatternMaker + Drop, R: Retrieve + Drop> ValidationOptions<P, R> {
+    /// A validator by the schema that a reference leads to in documents, prepared for it alone.
+    ///
+    /// # Errors
+    ///
+    /// Those of `prepare` and of `build_on`.
+    pub fn build(
+        &self,
+        documents: &Documents,
+        root: &str,
+    ) -> Result<Validator<P::Matcher>, BuildError>
+        ensures built { IfOk result (IsBuilt (P.patterns self.now.maker) R.may_answer R.may_refuse self.now (documents_given documents.now) root.now) }
+        ensures made { IfOk result (IsMadeBy P.Matcher.finds (P.patterns self.now.maker)) }
+        ensures draft { IfOk result (λ v. (target : Target) → Finds (root_in v) target → v.draft ≡ target.dialect.draft) }
+        ensures refused { IfErr result (λ e. RefusesPreparing R.may_answer R.may_refuse self.now (documents_given documents.now) e ⊎ RefusesBuilding (P.patterns self.now.maker) R.may_answer R.may_refuse self.now (documents_given documents.now) root.now e) }
+    {
+        let registry = self.prepare(documents)?;
+        self.build_on(&registry, root)
+    }
+
+    /// A validator for each schema of the document in which a root lies, by its JSON Pointer: those of its schema places at which nothing is wrong
+    /// and from which nothing wrong is reached. Each begins where looking its pointer up, as a fragment, leads from the document's URI.
+    ///
+    /// All that is reached from the places is walked once. The patterns are made once for all of them, and each validator reads the matches of all.
+    /// No meta-schema is asked.
+    ///
+    /// # Errors
+    ///
+    /// Those of `prepare`; a root that leads nowhere; more compile keys than the limit, from all places together; and want of memory.
+    pub fn build_map(
+        &self,
+        documents: &Documents,
+        root: &str,
+    ) -> Result<ValidatorMap<P::Matcher>, BuildError>
+        ensures built { IfOk result (IsMapBuilt P.Matcher.finds (P.patterns self.now.maker) R.may_answer R.may_refuse self.now (documents_given documents.now) root.now) }
+        ensures refused { IfErr result (λ e. RefusesPreparing R.may_answer R.may_refuse self.now (documents_given documents.now) e ⊎ RefusesMapping (P.patterns self.now.maker) R.may_answer R.may_refuse self.now (documents_given documents.now) root.now e) }
+    {
+        let registry = self.prepare(documents)?;
+        map_at(self.alloc, &registry, root, &self.maker, self.node_limit)
+    }
+}

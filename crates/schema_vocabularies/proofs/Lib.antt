@@ -1,4 +1,0 @@
-mod Listed
-mod Required
-mod Alike
-pub mod Dialects

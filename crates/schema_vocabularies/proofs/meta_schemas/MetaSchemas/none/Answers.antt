@@ -1,7 +1,0 @@
-use Rattle.schema_vocabularies.specs.Dialects.{dialects_in}
-use Rattle.schema_vocabularies.proofs.Dialects.{none_known}
-use Rattle.schema_vocabularies.proofs.meta_schemas.MetaSchemas.none.Goals as goal
-
-pub returns : goal.returns
-unfolding dialects_in
-returns c = none_known c.new.result c.new.ensures.empty

@@ -1,4 +1,0 @@
-pub mod Named
-pub mod Sets
-pub mod Dialects
-pub mod Passed

@@ -1,5 +1,0 @@
-use Rattle.scope_laws.proofs.Anchored.{anchored_keys_decide}
-use Rattle.scope_laws.proofs.scopes.anchored_keys_decide.Goals as goal
-
-pub returns : goal.returns
-returns c = anchored_keys_decide

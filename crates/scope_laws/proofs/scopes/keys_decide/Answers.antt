@@ -1,5 +1,0 @@
-use Rattle.scope_laws.proofs.Keys.{keys_decide}
-use Rattle.scope_laws.proofs.scopes.keys_decide.Goals as goal
-
-pub returns : goal.returns
-returns c = keys_decide

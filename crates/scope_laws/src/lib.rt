@@ -1,4 +1,0 @@
-//! Laws on dynamic scopes: each is the contract of a function.
-#![tactic(auto)]
-
-pub mod scopes;

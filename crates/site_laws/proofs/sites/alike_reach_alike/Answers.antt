@@ -1,5 +1,0 @@
-use Rattle.site_laws.proofs.Reaching.{alike_reach_alike}
-use Rattle.site_laws.proofs.sites.alike_reach_alike.Goals as goal
-
-pub returns : goal.returns
-returns c = alike_reach_alike

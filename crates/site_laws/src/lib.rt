@@ -1,4 +1,0 @@
-//! Laws on sites: each is the contract of a function.
-#![tactic(auto)]
-
-pub mod sites;

@@ -1,9 +1,0 @@
-pub mod Listed
-pub mod Results
-pub mod Inside
-pub mod Places
-pub mod Origins
-pub mod Walks
-pub mod Looked
-pub mod One
-pub mod Texts

@@ -1,5 +1,0 @@
-use Rattle.target_laws.proofs.One.{contents_are_one}
-use Rattle.target_laws.proofs.targets.contents_are_one.Goals as goal
-
-pub returns : goal.returns
-returns c = contents_are_one

@@ -1,5 +1,0 @@
-use Rattle.target_laws.proofs.Texts.{lookups_read}
-use Rattle.target_laws.proofs.targets.lookups_read.Goals as goal
-
-pub returns : goal.returns
-returns c = lookups_read

@@ -1,2 +1,0 @@
-pub mod FragmentLemmas
-mod FragmentExamples

@@ -1,4 +1,0 @@
-pub mod Dots
-pub mod Resolution
-pub mod NormalForm
-pub mod Passed

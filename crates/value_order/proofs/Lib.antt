@@ -1,5 +1,0 @@
-pub mod Keys
-pub mod Ties
-pub mod Trees
-pub mod Sorting
-pub mod Searching

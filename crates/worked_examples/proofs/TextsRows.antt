@@ -1,0 +1,11 @@
+use Rattle.std.proofs.Common.{refl}
+use Rattle.std.specs.List.{AllByRecursion}
+use Rattle.json_values.specs.Pointers.{replace_escape}
+use Rattle.std.specs.Str.{chars}
+use Rattle.schema_meaning.specs.Readings.{told, through}
+use Rattle.worked_examples.specs.Forms.{Holds}
+use Rattle.worked_examples.specs.Texts.{texts_examples}
+
+pub texts_hold : AllByRecursion Holds texts_examples
+unfolding told through replace_escape chars
+texts_hold = (((refl, refl), ((refl, refl), ((refl, refl), tt))), (((refl, refl), ((refl, refl), ((refl, refl), tt))), (((refl, refl), tt), tt)))

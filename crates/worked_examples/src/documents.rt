@@ -1,0 +1,58 @@
+//! Documents, roots and instances whose faults are known, computed from the definitions.
+
+ghost use Rattle.std.specs.List.{AllByRecursion};
+ghost use Rattle.worked_examples.specs.Dialects.{Gives, meta_schemas};
+ghost use Rattle.worked_examples.specs.Lines.{Written, lines, InputsAreCut};
+ghost use Rattle.worked_examples.specs.Lookups.{Answers, lookups, Refuses, refusals};
+ghost use Rattle.worked_examples.specs.Pointers.{HasPointers, pointed};
+ghost use Rattle.worked_examples.specs.Rows.{Holds, references, scopes, vocabularies, neighbours};
+
+/// References within a document and between documents.
+pub fn references_hold()
+    ensures { AllByRecursion Holds references }
+{}
+
+/// Dynamic and recursive references.
+pub fn scopes_hold()
+    ensures { AllByRecursion Holds scopes }
+{}
+
+/// Drafts and vocabularies.
+pub fn vocabularies_hold()
+    ensures { AllByRecursion Holds vocabularies }
+{}
+
+/// Vocabularies of the dialects that meta-schemas give: those that the drafts know, each once and in one order.
+pub fn dialects_hold()
+    ensures { AllByRecursion Gives meta_schemas }
+{}
+
+/// Keywords that read their neighbours.
+pub fn neighbours_hold()
+    ensures { AllByRecursion Holds neighbours }
+{}
+
+/// References looked up: pointers, anchors, bases, and why others lead nowhere.
+pub fn lookups_hold()
+    ensures { AllByRecursion Answers lookups }
+{}
+
+/// The JSON Pointers of schema places, and the references by which they are looked up.
+pub fn pointers_hold()
+    ensures { AllByRecursion HasPointers pointed }
+{}
+
+/// Documents that are no registry, and why.
+pub fn refusals_hold()
+    ensures { AllByRecursion Refuses refusals }
+{}
+
+/// Lines and the texts that are written for them.
+pub fn lines_are_written()
+    ensures { AllByRecursion Written lines }
+{}
+
+/// Inputs cut into lines.
+pub fn inputs_are_cut()
+    ensures { InputsAreCut }
+{}

@@ -1,0 +1,6 @@
+//! Examples that the checker computes: keywords, readings, whole documents.
+#![tactic(auto)]
+
+pub mod documents;
+pub mod keywords;
+pub mod readings;
