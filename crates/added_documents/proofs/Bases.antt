@@ -10,7 +10,8 @@ use Rattle.schema_definitions.specs.Identifiers.{resolved, identifier}
 use Rattle.schema_definitions.specs.Places.{Dialect, SchemaPlace, standard, Named, settled, awaited, by_schema, schema_in_force, placed, root_place, children_in, children, places}
 use Rattle.schema_definitions.specs.Bearers.{Document, Documents, Standing, standing_in, standings, is_root, bears, bears_anchor, last_standing}
 use Rattle.document_laws.proofs.Lists.{joined, first_part, second_part}
-use Rattle.added_documents.proofs.Lists.{of_each, neither, none_passes, none_found, found}
+use Rattle.reading_laws.proofs.Elements.{each_in}
+use Rattle.added_documents.proofs.Lists.{neither, none_passes, none_found, found}
 use Rattle.added_documents.proofs.Named.{all_named}
 use Rattle.added_documents.proofs.Children.{IsEntered, inside_entered}
 
@@ -174,7 +175,7 @@ module _ (meta : List ℕ → Option Dialect) (test : Standing → Bool) where
           record {
             passes = here.passes;
             elsewhere = λ q none.
-                of_each (StandsElsewhere q) (standings meta own)
+                each_in (StandsElsewhere q) (standings meta own)
                 (stand_elsewhere q meta own (neither (last_that (bears q) (standings meta own)) (last_standing (bears q) meta parents) none).one) s here.among;
           }
 

@@ -6,11 +6,6 @@ use Rattle.schema_meaning.specs.Members.{In, first, later}
 use Rattle.schema_definitions.specs.Words.{or_else, last_that}
 
 module _ {A : Type 0} where
-  pub of_each : (P : A → Type 0) (xs : List A) → AllByRecursion P xs → (x : A) → In x xs → P x
-  of_each P [] h x i = elim i [ ]
-  of_each P (y ∷ xs) h x first = h.0
-  of_each P (y ∷ xs) h x (later i) = of_each P xs h.1 x i
-
   pub or_else_none : (o : Option A) → or_else o None ≡ o
   or_else_none None = refl
   or_else_none (Some x) = refl

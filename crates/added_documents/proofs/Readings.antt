@@ -1,30 +1,28 @@
 -- What is told of a value under documents to which others are added.
 use Rattle.std.proofs.Common.{◌≡◌, ◌+◌, ◌*◌, ◌∙◌, ℕ, suc, List, [], ◌∷◌, Bool, Some, refl, sym, ap, subst, arith, map}
-use Rattle.std.specs.List.{flat_map, AllByRecursion}
+use Rattle.std.specs.List.{flat_map}
 use Rattle.serde_json.specs.Data.{Data}
 use Rattle.schema_meaning.specs.Members.{In}
 use Rattle.schema_meaning.specs.Places.{Spot, Key, whole}
 use Rattle.schema_meaning.specs.Questions.{Question}
-use Rattle.schema_meaning.specs.Rules.{asks}
 use Rattle.schema_meaning.specs.Keywords.{Shape, rule}
-use Rattle.schema_meaning.specs.Readings.{Reading, rules, Telling, told, Asks, IsTold}
+use Rattle.schema_meaning.specs.Readings.{Reading, Telling, told, Asks, IsTold}
 use Rattle.schema_meaning.specs.Circular.{Leads, starts, inside, follows, IsCircular}
 use Rattle.schema_meaning.specs.Cut.{cut, left}
 use Rattle.schema_definitions.specs.Bearers.{Documents}
 use Rattle.schema_definitions.specs.Lookup.{Target}
 use Rattle.schema_definitions.specs.Sites.{Site, root_site}
-use Rattle.schema_definitions.specs.Rows.{Row, rows_at}
-use Rattle.schema_definitions.specs.BuildCauses.{Reached, at_root}
+use Rattle.schema_definitions.specs.Rows.{Row}
+use Rattle.schema_definitions.specs.BuildCauses.{Reached}
 use Rattle.schema_definitions.specs.Plain.{deepest, keywords_at, plain}
 use Rattle.schema_definitions.specs.AllKeys.{keys_of}
 use Rattle.meaning_laws.specs.Laws.{AreAlike}
 use Rattle.meaning_laws.proofs.Alike.{cut_alike}
 use Rattle.meaning_laws.proofs.Stays.{decided_stays}
-use Rattle.reading_laws.proofs.Elements.{each_in, each_mapped, each_laid_flat}
-use Rattle.reading_laws.proofs.Asked.{Holds, Sound, all_sound}
+use Rattle.reading_laws.proofs.Reached.{led_is_reached}
 use Rattle.reading_laws.proofs.Roots.{plain_is_decided, plain_is_deep_enough}
 use Rattle.added_documents.specs.ReadingLaws.{StandsAlone, AnswersStay}
-use Rattle.added_documents.proofs.Sites.{rows_stay, asked_led, sites_stay}
+use Rattle.added_documents.proofs.Sites.{rows_stay, sites_stay}
 
 -- one answer is decided at most
 one_answer : {S A : Type 0} (t : Telling S A) (r : Reading S) (n m : ℕ) (s : S) (w : Spot) (x y : A) → told t r n s w ≡ Some x → told t r m s w ≡ Some y → x ≡ y
@@ -44,34 +42,12 @@ module _ (old more new : Documents) (makes : List ℕ → Bool) (base reference 
   abbrev IsReached : Site → Type 0
   IsReached s = Reached old makes (root_site root) s
 
-  abbrev KnownShape : Shape Site → Type 0
-  KnownShape k = Holds IsReached IsReached k
-
-  known_keywords : (s : Site) → IsReached s → AllByRecursion KnownShape (keywords_at old makes s)
-  known_keywords s r =
-      each_laid_flat (λ w. AllByRecursion KnownShape w.shapes) KnownShape (λ w. w.shapes) (λ w h. h) (rows_at old makes s)
-      (asked_led old more new makes base reference root a s r)
-
-  abbrev IsSound : Data → Question Site → Type 0
-  IsSound d q = Sound IsReached IsReached d q
-
-  asked_sound : (s : Site) → IsReached s → (w : Spot) (q : Question Site) → Asks before s w q → IsSound w.value q
-  asked_sound s r w q h =
-      each_in (IsSound w.value) (asks h.keyword)
-      (each_in (λ k. AllByRecursion (IsSound w.value) (asks k)) (rules before s w.value)
-      (each_mapped KnownShape (λ k. AllByRecursion (IsSound w.value) (asks k)) (rule matches w.value)
-      (λ k g. all_sound IsReached IsReached matches w.value k g) (keywords_at old makes s) (known_keywords s r))
-      h.keyword h.stands)
-      q h.asked
-
   same_keywords : (s : Site) → IsReached s → keywords_at new makes s ≡ keywords_at old makes s
   same_keywords s r = ap (λ (rows : List Row). flat_map (λ w. w.shapes) rows) (rows_stay old more new makes base reference root a s r)
 
   module _ (d : Data) where
     chain_reached : (keys : List Key) (s : Site) (w : Spot) → Leads before (root_site root) (whole d) keys s w → IsReached s
-    chain_reached _ _ _ starts = at_root
-    chain_reached keys _ _ (inside {s = s} {w = w} chain q h e) = (asked_sound s (chain_reached keys s w chain) w q h).within e
-    chain_reached _ _ _ (follows {keys = keys} {s = s} {w = w} chain q h e) = (asked_sound s (chain_reached keys s w chain) w q h).led e
+    chain_reached keys s w chain = led_is_reached old makes matches (root_site root) (whole d) keys s w chain
 
     alike : (keys : List Key) (s : Site) (w : Spot) → Leads before (root_site root) (whole d) keys s w → AreAlike before after s
     alike keys s w chain = record { keywords = sym (same_keywords s (chain_reached keys s w chain)); schema_path = refl; place = refl }

@@ -75,7 +75,7 @@ member_paths path k e (member l d ms) (behind g) q h = in_second q (paths_in (na
 
 -- ---- depths
 
-item_shallow : (ds : Items) (n : ℕ) (e : Data) → get_item n ds ≡ Some e → depth e ≤ items_depth ds
+pub item_shallow : (ds : Items) (n : ℕ) (e : Data) → get_item n ds ≡ Some e → depth e ≤ items_depth ds
 item_shallow no_items n e g = (let no : None ≡ Some e = g in cc)
 item_shallow (item d ds) zero e g =
     let value : d ≡ e = cc in
@@ -83,7 +83,7 @@ item_shallow (item d ds) zero e g =
     omega (arith, same)
 item_shallow (item d ds) (suc n) e g = omega (arith, item_shallow ds n e g)
 
-member_shallow : (k : List ℕ) (e : Data) (ms : Members) → HoldsMember k e ms → depth e ≤ members_depth ms
+pub member_shallow : (k : List ℕ) (e : Data) (ms : Members) → HoldsMember k e ms → depth e ≤ members_depth ms
 member_shallow k e no_members g = elim g [ ]
 member_shallow k e (member l d ms) here = omega arith
 member_shallow k e (member l d ms) (behind g) = omega (arith, member_shallow k e ms g)

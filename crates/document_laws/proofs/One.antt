@@ -1,17 +1,17 @@
 -- Among documents whose URIs are apart, one place holds one value.
-use Rattle.std.proofs.Common.{◌≡◌, List, [], ◌∷◌, Bool, true, false, not, ◌&&◌, ◌||◌, Some, refl, sym, ap, ◌∙◌, subst, reverse}
+use Rattle.std.proofs.Common.{◌≡◌, ℕ, List, [], ◌∷◌, Bool, true, false, ◌||◌, not, ◌&&◌, Some, refl, sym, ap, ◌∙◌, subst, reverse}
 use Rattle.std.proofs.lemmas.Slice.Eq.{bytes_eq-Decides}
 use Rattle.std.specs.Cmp.{first_so, second_so}
 use Rattle.std.specs.List.{list_any, list_all}
 use Rattle.std.specs.Prelude.{bytes_eq}
+use Rattle.serde_json.specs.Data.{Data}
 use Rattle.json_values.specs.Parts.{Part}
 use Rattle.json_values.specs.Pointers.{value_at}
 use Rattle.schema_meaning.specs.Members.{In, first, later}
 use Rattle.schema_definitions.specs.Bearers.{Document}
-use Rattle.schema_definitions.specs.Lookup.{Target}
 use Rattle.json_values.specs.Rising.{rises}
 use Rattle.document_laws.specs.TargetLaws.{are_apart, contents_rise, ContentsAreOne}
-use Rattle.document_laws.proofs.Origins.{Comes}
+use Rattle.document_laws.proofs.Origins.{Origin}
 use Rattle.document_laws.proofs.TargetsLooked.{target_comes_of}
 
 uri_among : (d e : Document) (ds : List Document) → In e ds → d.uri ≡ e.uri → list_any (λ x. bytes_eq d.uri x.uri) ds ≡ true
@@ -45,24 +45,18 @@ only_list : (own other : List Document) → In other (own ∷ []) → other ≡ 
 only_list own other first = refl
 only_list own other (later i) = elim i [ ]
 
--- a document of the list, with the value that lies at the path in it
-record Found (own : List Document) (t : Target) : Type 0 where
-  document : Document
-  listed : In document own
-  named : document.uri ≡ t.document
-  leads : value_at (reverse t.path) document.contents ≡ Some t.contents
-
-found : (own : List Document) → list_all contents_rise own ≡ true → (t : Target) → Comes (own ∷ []) t → Found own t
-found own r t c =
-    let o = c.origin in
-    let listed = subst (λ ds. In o.document ds) (only_list own o.own o.given) o.listed in
-    record { document = o.document; listed = listed; named = o.named; leads = o.inside.leads (each_rises own r o.document listed) }
+-- two values at one path of one document are the same
+pub origins_agree : (own : List Document) → are_apart own ≡ true → list_all contents_rise own ≡ true → (u v : List ℕ) (p q : List Part) (x y : Data)
+    → Origin (own ∷ []) u p x → Origin (own ∷ []) v q y → u ≡ v → p ≡ q → x ≡ y
+origins_agree own apart rise u v p q x y a b same_uri same_path =
+    let listed = subst (λ ds. In a.document ds) (only_list own a.own a.given) a.listed in
+    let listed_too = subst (λ ds. In b.document ds) (only_list own b.own b.given) b.listed in
+    let one = same_document own apart a.document b.document listed listed_too (a.named ∙ same_uri ∙ sym b.named) in
+    let value : Some x ≡ Some y =
+    sym (a.inside.leads (each_rises own rise a.document listed)) ∙ ap (λ (r : List Part). value_at (reverse r) a.document.contents) same_path
+    ∙ ap (λ (d : Document). value_at (reverse q) d.contents) one ∙ b.inside.leads (each_rises own rise b.document listed_too) in cc
 
 pub contents_are_one : ContentsAreOne
-contents_are_one own apart r t u e f same_uri same_path =
-    let a = found own r t (target_comes_of (own ∷ []) t e) in
-    let b = found own r u (target_comes_of (own ∷ []) u f) in
-    let one = same_document own apart a.document b.document a.listed b.listed (a.named ∙ same_uri ∙ sym b.named) in
-    let value : Some t.contents ≡ Some u.contents =
-    sym a.leads ∙ ap (λ (p : List Part). value_at (reverse p) a.document.contents) same_path
-    ∙ ap (λ (d : Document). value_at (reverse u.path) d.contents) one ∙ b.leads in cc
+contents_are_one own apart rise t u e f same_uri same_path =
+    origins_agree own apart rise t.document u.document t.path u.path t.contents u.contents
+    (target_comes_of (own ∷ []) t e).origin (target_comes_of (own ∷ []) u f).origin same_uri same_path

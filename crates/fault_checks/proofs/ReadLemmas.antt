@@ -7,7 +7,7 @@ use Rattle.schema_definitions.specs.Lookup.{Target, lookup}
 use Rattle.schema_definitions.specs.Sites.{root_site}
 use Rattle.schema_patterns.specs.declared.matches.Matches.{Matches}
 use Rattle.document_laws.specs.TargetLaws.{are_apart, contents_rise, by_reference}
-use Rattle.asked_matches.specs.Asked.{AreAmong}
+use Rattle.reading_laws.specs.Asked.{AreAmong}
 use Rattle.reached_sites.specs.Roots.{IsPlaced}
 use Rattle.reached_sites.specs.Causes.{RefusesWithin}
 use Rattle.reached_sites.specs.declared.cause.BuildCause.{BuildCause}

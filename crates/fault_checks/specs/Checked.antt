@@ -11,7 +11,7 @@ use Rattle.schema_patterns.specs.Texts.{texts_in}
 use Rattle.schema_patterns.specs.Read.{reads, IsReadBy}
 use Rattle.schema_patterns.specs.declared.matches.Matches.{Matches}
 use Rattle.json_values.specs.Patterns.{matched, known}
-use Rattle.asked_matches.specs.Asked.{IsAsked, AreAmong}
+use Rattle.reading_laws.specs.Asked.{IsAsked, AreAmong}
 use Rattle.schema_registries.specs.Roots.{Root, Patterns, Finds, IsSound}
 use Rattle.schema_registries.specs.Answers.{Finish, ComesBack}
 use Rattle.schema_registries.specs.Matched.{AreReadOf}

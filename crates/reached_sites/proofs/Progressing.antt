@@ -13,7 +13,7 @@ use Rattle.schema_definitions.specs.Rows.{Place, bad_pattern, Row, rows_at}
 use Rattle.applicators.specs.Made.{is_made_by}
 use Rattle.schema_patterns.specs.Tables.{entries_of, texts_of_table}
 use Rattle.schema_patterns.specs.declared.table.PatternTable.{PatternTable}
-use Rattle.asked_matches.specs.Asked.{AreAmong}
+use Rattle.reading_laws.specs.Asked.{AreAmong}
 use Rattle.referencing.specs.Resolved.{documents_in}
 use Rattle.reading_laws.specs.SiteLaws.{AreAlike}
 use Rattle.reading_laws.proofs.Alike.{joined}

@@ -35,7 +35,7 @@ use Rattle.applicators.specs.declared.applicator.Applicator.TheVariants as code
 use Rattle.schema_sites.specs.Read as read
 use Rattle.schema_sites.specs.declared.keyword.Keyword.{Keyword}
 use Rattle.schema_sites.specs.declared.keyword.Keyword.TheVariants as keyword
-use Rattle.asked_matches.specs.Asked.{pattern_in, patterns_of}
+use Rattle.reading_laws.specs.Asked.{pattern_in, patterns_of}
 use Rattle.certificate_laws.specs.Words.{IsUnder}
 use Rattle.certificate_laws.proofs.BesideLed.{found_among}
 use Rattle.certificate_laws.proofs.Listed.{each_in}

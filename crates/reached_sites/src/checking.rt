@@ -7,7 +7,7 @@ ghost use Rattle.schema_definitions.specs.BuildCauses.{IsCauseOf};
 ghost use Rattle.schema_definitions.specs.Rows as rows;
 ghost use Rattle.schema_definitions.specs.Sites.{root_site};
 ghost use Rattle.schema_patterns.specs.Tables.{texts_of_table, AreMadeBy};
-ghost use Rattle.asked_matches.specs.Asked.{AreAmong};
+ghost use Rattle.reading_laws.specs.Asked.{AreAmong};
 ghost use Rattle.reached_sites.specs.Causes.{RefusesWithin};
 ghost use Rattle.reached_sites.specs.Roots.{IsPlaced};
 

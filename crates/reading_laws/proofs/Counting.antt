@@ -13,15 +13,6 @@ module _ {A : Type 0} where
   in-either (y ∷ xs) ys first = inl first
   in-either (y ∷ xs) ys (later i) = one-later (in-either xs ys i)
 
-  in-before : {x : A} (xs ys : List A) → In x xs → In x (xs ++ ys)
-  in-before [] ys i = elim i [ ]
-  in-before (y ∷ xs) ys first = first
-  in-before (y ∷ xs) ys (later i) = later (in-before xs ys i)
-
-  in-behind : {x : A} (xs ys : List A) → In x ys → In x (xs ++ ys)
-  in-behind [] ys i = i
-  in-behind (y ∷ xs) ys i = later (in-behind xs ys i)
-
   pub in-one : {x y : A} → In x (y ∷ []) → x ≡ y
   in-one first = refl
   in-one (later i) = elim i [ ]

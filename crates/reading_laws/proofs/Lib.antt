@@ -1,13 +1,13 @@
 pub mod Elements
 pub mod Steps
 pub mod Asked
-pub mod PlainRows
+pub mod Parts
+pub mod KeywordRows
 pub mod Nested
 pub mod PlainKeys
 pub mod Roots
 pub mod WrongRows
 pub mod Counting
-pub mod KeyRows
 pub mod Lying
 pub mod One
 pub mod Alike
@@ -18,3 +18,5 @@ pub mod Reaching
 pub mod NameRooms
 pub mod NamesStay
 pub mod NameTexts
+pub mod Reached
+pub mod Matched

@@ -11,7 +11,7 @@ use Rattle.schema_definitions.specs.Sites.{Site}
 use Rattle.schema_definitions.specs.Plain.{plain}
 use Rattle.schema_definitions.specs.AllKeys.{spots_in, places_of, keys_of}
 use Rattle.reading_laws.specs.PlainLaws.{KeysAreAll}
-use Rattle.reading_laws.proofs.Elements.{in_mapped, in_laid_flat}
+use Rattle.document_laws.proofs.Listed.{in_map, in_flat_map}
 use Rattle.reading_laws.proofs.Steps.{Seen, Inside, Keeps, first_spot}
 use Rattle.reading_laws.proofs.Nested.{all_known}
 
@@ -29,8 +29,8 @@ next_within d w q h k = record {
 in_keys : (docs : Documents) (d : Data) (place : SchemaPlace) (spot : Seen) → In place (places_of docs) → In spot (spots_in [] d)
     → In (record { target = place; path = spot.0; called = spot.1 }) (keys_of docs d)
 in_keys docs d place spot i j =
-    in_laid_flat (λ p. map (λ s. record { target = p; path = s.0; called = s.1 }) (spots_in [] d)) place (record { target = place; path = spot.0; called = spot.1 }) (places_of docs) i
-    (in_mapped (λ s. record { target = place; path = s.0; called = s.1 }) spot (spots_in [] d) j)
+    in_flat_map (λ p. map (λ s. record { target = p; path = s.0; called = s.1 }) (spots_in [] d)) place (places_of docs) (record { target = place; path = spot.0; called = spot.1 }) i
+    (in_map (λ s. record { target = place; path = s.0; called = s.1 }) spot (spots_in [] d) j)
 
 module _ (docs : Documents) (makes : List ℕ → Bool) (matches : List ℕ → List ℕ → Bool) (from : Site) (d : Data) where
   led_within : (keys : List Key) (s : Site) (w : Spot) → Leads (plain docs makes matches) from (whole d) keys s w → Within d w

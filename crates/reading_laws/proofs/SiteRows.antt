@@ -3,7 +3,7 @@ use Rattle.std.proofs.Common.{◌≡◌, ◌∙◌, ℕ, ℤ, suc, List, [], ◌
 use Rattle.std.proofs.lemmas.List.{map-append}
 use Rattle.std.specs.List.{AllByRecursion, AllZip}
 use Rattle.std.specs.Prelude.{if◌then◌else◌, ⊤}
-use Rattle.serde_json.specs.Data.{Data, null, boolean, number, string, array, object, Items, no_items, item, Members, no_members, member}
+use Rattle.serde_json.specs.Data.{Data, boolean, array, object, Items, no_items, item, Members, no_members, member}
 use Rattle.serde_json.specs.Find.{as_str, as_array, as_bool}
 use Rattle.json_values.specs.Parts.{Part, name, index}
 use Rattle.schema_definitions.specs.Words.{result_map}
@@ -11,20 +11,16 @@ use Rattle.schema_definitions.specs.Places.{SchemaPlace, entered, is_schema}
 use Rattle.schema_definitions.specs.Bearers.{Documents, meta}
 use Rattle.schema_definitions.specs.Lookup.{LookupCause, Target, lookup}
 use Rattle.schema_definitions.specs.Scopes.{dynamic_lookup, recursive_lookup}
-use Rattle.schema_meaning.specs.Keywords.{Assertion, maximum, exclusive_maximum, minimum, exclusive_minimum, maximum_of_draft_4, minimum_of_draft_4, max_length, min_length, max_items, min_items, max_properties, min_properties, Reference, static, dynamic, recursive, Dependency, needs, applies, Shape, item_list, prefix_items, properties, pattern_properties, additional_properties, property_names, no_property_names, dependent_schemas, all_of, any_of, one_of}
+use Rattle.schema_meaning.specs.Keywords.{Assertion, Reference, static, dynamic, recursive, Dependency, needs, applies, Shape, item_list, pattern_properties, additional_properties, property_names, no_property_names}
 use Rattle.schema_definitions.specs.Sites.{Site, within, below, target_site}
 use Rattle.schema_definitions.specs.Values.{type_names, whole_number, count_of, positive_of, names_in, if_none_twice, unique_names}
-use Rattle.schema_definitions.specs.Rows.{BuildCause, Row, nothing_read, Context, counts_here, beside, at, expected, subschema, each_subschema, named_result, each_named, row_of, one_schema, schema_list, sites_named, schema_map, asserted, assertion, counted, is_draft_4, limit, strict_limit, is_made, pattern_row, unique_row, takes_list, items_row, behind_items, bound_row, declared_beside, refuses_others, additional_properties_row, patterns_wrong, names_of_object, with_causes, pattern_properties_row, property_names_row, entry_names, required_entry, required_entries, dependent_required_row, dependency_entry, dependency_entries, sites_applied, dependencies_row, if_row, consequent_row, target_causes, no_schema_there, led_to, ref_row, dynamic_row, is_hash, recursive_row, Reader, readers, read_among, row_at, rows_of, no_schema, rows_in}
+use Rattle.schema_definitions.specs.Rows.{BuildCause, Row, Context, counts_here, beside, at, expected, subschema, each_subschema, named_result, each_named, row_of, one_schema, schema_list, sites_named, schema_map, asserted, assertion, is_draft_4, strict_limit, is_made, pattern_row, unique_row, takes_list, items_row, behind_items, bound_row, declared_beside, refuses_others, additional_properties_row, patterns_wrong, names_of_object, with_causes, pattern_properties_row, property_names_row, entry_names, required_entry, required_entries, dependent_required_row, dependency_entry, dependency_entries, sites_applied, dependencies_row, if_row, consequent_row, target_causes, no_schema_there, led_to, ref_row, dynamic_row, is_hash, recursive_row, Reader, readers, read_among, row_at, rows_of, no_schema, rows_in}
 use Rattle.document_laws.specs.ScopeLaws.{IsPresent, Alike}
 use Rattle.document_laws.proofs.Keys.{entered_is_present}
 use Rattle.reading_laws.specs.SiteLaws.{AreAlike, RowsAgree}
 use Rattle.reading_laws.specs.Spelled.{by_name, spelled}
+use Rattle.reading_laws.proofs.Elements.{◌&◌}
 use Rattle.reading_laws.proofs.Results.{Both, right, wrong, if_right, both_more, both_mapped, zip_mapped, zip_append}
-
-infixr 5 ◌&◌
--- a pair, that a fact of each element be written in a row
-abbrev ◌&◌ : {A B : Type 0} → A → B → A × B
-h & hs = (h, hs)
 
 -- of values of which nothing is asked
 abbrev Any : {A : Type 0} → A → A → Type 0
@@ -113,21 +109,13 @@ module _ (docs : Documents) (makes : List ℕ → Bool) (s : Site) (scope : List
     ones k shapes more d = rows_agree (AreAlike docs) (λ x. x ∷ []) shapes more (λ x y h. (h, tt)) (subschemas (at k) d)
 
     lists : (k word : List ℕ) (shape : List Site → Shape Site) (d : Data) → Agree (schema_list one k word shape d) (schema_list other k word shape d)
-    lists k word shape null = none_led _ [] []
-    lists k word shape (boolean b) = none_led _ [] []
-    lists k word shape (number n) = none_led _ [] []
-    lists k word shape (string t) = none_led _ [] []
     lists k word shape (array ds) = rows_agree (AllZip (AreAlike docs)) (λ ss. ss) (λ ss. shape ss ∷ []) (λ ss. shape ss ∷ []) (λ x y h. h) (in_items k 0 ds)
-    lists k word shape (object ns) = none_led _ [] []
+    lists k word shape d = none_led _ [] []
 
     maps : (k : List ℕ) (shape : List (List ℕ × Site) → Shape Site) (d : Data) → Agree (schema_map one k shape d) (schema_map other k shape d)
-    maps k shape null = none_led _ [] []
-    maps k shape (boolean b) = none_led _ [] []
-    maps k shape (number n) = none_led _ [] []
-    maps k shape (string t) = none_led _ [] []
-    maps k shape (array ds) = none_led _ [] []
     maps k shape (object ns) =
         rows_agree (AllZip Named) sites_named (λ ps. shape ps ∷ []) (λ ps. shape ps ∷ []) (λ x y h. zip_mapped Named (AreAlike docs) (λ p. p.1) (λ p q g. g) x y h) (in_members k ns)
+    maps k shape d = none_led _ [] []
 
     -- ---- assertions
 
@@ -135,16 +123,9 @@ module _ (docs : Documents) (makes : List ℕ → Bool) (s : Site) (scope : List
     assertions k word shapes more None = none_led _ [] []
     assertions k word shapes more (Some x) = none_led [] (shapes x) (more x)
 
-    counts : (k : List ℕ) (a : ℕ → Assertion) (d : Data) → Agree (counted one k a d) (counted other k a d)
-    counts k a d = assertions k (codes "count") (λ n. assertion (a n)) (λ n. assertion (a n)) (count_of d)
-
-    limits : (k strict : List ℕ) (a : ℤ → Assertion) (old : ℤ → Bool → Assertion) (d : Data) → Agree (limit one k strict a old d) (limit other k strict a old d)
-    limits k strict a old d = assertions k (codes "number") _ _ (whole_number d)
-
     strict_limits : (k : List ℕ) (a : ℤ → Assertion) (d : Data) → Agree (strict_limit one k a d) (strict_limit other k a d)
     strict_limits k a d =
-        either (is_draft_4 s.dialect.draft) nothing_read (asserted one k (codes "number") (λ z. assertion (a z)) (whole_number d)) nothing_read
-        (asserted other k (codes "number") (λ z. assertion (a z)) (whole_number d)) (none_led [] [] [])
+        either (is_draft_4 s.dialect.draft) _ _ _ _ (none_led [] [] [])
         (assertions k (codes "number") (λ z. assertion (a z)) (λ z. assertion (a z)) (whole_number d))
 
     patterns : (k : List ℕ) (o : Option (List ℕ)) → Agree (pattern_row one k o) (pattern_row other k o)
@@ -172,14 +153,11 @@ module _ (docs : Documents) (makes : List ℕ → Bool) (s : Site) (scope : List
     -- ---- members
 
     other_rows : (k : List ℕ) (d : Data) → Agree (additional_properties_row one k d) (additional_properties_row other k d)
-    other_rows k null = none_led _ [] []
     other_rows k (boolean true) = none_led [] [] []
     other_rows k (boolean false) = ones k (λ x. refuses_others one x ∷ []) (λ x. refuses_others other x ∷ []) (boolean false)
-    other_rows k (number n) = none_led _ [] []
-    other_rows k (string t) = none_led _ [] []
-    other_rows k (array ds) = none_led _ [] []
     other_rows k (object ns) =
         ones k (λ x. additional_properties (declared_beside one) x ∷ []) (λ x. additional_properties (declared_beside other) x ∷ []) (object ns)
+    other_rows k d = none_led _ [] []
 
     with_more : (bs : List BuildCause) (r q : Row) → Agree r q → Agree (with_causes bs r) (with_causes bs q)
     with_more [] r q h = h
@@ -189,13 +167,9 @@ module _ (docs : Documents) (makes : List ℕ → Bool) (s : Site) (scope : List
     pattern_rows k d = with_more (patterns_wrong one k (names_of_object (Some d))) _ _ (maps k pattern_properties d)
 
     name_rows : (k : List ℕ) (d : Data) → Agree (property_names_row one k d) (property_names_row other k d)
-    name_rows k null = none_led [] [] []
-    name_rows k (boolean true) = none_led [] [] []
     name_rows k (boolean false) = ones k (λ x. no_property_names x ∷ []) (λ x. no_property_names x ∷ []) (boolean false)
-    name_rows k (number n) = none_led [] [] []
-    name_rows k (string t) = none_led [] [] []
-    name_rows k (array ds) = none_led [] [] []
     name_rows k (object ns) = ones k (λ x. property_names x ∷ []) (λ x. property_names x ∷ []) (object ns)
+    name_rows k d = none_led [] [] []
 
     -- ---- dependencies
 
@@ -210,24 +184,16 @@ module _ (docs : Documents) (makes : List ℕ → Bool) (s : Site) (scope : List
         by (Some ks) = right tt
 
     required_one : (k n : List ℕ) (d : Data) → Both Any (required_entry one k n d) (required_entry other k n d)
-    required_one k n null = wrong
-    required_one k n (boolean b) = wrong
-    required_one k n (number m) = wrong
-    required_one k n (string t) = wrong
     required_one k n (array ds) = both_mapped Any Any (λ names. (n, names)) (λ names. (n, names)) (λ x y h. tt) (listed_names k n (names_in ds))
-    required_one k n (object ns) = wrong
+    required_one k n d = wrong
 
     required_all : (k : List ℕ) (ns : Members) → Both (AllZip Any) (required_entries one k ns) (required_entries other k ns)
     required_all k no_members = right tt
     required_all k (member n d ns) = both_more Any (required_one k n d) (required_all k ns)
 
     required_rows : (k : List ℕ) (d : Data) → Agree (dependent_required_row one k d) (dependent_required_row other k d)
-    required_rows k null = none_led _ [] []
-    required_rows k (boolean b) = none_led _ [] []
-    required_rows k (number n) = none_led _ [] []
-    required_rows k (string t) = none_led _ [] []
-    required_rows k (array ds) = none_led _ [] []
     required_rows k (object ns) = rows_agree (AllZip Any) (λ ps. []) _ _ (λ x y h. tt) (required_all k ns)
+    required_rows k d = none_led _ [] []
 
     abbrev Entry : Type 0
     Entry = List ℕ × Dependency Site
@@ -247,12 +213,8 @@ module _ (docs : Documents) (makes : List ℕ → Bool) (s : Site) (scope : List
     schema_applied k l d = both_mapped (AreAlike docs) Applied (λ x. (l, applies x)) (λ x. (l, applies x)) (λ x y h. (h, tt)) (subschemas (name l ∷ name k ∷ []) d)
 
     entry_one : (k l : List ℕ) (d : Data) → Both Applied (dependency_entry one k l d) (dependency_entry other k l d)
-    entry_one k l null = schema_applied k l null
-    entry_one k l (boolean b) = schema_applied k l (boolean b)
-    entry_one k l (number n) = schema_applied k l (number n)
-    entry_one k l (string t) = schema_applied k l (string t)
     entry_one k l (array ds) = needed l (listed_names k l (names_in ds))
-    entry_one k l (object ns) = schema_applied k l (object ns)
+    entry_one k l d = schema_applied k l d
 
     entry_all : (k : List ℕ) (ns : Members) → Both (AllZip Applied) (dependency_entries one k ns) (dependency_entries other k ns)
     entry_all k no_members = right tt
@@ -265,12 +227,8 @@ module _ (docs : Documents) (makes : List ℕ → Bool) (s : Site) (scope : List
     applied_alike (p ∷ ps) (q ∷ qs) z = zip_append (AreAlike docs) (applied p) (applied q) (sites_applied ps) (sites_applied qs) z.0 (applied_alike ps qs z.1)
 
     dependency_rows : (k : List ℕ) (d : Data) → Agree (dependencies_row one k d) (dependencies_row other k d)
-    dependency_rows k null = none_led _ [] []
-    dependency_rows k (boolean b) = none_led _ [] []
-    dependency_rows k (number n) = none_led _ [] []
-    dependency_rows k (string t) = none_led _ [] []
-    dependency_rows k (array ds) = none_led _ [] []
     dependency_rows k (object ns) = rows_agree (AllZip Applied) sites_applied _ _ applied_alike (entry_all k ns)
+    dependency_rows k d = none_led _ [] []
 
     -- ---- conditions
 
@@ -316,35 +274,35 @@ module _ (docs : Documents) (makes : List ℕ → Bool) (s : Site) (scope : List
         & (λ k d. assertions k (codes "list") _ _ (as_array d))
         & (λ k d. none_led [] _ _)
         & (λ k d. assertions k (codes "positive number") _ _ (positive_of d))
-        & (λ k d. limits k (codes "exclusiveMaximum") maximum maximum_of_draft_4 d)
-        & (λ k d. limits k (codes "exclusiveMinimum") minimum minimum_of_draft_4 d)
-        & (λ k d. strict_limits k exclusive_maximum d)
-        & (λ k d. strict_limits k exclusive_minimum d)
-        & (λ k d. counts k max_length d)
-        & (λ k d. counts k min_length d)
+        & (λ k d. assertions k (codes "number") _ _ (whole_number d))
+        & (λ k d. assertions k (codes "number") _ _ (whole_number d))
+        & (λ k d. strict_limits k _ d)
+        & (λ k d. strict_limits k _ d)
+        & (λ k d. assertions k (codes "count") _ _ (count_of d))
+        & (λ k d. assertions k (codes "count") _ _ (count_of d))
         & (λ k d. patterns k (as_str d))
-        & (λ k d. counts k max_items d)
-        & (λ k d. counts k min_items d)
+        & (λ k d. assertions k (codes "count") _ _ (count_of d))
+        & (λ k d. assertions k (codes "count") _ _ (count_of d))
         & (λ k d. uniques k (as_bool d))
-        & (λ k d. counts k max_properties d)
-        & (λ k d. counts k min_properties d)
+        & (λ k d. assertions k (codes "count") _ _ (count_of d))
+        & (λ k d. assertions k (codes "count") _ _ (count_of d))
         & (λ k d. assertions k (codes "unique names") _ _ (unique_names d))
         & required_rows
         & item_rows
-        & (λ k d. lists k (codes "list") prefix_items d)
+        & (λ k d. lists k (codes "list") _ d)
         & (λ k d. behind_rows k d (option_and_then as_array (beside one (codes "items"))))
         & (λ k d. ones k _ _ d)
         & bound_rows
         & bound_rows
-        & (λ k d. maps k properties d)
+        & (λ k d. maps k _ d)
         & pattern_rows
         & other_rows
         & name_rows
-        & (λ k d. maps k dependent_schemas d)
+        & (λ k d. maps k _ d)
         & dependency_rows
-        & (λ k d. lists k (codes "list") all_of d)
-        & (λ k d. lists k (codes "list") any_of d)
-        & (λ k d. lists k (codes "list") one_of d)
+        & (λ k d. lists k (codes "list") _ d)
+        & (λ k d. lists k (codes "list") _ d)
+        & (λ k d. lists k (codes "list") _ d)
         & (λ k d. ones k _ _ d)
         & if_rows
         & consequent_rows
@@ -376,10 +334,7 @@ module _ (docs : Documents) (makes : List ℕ → Bool) (s : Site) (scope : List
   nowhere = (record { causes = refl; leads = tt }, tt)
 
   pub rows_in_alike : (d : Data) → AllZip (RowsAgree docs) (rows_in s first_context d) (rows_in elsewhere second_context d)
-  rows_in_alike null = nowhere
   rows_in_alike (boolean true) = tt
   rows_in_alike (boolean false) = (record { causes = refl; leads = tt }, tt)
-  rows_in_alike (number n) = nowhere
-  rows_in_alike (string t) = nowhere
-  rows_in_alike (array ds) = nowhere
   rows_in_alike (object ms) = rows_alike ms ms
+  rows_in_alike d = nowhere

@@ -5,3 +5,5 @@ pub mod KeyLaws
 pub mod Spelled
 pub mod SiteLaws
 pub mod NameLaws
+pub mod Asked
+pub mod AskedLaws

@@ -10,7 +10,7 @@ use Rattle.schema_definitions.specs.Rows.{Row, rows_at}
 use Rattle.schema_definitions.specs.Sites.{Site}
 use Rattle.schema_patterns.specs.Tables.{texts_of_table}
 use Rattle.schema_patterns.specs.declared.table.PatternTable.{PatternTable}
-use Rattle.asked_matches.specs.Asked.{AreAmong}
+use Rattle.reading_laws.specs.Asked.{AreAmong}
 use Rattle.reading_laws.specs.Keys.{IsReached, AreWithin, Exceeds, key_of_site}
 use Rattle.reading_laws.proofs.Counting.{are-fewer}
 use Rattle.marked_nodes.specs.Leading.{LeadsTo, here, along}

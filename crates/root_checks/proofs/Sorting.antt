@@ -12,7 +12,7 @@ use Rattle.schema_patterns.specs.Tables.{AreMadeBy, texts_of_table}
 use Rattle.schema_registries.specs.Roots.{Patterns, IsSound}
 use Rattle.schema_registries.specs.Matched.{HoldsPatterns}
 use Rattle.schema_registries.proofs.Found.{finds_one}
-use Rattle.asked_matches.specs.Asked.{AreAmong}
+use Rattle.reading_laws.specs.Asked.{AreAmong}
 use Rattle.marked_nodes.specs.Leading.{LeadsTo}
 use Rattle.marked_nodes.specs.Sources.{IsWithin}
 use Rattle.marked_nodes.specs.declared.graph.Edge.{Edge}

@@ -8,7 +8,7 @@ use Rattle.schema_definitions.specs.Plain.{plain}
 use Rattle.schema_patterns.specs.Read.{reads}
 use Rattle.schema_patterns.specs.declared.matches.Matches.{Matches}
 use Rattle.meaning_laws.specs.MatchLaws.{SameOnTheWay}
-use Rattle.asked_matches.proofs.Matched.{matches_are_read}
+use Rattle.reading_laws.proofs.Matched.{matches_are_read}
 use Rattle.schema_registries.specs.Roots.{Root, Patterns, Finds}
 use Rattle.schema_registries.specs.Answers.{Finish}
 use Rattle.schema_registries.specs.Matched.{AreReadOf}

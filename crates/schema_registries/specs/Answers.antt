@@ -10,7 +10,7 @@ use Rattle.schema_definitions.specs.Lookup.{Target}
 use Rattle.schema_definitions.specs.Sites.{Site, root_site}
 use Rattle.schema_definitions.specs.Plain.{plain}
 use Rattle.schema_definitions.specs.AllKeys.{keys_of}
-use Rattle.asked_matches.specs.Asked.{AreFinished}
+use Rattle.reading_laws.specs.Asked.{AreFinished}
 use Rattle.schema_registries.specs.Roots.{Root, Patterns, Finds}
 
 -- every match that a value asks for is finished, as `matches` says

@@ -6,7 +6,7 @@ use Rattle.schema_definitions.specs.Sites.{root_site}
 use Rattle.schema_patterns.specs.Texts.{texts_in}
 use Rattle.schema_patterns.specs.Read.{IsReadBy}
 use Rattle.schema_patterns.specs.declared.matches.Matches.{Matches}
-use Rattle.asked_matches.specs.Asked.{AreAmong}
+use Rattle.reading_laws.specs.Asked.{AreAmong}
 use Rattle.schema_registries.specs.Roots.{Root, Patterns, Finds}
 
 -- each pattern of a schema that is reached from a root is among these

@@ -17,7 +17,7 @@ use Rattle.schema_drafts.specs.declared.draft.Draft.{Draft}
 use Rattle.schema_registries.specs.Roots.{Root, Patterns, Finds, IsSound}
 use Rattle.schema_registries.proofs.Found.{finds_one}
 use Rattle.schema_registries.specs.Matched.{HoldsPatterns}
-use Rattle.asked_matches.specs.Asked.{AreAmong}
+use Rattle.reading_laws.specs.Asked.{AreAmong}
 use Rattle.schema_validators.specs.Counted.{IsWithin}
 use Rattle.schema_validators.specs.Made.{IsMadeAt, IsMadeBy}
 use Rattle.schema_validators.specs.Seen.{root_in}

@@ -11,7 +11,7 @@ use Rattle.meaning_laws.specs.MatchLaws.{SameOnTheWay}
 use Rattle.schema_patterns.specs.Texts.{texts_in}
 use Rattle.schema_patterns.specs.Read.{reads, IsReadBy}
 use Rattle.schema_patterns.specs.declared.matches.Matches.{Matches}
-use Rattle.asked_matches.specs.Asked.{AreAmong, IsAsked, IsOf, AreFinished}
+use Rattle.reading_laws.specs.Asked.{AreAmong, IsAsked, IsOf, AreFinished}
 
 abbrev pub LedIsReached : Type 0
 LedIsReached = (docs : Documents) (makes : List ℕ → Bool) (matches : List ℕ → List ℕ → Bool) (root : Site) (at : Spot) (keys : List Key) (s : Site) (w : Spot)

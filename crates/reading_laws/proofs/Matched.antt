@@ -12,9 +12,9 @@ use Rattle.schema_meaning.specs.Matches.{of_text, of_names, asserted_matches, ma
 use Rattle.reading_laws.proofs.Elements.{in_rest}
 use Rattle.schema_patterns.specs.Texts.{texts_in, texts_of_members}
 use Rattle.schema_patterns.specs.Read.{reads, leaves, IsRead}
-use Rattle.asked_matches.specs.Asked.{pattern_in, patterns_of, IsAsked}
-use Rattle.asked_matches.specs.Laws.{AskedMatchesAreKnown, MatchesAreRead}
-use Rattle.asked_matches.proofs.Reached.{led_is_reached, led_texts}
+use Rattle.reading_laws.specs.Asked.{pattern_in, patterns_of, IsAsked}
+use Rattle.reading_laws.specs.AskedLaws.{AskedMatchesAreKnown, MatchesAreRead}
+use Rattle.reading_laws.proofs.Reached.{led_is_reached, led_texts}
 
 -- ---- a pattern of the keyword, and a text of the value
 

@@ -1,8 +1,7 @@
 //! Which matches a value can ask for: patterns of the schemas that are reached, with texts of the value. Each law is the contract of a
 //! function, and costs nothing to call.
-#![tactic(auto)]
 
-ghost use Rattle.asked_matches.specs.Laws.{LedIsReached, AskedMatchesAreKnown, MatchesAreRead};
+ghost use Rattle.reading_laws.specs.AskedLaws.{LedIsReached, AskedMatchesAreKnown, MatchesAreRead};
 
 /// The sites that chains of questions lead to are reached.
 pub fn led_is_reached()
