@@ -1,28 +1,27 @@
 -- What keywords with subschemas ask.
-use Rattle.std.proofs.Common.{◌≡◌, true, false, refl}
-use Rattle.applicators.specs.Combined.{is_by_answers, asks_names, asks_values}
+use Rattle.std.proofs.Common.{◌≡◌, ◌&&◌, ◌∙◌, true, false, not, ap, ap₂, refl, Bool}
+use Rattle.applicators.specs.Asks.{are_names, chooses}
+use Rattle.applicators.specs.Combined.{asks_of, is_by_answers, asks_names, asks_values}
 use Rattle.applicators.specs.declared.applicator.Applicator.{Applicator}
 use Rattle.applicators.specs.declared.applicator.Applicator.TheVariants as code
 
 -- a keyword whose verdict is by its answers asks the value, its items or its members, where it asks no names
 pub values_or_names : (a : Applicator) → is_by_answers a ≡ true → asks_names a ≡ false → asks_values a ≡ true
-values_or_names (code.Items start schema) counts others = refl
-values_or_names (code.ItemList schemas) counts others = refl
-values_or_names (code.PrefixItems schemas) counts others = refl
-values_or_names (code.AdditionalItems start schema) counts others = refl
-values_or_names (code.NoAdditionalItems start schema) counts others = refl
-values_or_names (code.Contains schema least most) counts others = refl
-values_or_names (code.Properties schemas) counts others = refl
-values_or_names (code.PatternProperties schemas) counts others = refl
-values_or_names (code.AdditionalProperties declared schema) counts others = refl
-values_or_names (code.NoAdditionalProperties declared schema) counts others = refl
-values_or_names (code.NoProperties schema) counts others = refl
-values_or_names (code.PropertyNames schema) counts others = absurd (cc)
-values_or_names (code.NoPropertyNames schema) counts others = absurd (cc)
-values_or_names (code.DependentSchemas schemas) counts others = refl
-values_or_names (code.Dependencies entries) counts others = refl
-values_or_names (code.AllOf schemas) counts others = refl
-values_or_names (code.AnyOf schemas) counts others = refl
-values_or_names (code.OneOf schemas) counts others = refl
-values_or_names (code.Not schema) counts others = refl
-values_or_names (code.If condition then_schema else_schema) counts others = absurd (cc)
+values_or_names a counts others = ap₂ (λ (b c : Bool). b && not c) counts others
+
+-- an answer chooses where the verdict is not by their number
+pub choosing : (a : Applicator) → chooses (asks_of a) ≡ not (is_by_answers a)
+choosing (code.If condition then_schema else_schema) = refl
+choosing a = refl
+
+both : (b c : Bool) → (b && not c) ≡ true → (b ≡ true) × (c ≡ false)
+both true false h = (refl, refl)
+both true true h = absurd (cc)
+both false c h = absurd (cc)
+
+pub by_answers : (a : Applicator) → asks_values a ≡ true → is_by_answers a ≡ true
+by_answers a h = (both (is_by_answers a) (asks_names a) h).0
+
+-- of those that ask values no answer chooses, and no name is asked
+pub by_values : (a : Applicator) → asks_values a ≡ true → (are_names (asks_of a) ≡ false) × (chooses (asks_of a) ≡ false)
+by_values a h = (let w = both (is_by_answers a) (asks_names a) h in (w.1, choosing a ∙ ap not w.0))

@@ -1,23 +1,30 @@
 -- How the answers to an applicator's questions are combined.
 use Rattle.std.proofs.lemmas.Bool.Decides.{nat_tests}
-use Rattle.std.proofs.Common.{◌≡◌, ◌==◌, ◌≤◌, ◌∙◌, ◌&&◌, ℕ, nat_lt, List, [], ◌∷◌, Bool, true, false, not, length, Option, Bor, refl, sym, ap, arith, ◌++◌, codes, ap₂}
+use Rattle.std.proofs.Common.{◌≡◌, ◌==◌, ◌≤◌, ◌∙◌, ◌&&◌, ℕ, nat_lt, List, [], ◌∷◌, Bool, true, false, not, length, Option, Bor, refl, sym, ap, subst, arith, ◌++◌, codes, ap₂, is_some, if◌then◌else◌}
 use Rattle.serde_json.specs.Data.{Data, null, boolean, number, string, array, object, Members, no_members, member}
+use Rattle.serde_json.specs.Find.{get, as_array}
+use Rattle.serde_json.specs.View.{view, members_view}
 use Rattle.serde_json.specs.declared.value.Value.{Value}
 use Rattle.json_values.specs.Parts.{Part}
-use Rattle.schema_meaning.specs.Members.{all_true, some_true, count_true}
-use Rattle.schema_meaning.specs.Rules.{accepts, is_enough, is_few, Note, every}
+use Rattle.schema_meaning.specs.Members.{is_empty, all_true, some_true, count_true}
+use Rattle.schema_meaning.specs.Rules.{Rule, accepts, asks, is_enough, is_few, Note, every, together, each_named, some_branch, one_branch, refusal, counted, conditional}
 use Rattle.schema_meaning.specs.Keywords.{rule, missing, missing_beside, needed}
 use Rattle.schema_definitions.specs.Sites.{Site}
-use Rattle.applicators.specs.Combined.{is_every, IsEvery, decided, Decides}
-use Rattle.applicators.specs.Shapes.{shape_of, dependency_at, dependencies_in}
+use Rattle.applicators.specs.Combining.{Named, Combines, tells_each, counts_answers, decided_by}
+use Rattle.applicators.specs.Combined.{name_of, combining_of, asks_of, named_of, notes_by, Follows, is_every, IsEvery, is_by_answers, has_notes, decided, Decides}
+use Rattle.applicators.specs.Shapes.{shape_of, site_of, dependency_at, dependencies_in}
 use Rattle.std.specs.List.{flat_map}
-use Rattle.serde_json.specs.Find.{get}
-use Rattle.serde_json.specs.View.{members_view}
 use Rattle.schema_meaning.specs.Questions.{at, if_member}
 use Rattle.assertions.specs.Texts.{texts_in, entries_of}
-use Rattle.applicators.specs.Questions.{each_dependency}
 use Rattle.applicators.specs.declared.applicator.Applicator.{Applicator}
 use Rattle.applicators.specs.declared.applicator.Applicator.TheVariants as code
+use Rattle.applicators.specs.declared.combining.Combining.{Combining}
+use Rattle.applicators.specs.declared.combining.Combining.TheVariants as combining
+use Rattle.applicators.specs.Forms.{noted, kind_in, value_in, stands, named_in}
+use Rattle.applicators.specs.Asks.{form_by, may_note, noted_by, kind_asked, value_asked}
+use Rattle.applicators.specs.declared.asks.Asks.{Asks}
+use Rattle.applicators.specs.declared.asks.Asks.TheVariants as asking
+use Rattle.applicators.proofs.FormLemmas.{built}
 
 -- ---- what `dependencies` notes
 
@@ -41,28 +48,46 @@ notes-here : (site : List Part → Data → Site) (d : Data) (ms : Members) → 
 notes-here site d no_members = refl
 notes-here site d (member n c ms) = ap₂ (λ (xs ys : List Note). if_member (get n d) (λ e. xs) ++ ys) (needed-here site n d c) (notes-here site d ms)
 
+-- ---- the rule of each applicator
+
+noted_so : (site : List Part → Data → Site) (k : List ℕ) (f : Asks) (d : Data) → noted (form_by site k f) d ≡ noted_by f d
+noted_so site k (asking.Dependencies entries) d = notes-here site d (members_view entries.now.entries)
+noted_so site k f d = refl
+
+kind_so : (site : List Part → Data → Site) (matches : List ℕ → List ℕ → Bool) (k : List ℕ) (f : Asks) (d : Data) → kind_in matches (form_by site k f) d ≡ kind_asked matches f d
+kind_so site matches k (asking.Value schema) d = refl
+kind_so site matches k f d = refl
+
+value_so : (site : List Part → Data → Site) (k : List ℕ) (f : Asks) (d : Data) → value_in (form_by site k f) d ≡ value_asked f d
+value_so site k (asking.Members schema) d = refl
+value_so site k f d = refl
+
+module _ (site : List Part → Data → Site) (matches : List ℕ → List ℕ → Bool) where
+  named_so : (a : Applicator) (d : Data) → named_in matches (name_of a) (form_by site (name_of a) (asks_of a)) d ≡ named_of matches a d
+  named_so a d =
+      let k = name_of a in
+      let f = asks_of a in
+      ap (λ notes. record { name = k; notes = notes; note = record { kind = kind_in matches (form_by site k f) d; value = value_in (form_by site k f) d } }) (noted_so site k f d)
+      ∙ ap (λ kind. record { name = k; notes = noted_by f d; note = record { kind = kind; value = value_in (form_by site k f) d } }) (kind_so site matches k f d)
+      ∙ ap (λ value. record { name = k; notes = noted_by f d; note = record { kind = kind_asked matches f d; value = value } }) (value_so site k f d)
+
+  -- each is a keyword of its name
+  pub stands_so : (a : Applicator) → stands (name_of a) (combining_of a) (form_by site (name_of a) (asks_of a)) ≡ true
+  stands_so (code.Items start schema) = refl
+  stands_so a = refl
+
+  pub follows : (d : Data) (a : Applicator) → Follows a site matches d
+  follows d a =
+      let is = built matches d (name_of a) (combining_of a) (form_by site (name_of a) (asks_of a)) (stands_so a) in
+      record { combined = subst (λ w. Combines w d (combining_of a) (rule matches d (shape_of site a))) (named_so a d) is.combined; asked = is.asked }
+
+every_by : {S : Type 0} (w : Named) (d : Data) (c : Combining) (r : Rule S) → Combines w d c r → tells_each c ≡ true → r ≡ every (at w.name) w.notes (asks r)
+every_by w d combining.Every (every p notes qs) h e = ap₂ (λ p notes. every p notes qs) h.0 h.1
+every_by w d combining.Every r h e = elim h [ ]
+every_by w d c r h e = cc
+
 pub every_rule : (a : Applicator) → is_every a ≡ true → IsEvery a
-every_rule (code.Items start schema) h = λ site matches d. refl
-every_rule (code.ItemList schemas) h = λ site matches d. refl
-every_rule (code.PrefixItems schemas) h = λ site matches d. refl
-every_rule (code.AdditionalItems start schema) h = λ site matches d. refl
-every_rule (code.NoAdditionalItems start schema) h = cc
-every_rule (code.Contains schema least most) h = cc
-every_rule (code.Properties schemas) h = λ site matches d. refl
-every_rule (code.PatternProperties schemas) h = λ site matches d. refl
-every_rule (code.AdditionalProperties declared schema) h = λ site matches d. refl
-every_rule (code.NoAdditionalProperties declared schema) h = cc
-every_rule (code.NoProperties schema) h = cc
-every_rule (code.PropertyNames schema) h = cc
-every_rule (code.NoPropertyNames schema) h = cc
-every_rule (code.DependentSchemas schemas) h = λ site matches d. refl
-every_rule (code.Dependencies entries) h = λ site matches d.
-    ap (λ notes. every (at (codes "dependencies")) notes (each_dependency d (dependencies_in site (members_view entries.now.entries)))) (notes-here site d (members_view entries.now.entries))
-every_rule (code.AllOf schemas) h = λ site matches d. refl
-every_rule (code.AnyOf schemas) h = cc
-every_rule (code.OneOf schemas) h = cc
-every_rule (code.Not schema) h = cc
-every_rule (code.If condition then_schema else_schema) h = cc
+every_rule a h site matches d = every_by (named_of matches a d) d (combining_of a) (rule matches d (shape_of site a)) (follows site matches d a).combined h
 
 -- ---- verdicts by numbers
 
@@ -97,34 +122,30 @@ module _ (n m : ℕ) (bs : List Bool) (is_n : length bs ≡ n) (is_m : count_tru
   by_bounds : (least most : Option ℕ) → (is_enough least (count_true bs) && is_few most (count_true bs)) ≡ (is_enough least m && is_few most m)
   by_bounds least most = ap (λ k. is_enough least k && is_few most k) is_m
 
--- `contains`
-by_items : (schema : Bor Value) (least most : Option ℕ) (site : List Part → Data → Site) (matches : List ℕ → List ℕ → Bool) (d : Data) (n m : ℕ) (bs : List Bool) → length bs ≡ n
-    → count_true bs ≡ m → accepts (rule matches d (shape_of site (code.Contains schema least most))) bs ≡ decided (code.Contains schema least most) d n m
-by_items schema least most site matches null n m bs is_n is_m = by_all n m bs is_n is_m
-by_items schema least most site matches (boolean b) n m bs is_n is_m = by_all n m bs is_n is_m
-by_items schema least most site matches (number k) n m bs is_n is_m = by_all n m bs is_n is_m
-by_items schema least most site matches (string s) n m bs is_n is_m = by_all n m bs is_n is_m
-by_items schema least most site matches (array ds) n m bs is_n is_m = by_bounds n m bs is_n is_m least most
-by_items schema least most site matches (object ms) n m bs is_n is_m = by_all n m bs is_n is_m
+-- without a note, so many answers in all, so many of them yes
+module _ {S : Type 0} (w : Named) (d : Data) (n m : ℕ) (bs : List Bool) (is_n : length bs ≡ n) (is_m : count_true bs ≡ m) where
+  decided_of : (c : Combining) (r : Rule S) → Combines w d c r → (tells_each c ≡ true → w.notes ≡ []) → counts_answers c ≡ true → accepts r bs ≡ decided_by c d n m
+  decided_of combining.Every (every p notes qs) h plain e = ap (λ (ns : List Note). is_empty ns && all_true bs) (h.1 ∙ plain refl) ∙ by_all n m bs is_n is_m
+  decided_of combining.Together (together p note qs) h plain e = by_all n m bs is_n is_m
+  decided_of combining.EachNamed (each_named p s names) h plain e = by_all n m bs is_n is_m
+  decided_of combining.SomeBranch (some_branch p qs) h plain e = by_some n m bs is_n is_m
+  decided_of combining.OneBranch (one_branch p qs) h plain e = by_one n m bs is_n is_m
+  decided_of combining.Refusal (refusal p schema q) h plain e = by_not n m bs is_n is_m
+  decided_of (combining.Counted least most) (counted l k qs) h plain e =
+      ap₂ (λ (x y : Option ℕ). is_enough x (count_true bs) && is_few y (count_true bs)) h.0 h.1 ∙ by_bounds n m bs is_n is_m least most
+      ∙ ap (λ b. if b then (is_enough least m && is_few most m) else (m == n)) (sym h.3)
+  decided_of (combining.Counted least most) (every p notes qs) h plain e =
+      ap (λ (ns : List Note). is_empty ns && all_true bs) h.0 ∙ by_all n m bs is_n is_m ∙ ap (λ b. if b then (is_enough least m && is_few most m) else (m == n)) (sym h.2)
+  decided_of combining.Conditional r h plain e = cc
+  decided_of c r h plain e = elim h [ ]
+
+plain_by : (b : Bool) (f : Asks) (d : Data) → (b && may_note f) ≡ false → b ≡ true → noted_by f d ≡ []
+plain_by false f d h e = cc
+plain_by true (asking.Dependencies entries) d h e = cc
+plain_by true f d h e = refl
 
 pub decides : (a : Applicator) (d : Data) (n m : ℕ) (b : Bool) → b ≡ decided a d n m → Decides a d n m b
-decides (code.Items start schema) d n m b is = record { is = λ h plain site matches bs is_n is_m. by_all n m bs is_n is_m ∙ sym is }
-decides (code.ItemList schemas) d n m b is = record { is = λ h plain site matches bs is_n is_m. by_all n m bs is_n is_m ∙ sym is }
-decides (code.PrefixItems schemas) d n m b is = record { is = λ h plain site matches bs is_n is_m. by_all n m bs is_n is_m ∙ sym is }
-decides (code.AdditionalItems start schema) d n m b is = record { is = λ h plain site matches bs is_n is_m. by_all n m bs is_n is_m ∙ sym is }
-decides (code.NoAdditionalItems start schema) d n m b is = record { is = λ h plain site matches bs is_n is_m. by_all n m bs is_n is_m ∙ sym is }
-decides (code.Contains schema least most) d n m b is = record { is = λ h plain site matches bs is_n is_m. by_items schema least most site matches d n m bs is_n is_m ∙ sym is }
-decides (code.Properties schemas) d n m b is = record { is = λ h plain site matches bs is_n is_m. by_all n m bs is_n is_m ∙ sym is }
-decides (code.PatternProperties schemas) d n m b is = record { is = λ h plain site matches bs is_n is_m. by_all n m bs is_n is_m ∙ sym is }
-decides (code.AdditionalProperties declared schema) d n m b is = record { is = λ h plain site matches bs is_n is_m. by_all n m bs is_n is_m ∙ sym is }
-decides (code.NoAdditionalProperties declared schema) d n m b is = record { is = λ h plain site matches bs is_n is_m. by_all n m bs is_n is_m ∙ sym is }
-decides (code.NoProperties schema) d n m b is = record { is = λ h plain site matches bs is_n is_m. by_all n m bs is_n is_m ∙ sym is }
-decides (code.PropertyNames schema) d n m b is = record { is = λ h plain site matches bs is_n is_m. by_all n m bs is_n is_m ∙ sym is }
-decides (code.NoPropertyNames schema) d n m b is = record { is = λ h plain site matches bs is_n is_m. by_all n m bs is_n is_m ∙ sym is }
-decides (code.DependentSchemas schemas) d n m b is = record { is = λ h plain site matches bs is_n is_m. by_all n m bs is_n is_m ∙ sym is }
-decides (code.Dependencies entries) d n m b is = record { is = λ h plain. absurd (cc) }
-decides (code.AllOf schemas) d n m b is = record { is = λ h plain site matches bs is_n is_m. by_all n m bs is_n is_m ∙ sym is }
-decides (code.AnyOf schemas) d n m b is = record { is = λ h plain site matches bs is_n is_m. by_some n m bs is_n is_m ∙ sym is }
-decides (code.OneOf schemas) d n m b is = record { is = λ h plain site matches bs is_n is_m. by_one n m bs is_n is_m ∙ sym is }
-decides (code.Not schema) d n m b is = record { is = λ h plain site matches bs is_n is_m. by_not n m bs is_n is_m ∙ sym is }
-decides (code.If condition then_schema else_schema) d n m b is = record { is = λ h plain. absurd (cc) }
+decides a d n m b is = record {
+  is = λ counts plain site matches bs is_n is_m.
+      decided_of (named_of matches a d) d n m bs is_n is_m (combining_of a) (rule matches d (shape_of site a)) (follows site matches d a).combined (plain_by (is_every a) (asks_of a) d plain) counts ∙ sym is;
+}

@@ -4,9 +4,8 @@ use Rattle.serde_json.specs.Data.{Data, null, boolean, number, string, array, ob
 use Rattle.schema_meaning.specs.Questions.{each_item, items_of, items_from}
 use Rattle.schema_meaning.specs.Rules.{asks}
 use Rattle.schema_meaning.specs.Keywords.{counting}
-use Rattle.schema_definitions.specs.Sites.{Site}
 
-pub contains_asks : (d : Data) (s : Site) (least most : Option ℕ)
+pub contains_asks : {S : Type 0} (d : Data) (s : S) (least most : Option ℕ)
     → each_item (codes "contains") s 0 (items_from 0 (items_of d)) ≡ asks (counting d least most (each_item (codes "contains") s 0 (items_of d)))
 contains_asks null s least most = refl
 contains_asks (boolean b) s least most = refl

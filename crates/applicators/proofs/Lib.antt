@@ -1,6 +1,7 @@
 pub mod ItemLemmas
 pub mod ContainsLemmas
 pub mod ConsequentLemmas
+pub mod FormLemmas
 pub mod CombinedLemmas
 pub mod DeclaredLemmas
 pub mod MatchingLemmas

@@ -1,5 +1,5 @@
 -- Members whose names a pattern matches, and those that are not declared, one after another.
-use Rattle.std.proofs.Common.{◌≡◌, ◌++◌, ◌∙◌, ℕ, List, [], ◌∷◌, Bool, true, false, Some, None, map, cond, not, refl, sym, ap, append_assoc, codes}
+use Rattle.std.proofs.Common.{◌≡◌, ◌++◌, ◌∙◌, ℕ, List, [], ◌∷◌, Bool, true, false, Some, None, map, cond, not, refl, sym, ap, append_assoc}
 use Rattle.std.specs.List.{filter}
 use Rattle.serde_json.specs.Data.{Data, null, boolean, number, string, array, object, Members}
 use Rattle.serde_json.specs.Find.{as_object}
@@ -9,9 +9,9 @@ use Rattle.schema_meaning.specs.Questions.{Question, question, at, at_name, list
 use Rattle.applicators.specs.Shapes.{others_among}
 use Rattle.applicators.specs.Matching.{matching_members, by_patterns}
 
-pub none_matching : {S : Type 0} (matches : List ℕ → List ℕ → Bool) (ps : List (List ℕ × S)) → by_patterns matches [] ps ≡ []
-none_matching matches [] = refl
-none_matching matches (p ∷ ps) = none_matching matches ps
+pub none_matching : {S : Type 0} (matches : List ℕ → List ℕ → Bool) (keyword : List ℕ) (ps : List (List ℕ × S)) → by_patterns matches keyword [] ps ≡ []
+none_matching matches keyword [] = refl
+none_matching matches keyword (p ∷ ps) = none_matching matches keyword ps
 
 pub members_given : (d : Data) (ms : Members) → Some ms ≡ as_object d → members_of d ≡ listed_members ms
 members_given null ms h = cc
@@ -30,15 +30,15 @@ members_none (array ds) h = refl
 members_none (object ms) h = cc
 
 -- once the question of a member is asked whose name the pattern matches
-pub matched_step : {S : Type 0} (matches : List ℕ → List ℕ → Bool) (s : S) (pattern k added : List ℕ) (e : Data) (left more : List (List ℕ × Data)) (all done next : List (Question S))
-    → left ≡ (k, e) ∷ more → matched matches pattern k ≡ true → all ≡ done ++ matching_members matches s pattern left
-    → next ≡ done ++ question s (to_member k e) (at_name added pattern) ∷ [] → added ≡ codes "patternProperties" → all ≡ next ++ matching_members matches s pattern more
-matched_step {S} matches s pattern k added e left more all done next is yes_it_is h asked same =
-    let ask : List ℕ × Data → Question S = λ m. question s (to_member m.0 m.1) (at_name (codes "patternProperties") pattern) in
-    h ∙ ap (λ ms. done ++ matching_members matches s pattern ms) is
+pub matched_step : {S : Type 0} (matches : List ℕ → List ℕ → Bool) (s : S) (pattern k keyword : List ℕ) (e : Data) (left more : List (List ℕ × Data)) (all done next : List (Question S))
+    → left ≡ (k, e) ∷ more → matched matches pattern k ≡ true → all ≡ done ++ matching_members matches keyword s pattern left
+    → next ≡ done ++ question s (to_member k e) (at_name keyword pattern) ∷ [] → all ≡ next ++ matching_members matches keyword s pattern more
+matched_step {S} matches s pattern k keyword e left more all done next is yes_it_is h asked =
+    let ask : List ℕ × Data → Question S = λ m. question s (to_member m.0 m.1) (at_name keyword pattern) in
+    h ∙ ap (λ ms. done ++ matching_members matches keyword s pattern ms) is
     ∙ ap (λ b. done ++ map ask (cond b ((k, e) ∷ filter (λ m. matched matches pattern m.0) more) (filter (λ m. matched matches pattern m.0) more))) yes_it_is
-    ∙ sym (append_assoc done (ask (k, e) ∷ []) (matching_members matches s pattern more))
-    ∙ ap (λ qs. qs ++ matching_members matches s pattern more) (sym (asked ∙ ap (λ w. done ++ question s (to_member k e) (at_name w pattern) ∷ []) same))
+    ∙ sym (append_assoc done (ask (k, e) ∷ []) (matching_members matches keyword s pattern more))
+    ∙ ap (λ qs. qs ++ matching_members matches keyword s pattern more) (sym asked)
 
 -- once the question of a member is asked that is not declared
 pub others_step : {S : Type 0} (matches : List ℕ → List ℕ → Bool) (w : Declared) (keyword : List ℕ) (s : S) (k : List ℕ) (e : Data) (left more : List (List ℕ × Data)) (all done next : List (Question S))

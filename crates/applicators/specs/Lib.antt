@@ -1,5 +1,10 @@
-pub mod Shapes
-pub mod Made
+pub mod Sites
 pub mod Matching
 pub mod Questions
+pub mod Combining
+pub mod Forms
+pub mod Asks
+pub mod Tables
+pub mod Shapes
+pub mod Made
 pub mod Combined

@@ -9,7 +9,7 @@ use Rattle.schema_definitions.specs.Sites.{Site}
 use Rattle.schema_meaning.specs.Places.{Step, stay, to_item, to_member, to_name}
 use Rattle.schema_meaning.specs.Questions as told
 use Rattle.schema_meaning.specs.Keywords.{Dependency, applied}
-use Rattle.applicators.specs.Shapes.{added_at, place_of}
+use Rattle.applicators.specs.Sites.{added_at, place_of}
 use Rattle.applicators.specs.declared.question.Asked.{Asked}
 use Rattle.applicators.specs.declared.question.Asked.TheVariants as asked
 use Rattle.applicators.specs.declared.question.Question.{Question}
@@ -28,5 +28,5 @@ abbrev pub questions_of : (List Part → Data → Site) → List Question → Li
 questions_of site qs = map (question_of site) qs
 
 -- the value by each entry of `dependencies` that is a schema and whose name is a member
-abbrev pub each_dependency : Data → List (List ℕ × Dependency Site) → List (told.Question Site)
+abbrev pub each_dependency : {S : Type 0} → Data → List (List ℕ × Dependency S) → List (told.Question S)
 each_dependency d ps = flat_map (λ p. told.if_member (get p.0 d) (λ e. applied p.0 p.1)) ps

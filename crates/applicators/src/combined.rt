@@ -1,51 +1,14 @@
-//! How the answers to an applicator's questions are combined.
+//! What an applicator is called, how it combines the answers to its questions, and what these are.
 ghost use Rattle.std.specs.Prelude.{◌≡◌, true};
 ghost use Rattle.serde_json.specs.View.{view};
-ghost use Rattle.applicators.specs.Combined.{name_of, refused_name, is_every, IsEvery, asks_names, is_each_named, decided, Decides};
-ghost use Rattle.schema_meaning.specs.Rules as rules;
+ghost use Rattle.applicators.specs.Combined.{name_of, combining_of, asks_of, refused_name, is_every, IsEvery, is_each_named, Decides};
 
 use crate::applicator::Applicator;
+use crate::asks::Asks;
+use crate::combining::{Combining, count_refused_at};
 use serde_json::Value;
 
-// Whether a number of items is at least the bound, 1 without one.
-const fn is_enough(least: Option<u64>, accepted: usize) -> bool
-    ensures { result ≡ rules.is_enough least accepted }
-{
-    match least {
-        Some(least) => least <= accepted as u64,
-        None => accepted >= 1,
-    }
-}
-
-// Whether it is at most the bound.
-const fn is_few(most: Option<u64>, accepted: usize) -> bool
-    ensures { result ≡ rules.is_few most accepted }
-{
-    match most {
-        Some(most) => accepted as u64 <= most,
-        None => true,
-    }
-}
-
-// The name of the bound that a number of items does not keep.
-const fn count_refused_at(least: Option<u64>, most: Option<u64>, accepted: usize) -> &'static str
-    ensures { result.now ≡ rules.count_refused_at least most accepted }
-{
-    match (least, most) {
-        (None, None) => "contains",
-        (Some(_), None) => "minContains",
-        (None, Some(_)) => "maxContains",
-        (Some(_), Some(most)) => {
-            if accepted as u64 > most {
-                "maxContains"
-            } else {
-                "minContains"
-            }
-        }
-    }
-}
-
-impl Applicator<'_> {
+impl<'r> Applicator<'r> {
     /// The keyword's name.
     pub const fn name(&self) -> &'static str
         ensures { result.now ≡ name_of self.now }
@@ -74,69 +37,88 @@ impl Applicator<'_> {
         }
     }
 
+    /// How it combines the answers to its questions.
+    pub const fn combining(&self) -> Combining
+        ensures { result ≡ combining_of self.now }
+    {
+        match *self {
+            Applicator::NoAdditionalItems { .. } => Combining::Together,
+            Applicator::NoAdditionalProperties { .. } => Combining::Together,
+            Applicator::NoProperties(_) => Combining::Together,
+            Applicator::NoPropertyNames(_) => Combining::Together,
+            Applicator::PropertyNames(_) => Combining::EachNamed,
+            Applicator::AnyOf(_) => Combining::SomeBranch,
+            Applicator::OneOf(_) => Combining::OneBranch,
+            Applicator::Not(_) => Combining::Refusal,
+            Applicator::Contains { least, most, .. } => Combining::Counted { least, most },
+            Applicator::If { .. } => Combining::Conditional,
+            _ => Combining::Every,
+        }
+    }
+
+    /// What it asks of a value.
+    pub const fn asks(&self) -> Asks<'r>
+        ensures { result ≡ asks_of self.now }
+    {
+        match *self {
+            Applicator::Items { start, schema } => Asks::ItemsFrom { start, schema },
+            Applicator::ItemList(schemas) => Asks::ItemByItem(schemas),
+            Applicator::PrefixItems(schemas) => Asks::ItemByItem(schemas),
+            Applicator::AdditionalItems { start, schema } => Asks::ItemsFrom { start, schema },
+            Applicator::NoAdditionalItems { start, schema } => Asks::ItemsFrom { start, schema },
+            Applicator::Contains { schema, .. } => Asks::ItemsFrom { start: 0, schema },
+            Applicator::Properties(schemas) => Asks::DeclaredMembers(schemas),
+            Applicator::PatternProperties(schemas) => Asks::MatchingMembers(schemas),
+            Applicator::AdditionalProperties { declared, schema } => {
+                Asks::OtherMembers { declared, schema }
+            }
+            Applicator::NoAdditionalProperties { declared, schema } => {
+                Asks::OtherMembers { declared, schema }
+            }
+            Applicator::NoProperties(schema) => Asks::Members(schema),
+            Applicator::PropertyNames(schema) => Asks::Names(schema),
+            Applicator::NoPropertyNames(schema) => Asks::Names(schema),
+            Applicator::DependentSchemas(schemas) => Asks::Triggered(schemas),
+            Applicator::Dependencies(entries) => Asks::Dependencies(entries),
+            Applicator::AllOf(schemas) => Asks::Branches(schemas),
+            Applicator::AnyOf(schemas) => Asks::Branches(schemas),
+            Applicator::OneOf(schemas) => Asks::Branches(schemas),
+            Applicator::Not(schema) => Asks::Value(schema),
+            Applicator::If {
+                condition,
+                then_schema,
+                else_schema,
+            } => Asks::Condition {
+                condition,
+                then_schema,
+                else_schema,
+            },
+        }
+    }
+
     /// Whether it accepts a value just where every answer is yes and nothing is noted of the value itself; it tells what is noted, and
     /// the faults of its subschemas.
     pub const fn is_every(&self) -> bool
         ensures every { result ≡ is_every self.now }
         ensures rule { result ≡ true → IsEvery self.now }
     {
-        matches!(
-            self,
-            Applicator::Items { .. }
-                | Applicator::ItemList(_)
-                | Applicator::PrefixItems(_)
-                | Applicator::AdditionalItems { .. }
-                | Applicator::Properties(_)
-                | Applicator::PatternProperties(_)
-                | Applicator::AdditionalProperties { .. }
-                | Applicator::DependentSchemas(_)
-                | Applicator::Dependencies(_)
-                | Applicator::AllOf(_)
-        )
-    }
-
-    /// Whether its questions ask the names of members.
-    pub const fn asks_names(&self) -> bool
-        ensures { result ≡ asks_names self.now }
-    {
-        matches!(
-            self,
-            Applicator::PropertyNames(_) | Applicator::NoPropertyNames(_)
-        )
+        self.combining().tells_each()
     }
 
     /// Whether it accepts a value just where every answer is yes, and tells each fault of a name of the object.
     pub const fn is_each_named(&self) -> bool
         ensures { result ≡ is_each_named self.now }
     {
-        matches!(self, Applicator::PropertyNames(_))
+        self.combining().tells_names()
     }
 
     /// The name under which it refuses a value, where so many answers are yes: of `contains` that of the bound that is not kept.
     pub const fn refused_name(&self, accepted: usize) -> &'static str
         ensures { result.now ≡ refused_name self.now accepted }
     {
-        match self {
-            Applicator::Contains { least, most, .. } => count_refused_at(*least, *most, accepted),
+        match self.combining() {
+            Combining::Counted { least, most } => count_refused_at(least, most, accepted),
             _ => self.name(),
-        }
-    }
-
-    fn decided(&self, value: &Value, asked: usize, accepted: usize) -> bool
-        ensures { result ≡ decided self.now (view value.now) asked accepted }
-    {
-        match self {
-            Applicator::Contains { least, most, .. } => {
-                if value.is_array() {
-                    is_enough(*least, accepted) && is_few(*most, accepted)
-                } else {
-                    accepted == asked
-                }
-            }
-            Applicator::AnyOf(_) => accepted > 0,
-            Applicator::OneOf(_) => accepted == 1,
-            Applicator::Not(_) => accepted != asked,
-            _ => accepted == asked,
         }
     }
 
@@ -146,6 +128,6 @@ impl Applicator<'_> {
     pub fn accepts(&self, value: &Value, asked: usize, accepted: usize) -> bool
         ensures { Decides self.now (view value.now) asked accepted result }
     {
-        self.decided(value, asked, accepted)
+        self.combining().decides(value, asked, accepted)
     }
 }

@@ -2,7 +2,9 @@
 #![tactic(auto)]
 
 pub mod applicator;
+pub mod asks;
 pub mod combined;
+pub mod combining;
 pub mod declared;
 mod patterns;
 pub mod question;

@@ -1,6 +1,6 @@
-//! The questions of `patternProperties`.
+//! The questions of members whose names patterns match.
 
-ghost use Rattle.std.specs.Prelude.{◌≡◌, ◌++◌, List, OnOk, codes};
+ghost use Rattle.std.specs.Prelude.{◌≡◌, ◌++◌, List, OnOk};
 ghost use Rattle.serde_json.specs.Data.{Data};
 ghost use Rattle.serde_json.specs.View.{view, members_view};
 ghost use Rattle.json_values.specs.Parts.{Part};
@@ -22,19 +22,20 @@ fn push_matching<'r, 'i>(
     alloc: Global,
     matches: &Matches,
     questions: &mut Vec<Question<'r, 'i>>,
+    keyword: &'static str,
     pattern: &'r str,
     schema: &'r Value,
     members: &'i Map<String, Value>,
 ) -> Result<(), AllocError>
     ensures { OnOk result ((site : List Part → Data → Site) → questions_of site questions.new.items
-        ≡ questions_of site questions.old.items ++ matching_members (reads matches.now) (site (at_name (codes "patternProperties") pattern.now) (view schema.now)) pattern.now (listed_members (members_view members.now.entries))) }
+        ≡ questions_of site questions.old.items ++ matching_members (reads matches.now) keyword.now (site (at_name keyword.now pattern.now) (view schema.now)) pattern.now (listed_members (members_view members.now.entries))) }
 {
     for (name, member) in members.iter() {
         let name = name.as_str();
         if matches.is_match(alloc, pattern, name)? {
             questions.push(Question {
                 subschema: Subschema {
-                    keyword: "patternProperties",
+                    keyword,
                     entry: Entry::Name(pattern),
                     schema,
                 },
@@ -50,14 +51,23 @@ fn push_by_patterns<'r, 'i>(
     alloc: Global,
     matches: &Matches,
     questions: &mut Vec<Question<'r, 'i>>,
+    keyword: &'static str,
     schemas: &'r Map<String, Value>,
     value: &'i Map<String, Value>,
 ) -> Result<(), AllocError>
     ensures { OnOk result ((site : List Part → Data → Site) → questions_of site questions.new.items
-        ≡ questions_of site questions.old.items ++ by_patterns (reads matches.now) (listed_members (members_view value.now.entries)) (sites_of_map site (codes "patternProperties") (members_view schemas.now.entries))) }
+        ≡ questions_of site questions.old.items ++ by_patterns (reads matches.now) keyword.now (listed_members (members_view value.now.entries)) (sites_of_map site keyword.now (members_view schemas.now.entries))) }
 {
     for (pattern, schema) in schemas.iter() {
-        push_matching(alloc, matches, questions, pattern.as_str(), schema, value)?;
+        push_matching(
+            alloc,
+            matches,
+            questions,
+            keyword,
+            pattern.as_str(),
+            schema,
+            value,
+        )?;
     }
     Ok(())
 }
@@ -69,14 +79,15 @@ pub(crate) fn push_patterns<'r, 'i>(
     alloc: Global,
     matches: &Matches,
     questions: &mut Vec<Question<'r, 'i>>,
+    keyword: &'static str,
     schemas: &'r Map<String, Value>,
     value: &'i Value,
 ) -> Result<(), AllocError>
     ensures { OnOk result ((site : List Part → Data → Site) → questions_of site questions.new.items
-        ≡ questions_of site questions.old.items ++ by_patterns (reads matches.now) (members_of (view value.now)) (sites_of_map site (codes "patternProperties") (members_view schemas.now.entries))) }
+        ≡ questions_of site questions.old.items ++ by_patterns (reads matches.now) keyword.now (members_of (view value.now)) (sites_of_map site keyword.now (members_view schemas.now.entries))) }
 {
     match value.as_object() {
-        Some(members) => push_by_patterns(alloc, matches, questions, schemas, members),
+        Some(members) => { push_by_patterns(alloc, matches, questions, keyword, schemas, members) },
         None => Ok(()),
     }
 }

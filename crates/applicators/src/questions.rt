@@ -11,9 +11,11 @@ ghost use Rattle.schema_meaning.specs.Rules.{asks, consequents};
 ghost use Rattle.schema_meaning.specs.Keywords.{rule, consequent, applied};
 ghost use Rattle.schema_patterns.specs.Read.{reads};
 ghost use Rattle.applicators.specs.Shapes.{site_of, sites_of_list, sites_of_map, declared_by, others_among, shape_of, dependency_at, dependencies_in};
+ghost use Rattle.applicators.specs.Asks.{asked_by};
 ghost use Rattle.applicators.specs.Questions.{step_of, questions_of, each_dependency};
 
 use crate::applicator::Applicator;
+use crate::asks::Asks;
 use crate::declared::{Declared, is_declared};
 use crate::patterns::push_patterns;
 use crate::question::{Asked, Question};
@@ -287,22 +289,18 @@ fn push_others_of_object<'r, 'i>(
     alloc: Global,
     matches: &Matches,
     questions: &mut Vec<Question<'r, 'i>>,
+    keyword: &'static str,
     schema: &'r Value,
     declared: Declared<'_>,
     members: &'i Map<String, Value>,
 ) -> Result<(), AllocError>
     ensures { OnOk result ((site : List Part → Data → Site) → questions_of site questions.new.items
-        ≡ questions_of site questions.old.items ++ each_member (codes "additionalProperties") (site_of site (codes "additionalProperties") (view schema.now)) (others_among (reads matches.now) (declared_by declared.entry) (listed_members (members_view members.now.entries)))) }
+        ≡ questions_of site questions.old.items ++ each_member keyword.now (site_of site keyword.now (view schema.now)) (others_among (reads matches.now) (declared_by declared.entry) (listed_members (members_view members.now.entries)))) }
 {
     for (name, member) in members.iter() {
         let name = name.as_str();
         if !is_declared(alloc, matches, declared, name)? {
-            push(
-                questions,
-                "additionalProperties",
-                schema,
-                Asked::Member { name, member },
-            )?;
+            push(questions, keyword, schema, Asked::Member { name, member })?;
         }
     }
     Ok(())
@@ -313,16 +311,19 @@ fn push_others<'r, 'i>(
     alloc: Global,
     matches: &Matches,
     questions: &mut Vec<Question<'r, 'i>>,
+    keyword: &'static str,
     schema: &'r Value,
     declared: Declared<'_>,
     value: &'i Value,
 ) -> Result<(), AllocError>
     ensures { OnOk result ((site : List Part → Data → Site) → questions_of site questions.new.items
-        ≡ questions_of site questions.old.items ++ each_member (codes "additionalProperties") (site_of site (codes "additionalProperties") (view schema.now)) (other_members (reads matches.now) (declared_by declared.entry) (view value.now))) }
+        ≡ questions_of site questions.old.items ++ each_member keyword.now (site_of site keyword.now (view schema.now)) (other_members (reads matches.now) (declared_by declared.entry) (view value.now))) }
 {
     match value {
         Value::Object(members) => {
-            push_others_of_object(alloc, matches, questions, schema, declared, members)
+            push_others_of_object(
+                alloc, matches, questions, keyword, schema, declared, members,
+            )
         }
         _ => Ok(()),
     }
@@ -376,81 +377,54 @@ fn push_consequent<'r, 'i>(
 
 fn push_condition<'r, 'i>(
     questions: &mut Vec<Question<'r, 'i>>,
+    keyword: &'static str,
     condition: &'r Value,
     then_schema: Option<&'r Value>,
     else_schema: Option<&'r Value>,
 ) -> Result<(), AllocError>
     ensures { OnOk result ((site : List Part → Data → Site) → questions_of site questions.new.items ≡ questions_of site questions.old.items
-        ++ here (codes "if") (site_of site (codes "if") (view condition.now))
+        ++ here keyword.now (site_of site keyword.now (view condition.now))
         ∷ consequents (consequent true (codes "then") (option_map (λ s. site_of site (codes "then") (view s.now)) then_schema.entry) ++ consequent false (codes "else") (option_map (λ s. site_of site (codes "else") (view s.now)) else_schema.entry))) }
 {
-    push(questions, "if", condition, Asked::Value)?;
+    push(questions, keyword, condition, Asked::Value)?;
     push_consequent(questions, "then", then_schema)?;
     push_consequent(questions, "else", else_schema)?;
     Ok(())
 }
 
-fn push_questions<'r, 'i>(
+fn push_asked<'r, 'i>(
     alloc: Global,
     matches: &Matches,
     questions: &mut Vec<Question<'r, 'i>>,
-    applicator: &Applicator<'r>,
+    keyword: &'static str,
+    asks: Asks<'r>,
     value: &'i Value,
 ) -> Result<(), AllocError>
     ensures { OnOk result ((site : List Part → Data → Site) → questions_of site questions.new.items
-        ≡ questions_of site questions.old.items ++ asks (rule (reads matches.now) (view value.now) (shape_of site applicator.now))) }
+        ≡ questions_of site questions.old.items
+        ++ asked_by site (reads matches.now) keyword.now (view value.now) asks.entry) }
 {
-    match *applicator {
-        Applicator::Items { start, schema } => {
-            push_items(questions, "items", schema, start, value)
+    match asks {
+        Asks::ItemsFrom { start, schema } => push_items(questions, keyword, schema, start, value),
+        Asks::ItemByItem(schemas) => push_item_list(questions, keyword, schemas, value),
+        Asks::DeclaredMembers(schemas) => push_declared(questions, keyword, schemas, value),
+        Asks::MatchingMembers(schemas) => {
+            push_patterns(alloc, matches, questions, keyword, schemas, value)
         }
-        Applicator::ItemList(schemas) => push_item_list(questions, "items", schemas, value),
-        Applicator::PrefixItems(schemas) => {
-            push_item_list(questions, "prefixItems", schemas, value)
+        Asks::OtherMembers { declared, schema } => {
+            push_others(alloc, matches, questions, keyword, schema, declared, value)
         }
-        Applicator::AdditionalItems { start, schema } => {
-            push_items(questions, "additionalItems", schema, start, value)
-        }
-        Applicator::NoAdditionalItems { start, schema } => {
-            push_items(questions, "additionalItems", schema, start, value)
-        }
-        Applicator::Contains { schema, .. } => {
-            push_items(questions, "contains", schema, 0, value)
-        }
-        Applicator::Properties(schemas) => {
-            push_declared(questions, "properties", schemas, value)
-        }
-        Applicator::PatternProperties(schemas) => {
-            push_patterns(alloc, matches, questions, schemas, value)
-        }
-        Applicator::AdditionalProperties { declared, schema } => {
-            push_others(alloc, matches, questions, schema, declared, value)
-        }
-        Applicator::NoAdditionalProperties { declared, schema } => {
-            push_others(alloc, matches, questions, schema, declared, value)
-        }
-        Applicator::NoProperties(schema) => {
-            push_members(questions, "additionalProperties", schema, value)
-        }
-        Applicator::PropertyNames(schema) => {
-            push_names(questions, "propertyNames", schema, value)
-        }
-        Applicator::NoPropertyNames(schema) => {
-            push_names(questions, "propertyNames", schema, value)
-        }
-        Applicator::DependentSchemas(schemas) => {
-            push_triggered(questions, "dependentSchemas", schemas, value)
-        }
-        Applicator::Dependencies(entries) => push_dependencies(questions, entries, value),
-        Applicator::AllOf(schemas) => push_branches(questions, "allOf", schemas),
-        Applicator::AnyOf(schemas) => push_branches(questions, "anyOf", schemas),
-        Applicator::OneOf(schemas) => push_branches(questions, "oneOf", schemas),
-        Applicator::Not(schema) => push(questions, "not", schema, Asked::Value),
-        Applicator::If {
+        Asks::Members(schema) => push_members(questions, keyword, schema, value),
+        Asks::Names(schema) => push_names(questions, keyword, schema, value),
+        Asks::Triggered(schemas) => push_triggered(questions, keyword, schemas, value),
+        Asks::Dependencies(entries) => push_dependencies(questions, entries, value),
+        Asks::Branches(schemas) => push_branches(questions, keyword, schemas),
+        Asks::Value(schema) => push(questions, keyword, schema, Asked::Value),
+        Asks::Condition {
             condition,
             then_schema,
             else_schema,
-        } => push_condition(questions, condition, then_schema, else_schema),
+        } => push_condition(questions, keyword, condition, then_schema, else_schema),
     }
 }
 
@@ -472,6 +446,13 @@ pub fn questions<'r, 'i>(
         → questions_of site qs.items ≡ asks (rule (reads matches.now) (view value.now) (shape_of site applicator.now))) }
 {
     let mut questions = Vec::new(alloc);
-    push_questions(alloc, matches, &mut questions, applicator, value)?;
+    push_asked(
+        alloc,
+        matches,
+        &mut questions,
+        applicator.name(),
+        applicator.asks(),
+        value,
+    )?;
     Ok(questions)
 }

@@ -5,9 +5,11 @@ ghost use Rattle.serde_json.specs.View.{view, items_view, members_view};
 ghost use Rattle.json_values.specs.Parts.{Part};
 ghost use Rattle.schema_definitions.specs.Sites.{Site};
 ghost use Rattle.schema_definitions.specs.Rows.{sites_named, sites_applied};
+ghost use Rattle.applicators.specs.Asks.{leads_by};
 ghost use Rattle.applicators.specs.Shapes.{place_of, site_of, sites_of_list, sites_of_map, dependency_at, dependencies_in, leads_of};
 
 use crate::applicator::Applicator;
+use crate::asks::Asks;
 use crate::subschema::{Entry, Subschema};
 use serde_json::{Map, Value};
 use std::alloc::{AllocError, Global};
@@ -101,40 +103,25 @@ fn push_dependencies<'r>(
 
 fn push_subschemas<'r>(
     found: &mut Vec<Subschema<'r>>,
-    applicator: &Applicator<'r>,
+    keyword: &'static str,
+    asks: Asks<'r>,
 ) -> Result<(), AllocError>
     ensures { OnOk result ((site : List Part → Data → Site) → map (place_of site) found.new.items
-        ≡ map (place_of site) found.old.items ++ leads_of site applicator.now) }
+        ≡ map (place_of site) found.old.items ++ leads_by site keyword.now asks.entry) }
 {
-    match *applicator {
-        Applicator::Items { schema, .. } => push_whole(found, "items", schema),
-        Applicator::ItemList(schemas) => push_list(found, "items", schemas),
-        Applicator::PrefixItems(schemas) => push_list(found, "prefixItems", schemas),
-        Applicator::AdditionalItems { schema, .. } => {
-            push_whole(found, "additionalItems", schema)
-        }
-        Applicator::NoAdditionalItems { schema, .. } => {
-            push_whole(found, "additionalItems", schema)
-        }
-        Applicator::Contains { schema, .. } => push_whole(found, "contains", schema),
-        Applicator::Properties(schemas) => push_map(found, "properties", schemas),
-        Applicator::PatternProperties(schemas) => push_map(found, "patternProperties", schemas),
-        Applicator::AdditionalProperties { schema, .. } => {
-            push_whole(found, "additionalProperties", schema)
-        }
-        Applicator::NoAdditionalProperties { schema, .. } => {
-            push_whole(found, "additionalProperties", schema)
-        }
-        Applicator::NoProperties(schema) => { push_whole(found, "additionalProperties", schema) }
-        Applicator::PropertyNames(schema) => push_whole(found, "propertyNames", schema),
-        Applicator::NoPropertyNames(schema) => push_whole(found, "propertyNames", schema),
-        Applicator::DependentSchemas(schemas) => { push_map(found, "dependentSchemas", schemas) }
-        Applicator::Dependencies(entries) => push_dependencies(found, entries),
-        Applicator::AllOf(schemas) => push_list(found, "allOf", schemas),
-        Applicator::AnyOf(schemas) => push_list(found, "anyOf", schemas),
-        Applicator::OneOf(schemas) => push_list(found, "oneOf", schemas),
-        Applicator::Not(schema) => push_whole(found, "not", schema),
-        Applicator::If { condition, .. } => push_whole(found, "if", condition),
+    match asks {
+        Asks::ItemsFrom { schema, .. } => push_whole(found, keyword, schema),
+        Asks::ItemByItem(schemas) => push_list(found, keyword, schemas),
+        Asks::DeclaredMembers(schemas) => push_map(found, keyword, schemas),
+        Asks::MatchingMembers(schemas) => push_map(found, keyword, schemas),
+        Asks::OtherMembers { schema, .. } => push_whole(found, keyword, schema),
+        Asks::Members(schema) => push_whole(found, keyword, schema),
+        Asks::Names(schema) => push_whole(found, keyword, schema),
+        Asks::Triggered(schemas) => push_map(found, keyword, schemas),
+        Asks::Dependencies(entries) => push_dependencies(found, entries),
+        Asks::Branches(schemas) => push_list(found, keyword, schemas),
+        Asks::Value(schema) => push_whole(found, keyword, schema),
+        Asks::Condition { condition, .. } => push_whole(found, keyword, condition),
     }
 }
 
@@ -152,6 +139,6 @@ pub fn subschemas<'r>(
     ensures { IfOk result (λ bs. (site : List Part → Data → Site) → map (place_of site) bs.items ≡ leads_of site applicator.now) }
 {
     let mut found = Vec::new(alloc);
-    push_subschemas(&mut found, applicator)?;
+    push_subschemas(&mut found, applicator.name(), applicator.asks())?;
     Ok(found)
 }

@@ -1,9 +1,10 @@
 -- Each question of a keyword whose verdict is by the number of answers that are yes.
-use Rattle.std.proofs.Common.{◌≡◌, ℕ, suc, List, [], ◌∷◌, ◌++◌, map, Bool, true, false, codes, Option, None, Some, refl, subst}
+use Rattle.std.proofs.Common.{◌≡◌, ℕ, suc, List, [], ◌∷◌, ◌++◌, map, Bool, true, false, codes, Option, None, Some, Bor, refl, subst, sym}
 use Rattle.std.specs.List.{AllByRecursion, filter}
 use Rattle.std.specs.Prelude.{⊤}
 use Rattle.serde_json.specs.Data.{Data, null, boolean, number, string, array, object, Items, no_items, item}
 use Rattle.serde_json.specs.Find.{get}
+use Rattle.serde_json.specs.declared.value.Value.{Value}
 use Rattle.serde_json.specs.View.{view, items_view, members_view}
 use Rattle.json_values.specs.Patterns.{matched}
 use Rattle.json_values.specs.Parts.{Part}
@@ -11,7 +12,7 @@ use Rattle.schema_meaning.specs.Members.{In, first, later}
 use Rattle.schema_meaning.specs.Places.{Step, stay, to_member, to_name, path_after, called_after}
 use Rattle.schema_meaning.specs.Questions.{Question, question, at, at_name, each_branch, items_of, items_from, each_item, item_by_item, if_member, each_declared, each_matching, members_of, other_members, each_member, each_name, each_triggered}
 use Rattle.schema_meaning.specs.Rules.{asks}
-use Rattle.schema_meaning.specs.Keywords.{counting, rule, Dependency, needs, applies, applied}
+use Rattle.schema_meaning.specs.Keywords.{rule, Dependency, needs, applies, applied}
 use Rattle.schema_definitions.specs.Sites.{Site}
 use Rattle.schema_definitions.specs.Rows.{sites_applied}
 use Rattle.schema_definitions.specs.AllKeys.{spots_in}
@@ -20,9 +21,13 @@ use Rattle.reading_laws.proofs.Elements.{each_in, each_laid_flat, in_mapped}
 use Rattle.reading_laws.proofs.Asked.{Holds, Sound, all_sound, IsApplied}
 use Rattle.applicators.specs.Shapes.{shape_of, leads_of, site_of, declared_by, sites_of_list, sites_of_map, dependencies_in}
 use Rattle.applicators.specs.Questions.{each_dependency}
-use Rattle.applicators.specs.Combined.{is_by_answers}
+use Rattle.applicators.specs.Asks.{asked_by}
+use Rattle.applicators.specs.Combined.{name_of, asks_of, is_by_answers}
 use Rattle.applicators.specs.declared.applicator.Applicator.{Applicator}
 use Rattle.applicators.specs.declared.applicator.Applicator.TheVariants as code
+use Rattle.applicators.specs.declared.asks.Asks.{Asks}
+use Rattle.applicators.specs.declared.asks.Asks.TheVariants as asking
+use Rattle.applicators.proofs.CombinedLemmas.{follows}
 use Rattle.applied_laws.specs.Laws.{QuestionsAreSound}
 
 -- ---- where subschemas stand
@@ -127,14 +132,6 @@ calm_names : (added : List Part) (s : Site) (ms : List (List ℕ × Data)) → A
 calm_names added s [] = tt
 calm_names added s (m ∷ ms) = (refl, calm_names added s ms)
 
-calm_counted : (s : Site) (least most : Option ℕ) (d : Data) → AllByRecursion IsCalm (asks (counting d least most (each_item (codes "contains") s 0 (items_of d))))
-calm_counted s least most null = tt
-calm_counted s least most (boolean b) = tt
-calm_counted s least most (number n) = tt
-calm_counted s least most (string t) = tt
-calm_counted s least most (array ds) = calm_items (codes "contains") s 0 ds
-calm_counted s least most (object ms) = tt
-
 calm_applied : (k : List ℕ) (x : Dependency Site) → AllByRecursion IsCalm (applied k x)
 calm_applied k (needs names) = tt
 calm_applied k (applies s) = (refl, tt)
@@ -146,31 +143,25 @@ calm_dependency k x (Some e) = calm_applied k x
 calm_dependencies : (d : Data) (ps : List (List ℕ × Dependency Site)) → AllByRecursion IsCalm (each_dependency d ps)
 calm_dependencies d ps = each_laid_flat (λ p. ⊤) IsCalm (λ p. if_member (get p.0 d) (λ e. applied p.0 p.1)) (λ p u. calm_dependency p.0 p.1 (get p.0 d)) ps (any_pair ps)
 
-all_calm : (site : List Part → Data → Site) (matches : List ℕ → List ℕ → Bool) (d : Data) (a : Applicator) → is_by_answers a ≡ true → AllByRecursion IsCalm (asks (rule matches d (shape_of site a)))
-all_calm site matches d (code.Items start schema) h = calm_items (codes "items") (site_of site (codes "items") (view schema.now)) start (items_from start (items_of d))
-all_calm site matches d (code.ItemList schemas) h = calm_by_item (codes "items") (sites_of_list site (codes "items") 0 (items_view schemas.now)) 0 (items_of d)
-all_calm site matches d (code.PrefixItems schemas) h = calm_by_item (codes "prefixItems") (sites_of_list site (codes "prefixItems") 0 (items_view schemas.now)) 0 (items_of d)
-all_calm site matches d (code.AdditionalItems start schema) h =
-    calm_items (codes "additionalItems") (site_of site (codes "additionalItems") (view schema.now)) start (items_from start (items_of d))
-all_calm site matches d (code.NoAdditionalItems start schema) h =
-    calm_items (codes "additionalItems") (site_of site (codes "additionalItems") (view schema.now)) start (items_from start (items_of d))
-all_calm site matches d (code.Contains schema least most) h = calm_counted (site_of site (codes "contains") (view schema.now)) least most d
-all_calm site matches d (code.Properties schemas) h = calm_declared (codes "properties") d (sites_of_map site (codes "properties") (members_view schemas.now.entries))
-all_calm site matches d (code.PatternProperties schemas) h = calm_matching matches (codes "patternProperties") d (sites_of_map site (codes "patternProperties") (members_view schemas.now.entries))
-all_calm site matches d (code.AdditionalProperties declared schema) h =
-    calm_members (codes "additionalProperties") (site_of site (codes "additionalProperties") (view schema.now)) (other_members matches (declared_by declared) d)
-all_calm site matches d (code.NoAdditionalProperties declared schema) h =
-    calm_members (codes "additionalProperties") (site_of site (codes "additionalProperties") (view schema.now)) (other_members matches (declared_by declared) d)
-all_calm site matches d (code.NoProperties schema) h = calm_members (codes "additionalProperties") (site_of site (codes "additionalProperties") (view schema.now)) (members_of d)
-all_calm site matches d (code.PropertyNames schema) h = calm_names (at (codes "propertyNames")) (site_of site (codes "propertyNames") (view schema.now)) (members_of d)
-all_calm site matches d (code.NoPropertyNames schema) h = calm_names (at (codes "propertyNames")) (site_of site (codes "propertyNames") (view schema.now)) (members_of d)
-all_calm site matches d (code.DependentSchemas schemas) h = calm_triggered (codes "dependentSchemas") d (sites_of_map site (codes "dependentSchemas") (members_view schemas.now.entries))
-all_calm site matches d (code.Dependencies entries) h = calm_dependencies d (dependencies_in site (members_view entries.now.entries))
-all_calm site matches d (code.AllOf schemas) h = calm_branches (codes "allOf") 0 (sites_of_list site (codes "allOf") 0 (items_view schemas.now))
-all_calm site matches d (code.AnyOf schemas) h = calm_branches (codes "anyOf") 0 (sites_of_list site (codes "anyOf") 0 (items_view schemas.now))
-all_calm site matches d (code.OneOf schemas) h = calm_branches (codes "oneOf") 0 (sites_of_list site (codes "oneOf") 0 (items_view schemas.now))
-all_calm site matches d (code.Not schema) h = (refl, tt)
-all_calm site matches d (code.If condition then_schema else_schema) h = absurd (cc)
+calm_condition : (site : List Part → Data → Site) (k : List ℕ) (condition : Bor Value) (t e : Option (Bor Value)) → AllByRecursion IsCalm (asked_by site (λ p s. false) k null (asking.Condition condition t e))
+calm_condition site k condition None None = (refl, tt)
+calm_condition site k condition None (Some e) = (refl, (refl, tt))
+calm_condition site k condition (Some t) None = (refl, (refl, tt))
+calm_condition site k condition (Some t) (Some e) = (refl, (refl, (refl, tt)))
+
+all_calm : (site : List Part → Data → Site) (matches : List ℕ → List ℕ → Bool) (k : List ℕ) (d : Data) (f : Asks) → AllByRecursion IsCalm (asked_by site matches k d f)
+all_calm site matches k d (asking.ItemsFrom start schema) = calm_items k (site_of site k (view schema.now)) start (items_from start (items_of d))
+all_calm site matches k d (asking.ItemByItem schemas) = calm_by_item k (sites_of_list site k 0 (items_view schemas.now)) 0 (items_of d)
+all_calm site matches k d (asking.DeclaredMembers schemas) = calm_declared k d (sites_of_map site k (members_view schemas.now.entries))
+all_calm site matches k d (asking.MatchingMembers schemas) = calm_matching matches k d (sites_of_map site k (members_view schemas.now.entries))
+all_calm site matches k d (asking.OtherMembers declared schema) = calm_members k (site_of site k (view schema.now)) (other_members matches (declared_by declared) d)
+all_calm site matches k d (asking.Members schema) = calm_members k (site_of site k (view schema.now)) (members_of d)
+all_calm site matches k d (asking.Names schema) = calm_names (at k) (site_of site k (view schema.now)) (members_of d)
+all_calm site matches k d (asking.Triggered schemas) = calm_triggered k d (sites_of_map site k (members_view schemas.now.entries))
+all_calm site matches k d (asking.Dependencies entries) = calm_dependencies d (dependencies_in site (members_view entries.now.entries))
+all_calm site matches k d (asking.Branches schemas) = calm_branches k 0 (sites_of_list site k 0 (items_view schemas.now))
+all_calm site matches k d (asking.Value schema) = (refl, tt)
+all_calm site matches k d (asking.Condition condition t e) = calm_condition site k condition t e
 
 -- a name of which it is asked is one of the value's
 name_lies : (d : Data) (step : Step) → Keeps d step → (k : List ℕ) → step ≡ to_name k → (path : List Part) → In (path, Some k) (spots_in path d)
@@ -180,5 +171,6 @@ name_lies d step keeps k is path =
 pub questions_are_sound : QuestionsAreSound
 questions_are_sound site matches d a counts q i =
     let known = each_in (Sound (Led site a) (λ s. ⊤) d) (asks (rule matches d (shape_of site a))) (all_sound (Led site a) (λ s. ⊤) matches d (shape_of site a) (all_led site a counts)) q i in
-    let calm = each_in IsCalm (asks (rule matches d (shape_of site a))) (all_calm site matches d a counts) q i in
+    let asked = (follows site matches d a).asked in
+    let calm = each_in IsCalm (asks (rule matches d (shape_of site a))) (subst (λ qs. AllByRecursion IsCalm qs) (sym asked) (all_calm site matches (name_of a) d (asks_of a))) q i in
     record { led = known.within calm; within = calm; spots = λ path w h. known.step.inside path w h; named = λ k is path. name_lies d q.step known.step k is path }

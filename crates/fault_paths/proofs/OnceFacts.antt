@@ -1,5 +1,5 @@
 -- Of the questions of an applicator, texts lead to one at most.
-use Rattle.std.proofs.Common.{◌≡◌, ◌∙◌, ◌+◌, ◌<◌, ◌^◌, ◌∷◌, ℕ, List, [], Some, Option, length, Bool, true, not, codes, refl, sym, ap, subst, arith}
+use Rattle.std.proofs.Common.{◌≡◌, ◌∙◌, ◌+◌, ◌<◌, ◌^◌, ◌∷◌, ℕ, List, [], Some, Option, length, Bool, true, false, not, codes, refl, sym, ap, subst, arith}
 use Rattle.serde_json.specs.Data.{Data, Members, null, boolean, number, string, array, object, no_items, item}
 use Rattle.serde_json.specs.Find.{get, get_item, get_member}
 use Rattle.serde_json.specs.Find as finding
@@ -9,17 +9,21 @@ use Rattle.schema_meaning.specs.Members.{In, first, later}
 use Rattle.schema_meaning.specs.Places.{stay, to_item, to_member}
 use Rattle.schema_meaning.specs.Questions.{Question, question, at, at_name, at_index, items_of, items_from, each_branch, each_item, item_by_item, each_declared, each_matching, Declared, is_declared, members_of, other_members, each_member, each_triggered}
 use Rattle.schema_meaning.specs.Rules.{asks}
-use Rattle.schema_meaning.specs.Keywords.{counting, rule, Dependency, applies}
+use Rattle.schema_meaning.specs.Keywords.{rule, Dependency, applies}
 use Rattle.schema_definitions.specs.Sites.{Site}
 use Rattle.json_values.specs.Rising.{are_rising}
 use Rattle.certificate_laws.proofs.Listed.{item_question, item_further, declared_question}
 use Rattle.fault_paths.specs.Found.{IsIndexed}
 use Rattle.fault_paths.proofs.ItemFacts.{at_items, some_one}
 use Rattle.applicators.specs.Shapes.{shape_of, site_of, sites_of_list, sites_of_map, declared_by, dependency_at, dependencies_in}
-use Rattle.applicators.specs.Combined.{asks_values}
+use Rattle.applicators.specs.Asks.{asked_by, are_names, chooses}
+use Rattle.applicators.specs.Combined.{name_of, asks_of, asks_values}
 use Rattle.applicators.specs.declared.applicator.Applicator.{Applicator}
-use Rattle.applicators.specs.declared.applicator.Applicator.TheVariants as code
-use Rattle.fault_paths.specs.Laws.{NamesRise, BranchesFit, MembersRise, OneAhead}
+use Rattle.applicators.specs.declared.asks.Asks.{Asks}
+use Rattle.applicators.specs.declared.asks.Asks.TheVariants as code
+use Rattle.applicators.proofs.Asking.{by_values}
+use Rattle.applicators.proofs.CombinedLemmas.{follows}
+use Rattle.fault_paths.specs.Laws.{NamesRiseIn, BranchesFitIn, MembersRise, OneAhead}
 use Rattle.fault_paths.proofs.AskedFacts.{nth, nth_short, sites_counted, branch_question, listed_question, triggered_question, site_found, found_member, among_kept, member_question, matching_question, dependency_question, entry_found}
 use Rattle.applicators.specs.Questions.{each_dependency}
 use Rattle.fault_paths.proofs.AlikeFacts.{AreAlike, same_items, same_members, same_indexes, same_names}
@@ -53,17 +57,6 @@ module _ {S : Type 0} (k : List ℕ) (d : Data) (indexed : IsIndexed d) (q p : Q
       let alike : w.2 ≡ v.2 = some_one (get_item v.0 (items_of d)) w.2 v.2 (subst (λ (n : ℕ). get_item n (items_of d) ≡ Some w.2) same w.4) v.4 in
       w.5 ∙ ap (λ (n : ℕ). question w.1 (to_item (0 + n) w.2) (at_index k (0 + n))) same ∙ ap (λ (s : S). question s (to_item (0 + v.0) w.2) (at_index k (0 + v.0))) schemas
       ∙ ap (λ (e : Data). question v.1 (to_item (0 + v.0) e) (at_index k (0 + v.0))) alike ∙ sym v.5
-
--- `contains` asks items alone
-pub counted_asked : {S : Type 0} (s : S) (least most : Option ℕ) (d : Data) (q : Question S) → In q (asks (counting d least most (each_item (codes "contains") s 0 (items_of d))))
-    → In q (each_item (codes "contains") s 0 (items_from 0 (items_of d)))
-counted_asked s least most null q i = elim i [ ]
-counted_asked s least most (boolean b) q i = elim i [ ]
-counted_asked s least most (number n) q i = elim i [ ]
-counted_asked s least most (string t) q i = elim i [ ]
-counted_asked s least most (array no_items) q i = i
-counted_asked s least most (array (item e ds)) q i = i
-counted_asked s least most (object ms) q i = elim i [ ]
 
 module _ {S : Type 0} (k : List ℕ) (q p : Question S) (h : AreAlike q p) where
   -- ---- the value by each schema of a list
@@ -174,50 +167,32 @@ only_one q p x first first = refl
 only_one q p x first (later j) = elim j [ ]
 only_one q p x (later i) j = elim i [ ]
 
--- ---- by the kind of the applicator
+-- ---- by what is asked
 
-module _ (site : List Part → Data → Site) (matches : List ℕ → List ℕ → Bool) (d : Data) (indexed : IsIndexed d) (rising : MembersRise d) (q p : Question Site) (h : AreAlike q p) where
-  abbrev Asked : Question Site → Applicator → Type 0
-  Asked x a = In x (asks (rule matches d (shape_of site a)))
+module _ (site : List Part → Data → Site) (matches : List ℕ → List ℕ → Bool) (k : List ℕ) (d : Data) (indexed : IsIndexed d) (rising : MembersRise d) (q p : Question Site) (h : AreAlike q p) where
+  abbrev Asked : Question Site → Asks → Type 0
+  Asked x f = In x (asked_by site matches k d f)
 
-  pub asked_once : (a : Applicator) → NamesRise a → BranchesFit a → asks_values a ≡ true → Asked q a → Asked p a → q ≡ p
-  asked_once (code.Items start schema) r f e i j = items_once (codes "items") d indexed q p h (site_of site (codes "items") (view schema.now)) start i j
-  asked_once (code.ItemList schemas) r f e i j = list_once (codes "items") d indexed q p h (sites_of_list site (codes "items") 0 (items_view schemas.now)) i j
-  asked_once (code.PrefixItems schemas) r f e i j = list_once (codes "prefixItems") d indexed q p h (sites_of_list site (codes "prefixItems") 0 (items_view schemas.now)) i j
-  asked_once (code.AdditionalItems start schema) r f e i j =
-      items_once (codes "additionalItems") d indexed q p h (site_of site (codes "additionalItems") (view schema.now)) start i j
-  asked_once (code.NoAdditionalItems start schema) r f e i j =
-      items_once (codes "additionalItems") d indexed q p h (site_of site (codes "additionalItems") (view schema.now)) start i j
-  asked_once (code.Contains schema least most) r f e i j =
-      let s = site_of site (codes "contains") (view schema.now) in
-      items_once (codes "contains") d indexed q p h s 0 (counted_asked s least most d q i) (counted_asked s least most d p j)
-  asked_once (code.Properties schemas) r f e i j = declared_once site (codes "properties") d (members_view schemas.now.entries) r q p h i j
-  asked_once (code.PatternProperties schemas) r f e i j = matching_once site (codes "patternProperties") d (members_view schemas.now.entries) r q p h matches rising i j
-  asked_once (code.AdditionalProperties declared schema) r f e i j =
-      others_once (codes "additionalProperties") (site_of site (codes "additionalProperties") (view schema.now)) d rising q p h matches (declared_by declared) i j
-  asked_once (code.NoAdditionalProperties declared schema) r f e i j =
-      others_once (codes "additionalProperties") (site_of site (codes "additionalProperties") (view schema.now)) d rising q p h matches (declared_by declared) i j
-  asked_once (code.NoProperties schema) r f e i j =
-      members_once (codes "additionalProperties") (site_of site (codes "additionalProperties") (view schema.now)) d rising q p h (members_of d) (λ m h. h) i j
-  asked_once (code.PropertyNames schema) r f e i j = cc
-  asked_once (code.NoPropertyNames schema) r f e i j = cc
-  asked_once (code.DependentSchemas schemas) r f e i j = triggered_once site (codes "dependentSchemas") d (members_view schemas.now.entries) r q p h i j
-  asked_once (code.Dependencies entries) r f e i j = dependency_once site d (members_view entries.now.entries) r q p h i j
-  asked_once (code.AllOf schemas) r f e i j =
-      let count = sites_counted site (codes "allOf") 0 schemas.now in
-      branches_once (codes "allOf") q p h (sites_of_list site (codes "allOf") 0 (items_view schemas.now)) (omega (arith, count, f)) i j
-  asked_once (code.AnyOf schemas) r f e i j =
-      let count = sites_counted site (codes "anyOf") 0 schemas.now in
-      branches_once (codes "anyOf") q p h (sites_of_list site (codes "anyOf") 0 (items_view schemas.now)) (omega (arith, count, f)) i j
-  asked_once (code.OneOf schemas) r f e i j =
-      let count = sites_counted site (codes "oneOf") 0 schemas.now in
-      branches_once (codes "oneOf") q p h (sites_of_list site (codes "oneOf") 0 (items_view schemas.now)) (omega (arith, count, f)) i j
-  asked_once (code.Not schema) r f e i j = only_one q p _ i j
-  asked_once (code.If condition then_schema else_schema) r f e i j = cc
+  pub asked_once : (f : Asks) → NamesRiseIn f → BranchesFitIn f → are_names f ≡ false → chooses f ≡ false → Asked q f → Asked p f → q ≡ p
+  asked_once (code.ItemsFrom start schema) r fit n c i j = items_once k d indexed q p h (site_of site k (view schema.now)) start i j
+  asked_once (code.ItemByItem schemas) r fit n c i j = list_once k d indexed q p h (sites_of_list site k 0 (items_view schemas.now)) i j
+  asked_once (code.DeclaredMembers schemas) r fit n c i j = declared_once site k d (members_view schemas.now.entries) r q p h i j
+  asked_once (code.MatchingMembers schemas) r fit n c i j = matching_once site k d (members_view schemas.now.entries) r q p h matches rising i j
+  asked_once (code.OtherMembers declared schema) r fit n c i j = others_once k (site_of site k (view schema.now)) d rising q p h matches (declared_by declared) i j
+  asked_once (code.Members schema) r fit n c i j = members_once k (site_of site k (view schema.now)) d rising q p h (members_of d) (λ m h. h) i j
+  asked_once (code.Names schema) r fit n c i j = cc
+  asked_once (code.Triggered schemas) r fit n c i j = triggered_once site k d (members_view schemas.now.entries) r q p h i j
+  asked_once (code.Dependencies entries) r fit n c i j = dependency_once site d (members_view entries.now.entries) r q p h i j
+  asked_once (code.Branches schemas) r fit n c i j =
+      let count = sites_counted site k 0 schemas.now in branches_once k q p h (sites_of_list site k 0 (items_view schemas.now)) (omega (arith, count, fit)) i j
+  asked_once (code.Value schema) r fit n c i j = only_one q p _ i j
+  asked_once (code.Condition condition then_schema else_schema) r fit n c i j = cc
 
-pub one_ahead : (a : Applicator) (d : Data) → NamesRise a → BranchesFit a → IsIndexed d → MembersRise d → OneAhead a d
+pub one_ahead : (a : Applicator) (d : Data) → NamesRiseIn (asks_of a) → BranchesFitIn (asks_of a) → IsIndexed d → MembersRise d → OneAhead a d
 one_ahead a d rise fit indexed rising every site matches q p asked also instance evaluation i e j f rest_i rest_e rest_j rest_f at_q on_q at_p on_p =
-    asked_once site matches d indexed rising q p
+    let values = by_values a every in
+    let are : asks (rule matches d (shape_of site a)) ≡ asked_by site matches (name_of a) d (asks_of a) = (follows site matches d a).asked in
+    asked_once site matches (name_of a) d indexed rising q p
     (record {
       instance = instance;
       evaluation = evaluation;
@@ -234,4 +209,4 @@ one_ahead a d rise fit indexed rising every site matches q p asked also instance
       at_p = at_p;
       on_p = on_p;
     })
-    a rise fit every asked also
+    (asks_of a) rise fit values.0 values.1 (subst (In q) are asked) (subst (In p) are also)

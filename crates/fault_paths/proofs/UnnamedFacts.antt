@@ -1,5 +1,5 @@
 -- Questions of the value, its items and its members ask of no name.
-use Rattle.std.proofs.Common.{◌≡◌, ◌∷◌, [], ℕ, List, Bool, true, None, codes, refl, ap}
+use Rattle.std.proofs.Common.{◌≡◌, ◌∷◌, [], ℕ, List, Bool, true, false, None, refl, ap, subst}
 use Rattle.serde_json.specs.Data.{Data}
 use Rattle.serde_json.specs.View.{view, items_view, members_view}
 use Rattle.json_values.specs.Parts.{Part}
@@ -11,11 +11,14 @@ use Rattle.schema_meaning.specs.Keywords.{rule}
 use Rattle.schema_definitions.specs.Sites.{Site}
 use Rattle.certificate_laws.proofs.Listed.{item_question, declared_question}
 use Rattle.applicators.specs.Shapes.{shape_of, site_of, sites_of_list, sites_of_map, dependencies_in, declared_by}
-use Rattle.applicators.specs.Combined.{asks_values}
+use Rattle.applicators.specs.Asks.{asked_by, are_names, chooses}
+use Rattle.applicators.specs.Combined.{name_of, asks_of, asks_values}
 use Rattle.applicators.specs.declared.applicator.Applicator.{Applicator}
-use Rattle.applicators.specs.declared.applicator.Applicator.TheVariants as code
+use Rattle.applicators.specs.declared.asks.Asks.{Asks}
+use Rattle.applicators.specs.declared.asks.Asks.TheVariants as code
 use Rattle.fault_paths.proofs.AskedFacts.{branch_question, listed_question, triggered_question, member_question, matching_question, dependency_question}
-use Rattle.fault_paths.proofs.OnceFacts.{counted_asked}
+use Rattle.applicators.proofs.Asking.{by_values}
+use Rattle.applicators.proofs.CombinedLemmas.{follows}
 
 abbrev Unnamed : Question Site → Type 0
 Unnamed q = called_after None q.step ≡ None
@@ -27,42 +30,30 @@ unnamed_one : (p q : Question Site) → Unnamed p → In q (p ∷ []) → Unname
 unnamed_one p _ u first = u
 unnamed_one p q u (later i) = elim i [ ]
 
+module _ (site : List Part → Data → Site) (matches : List ℕ → List ℕ → Bool) (k : List ℕ) (d : Data) (q : Question Site) where
+  unnamed_by : (f : Asks) → are_names f ≡ false → chooses f ≡ false → In q (asked_by site matches k d f) → Unnamed q
+  unnamed_by (code.ItemsFrom start schema) n c i = unnamed_item k (site_of site k (view schema.now)) start d q i
+  unnamed_by (code.ItemByItem schemas) n c i =
+      let w = listed_question k (sites_of_list site k 0 (items_view schemas.now)) 0 (items_of d) q i in ap (λ (x : Question Site). called_after None x.step) w.5
+  unnamed_by (code.DeclaredMembers schemas) n c i =
+      let w = declared_question k d (sites_of_map site k (members_view schemas.now.entries)) q i in ap (λ (x : Question Site). called_after None x.step) w.4
+  unnamed_by (code.MatchingMembers schemas) n c i =
+      let w = matching_question matches k d (sites_of_map site k (members_view schemas.now.entries)) q i in ap (λ (x : Question Site). called_after None x.step) w.4
+  unnamed_by (code.OtherMembers declared schema) n c i =
+      let w = member_question k (site_of site k (view schema.now)) (other_members matches (declared_by declared) d) q i in ap (λ (x : Question Site). called_after None x.step) w.2
+  unnamed_by (code.Members schema) n c i =
+      let w = member_question k (site_of site k (view schema.now)) (members_of d) q i in ap (λ (x : Question Site). called_after None x.step) w.2
+  unnamed_by (code.Names schema) n c i = absurd (cc)
+  unnamed_by (code.Triggered schemas) n c i =
+      let w = triggered_question k d (sites_of_map site k (members_view schemas.now.entries)) q i in ap (λ (x : Question Site). called_after None x.step) w.2
+  unnamed_by (code.Dependencies entries) n c i =
+      let w = dependency_question d (dependencies_in site (members_view entries.now.entries)) q i in ap (λ (x : Question Site). called_after None x.step) w.4
+  unnamed_by (code.Branches schemas) n c i =
+      let w = branch_question k 0 (sites_of_list site k 0 (items_view schemas.now)) q i in ap (λ (x : Question Site). called_after None x.step) w.3
+  unnamed_by (code.Value schema) n c i = unnamed_one _ q refl i
+  unnamed_by (code.Condition condition then_schema else_schema) n c i = absurd (cc)
+
 module _ (site : List Part → Data → Site) (matches : List ℕ → List ℕ → Bool) (d : Data) (q : Question Site) where
   pub asks_no_name : (a : Applicator) → asks_values a ≡ true → In q (asks (rule matches d (shape_of site a))) → Unnamed q
-  asks_no_name (code.Items start schema) e i = unnamed_item (codes "items") (site_of site (codes "items") (view schema.now)) start d q i
-  asks_no_name (code.ItemList schemas) e i =
-      let w = listed_question (codes "items") (sites_of_list site (codes "items") 0 (items_view schemas.now)) 0 (items_of d) q i in ap (λ (x : Question Site). called_after None x.step) w.5
-  asks_no_name (code.PrefixItems schemas) e i =
-      let w = listed_question (codes "prefixItems") (sites_of_list site (codes "prefixItems") 0 (items_view schemas.now)) 0 (items_of d) q i in ap (λ (x : Question Site). called_after None x.step) w.5
-  asks_no_name (code.AdditionalItems start schema) e i = unnamed_item (codes "additionalItems") (site_of site (codes "additionalItems") (view schema.now)) start d q i
-  asks_no_name (code.NoAdditionalItems start schema) e i = unnamed_item (codes "additionalItems") (site_of site (codes "additionalItems") (view schema.now)) start d q i
-  asks_no_name (code.Contains schema least most) e i =
-      let s = site_of site (codes "contains") (view schema.now) in unnamed_item (codes "contains") s 0 d q (counted_asked s least most d q i)
-  asks_no_name (code.Properties schemas) e i =
-      let w = declared_question (codes "properties") d (sites_of_map site (codes "properties") (members_view schemas.now.entries)) q i in ap (λ (x : Question Site). called_after None x.step) w.4
-  asks_no_name (code.PatternProperties schemas) e i =
-      let w = matching_question matches (codes "patternProperties") d (sites_of_map site (codes "patternProperties") (members_view schemas.now.entries)) q i in
-      ap (λ (x : Question Site). called_after None x.step) w.4
-  asks_no_name (code.AdditionalProperties declared schema) e i =
-      let w = member_question (codes "additionalProperties") (site_of site (codes "additionalProperties") (view schema.now)) (other_members matches (declared_by declared) d) q i in
-      ap (λ (x : Question Site). called_after None x.step) w.2
-  asks_no_name (code.NoAdditionalProperties declared schema) e i =
-      let w = member_question (codes "additionalProperties") (site_of site (codes "additionalProperties") (view schema.now)) (other_members matches (declared_by declared) d) q i in
-      ap (λ (x : Question Site). called_after None x.step) w.2
-  asks_no_name (code.NoProperties schema) e i =
-      let w = member_question (codes "additionalProperties") (site_of site (codes "additionalProperties") (view schema.now)) (members_of d) q i in
-      ap (λ (x : Question Site). called_after None x.step) w.2
-  asks_no_name (code.PropertyNames schema) e i = absurd (cc)
-  asks_no_name (code.NoPropertyNames schema) e i = absurd (cc)
-  asks_no_name (code.DependentSchemas schemas) e i =
-      let w = triggered_question (codes "dependentSchemas") d (sites_of_map site (codes "dependentSchemas") (members_view schemas.now.entries)) q i in ap (λ (x : Question Site). called_after None x.step) w.2
-  asks_no_name (code.Dependencies entries) e i =
-      let w = dependency_question d (dependencies_in site (members_view entries.now.entries)) q i in ap (λ (x : Question Site). called_after None x.step) w.4
-  asks_no_name (code.AllOf schemas) e i =
-      let w = branch_question (codes "allOf") 0 (sites_of_list site (codes "allOf") 0 (items_view schemas.now)) q i in ap (λ (x : Question Site). called_after None x.step) w.3
-  asks_no_name (code.AnyOf schemas) e i =
-      let w = branch_question (codes "anyOf") 0 (sites_of_list site (codes "anyOf") 0 (items_view schemas.now)) q i in ap (λ (x : Question Site). called_after None x.step) w.3
-  asks_no_name (code.OneOf schemas) e i =
-      let w = branch_question (codes "oneOf") 0 (sites_of_list site (codes "oneOf") 0 (items_view schemas.now)) q i in ap (λ (x : Question Site). called_after None x.step) w.3
-  asks_no_name (code.Not schema) e i = unnamed_one _ q refl i
-  asks_no_name (code.If condition then_schema else_schema) e i = absurd (cc)
+  asks_no_name a e i =
+      let values = by_values a e in unnamed_by site matches (name_of a) d q (asks_of a) values.0 values.1 (subst (In q) (follows site matches d a).asked i)

@@ -15,53 +15,21 @@ use Rattle.certificate_laws.specs.Words.{IsRest}
 use Rattle.applicators.specs.Shapes.{shape_of}
 use Rattle.applicators.specs.Combined.{asks_values}
 use Rattle.applicators.specs.declared.applicator.Applicator.{Applicator}
-use Rattle.applicators.specs.declared.applicator.Applicator.TheVariants as code
+use Rattle.applicators.specs.declared.asks.Asks.{Asks}
+use Rattle.applicators.specs.declared.asks.Asks.TheVariants as code
 
 -- the names of its schemas rise
-abbrev pub NamesRise : Applicator → Type 0
-NamesRise (code.Items start schema) = ⊤
-NamesRise (code.ItemList schemas) = ⊤
-NamesRise (code.PrefixItems schemas) = ⊤
-NamesRise (code.AdditionalItems start schema) = ⊤
-NamesRise (code.NoAdditionalItems start schema) = ⊤
-NamesRise (code.Contains schema least most) = ⊤
-NamesRise (code.Properties schemas) = are_rising (members_view schemas.now.entries) ≡ true
-NamesRise (code.PatternProperties schemas) = are_rising (members_view schemas.now.entries) ≡ true
-NamesRise (code.AdditionalProperties declared schema) = ⊤
-NamesRise (code.NoAdditionalProperties declared schema) = ⊤
-NamesRise (code.NoProperties schema) = ⊤
-NamesRise (code.PropertyNames schema) = ⊤
-NamesRise (code.NoPropertyNames schema) = ⊤
-NamesRise (code.DependentSchemas schemas) = are_rising (members_view schemas.now.entries) ≡ true
-NamesRise (code.Dependencies entries) = are_rising (members_view entries.now.entries) ≡ true
-NamesRise (code.AllOf schemas) = ⊤
-NamesRise (code.AnyOf schemas) = ⊤
-NamesRise (code.OneOf schemas) = ⊤
-NamesRise (code.Not schema) = ⊤
-NamesRise (code.If condition then_schema else_schema) = ⊤
+abbrev pub NamesRiseIn : Asks → Type 0
+NamesRiseIn (code.DeclaredMembers schemas) = are_rising (members_view schemas.now.entries) ≡ true
+NamesRiseIn (code.MatchingMembers schemas) = are_rising (members_view schemas.now.entries) ≡ true
+NamesRiseIn (code.Triggered schemas) = are_rising (members_view schemas.now.entries) ≡ true
+NamesRiseIn (code.Dependencies entries) = are_rising (members_view entries.now.entries) ≡ true
+NamesRiseIn asks = ⊤
 
 -- the indexes of its branches fit in memory
-abbrev pub BranchesFit : Applicator → Type 0
-BranchesFit (code.Items start schema) = ⊤
-BranchesFit (code.ItemList schemas) = ⊤
-BranchesFit (code.PrefixItems schemas) = ⊤
-BranchesFit (code.AdditionalItems start schema) = ⊤
-BranchesFit (code.NoAdditionalItems start schema) = ⊤
-BranchesFit (code.Contains schema least most) = ⊤
-BranchesFit (code.Properties schemas) = ⊤
-BranchesFit (code.PatternProperties schemas) = ⊤
-BranchesFit (code.AdditionalProperties declared schema) = ⊤
-BranchesFit (code.NoAdditionalProperties declared schema) = ⊤
-BranchesFit (code.NoProperties schema) = ⊤
-BranchesFit (code.PropertyNames schema) = ⊤
-BranchesFit (code.NoPropertyNames schema) = ⊤
-BranchesFit (code.DependentSchemas schemas) = ⊤
-BranchesFit (code.Dependencies entries) = ⊤
-BranchesFit (code.AllOf schemas) = length schemas.now < 2 ^ 64
-BranchesFit (code.AnyOf schemas) = length schemas.now < 2 ^ 64
-BranchesFit (code.OneOf schemas) = length schemas.now < 2 ^ 64
-BranchesFit (code.Not schema) = ⊤
-BranchesFit (code.If condition then_schema else_schema) = ⊤
+abbrev pub BranchesFitIn : Asks → Type 0
+BranchesFitIn (code.Branches schemas) = length schemas.now < 2 ^ 64
+BranchesFitIn asks = ⊤
 
 -- the names of an object's members rise
 abbrev pub MembersRise : Data → Type 0

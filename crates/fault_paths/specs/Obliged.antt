@@ -1,27 +1,20 @@
 -- Whether the questions of an applicator oblige: whether a no to one of them is the keyword's no.
 use Rattle.std.specs.Prelude.{◌==◌, ℕ, Bool, true, false}
+use Rattle.applicators.specs.Combined.{combining_of}
 use Rattle.applicators.specs.declared.applicator.Applicator.{Applicator}
-use Rattle.applicators.specs.declared.applicator.Applicator.TheVariants as code
+use Rattle.applicators.specs.declared.combining.Combining.{Combining}
+use Rattle.applicators.specs.declared.combining.Combining.TheVariants as code
 
--- where it asks so many; of `if` it is not by their number
+-- where so many are asked, whose answers are combined so; where an answer chooses it is not by their number
+abbrev pub obliges_by : Combining → ℕ → Bool
+obliges_by code.Every n = true
+obliges_by code.Together n = true
+obliges_by code.EachNamed n = true
+obliges_by code.SomeBranch n = n == 1
+obliges_by code.OneBranch n = n == 1
+obliges_by code.Refusal n = false
+obliges_by (code.Counted least most) n = false
+obliges_by code.Conditional n = false
+
 abbrev pub obliges : Applicator → ℕ → Bool
-obliges (code.Items start schema) n = true
-obliges (code.ItemList schemas) n = true
-obliges (code.PrefixItems schemas) n = true
-obliges (code.AdditionalItems start schema) n = true
-obliges (code.NoAdditionalItems start schema) n = true
-obliges (code.Contains schema least most) n = false
-obliges (code.Properties schemas) n = true
-obliges (code.PatternProperties schemas) n = true
-obliges (code.AdditionalProperties declared schema) n = true
-obliges (code.NoAdditionalProperties declared schema) n = true
-obliges (code.NoProperties schema) n = true
-obliges (code.PropertyNames schema) n = true
-obliges (code.NoPropertyNames schema) n = true
-obliges (code.DependentSchemas schemas) n = true
-obliges (code.Dependencies entries) n = true
-obliges (code.AllOf schemas) n = true
-obliges (code.AnyOf schemas) n = n == 1
-obliges (code.OneOf schemas) n = n == 1
-obliges (code.Not schema) n = false
-obliges (code.If condition then_schema else_schema) n = false
+obliges a n = obliges_by (combining_of a) n

@@ -2,10 +2,11 @@
 ghost use Rattle.std.specs.Prelude.{◌≡◌, ◌<◌, ◌^◌, length, true};
 ghost use Rattle.serde_json.specs.View.{view, members_view};
 ghost use Rattle.json_values.specs.Rising.{are_rising};
-ghost use Rattle.fault_paths.specs.Laws.{NamesRise, BranchesFit, MembersRise, OneAhead};
+ghost use Rattle.fault_paths.specs.Laws.{NamesRiseIn, BranchesFitIn, MembersRise, OneAhead};
 
 use crate::items::indexes_fit;
 use applicators::applicator::Applicator;
+use applicators::asks::Asks;
 use serde_json::Value;
 use value_checks::rising::entries_rise;
 
@@ -15,19 +16,17 @@ fn list_fits(schemas: &[Value])
     let _count = schemas.len();
 }
 
-// The schemas of an applicator are in memory.
-fn schemas_stand(applicator: &Applicator<'_>)
-    ensures names { NamesRise applicator.now }
-    ensures branches { BranchesFit applicator.now }
+// The schemas that are asked are in memory.
+fn schemas_stand(asks: Asks<'_>)
+    ensures names { NamesRiseIn asks.entry }
+    ensures branches { BranchesFitIn asks.entry }
 {
-    match *applicator {
-        Applicator::Properties(schemas) => entries_rise(schemas),
-        Applicator::PatternProperties(schemas) => entries_rise(schemas),
-        Applicator::DependentSchemas(schemas) => entries_rise(schemas),
-        Applicator::Dependencies(entries) => entries_rise(entries),
-        Applicator::AllOf(schemas) => list_fits(schemas),
-        Applicator::AnyOf(schemas) => list_fits(schemas),
-        Applicator::OneOf(schemas) => list_fits(schemas),
+    match asks {
+        Asks::DeclaredMembers(schemas) => entries_rise(schemas),
+        Asks::MatchingMembers(schemas) => entries_rise(schemas),
+        Asks::Triggered(schemas) => entries_rise(schemas),
+        Asks::Dependencies(entries) => entries_rise(entries),
+        Asks::Branches(schemas) => list_fits(schemas),
         _ => {}
     }
 }
@@ -44,7 +43,7 @@ fn members_rise(value: &Value)
 pub fn one_ahead(applicator: &Applicator<'_>, value: &Value)
     ensures { OneAhead applicator.now (view value.now) }
 {
-    schemas_stand(applicator);
+    schemas_stand(applicator.asks());
     indexes_fit(value);
     members_rise(value);
 }

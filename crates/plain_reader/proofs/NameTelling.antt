@@ -7,7 +7,7 @@ use Rattle.json_values.specs.Parts.{Part}
 use Rattle.schema_meaning.specs.Members.{In, first, later}
 use Rattle.schema_meaning.specs.Places.{Spot, Key}
 use Rattle.schema_meaning.specs.Faults.{Faults, none, also, fault, joined, join}
-use Rattle.schema_meaning.specs.Rules.{asks, faults, of_object, each_of_object}
+use Rattle.schema_meaning.specs.Rules.{Rule, each_named, asks, faults, of_object, each_of_object}
 use Rattle.schema_meaning.specs.Keywords.{rule}
 use Rattle.schema_meaning.specs.Readings.{bags}
 use Rattle.schema_meaning.specs.Cut.{cut_within, left}
@@ -19,11 +19,14 @@ use Rattle.reading_laws.specs.NameLaws.{AreUncalled, keys_among}
 use Rattle.reading_laws.proofs.NameRooms.{have_room_among}
 use Rattle.reading_laws.proofs.NameTexts.{read_as_text}
 use Rattle.applicators.specs.Shapes.{shape_of}
-use Rattle.applicators.specs.Combined.{is_by_answers, is_each_named}
+use Rattle.applicators.specs.Combining.{Named, Combines, tells_names}
+use Rattle.applicators.specs.Combined.{combining_of, named_of, is_by_answers, is_each_named}
 use Rattle.applicators.specs.Questions.{question_of, questions_of}
 use Rattle.applicators.specs.declared.applicator.Applicator.{Applicator}
-use Rattle.applicators.specs.declared.applicator.Applicator.TheVariants as code
+use Rattle.applicators.specs.declared.combining.Combining.{Combining}
+use Rattle.applicators.specs.declared.combining.Combining.TheVariants as combining
 use Rattle.applicators.specs.declared.question.Question.{Question}
+use Rattle.applicators.proofs.CombinedLemmas.{follows}
 use Rattle.schema_patterns.specs.Read.{reads}
 use Rattle.schema_sites.specs.Seen.{documents_at}
 use Rattle.schema_sites.specs.declared.site.Site as sites
@@ -119,28 +122,16 @@ each-same : (w : Spot) (fs : Faults) → each_of_object w fs ≡ each_of_object 
 each-same w none = refl
 each-same w (also (fault k d i s e) fs) = ap (also (of_object w (fault k d i s e))) (each-same w fs)
 
+named_by : {S : Type 0} (v : Named) (w : Spot) (above : List Part) (answers : List Faults) (c : Combining) (r : Rule S) → Combines v w.value c r → tells_names c ≡ true
+    → faults r w above answers ≡ each_of_object w (join answers)
+named_by v w above answers combining.EachNamed (each_named p s names) h e = refl
+named_by v w above answers combining.EachNamed r h e = elim h [ ]
+named_by v w above answers c r h e = cc
+
 named_faults : (matches : List ℕ → List ℕ → Bool) (site : List Part → Data → Site) (a : Applicator) (w : Spot) (above : List Part) (answers : List Faults) → is_each_named a ≡ true
     → faults (rule matches w.value (shape_of site a)) w above answers ≡ each_of_object w (join answers)
-named_faults matches site (code.Items start schema) w above answers h = cc
-named_faults matches site (code.ItemList schemas) w above answers h = cc
-named_faults matches site (code.PrefixItems schemas) w above answers h = cc
-named_faults matches site (code.AdditionalItems start schema) w above answers h = cc
-named_faults matches site (code.NoAdditionalItems start schema) w above answers h = cc
-named_faults matches site (code.Contains schema least most) w above answers h = cc
-named_faults matches site (code.Properties schemas) w above answers h = cc
-named_faults matches site (code.PatternProperties schemas) w above answers h = cc
-named_faults matches site (code.AdditionalProperties declared schema) w above answers h = cc
-named_faults matches site (code.NoAdditionalProperties declared schema) w above answers h = cc
-named_faults matches site (code.NoProperties schema) w above answers h = cc
-named_faults matches site (code.PropertyNames schema) w above answers h = refl
-named_faults matches site (code.NoPropertyNames schema) w above answers h = cc
-named_faults matches site (code.DependentSchemas schemas) w above answers h = cc
-named_faults matches site (code.Dependencies entries) w above answers h = cc
-named_faults matches site (code.AllOf schemas) w above answers h = cc
-named_faults matches site (code.AnyOf schemas) w above answers h = cc
-named_faults matches site (code.OneOf schemas) w above answers h = cc
-named_faults matches site (code.Not schema) w above answers h = cc
-named_faults matches site (code.If condition then_schema else_schema) w above answers h = cc
+named_faults matches site a w above answers h =
+    named_by (named_of matches a w.value) w above answers (combining_of a) (rule matches w.value (shape_of site a)) (follows site matches w.value a).combined h
 
 module _ (c : sites.Site) (whole : Spots) (d : Data) (roads : Roads) (keys : List Key) (a : Applicator) where
   abbrev here : Spot

@@ -6,9 +6,10 @@ use Rattle.serde_json.specs.Data.{Data}
 use Rattle.schema_meaning.specs.Members.{count_true}
 use Rattle.schema_meaning.specs.Faults.{Faults, none, also, joined, branches_of}
 use Rattle.schema_meaning.specs.Rules.{verdicts_of}
-use Rattle.applicators.specs.Combined.{refused_name}
+use Rattle.applicators.specs.Combined.{combining_of, refused_name}
 use Rattle.applicators.specs.declared.applicator.Applicator.{Applicator}
-use Rattle.applicators.specs.declared.applicator.Applicator.TheVariants as code
+use Rattle.applicators.specs.declared.combining.Combining.{Combining}
+use Rattle.applicators.specs.declared.combining.Combining.TheVariants as code
 use Rattle.applied_laws.specs.Notes.{kind_by, value_by}
 use Rattle.schema_reports.specs.Kinds.{kind_of}
 use Rattle.schema_reports.specs.Told.{branches_in}
@@ -20,28 +21,19 @@ use Rattle.schema_reports.specs.declared.observer.Observation.{Observation}
 use Rattle.schema_reports.specs.declared.observer.Observer.{Observer}
 use Rattle.assertion_faults.specs.Tellings.{fault_at}
 
--- whether it carries the faults of each subschema
+-- whether the one fault carries the faults of each subschema
+abbrev pub carries : Combining → Bool
+carries code.Every = false
+carries code.Together = false
+carries code.EachNamed = false
+carries code.SomeBranch = true
+carries code.OneBranch = true
+carries code.Refusal = false
+carries (code.Counted least most) = false
+carries code.Conditional = false
+
 abbrev pub carries_branches : Applicator → Bool
-carries_branches (code.Items start schema) = false
-carries_branches (code.ItemList schemas) = false
-carries_branches (code.PrefixItems schemas) = false
-carries_branches (code.AdditionalItems start schema) = false
-carries_branches (code.NoAdditionalItems start schema) = false
-carries_branches (code.Contains schema least most) = false
-carries_branches (code.Properties schemas) = false
-carries_branches (code.PatternProperties schemas) = false
-carries_branches (code.AdditionalProperties declared schema) = false
-carries_branches (code.NoAdditionalProperties declared schema) = false
-carries_branches (code.NoProperties schema) = false
-carries_branches (code.PropertyNames schema) = false
-carries_branches (code.NoPropertyNames schema) = false
-carries_branches (code.DependentSchemas schemas) = false
-carries_branches (code.Dependencies entries) = false
-carries_branches (code.AllOf schemas) = false
-carries_branches (code.AnyOf schemas) = true
-carries_branches (code.OneOf schemas) = true
-carries_branches (code.Not schema) = false
-carries_branches (code.If condition then_schema else_schema) = false
+carries_branches a = carries (combining_of a)
 
 -- the number of answers that are yes, and the errors of each subschema, are those of these answers
 pub record AreOf (a : Applicator) (accepted : ℕ) (context : List (Vec ValidationError Global)) (answers : List Faults) : Type 0 where

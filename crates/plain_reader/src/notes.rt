@@ -5,6 +5,7 @@ ghost use Rattle.applicators.specs.Combined.{name_of, notes_by};
 ghost use Rattle.assertion_faults.specs.Tellings.{TellsNotes};
 
 use applicators::applicator::Applicator;
+use applicators::asks::Asks;
 use assertion_faults::tell_missing_beside;
 use schema_reports::{Observer, Roads};
 use serde_json::Value;
@@ -20,9 +21,9 @@ pub(crate) fn tell_notes<'i>(
 ) -> Result<(), AllocError>
     ensures { OnOk result (TellsNotes (view value.now) roads.entry (name_of applicator.now) (notes_by applicator.now (view value.now)) observer.old observer.new) }
 {
-    match *applicator {
-        Applicator::Dependencies(entries) => {
-            tell_missing_beside(alloc, "dependencies", entries, value, roads, observer)
+    match applicator.asks() {
+        Asks::Dependencies(entries) => {
+            tell_missing_beside(alloc, applicator.name(), entries, value, roads, observer)
         }
         _ => Ok(()),
     }

@@ -3,11 +3,15 @@ ghost use Rattle.std.specs.Prelude.{◌≡◌, IfOk, OnOk, true};
 ghost use Rattle.serde_json.specs.View.{view};
 ghost use Rattle.schema_meaning.specs.Questions.{members_of};
 ghost use Rattle.schema_meaning.specs.Keywords.{first_value};
+ghost use Rattle.applicators.specs.Asks.{kind_asked};
 ghost use Rattle.applied_laws.specs.Notes.{value_by};
+ghost use Rattle.schema_reports.specs.Kinds.{kind_of};
 ghost use Rattle.schema_patterns.specs.Read.{reads};
 ghost use Rattle.plain_reader.specs.Refusals.{carries_branches as is_carrier, IsRefusal, TellsRefusal};
 
 use applicators::applicator::Applicator;
+use applicators::asks::Asks;
+use applicators::combining::Combining;
 use applicators::declared::undeclared_names;
 use schema_patterns::matches::Matches;
 use schema_reports::{Observer, Roads, ValidationError, ValidationErrorKind};
@@ -18,7 +22,32 @@ use std::alloc::{AllocError, Global};
 pub(crate) const fn carries_branches(applicator: &Applicator<'_>) -> bool
     ensures { result ≡ is_carrier applicator.now }
 {
-    matches!(applicator, Applicator::AnyOf(_) | Applicator::OneOf(_))
+    matches!(
+        applicator.combining(),
+        Combining::SomeBranch | Combining::OneBranch
+    )
+}
+
+// Its kind by what is asked, where the answers do not tell it.
+fn asked_refusal<'i>(
+    alloc: Global,
+    matches: &Matches,
+    asks: Asks<'_>,
+    value: &Value,
+) -> Result<ValidationErrorKind<'i>, AllocError>
+    ensures { IfOk result (λ kind.
+        kind_of kind ≡ kind_asked (reads matches.now) asks.entry (view value.now)) }
+{
+    Ok(match asks {
+        Asks::ItemsFrom { .. } => ValidationErrorKind::AdditionalItems,
+        Asks::OtherMembers { declared, .. } => ValidationErrorKind::AdditionalProperties {
+            unexpected: undeclared_names(alloc, matches, declared, value)?,
+        },
+        Asks::Value(schema) => ValidationErrorKind::Not {
+            schema: schema.clone()?,
+        },
+        _ => ValidationErrorKind::FalseSchema,
+    })
 }
 
 // Its kind, where so many answers are yes.
@@ -32,26 +61,17 @@ fn refusal<'i>(
 ) -> Result<ValidationErrorKind<'i>, AllocError>
     ensures { IfOk result (λ kind. IsRefusal (reads matches.now) (view value.now) applicator.entry accepted context.entry.items kind) }
 {
-    Ok(match applicator {
-        Applicator::NoAdditionalItems { .. } => ValidationErrorKind::AdditionalItems,
-        Applicator::NoAdditionalProperties { declared, .. } => {
-            ValidationErrorKind::AdditionalProperties {
-                unexpected: undeclared_names(alloc, matches, declared, value)?,
-            }
-        }
-        Applicator::Contains { .. } => ValidationErrorKind::Contains,
-        Applicator::AnyOf(_) => ValidationErrorKind::AnyOf { context },
-        Applicator::OneOf(_) => {
+    Ok(match applicator.combining() {
+        Combining::SomeBranch => ValidationErrorKind::AnyOf { context },
+        Combining::OneBranch => {
             if accepted > 0 {
                 ValidationErrorKind::OneOfMultipleValid { context }
             } else {
                 ValidationErrorKind::OneOfNotValid { context }
             }
         }
-        Applicator::Not(schema) => ValidationErrorKind::Not {
-            schema: schema.clone()?,
-        },
-        _ => ValidationErrorKind::FalseSchema,
+        Combining::Counted { .. } => ValidationErrorKind::Contains,
+        _ => asked_refusal(alloc, matches, applicator.asks(), value)?,
     })
 }
 
@@ -72,8 +92,8 @@ fn first_member(value: &Value) -> &Value
 fn value_at_fault<'i>(applicator: &Applicator<'_>, value: &'i Value) -> &'i Value
     ensures { view result.now ≡ value_by applicator.now (view value.now) }
 {
-    match applicator {
-        Applicator::NoProperties(_) => first_member(value),
+    match applicator.asks() {
+        Asks::Members(_) => first_member(value),
         _ => value,
     }
 }

@@ -105,26 +105,8 @@ names-below site k no_members = refl
 names-below site k (member n d ms) = ap (λ (ns : List (List ℕ)). n ∷ ns) (names-below site k ms)
 
 applied-shown : (site : List Part → Data → Site) (a : Applicator) → shown (applied.shape_of site a) ≡ making.patterns_in a
-applied-shown site (code.Items start schema) = refl
-applied-shown site (code.ItemList schemas) = refl
-applied-shown site (code.PrefixItems schemas) = refl
-applied-shown site (code.AdditionalItems start schema) = refl
-applied-shown site (code.NoAdditionalItems start schema) = refl
-applied-shown site (code.Contains schema least most) = refl
-applied-shown site (code.Properties schemas) = refl
 applied-shown site (code.PatternProperties schemas) = names-below site (codes "patternProperties") (members_view schemas.now.entries)
-applied-shown site (code.AdditionalProperties declared schema) = refl
-applied-shown site (code.NoAdditionalProperties declared schema) = refl
-applied-shown site (code.NoProperties schema) = refl
-applied-shown site (code.PropertyNames schema) = refl
-applied-shown site (code.NoPropertyNames schema) = refl
-applied-shown site (code.DependentSchemas schemas) = refl
-applied-shown site (code.Dependencies entries) = refl
-applied-shown site (code.AllOf schemas) = refl
-applied-shown site (code.AnyOf schemas) = refl
-applied-shown site (code.OneOf schemas) = refl
-applied-shown site (code.Not schema) = refl
-applied-shown site (code.If condition_schema then_schema else_schema) = refl
+applied-shown site a = refl
 
 -- the patterns of a keyword as it was read are those of its shapes
 keyword-shown : (docs : Documents) (s : Site) (k : Keyword) → flat_map shown (read.shapes_of docs s k) ≡ read.patterns_in k

@@ -11,6 +11,7 @@ ghost use Rattle.reached_sites.specs.Places.{place_in};
 
 use crate::place::SchemaPlace;
 use applicators::applicator::Applicator;
+use applicators::asks::Asks;
 use schema_sites::keyword::Keyword;
 use serde_json::{Map, Value};
 use std::alloc::{AllocError, Global};
@@ -46,8 +47,8 @@ fn by_patterns<'r>(applicator: &Applicator<'r>) -> Option<&'r Map<String, Value>
     ensures some { IfSome result (λ schemas. making.patterns_in applicator.now ≡ member_names (members_view schemas.now.entries)) }
     ensures none { IfNone result (making.patterns_in applicator.now ≡ []) }
 {
-    match applicator {
-        Applicator::PatternProperties(schemas) => Some(*schemas),
+    match applicator.asks() {
+        Asks::MatchingMembers(schemas) => Some(schemas),
         _ => None,
     }
 }

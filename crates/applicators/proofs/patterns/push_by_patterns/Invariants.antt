@@ -1,4 +1,4 @@
-use Rattle.std.proofs.Common.{◌≡◌, ◌++◌, List, codes}
+use Rattle.std.proofs.Common.{◌≡◌, ◌++◌, List}
 use Rattle.serde_json.specs.Data.{Data}
 use Rattle.serde_json.specs.View.{members_view}
 use Rattle.json_values.specs.Parts.{Part}
@@ -12,5 +12,5 @@ use Rattle.applicators.proofs.patterns.push_by_patterns.Given as goal
 
 abbrev pub invariant-loop-pattern : goal.invariant-loop-pattern
 invariant-loop-pattern l = (site : List Part → Data → Site) →
-    questions_of site l.fn.questions.items ++ by_patterns (reads l.matches) (listed_members (members_view l.value.entries)) (sites_of_map site (codes "patternProperties") (members_view l.schemas.entries))
-    ≡ questions_of site l.questions.items ++ by_patterns (reads l.matches) (listed_members (members_view l.value.entries)) (sites_of_map site (codes "patternProperties") (members_view l.pattern-iterator))
+    questions_of site l.fn.questions.items ++ by_patterns (reads l.matches) l.keyword (listed_members (members_view l.value.entries)) (sites_of_map site l.keyword (members_view l.schemas.entries))
+    ≡ questions_of site l.questions.items ++ by_patterns (reads l.matches) l.keyword (listed_members (members_view l.value.entries)) (sites_of_map site l.keyword (members_view l.pattern-iterator))

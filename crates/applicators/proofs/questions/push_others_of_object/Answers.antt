@@ -1,4 +1,4 @@
-use Rattle.std.proofs.Common.{◌∙◌, ◌∷◌, ℕ, List, codes, sym, ap}
+use Rattle.std.proofs.Common.{◌∙◌, ◌∷◌, ℕ, List, sym, ap}
 use Rattle.serde_json.specs.View.{view, members_view}
 use Rattle.schema_meaning.specs.Questions.{listed_members}
 use Rattle.schema_patterns.specs.Read.{reads}
@@ -8,7 +8,7 @@ use Rattle.applicators.proofs.questions.push_others_of_object.Goals as goal
 
 pub loop-name-preserved-in_ok-push : goal.loop-name-preserved-in_ok-push
 loop-name-preserved-in_ok-push c = λ site.
-    let keyword = codes "additionalProperties" in
+    let keyword = c.args.keyword.now in
     let e = view c.in-Some.member.now in
     let more = listed_members (members_view c.next.new.self) in
     others_step (reads c.args.matches.now) (declared_by c.args.declared) keyword (site_of site keyword (view c.args.schema.now)) c.as_str-name.result.now e

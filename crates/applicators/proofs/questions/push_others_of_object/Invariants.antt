@@ -1,4 +1,4 @@
-use Rattle.std.proofs.Common.{◌≡◌, ◌++◌, List, codes}
+use Rattle.std.proofs.Common.{◌≡◌, ◌++◌, List}
 use Rattle.serde_json.specs.Data.{Data}
 use Rattle.serde_json.specs.View.{view, members_view}
 use Rattle.json_values.specs.Parts.{Part}
@@ -11,5 +11,5 @@ use Rattle.applicators.proofs.questions.push_others_of_object.Given as goal
 
 abbrev pub invariant-loop-name : goal.invariant-loop-name
 invariant-loop-name l = (site : List Part → Data → Site) →
-    questions_of site l.fn.questions.items ++ each_member (codes "additionalProperties") (site_of site (codes "additionalProperties") (view l.schema)) (others_among (reads l.matches) (declared_by l.declared) (listed_members (members_view l.members.entries)))
-    ≡ questions_of site l.questions.items ++ each_member (codes "additionalProperties") (site_of site (codes "additionalProperties") (view l.schema)) (others_among (reads l.matches) (declared_by l.declared) (listed_members (members_view l.name-iterator)))
+    questions_of site l.fn.questions.items ++ each_member l.keyword (site_of site l.keyword (view l.schema)) (others_among (reads l.matches) (declared_by l.declared) (listed_members (members_view l.members.entries)))
+    ≡ questions_of site l.questions.items ++ each_member l.keyword (site_of site l.keyword (view l.schema)) (others_among (reads l.matches) (declared_by l.declared) (listed_members (members_view l.name-iterator)))
