@@ -1,10 +1,10 @@
 -- Members by their names.
-use Rattle.std.proofs.Common.{◌≡◌, ℕ, List, true, false, true≢false, sym, ap, ◌∙◌, subst}
+use Rattle.std.proofs.Common.{◌≡◌, ℕ, List, true, sym, ap, ◌∙◌, subst}
 use Rattle.serde_json.specs.Data.{Data}
 use Rattle.schema_meaning.specs.Members.{is_listed}
 use Rattle.schema_definitions.specs.Rows.{Context, readers, read_among}
 use Rattle.applicator_reading.specs.Beside.{Surrounds}
-use Rattle.applicator_reading.specs.Names.{applicator_names, valued_names}
+use Rattle.applicator_reading.specs.Names.{applicator_names}
 use Rattle.applicator_reading.specs.Reads.{ReadsAs}
 use Rattle.applicator_reading.specs.declared.neighbours.Neighbours.{Neighbours}
 use Rattle.applicator_reading.specs.declared.reading.Reading.{Reading}
@@ -15,6 +15,3 @@ read-at k known n d r is h = subst (λ (w : List ℕ). (x : Context) → Surroun
 
 pub named-at : (k known : List ℕ) → k ≡ known → is_listed known applicator_names ≡ true → is_listed k applicator_names ≡ true
 named-at k known is listed = ap (λ (w : List ℕ). is_listed w applicator_names) is ∙ listed
-
-pub not-valued : (k known : List ℕ) → k ≡ known → is_listed known valued_names ≡ false → is_listed k valued_names ≡ true → ⊥
-not-valued k known is unlisted listed = true≢false (sym listed ∙ ap (λ (w : List ℕ). is_listed w valued_names) is ∙ unlisted)

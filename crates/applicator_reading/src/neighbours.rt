@@ -35,14 +35,15 @@ fn list_length(value: &Value) -> usize
     }
 }
 
-fn has_reference(members: &Map<String, Value>) -> bool
+/// Whether a reference stands among the members.
+pub fn has_reference(members: &Map<String, Value>) -> bool
     ensures { result ≡ rows.has_reference (members_view members.now.entries) }
 {
     member_at(members, "$ref").is_some()
 }
 
-// The member of a name, where it counts.
-pub(crate) fn beside<'r>(neighbours: Neighbours<'r>, name: &str) -> Option<&'r Value>
+/// The member of a name, where it counts.
+pub fn beside<'r>(neighbours: Neighbours<'r>, name: &str) -> Option<&'r Value>
     ensures { option_map (λ v. view v.now) result ≡ beside_in neighbours.entry name.now }
 {
     if neighbours

@@ -11,7 +11,7 @@ ghost use Rattle.applicators.specs.Shapes.{shape_of, leads_of};
 ghost use Rattle.applicators.specs.Combined.{is_by_answers};
 ghost use Rattle.applicators.specs.Made.{patterns_in};
 ghost use Rattle.applicator_reading.specs.Beside.{Surrounds};
-ghost use Rattle.applicator_reading.specs.Names.{applicator_names, valued_names};
+ghost use Rattle.applicator_reading.specs.Names.{applicator_names};
 ghost use Rattle.applicator_reading.specs.Arms.{list_name, list_row, map_name, map_row};
 ghost use Rattle.applicator_reading.specs.Reads.{ReadsAs, IsByAnswers, site_in};
 ghost use Rattle.applicator_reading.specs.Conditions.{IsCondition, IsConsequent};
@@ -281,7 +281,7 @@ pub fn consequent<'r>(neighbours: Neighbours<'r>, value: &'r Value) -> Reading<'
 }
 
 /// What a member of a schema is that counts, where its name is that of a keyword that applies subschemas; for any other name there is
-/// none, and so for `dependencies`.
+/// none, and so for `dependencies`, and for `if`, `then` and `else`, which have calls of their own.
 ///
 /// It reads the neighbours that count, and of an entry that is no schema it names the first. The patterns of `patternProperties` are
 /// not made. What is read lends the schema; it takes no memory.
@@ -289,7 +289,7 @@ pub fn read<'r>(neighbours: Neighbours<'r>, name: &str, value: &'r Value) -> Opt
     ensures read { IfSome result (λ r. (x : rows.Context) → Surrounds neighbours.entry x → ReadsAs x name.now (rows.read_among rows.readers x name.now (view value.now)) r) }
     ensures named { IfSome result (λ r. is_listed name.now applicator_names ≡ true) }
     ensures other { IfNone result (is_listed name.now applicator_names ≡ false) }
-    ensures answers { IfSome result (λ r. is_listed name.now valued_names ≡ true → IsByAnswers r) }
+    ensures answers { IfSome result (λ r. IsByAnswers r) }
 {
     match name {
         "items" => Some(items(neighbours, value)),
@@ -307,9 +307,6 @@ pub fn read<'r>(neighbours: Neighbours<'r>, name: &str, value: &'r Value) -> Opt
         "anyOf" => Some(list(ListKeyword::AnyOf, value)),
         "oneOf" => Some(list(ListKeyword::OneOf, value)),
         "not" => Some(negation(value)),
-        "if" => Some(condition(neighbours, value)),
-        "then" => Some(consequent(neighbours, value)),
-        "else" => Some(consequent(neighbours, value)),
         _ => None,
     }
 }

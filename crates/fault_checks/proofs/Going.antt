@@ -1,5 +1,5 @@
 -- The step of a certificate by a keyword behind whose name something is left.
-use Rattle.std.proofs.Common.{◌≡◌, ◌∙◌, ◌++◌, ℕ, List, [], ◌∷◌, All, Bool, true, false, true≢false, Bor, Option, None, Some, is_some, not, ◌||◌, map, refl, sym, ap, subst, append-nil, length, suc, ◌+◌, ◌<◌, ◌≤◌, length-append, arith}
+use Rattle.std.proofs.Common.{◌≡◌, ◌∙◌, ◌++◌, ℕ, List, [], ◌∷◌, All, Bool, true, false, true≢false, Bor, Option, None, Some, is_some, not, ◌||◌, refl, sym, ap, subst, append-nil, length, ◌+◌, ◌<◌, length-append, arith}
 use Rattle.serde_json.specs.Data.{Data, boolean, depth}
 use Rattle.json_values.specs.Parts.{Part}
 use Rattle.json_values.specs.Pointers.{escape}
@@ -118,11 +118,6 @@ pub behind_more : (ps : List RoadPart) (p : RoadPart) (path : List Part) → beh
 behind_more [] p path = refl
 behind_more (q ∷ ps) p path = behind_more ps p (part_of q ∷ path)
 
--- a part for one that is the same
-pub behind_for : (xs ys : List RoadPart) (p q : RoadPart) (path : List Part) → part_of p ≡ part_of q → behind (xs ++ p ∷ ys) path ≡ behind (xs ++ q ∷ ys) path
-behind_for [] ys p q path e = ap (λ x. behind ys (x ∷ path)) e
-behind_for (x ∷ xs) ys p q path e = behind_for xs ys p q (part_of x ∷ path) e
-
 -- ---- less is left
 
 pub shorter_by : (step : Step) (text token : List ℕ) (after : Option (Bor (List ℕ))) → cuts text ≡ token ∷ cuts_behind (text_left after) → IsNotLonger after step → IsShorter (47 ∷ text) step
@@ -141,19 +136,10 @@ pub lies_in : (c : code.Site) (d : Data) (k : Keyword) → Finds c d k → depth
 lies_in c d code.Nothing f h i = tt
 lies_in c d (code.Assertion a) f h i = tt
 lies_in c d (code.Pattern p) f h i = tt
-lies_in c d (code.Items start schema) f h i = subst (λ e. depth e < depth (view c.contents.now)) f h
-lies_in c d (code.Properties map) f h i = subst (λ e. depth e < depth (view c.contents.now)) f h
 lies_in c d (code.If schema then_schema else_schema) f h i = record { inside = subst (λ e. depth e < depth (view c.contents.now)) f h; beside = i }
 lies_in c d (code.Consequent k schema) f h i = tt
 lies_in c d (code.Applicator a) f h i = record { by_answers = f; inside = i }
 lies_in c d (code.Reference by text target) f h i = f
-
-pub shorter_part : (after : Option (Bor (List ℕ))) (text token : List ℕ) (left : Option (Bor (List ℕ))) → text_left after ≡ 47 ∷ text → cuts text ≡ token ∷ cuts_behind (text_left left)
-    → length (text_left left) ≤ length (text_left after)
-shorter_part after text token left is cut =
-    let whole : length (text_left after) ≡ suc (length text) = ap length is in
-    let joined : length text ≡ length token + length (text_left left) = ap length (cut_joined text token (text_left left) cut (rest_left left)) ∙ length-append token (text_left left) in
-    omega (arith, whole, joined)
 
 -- two parts at the end of a path
 pub behind_twice : (ps qs rs : List RoadPart) (p q : RoadPart) → qs ≡ ps ++ p ∷ [] → rs ≡ qs ++ q ∷ [] → behind rs [] ≡ part_of q ∷ part_of p ∷ behind ps []

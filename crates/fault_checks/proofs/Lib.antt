@@ -1,8 +1,6 @@
 pub mod Right
 pub mod Children
 pub mod RefusedNames
-pub mod ItemQuestions
-pub mod MemberQuestions
 pub mod Refusals
 pub mod Gathered
 pub mod AppliedQuestions
@@ -14,8 +12,6 @@ pub mod Beside
 pub mod Choices
 pub mod Chosen
 pub mod Going
-pub mod ItemSteps
-pub mod MemberSteps
 pub mod ObligedFacts
 pub mod AppliedSteps
 pub mod NamedSteps

@@ -54,8 +54,6 @@ abbrev pub HasOneName : code.Keyword → Type 0
 HasOneName code.Nothing = Unit {0}
 HasOneName (code.Assertion a) = Unit {0}
 HasOneName (code.Pattern p) = Unit {0}
-HasOneName (code.Items start schema) = Unit {0}
-HasOneName (code.Properties map) = Unit {0}
 HasOneName (code.If schema then_schema else_schema) = ⊥
 HasOneName (code.Consequent k schema) = Unit {0}
 HasOneName (code.Applicator a) = is_every a ≡ true
@@ -65,8 +63,6 @@ only_named : (k : code.Keyword) (n : List ℕ) (docs : Documents) (s : Site) →
 only_named code.Nothing n docs s one h = tt
 only_named (code.Assertion a) n docs s one h = h
 only_named (code.Pattern p) n docs s one h = h
-only_named (code.Items start schema) n docs s one h = h
-only_named (code.Properties map) n docs s one h = h
 only_named (code.If schema then_schema else_schema) n docs s one h = absurd one
 only_named (code.Consequent k schema) n docs s one h = tt
 only_named (code.Applicator a) n docs s one h = (one_name (below docs s) a n one h.0, tt)

@@ -16,7 +16,7 @@ use Rattle.applicators.specs.declared.applicator.Applicator.TheVariants as appli
 use Rattle.certificate_laws.specs.Words.{Bears, IsUnder, member_of, count_names, choice_names}
 use Rattle.certificate_laws.proofs.Named.{listed_in}
 use Rattle.fault_checks.specs.Passed.{Keyword, assertion_of, kind_of, row_of}
-use Rattle.fault_checks.specs.Passed.{Nothing, Assertion, Pattern, Items, Properties, If, Consequent, Applicator, Reference}
+use Rattle.fault_checks.specs.Passed.{Nothing, Assertion, Pattern, If, Consequent, Applicator, Reference}
 use Rattle.fault_checks.specs.Names.{bears, applicator_bears}
 
 -- a shape that may refuse under a name, which is written as it is
@@ -110,8 +110,6 @@ module _ (old : Bool) (member n : List ℕ) where
   own_named Nothing docs s h e = tt
   own_named (Assertion a) docs s h e = (owned _ h.0 (same_bytes (named (assertion_of a)) n e), tt)
   own_named (Pattern p) docs s h e = (owned _ h.0 (to_own (codes "pattern") _ h.0 refl refl e), tt)
-  own_named (Items start schema) docs s h e = (owned _ h.0 (to_own (codes "items") _ h.0 refl refl e), tt)
-  own_named (Properties map) docs s h e = (owned _ h.0 (to_own (codes "properties") _ h.0 refl refl e), tt)
   own_named (If schema then_schema else_schema) docs s h e = (owned _ h.0 (listed_in n choice_names e), tt)
   own_named (Consequent k schema) docs s h e = tt
   own_named (Applicator a) docs s h e = (owned _ h.0 (applied_named (below docs s) a h.0 e), tt)
@@ -126,10 +124,6 @@ module _ (old : Bool) (member n : List ℕ) where
   named_own (Assertion a) docs s shape (later i) h g = elim i [ ]
   named_own (Pattern p) docs s _ first h g = of_own (codes "pattern") _ h.0 refl refl g
   named_own (Pattern p) docs s shape (later i) h g = elim i [ ]
-  named_own (Items start schema) docs s _ first h g = of_own (codes "items") _ h.0 refl refl g
-  named_own (Items start schema) docs s shape (later i) h g = elim i [ ]
-  named_own (Properties map) docs s _ first h g = of_own (codes "properties") _ h.0 refl refl g
-  named_own (Properties map) docs s shape (later i) h g = elim i [ ]
   named_own (If schema then_schema else_schema) docs s _ first h g = in_listed n choice_names g
   named_own (If schema then_schema else_schema) docs s shape (later i) h g = elim i [ ]
   named_own (Consequent k schema) docs s shape i h g = elim i [ ]

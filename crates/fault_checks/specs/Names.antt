@@ -5,7 +5,7 @@ use Rattle.schema_meaning.specs.Keywords.{named}
 use Rattle.applicators.specs.declared.applicator.Applicator as applied
 use Rattle.applicators.specs.declared.applicator.Applicator.TheVariants as code
 use Rattle.fault_checks.specs.Passed.{Keyword, assertion_of}
-use Rattle.fault_checks.specs.Passed.{Nothing, Assertion, Pattern, Items, Properties, If, Consequent, Applicator, Reference}
+use Rattle.fault_checks.specs.Passed.{Nothing, Assertion, Pattern, If, Consequent, Applicator, Reference}
 use Rattle.certificate_laws.specs.Words.{count_names, choice_names}
 
 -- `contains` may under those of its bounds too, `if` under `then` and `else`
@@ -36,8 +36,6 @@ abbrev pub bears : Keyword → List ℕ → List ℕ → Bool
 bears Nothing member n = bytes_eq member n
 bears (Assertion a) member n = bytes_eq (named (assertion_of a)) n
 bears (Pattern p) member n = bytes_eq member n
-bears (Items start schema) member n = bytes_eq member n
-bears (Properties map) member n = bytes_eq member n
 bears (If schema then_schema else_schema) member n = is_listed n choice_names
 bears (Consequent k schema) member n = bytes_eq member n
 bears (Applicator a) member n = applicator_bears a member n

@@ -13,7 +13,7 @@ pub use Rattle.plain_reader.specs.Choices.{IsInside}
 pub use Rattle.plain_reader.specs.Passed.{Refuses}
 pub use Rattle.plain_reader.specs.Passed.{Stands, documents_at, is_draft_4_at}
 pub use Rattle.plain_reader.specs.Passed.{Keyword}
-pub use Rattle.plain_reader.specs.Passed.{Applicator, Assertion, Consequent, If, Items, Nothing, Pattern, Properties, Reference}
+pub use Rattle.plain_reader.specs.Passed.{Applicator, Assertion, Consequent, If, Nothing, Pattern, Reference}
 pub use Rattle.plain_reader.specs.Passed.{Refusal}
 pub use Rattle.plain_reader.specs.Passed.{ReferenceKeyword}
 pub use Rattle.plain_reader.specs.Passed.{Site}

@@ -1,25 +1,22 @@
 -- What is said of a schema, of a keyword and of questions, where no references come back.
-use Rattle.std.specs.Prelude.{◌≡◌, ◌<◌, ℕ, List, map, length, Bool, true, false, not, Option, Some}
+use Rattle.std.specs.Prelude.{◌≡◌, ℕ, List, map, length, Bool, true, false, Option}
 use Rattle.std.specs.Borrow.{Bor}
-use Rattle.serde_json.specs.Data.{Data, object, depth, Members}
-use Rattle.serde_json.specs.Find.{get}
-use Rattle.serde_json.specs.View.{view, members_view}
+use Rattle.serde_json.specs.Data.{Data}
 use Rattle.serde_json.specs.declared.value.Value.{Value}
 use Rattle.json_values.specs.Parts.{Part}
 use Rattle.schema_meaning.specs.Members.{In, count_true}
 use Rattle.schema_meaning.specs.Places.{whole, value_after}
-use Rattle.schema_meaning.specs.Questions.{Question, at, listed_members}
+use Rattle.schema_meaning.specs.Questions.{Question, at}
 use Rattle.schema_meaning.specs.Rules.{Rule, accepts, asks, refuses_at}
 use Rattle.schema_meaning.specs.Keywords.{rule}
 use Rattle.schema_meaning.specs.Readings.{Reading, verdicts, IsTold}
 use Rattle.schema_meaning.specs.Certificates.{AreAnswers}
 use Rattle.schema_definitions.specs.Sites.{Site, below}
 use Rattle.schema_definitions.specs.Rows.{Row}
-use Rattle.json_values.specs.Rising.{are_rising}
 use Rattle.plain_reader.specs.Passed.{shapes_of, row_of, site_at, FindsTarget}
 use Rattle.plain_reader.specs.Passed as code
 use Rattle.plain_reader.specs.Passed.{Keyword}
-use Rattle.plain_reader.specs.Passed.{Nothing, Assertion, Pattern, Items, Properties, If, Consequent, Applicator, Reference}
+use Rattle.plain_reader.specs.Passed.{Nothing, Assertion, Pattern, If, Consequent, Applicator, Reference}
 use Rattle.plain_reader.specs.Applied.{EachInside}
 use Rattle.plain_reader.specs.Choices.{IsInside, AreInside}
 use Rattle.applicators.specs.Shapes.{shape_of, place_of}
@@ -27,7 +24,7 @@ use Rattle.applicators.specs.Combined.{is_by_answers}
 use Rattle.applicators.specs.Questions.{step_of, question_of}
 use Rattle.applicators.specs.declared.applicator.Applicator as applied
 use Rattle.applicators.specs.declared.question.Question as asking
-use Rattle.fault_checks.specs.Rows.{property_site, properties_row, applied_row}
+use Rattle.fault_checks.specs.Rows.{applied_row}
 use Rattle.fault_checks.specs.Scenes.{Scene, reading_of, IsRight, Meets, IsStraight, Stage}
 
 abbrev pub IsDecided : Bool → Type 0 → Type 0
@@ -98,17 +95,10 @@ abbrev pub LiesIn : code.Site → Keyword → Type 0
 LiesIn c Nothing = Unit {0}
 LiesIn c (Assertion a) = Unit {0}
 LiesIn c (Pattern p) = Unit {0}
-LiesIn c (Items start schema) = depth (view schema.now) < depth (view c.contents.now)
-LiesIn c (Properties map) = depth (object (members_view map.now.entries)) < depth (view c.contents.now)
 LiesIn c (If schema then_schema else_schema) = ChoosesIn c schema then_schema else_schema
 LiesIn c (Consequent k schema) = Unit {0}
 LiesIn c (Applicator a) = AppliesIn c a
 LiesIn c (Reference keyword text target) = FindsTarget c keyword text.now target
-
--- whether a member is refused by the schema of its name in `properties`
-pub record IsMemberRefused (c : code.Site) (path : List Part) (n : List ℕ) (schema e : Data) (b : Bool) : Type 0 where
-  pub told : (ms : Members) → are_rising ms ≡ true → In (n, schema) (listed_members ms) → (d : Data) → get n d ≡ Some e → (x : Scene) (s : Site) (k : List ℕ) → Stage c path d k (properties_row ms x s) x s
-      → IsTold verdicts (reading_of x) (property_site n schema x s) (whole e) (not b)
 
 -- the answer to a question, where an applicator asks it
 pub record IsAnswered (c : code.Site) (path : List Part) (d : Data) (q : asking.Question) (b : Bool) : Type 0 where

@@ -40,8 +40,8 @@ fn value_of<'i>(asked: Asked<'i>, value: &'i Value) -> &'i Value
 }
 
 // The parts that a question adds to the road.
-fn push_road<'r, 'p>(
-    parts: &mut Vec<RoadPart<'r, 'p>>,
+fn push_road<'r>(
+    parts: &mut Vec<RoadPart<'r>>,
     keyword: &'static str,
     entry: Entry<'r>,
 ) -> Result<(), AllocError>

@@ -55,10 +55,10 @@ fn is_inner_refused<'a, 'r>(
 }
 
 /// Whether a schema at a keyword of the one at a site refuses a value, where the path of the site goes on from `schema` by these parts.
-pub fn is_refused_inside<'a, 'r, 'p>(
+pub fn is_refused_inside<'a, 'r>(
     alloc: Global,
     site: &Site<'r>,
-    parts: &'a [RoadPart<'r, 'p>],
+    parts: &'a [RoadPart<'r>],
     schema: &'a LazyLocation<'a, 'a>,
     reference: Reference<'a>,
     name: &'static str,

@@ -15,8 +15,6 @@ ghost use Rattle.fault_checks.specs.Verdicts.{IsVerdict, IsRefusalAt, AreRefused
 
 use crate::applied_refusals::applicator_refuses;
 use crate::choice_refusals::condition_refuses;
-use crate::item_refusals::some_item_refused;
-use crate::member_refusals::some_member_refused;
 use crate::road::RoadPart;
 use plain_reader::site::tell_site;
 use plain_reader::{Keyword, ReferenceKeyword, Resolved, Site, at_target};
@@ -83,13 +81,6 @@ fn keyword_refuses<'a, 'r>(
         Keyword::Nothing => Ok(false),
         Keyword::Assertion(assertion) => Ok(!assertion.accept(alloc, value)?),
         Keyword::Pattern(pattern) => Ok(!accepts_text(alloc, site.matches, pattern, value)?),
-        Keyword::Items {
-            start,
-            schema: part,
-        } => { some_item_refused(alloc, site, &*schema, reference, start, part, value) }
-        Keyword::Properties(schemas) => {
-            some_member_refused(alloc, site, &*schema, reference, schemas, value)
-        }
         Keyword::If {
             condition,
             then_schema,
@@ -121,10 +112,10 @@ fn keyword_refuses<'a, 'r>(
 
 /// Whether a keyword refuses a value under a name, where it may refuse under that name and the path of its schema goes on from `schema`
 /// by these parts.
-pub fn refuses<'a, 'r, 'p>(
+pub fn refuses<'a, 'r>(
     alloc: Global,
     site: &Site<'r>,
-    parts: &'a [RoadPart<'r, 'p>],
+    parts: &'a [RoadPart<'r>],
     schema: &'a LazyLocation<'a, 'a>,
     reference: Reference<'a>,
     keyword: Keyword<'r>,

@@ -11,8 +11,6 @@ ghost use Rattle.fault_checks.specs.Steps.{Passes, PassesAs, PassesBy, PassesThr
 
 use crate::applied_steps::through_applicator;
 use crate::choice_steps::through_condition;
-use crate::item_steps::through_items;
-use crate::member_steps::through_properties;
 use crate::names::{bears, member_of};
 use crate::refusing::refuses;
 use crate::walk::{Step, Walk};
@@ -63,8 +61,6 @@ fn through<'r, 'i, 'p>(
     ensures shorter { IfOk result (IsNotLonger after.entry) }
 {
     match keyword {
-        Keyword::Items { start, schema } => through_items(alloc, walk, start, schema, after),
-        Keyword::Properties(schemas) => through_properties(alloc, walk, schemas, after),
         Keyword::If {
             condition,
             then_schema,

@@ -15,7 +15,7 @@ use serde_json::Value;
 #[derive(Drop)]
 pub struct Walk<'r, 'i, 'p> {
     pub site: Site<'r>,
-    pub parts: Vec<RoadPart<'r, 'p>>,
+    pub parts: Vec<RoadPart<'r>>,
     pub reference: Reference<'r>,
     pub value: &'i Value,
     pub instance: Option<&'p str>,

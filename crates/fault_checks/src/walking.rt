@@ -1,8 +1,6 @@
 //! Walks to their end.
-ghost use Rattle.std.specs.Prelude.{◌≡◌, [], IfOk};
+ghost use Rattle.std.specs.Prelude.{◌≡◌, IfOk};
 ghost use Rattle.serde_json.specs.View.{view};
-ghost use Rattle.fault_checks.specs.Roads.{part_of};
-ghost use Rattle.fault_checks.specs.Scenes.{behind};
 ghost use Rattle.fault_checks.specs.Steps.{Passes};
 ghost use Rattle.fault_checks.specs.NamedSteps.{IsAtName, IsLeftAtName, IsLeftAtSome};
 
@@ -11,36 +9,18 @@ use crate::stepping::step;
 use crate::walk::{AtNames, Step, Walk};
 use serde_json::Value;
 use std::alloc::{AllocError, Global};
-use std::borrow::CowStr;
 
-// The same part, its name that of the other.
-fn shared_part<'a, 'r>(part: &'a RoadPart<'r, '_>) -> RoadPart<'r, 'a>
-    ensures { part_of result ≡ part_of part.now }
+// The same parts.
+fn shared_parts<'r>(alloc: Global, parts: &[RoadPart<'r>]) -> Result<Vec<RoadPart<'r>>, AllocError>
+    ensures { IfOk result (λ v. v.items ≡ parts.now) }
 {
-    match part {
-        RoadPart::Written(name) => RoadPart::Written(CowStr::Borrowed(name.as_str())),
-        RoadPart::Name(name) => RoadPart::Name(name),
-        RoadPart::Index(index) => RoadPart::Index(*index),
-    }
-}
-
-fn shared_parts<'a, 'r>(
-    alloc: Global,
-    parts: &'a [RoadPart<'r, '_>],
-) -> Result<Vec<RoadPart<'r, 'a>>, AllocError>
-    ensures { IfOk result (λ v. behind v.items [] ≡ behind parts.now []) }
-{
-    let mut shared = Vec::new(alloc);
-    for part in parts {
-        shared.push(shared_part(part))?;
-    }
-    Ok(shared)
+    Vec::from_slice(alloc, parts)
 }
 
 // The walk at a name, by its text.
 fn at_text<'a, 'r>(
     alloc: Global,
-    names: &'a AtNames<'r, '_, '_>,
+    names: &'a AtNames<'r, '_, 'a>,
     text: &'a Value,
 ) -> Result<Walk<'r, 'a, 'a>, AllocError>
     ensures { IfOk result (IsAtName names.now (view text.now)) }

@@ -224,8 +224,6 @@ pub asks_inside : (c : code.Site) (ms : Members) (k : List ℕ) (e : Data) (word
 asks_inside c ms k e keyword.Nothing is listed read found = tt
 asks_inside c ms k e (keyword.Assertion a) is listed read found = tt
 asks_inside c ms k e (keyword.Pattern p) is listed read found = tt
-asks_inside c ms k e (keyword.Items start schema) is listed read found = tt
-asks_inside c ms k e (keyword.Properties map) is listed read found = tt
 asks_inside c ms k e (keyword.Reference by text target) is listed read found = tt
 asks_inside c ms k e (keyword.If schema then_schema else_schema) is listed read found = are_inside c ms k e schema then_schema else_schema is listed (λ makes s stands scope. (read makes s stands scope).made none_to_make)
 asks_inside c ms k e (keyword.Consequent n schema) is listed read found = tt

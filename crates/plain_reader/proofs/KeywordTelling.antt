@@ -9,7 +9,7 @@ use Rattle.schema_meaning.specs.Places.{Key}
 use Rattle.schema_meaning.specs.Faults.{FalseSchema, fault, Faults, none, also, joined}
 use Rattle.schema_meaning.specs.Rules.{own_faults}
 use Rattle.schema_meaning.specs.Questions.{Question, at, listed_members}
-use Rattle.schema_meaning.specs.Keywords.{Shape, Reference, Assertion, pattern, items, properties, reference, never, named, wrong, reference_name}
+use Rattle.schema_meaning.specs.Keywords.{Shape, Reference, Assertion, pattern, reference, never, named, wrong, reference_name}
 use Rattle.schema_meaning.specs.Readings.{bags}
 use Rattle.schema_meaning.specs.Cut.{cut_within}
 use Rattle.schema_definitions.specs.Bearers.{Documents}
@@ -41,11 +41,11 @@ use Rattle.schema_reports.specs.declared.observer.Observer.{Observer}
 use Rattle.assertion_faults.specs.Tellings.{TellsAssertion, TellsPattern, TellsNotes, spot_at}
 use Rattle.plain_reader.specs.Settings.{Setting, reading_in, told_in, told_by, asked_by}
 use Rattle.plain_reader.specs.Tellings.{Fits, AreRead, Tells, TellsShapes, TellsQuestions, room}
-use Rattle.plain_reader.specs.Shapes.{no_leads, context_in, shapes_at, shapes_among, keyword_leads, keyword_shapes, items_site, items_leads, items_questions, declared_in, properties_leads, properties_questions}
+use Rattle.plain_reader.specs.Shapes.{no_leads, context_in, shapes_at, shapes_among, keyword_leads, keyword_shapes}
 use Rattle.plain_reader.specs.Choices.{choice_leads, choice_shapes}
 use Rattle.plain_reader.specs.Targets.{reference_leads, reference_questions}
 use Rattle.schema_reports.proofs.FaultLemmas.{joined-none, joined-joined}
-use Rattle.plain_reader.proofs.ToldLemmas.{told_by-none, told_by-asserts, told_by-never, told_by-items, told_by-properties, told_by-every, told_by-reference, asked_by-none, asked_by-more, told_deeper}
+use Rattle.plain_reader.proofs.ToldLemmas.{told_by-none, told_by-asserts, told_by-never, told_by-every, told_by-reference, asked_by-none, asked_by-more, told_deeper}
 use Rattle.plain_reader.proofs.ChoiceReading.{choice_read}
 use Rattle.plain_reader.proofs.Reading.{right_here, read_on, row_here, keywords-of}
 
@@ -93,18 +93,6 @@ module _ (c : code.Site) (whole : Spots) (d : Data) (roads : Roads) (progress : 
         subst (λ gs. Hears kept new (joined fs gs)) (sym (asked x (ap (λ w. w.value) fits.spot)))
         (told.tells x fits (λ t i. read t (subst (In t) (sym (led x)) i)) deep kept fs h);
   }
-
-  pub tells_items : (k : Keyword) (start : ℕ) (schema : Data) (old new : Observer) → ((x : Setting) → keyword_leads k x ≡ items_leads schema x)
-      → ((x : Setting) → keyword_shapes k x ≡ items start (items_site schema x) ∷ []) → TellsQuestions c whole d roads progress (items_leads schema) (items_questions start schema d) old new
-      → TellsShapes c whole d roads progress (keyword_leads k) (keyword_shapes k) old new
-  tells_items k start schema old new led shaped told = tells_questions k (items_leads schema) (items_questions start schema d) old new led
-      (λ x is. ap (told_by x) (shaped x) ∙ told_by-items x start (items_site schema x) ∙ ap (λ v. asked_by x (items_questions start schema v x)) is) told
-
-  pub tells_properties : (k : Keyword) (ms : Members) (old new : Observer) → ((x : Setting) → keyword_leads k x ≡ properties_leads ms x)
-      → ((x : Setting) → keyword_shapes k x ≡ properties (declared_in ms x) ∷ []) → TellsQuestions c whole d roads progress (properties_leads ms) (properties_questions ms d) old new
-      → TellsShapes c whole d roads progress (keyword_leads k) (keyword_shapes k) old new
-  tells_properties k ms old new led shaped told = tells_questions k (properties_leads ms) (properties_questions ms d) old new led
-      (λ x is. ap (told_by x) (shaped x) ∙ told_by-properties x (declared_in ms x) ∙ ap (λ v. asked_by x (properties_questions ms v x)) is) told
 
   -- what it notes of the value, and then its questions
   pub tells_every : (a : Applicator) (old now new : Observer) → is_every a ≡ true → TellsNotes d roads (applicator_name a) (notes_by a d) old now
@@ -157,8 +145,6 @@ module _ (c : code.Site) (whole : Spots) (d : Data) (roads : Roads) (progress : 
       by keyword.Nothing row i = led keyword.Nothing row i
       by (keyword.Assertion a) row i = led (keyword.Assertion a) row i
       by (keyword.Pattern p) row i = led (keyword.Pattern p) row i
-      by (keyword.Items start schema) row i = led (keyword.Items start schema) row i
-      by (keyword.Properties map) row i = led (keyword.Properties map) row i
       by (keyword.If schema then_schema else_schema) row i = choice_read x ms k e schema then_schema else_schema (fits.stands.contents ∙ is) listed fits.read row t i
       by (keyword.Consequent n schema) row i = elim i [ ]
       by (keyword.Applicator a) row i = led (keyword.Applicator a) row i

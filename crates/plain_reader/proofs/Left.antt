@@ -1,20 +1,18 @@
 -- What a loop of the reader has still to tell.
-use Rattle.std.proofs.Common.{◌≡◌, ◌≤◌, ◌+◌, ◌++◌, ℕ, List, map, Option, codes}
+use Rattle.std.proofs.Common.{◌≡◌, ◌≤◌, ◌+◌, ◌++◌, ℕ, List, map}
 use Rattle.std.specs.declared.alloc.Global.{Global}
 use Rattle.std.specs.declared.vec.Vec.{Vec}
-use Rattle.serde_json.specs.Data.{Data, Items, Members, depth, object}
+use Rattle.serde_json.specs.Data.{Data, Members}
 use Rattle.serde_json.specs.View.{view}
-use Rattle.json_values.specs.Parts.{Part}
 use Rattle.schema_meaning.specs.Members.{In, count_true}
 use Rattle.schema_meaning.specs.Places.{Key}
 use Rattle.schema_meaning.specs.Faults.{Faults, joined}
-use Rattle.schema_meaning.specs.Questions.{each_item, listed_members}
+use Rattle.schema_meaning.specs.Questions.{listed_members}
 use Rattle.schema_meaning.specs.Rules.{verdicts_of, each_of_object}
 use Rattle.schema_definitions.specs.Sites.{Site, below}
 use Rattle.applicators.specs.Questions.{questions_of}
 use Rattle.applicators.specs.declared.applicator.Applicator.{Applicator}
 use Rattle.applicators.specs.declared.question.Question.{Question}
-use Rattle.schema_definitions.specs.AllKeys.{spots_of_items}
 use Rattle.schema_sites.specs.Seen.{documents_at}
 use Rattle.schema_sites.specs.declared.site.Site as code
 use Rattle.schema_reports.specs.Observers.{Hears}
@@ -29,7 +27,7 @@ use Rattle.plain_reader.specs.Settings.{Setting, told_by, asked_in, asked_by}
 use Rattle.plain_reader.specs.Tellings.{Fits, AreRead, room}
 use Rattle.plain_reader.specs.Applied.{applied_leads, applied_questions}
 use Rattle.plain_reader.specs.Combined.{answers_in}
-use Rattle.plain_reader.specs.Shapes.{shapes_among, items_site, items_questions, properties_questions, properties_leads}
+use Rattle.plain_reader.specs.Shapes.{shapes_among}
 
 -- of all that is told, what is left to tell
 pub record LeftOf (all left : Faults) (kept : Observation) (fs : Faults) (now : Observer) : Type 0 where
@@ -42,13 +40,6 @@ module _ (c : code.Site) (whole : Spots) (d : Data) (roads : Roads) (progress : 
     pub among : (k : List ℕ) (e : Data) → In (k, e) (listed_members rest) → In (k, e) (listed_members all)
     pub left : (x : Setting) → Fits c d roads progress x → room (documents_at c) whole progress (view c.contents.now) ≤ x.depth
         → (kept : Observation) (fs : Faults) → Hears kept old fs → LeftOf (told_by x (shapes_among all all x)) (told_by x (shapes_among all rest x)) kept fs now
-
-  pub record ItemsLeft (schema : Data) (start index : ℕ) (all rest : Items) (old now : Observer) : Type 0 where
-    pub within : (spot : List Part × Option (List ℕ)) → In spot (spots_of_items (instance_in roads) index rest) → In spot (spots_of_items (instance_in roads) 0 all)
-    pub left : (x : Setting) → Fits c d roads progress x → AreRead x.documents x.makes (items_site schema x)
-        → room (documents_at c) whole progress (view c.contents.now) ≤ x.depth
-        → (kept : Observation) (fs : Faults) → Hears kept old fs
-        → LeftOf (asked_by x (items_questions start schema d x)) (asked_by x (each_item (codes "items") (items_site schema x) index rest)) kept fs now
 
   pub record QuestionsLeft (a : Applicator) (all rest : List Question) (old now : Observer) : Type 0 where
     pub among : (q : Question) → In q rest → In q all
@@ -65,14 +56,6 @@ module _ (c : code.Site) (whole : Spots) (d : Data) (roads : Roads) (progress : 
         → (kept : Observation) (fs : Faults) → Hears kept old fs
         → LeftOf (each_of_object (spot_of d (instance_in roads)) (asked_by x (applied_questions a d x)))
         (each_of_object (spot_of d (instance_in roads)) (asked_by x (questions_of (below x.documents x.site) rest))) kept fs now
-
-  pub record DeclaredLeft (all rest : Members) (old now : Observer) : Type 0 where
-    pub shallow : depth (object rest) ≤ depth (object all)
-    pub left : (x : Setting) → Fits c d roads progress x → ((t : Site) → In t (properties_leads all x) → AreRead x.documents x.makes t)
-        → room (documents_at c) whole progress (view c.contents.now) ≤ x.depth
-        → (kept : Observation) (fs : Faults) → Hears kept old fs
-        → LeftOf (asked_by x (properties_questions all d x)) (asked_by x (properties_questions rest d x)) kept fs now
-    pub leads : (x : Setting) (t : Site) → In t (properties_leads rest x) → In t (properties_leads all x)
 
   -- so many answers were yes so far
   pub record CountLeft (a : Applicator) (all rest : List Question) (n : ℕ) : Type 0 where

@@ -1,11 +1,11 @@
 -- What is told of keywords, by what is told of their questions.
-use Rattle.std.proofs.Common.{◌≡◌, ◌++◌, ℕ, suc, List, [], ◌∷◌, Bool, true, false, map, codes, refl, sym, ap, ◌∙◌}
+use Rattle.std.proofs.Common.{◌≡◌, ◌++◌, suc, List, [], ◌∷◌, Bool, true, false, map, refl, sym, ap, ◌∙◌}
 use Rattle.json_values.specs.Parts.{Part}
-use Rattle.schema_meaning.specs.Places.{Spot, Key}
-use Rattle.schema_meaning.specs.Faults.{Fault, Faults, none, also, joined, join}
-use Rattle.schema_meaning.specs.Questions.{Question, at, asked_at, each_item, items_from, items_of, each_declared}
+use Rattle.schema_meaning.specs.Places.{Key}
+use Rattle.schema_meaning.specs.Faults.{Faults, none, joined, join}
+use Rattle.schema_meaning.specs.Questions.{Question, at, asked_at}
 use Rattle.schema_meaning.specs.Rules.{Rule, Note, every, asks, faults, own_faults}
-use Rattle.schema_meaning.specs.Keywords.{Shape, Assertion, asserts, never, items, properties, reference, Reference, reference_name, rule, named, wrong}
+use Rattle.schema_meaning.specs.Keywords.{Shape, Assertion, asserts, never, reference, Reference, reference_name, rule, named, wrong}
 use Rattle.schema_meaning.specs.Readings.{bags}
 use Rattle.schema_meaning.specs.Circular.{key_at}
 use Rattle.schema_meaning.specs.Cut.{cut_one, cut_unless, cut_by_kind, cut_within, is_in_progress}
@@ -44,14 +44,6 @@ told_by-asserts x a = joined-none _ ∙ joined-none _
 pub told_by-never : (x : Setting) → told_by x (never ∷ []) ≡ own_faults x.spot x.site.schema_path [] (record { kind = Rattle.schema_meaning.specs.Faults.FalseSchema; value = x.spot.value } ∷ [])
 unfolding told_by
 told_by-never x = joined-none _ ∙ joined-none _
-
-pub told_by-items : (x : Setting) (start : ℕ) (t : Site) → told_by x (items start t ∷ []) ≡ asked_by x (each_item (codes "items") t start (items_from start (items_of x.spot.value)))
-unfolding told_by asked_by
-told_by-items x start t = joined-none _
-
-pub told_by-properties : (x : Setting) (ps : List (List ℕ × Site)) → told_by x (properties ps ∷ []) ≡ asked_by x (each_declared (codes "properties") x.spot.value ps)
-unfolding told_by asked_by
-told_by-properties x ps = joined-none _
 
 -- a keyword that notes something of the value, or nothing, and all whose answers have to be yes
 pub told_by-every : (x : Setting) (shape : Shape Site) (p : List Part) (notes : List Note) → rule x.matches x.spot.value shape ≡ every p notes (asks (rule x.matches x.spot.value shape))

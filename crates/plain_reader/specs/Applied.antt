@@ -59,8 +59,6 @@ abbrev pub AsksInside : code.Site → Keyword → Type 0
 AsksInside c keyword.Nothing = Unit {0}
 AsksInside c (keyword.Assertion a) = Unit {0}
 AsksInside c (keyword.Pattern p) = Unit {0}
-AsksInside c (keyword.Items start schema) = Unit {0}
-AsksInside c (keyword.Properties map) = Unit {0}
 AsksInside c (keyword.If schema then_schema else_schema) = AreInside c then_schema else_schema
 AsksInside c (keyword.Consequent k schema) = Unit {0}
 AsksInside c (keyword.Applicator a) = EachInside c a

@@ -1,6 +1,5 @@
 //! The reading of a schema.
-ghost use Rattle.std.specs.Prelude.{◌≡◌, ◌≤◌, ◌<◌, [], OnOk, IfOk, IfSome, Some, true, false};
-ghost use Rattle.serde_json.specs.Find.{get};
+ghost use Rattle.std.specs.Prelude.{◌≡◌, ◌≤◌, ◌<◌, [], OnOk, IfOk, IfSome, true, false};
 ghost use Rattle.serde_json.specs.Data.{depth, object};
 ghost use Rattle.serde_json.specs.View.{view, members_view};
 ghost use Rattle.schema_meaning.specs.Members.{In};
@@ -16,7 +15,7 @@ ghost use Rattle.plain_reader.specs.Keys.{keys_in};
 ghost use Rattle.plain_reader.specs.Spots.{spots_of};
 ghost use Rattle.plain_reader.specs.Tellings.{Within, Tells, TellsShapes, TellsQuestions};
 ghost use Rattle.plain_reader.specs.Choices.{beside_leads, beside_questions, choice_leads, choice_shapes, AreInside, IsInside};
-ghost use Rattle.plain_reader.specs.Shapes.{no_leads, shapes_among, shapes_at, keyword_leads, keyword_shapes, items_leads, items_questions, properties_leads, properties_questions, property_leads, property_questions};
+ghost use Rattle.plain_reader.specs.Shapes.{no_leads, shapes_among, shapes_at, keyword_leads, keyword_shapes};
 ghost use Rattle.applicators.specs.Combined.{is_every, is_by_answers, is_each_named};
 ghost use Rattle.plain_reader.specs.Applied.{AsksInside, EachInside, AreAsked, IsPart, TellsAsked, entry_parts, applied_leads, applied_shapes, applied_questions, question_leads, one_question};
 ghost use Rattle.plain_reader.specs.Combined.{Counts, HasBranches};
@@ -33,7 +32,6 @@ use applicators::question::{Asked, Question};
 use applicators::questions::questions;
 use applicators::subschema::Entry;
 use assertion_faults::{tell_assertion, tell_pattern};
-use member_walks::member_walk::MemberWalk;
 use schema_reports::heard::{all_heard, heard_none};
 use schema_reports::{
     AllFaults, LazyLocation, Observer, Reference, Roads, ValidationError, ValidationErrorKind,
@@ -168,14 +166,6 @@ fn read_keyword<'r, 'i>(
         Keyword::Pattern(pattern) => {
             tell_pattern(reading.alloc, site.matches, pattern, value, roads, observer)
         }
-        Keyword::Items { start, schema } => {
-            read_items(
-                reading, site, start, schema, value, roads, progress, observer,
-            )
-        }
-        Keyword::Properties(schemas) => {
-            read_properties(reading, site, schemas, value, roads, progress, observer)
-        }
         Keyword::If {
             condition,
             then_schema,
@@ -207,113 +197,6 @@ fn read_keyword<'r, 'i>(
             )
         }
     }
-}
-
-// What `items` tells: each item from the first that it applies to on.
-#[cycle(read)]
-fn read_items<'r, 'i>(
-    reading: &Reading<'_, 'i>,
-    site: &Site<'r>,
-    start: usize,
-    schema: &'r Value,
-    value: &'i Value,
-    roads: Roads<'_>,
-    progress: &Progress<'_>,
-    observer: &mut Observer<'i>,
-) -> Result<(), AllocError>
-    requires shallow { depth (view site.now.contents.now) ≤ deepest (documents_at site.now) }
-    requires within { Within (view value.now) (instance_in roads) (spots_of reading.now) }
-    requires inside { depth (view schema.now) < depth (view site.now.contents.now) }
-    ensures { OnOk result (TellsQuestions site.now (spots_of reading.now) (view value.now) roads.entry (keys_in progress.now) (items_leads (view schema.now)) (items_questions start (view schema.now) (view value.now)) observer.old observer.new) }
-{
-    let Value::Array(items) = value else {
-        return Ok(());
-    };
-    let inner = site.below(reading.alloc, schema)?;
-    let schema_road = roads.schema.push_name("items");
-    let evaluation = roads.evaluation.push_name("items");
-    for index in start..items.len() {
-        if observer.is_settled() {
-            return Ok(());
-        }
-        let instance = roads.instance.push_index(index);
-        let at = Roads {
-            instance: &instance,
-            schema: &schema_road,
-            reference: roads.reference,
-            evaluation: &evaluation,
-        };
-        read_site(reading, &inner, &items[index], at, progress, observer)?;
-    }
-    Ok(())
-}
-
-// What `properties` tells: each member that it declares.
-#[cycle(read)]
-fn read_properties<'r, 'i>(
-    reading: &Reading<'_, 'i>,
-    site: &Site<'r>,
-    schemas: &'r Map<String, Value>,
-    value: &'i Value,
-    roads: Roads<'_>,
-    progress: &Progress<'_>,
-    observer: &mut Observer<'i>,
-) -> Result<(), AllocError>
-    requires shallow { depth (view site.now.contents.now) ≤ deepest (documents_at site.now) }
-    requires within { Within (view value.now) (instance_in roads) (spots_of reading.now) }
-    requires inside { depth (object (members_view schemas.now.entries)) < depth (view site.now.contents.now) }
-    ensures { OnOk result (TellsQuestions site.now (spots_of reading.now) (view value.now) roads.entry (keys_in progress.now) (properties_leads (members_view schemas.now.entries)) (properties_questions (members_view schemas.now.entries) (view value.now)) observer.old observer.new) }
-{
-    let Value::Object(members) = value else {
-        return Ok(());
-    };
-    let mut walk = MemberWalk::new(members);
-    for (name, schema) in schemas.iter() {
-        if observer.is_settled() {
-            return Ok(());
-        }
-        let name = name.as_str();
-        if let Some(member) = walk.seek(name) {
-            read_property(
-                reading, site, name, schema, value, member, roads, progress, observer,
-            )?;
-        }
-    }
-    Ok(())
-}
-
-// What one entry of `properties` tells of a member.
-#[cycle(read)]
-fn read_property<'a, 'r, 'i>(
-    reading: &Reading<'_, 'i>,
-    site: &Site<'r>,
-    name: &'a str,
-    schema: &'r Value,
-    value: &'i Value,
-    member: &'i Value,
-    roads: Roads<'a>,
-    progress: &Progress<'_>,
-    observer: &mut Observer<'i>,
-) -> Result<(), AllocError>
-    requires shallow { depth (view site.now.contents.now) ≤ deepest (documents_at site.now) }
-    requires within { Within (view value.now) (instance_in roads) (spots_of reading.now) }
-    requires inside { depth (view schema.now) < depth (view site.now.contents.now) }
-    requires member { get name.now (view value.now) ≡ Some (view member.now) }
-    ensures { OnOk result (TellsQuestions site.now (spots_of reading.now) (view value.now) roads.entry (keys_in progress.now) (property_leads name.now (view schema.now)) (property_questions name.now (view schema.now) (view member.now)) observer.old observer.new) }
-{
-    let inner = site.below(reading.alloc, schema)?;
-    let schema_above = roads.schema.push_name("properties");
-    let schema_road = schema_above.push_name(name);
-    let evaluation_above = roads.evaluation.push_name("properties");
-    let evaluation = evaluation_above.push_name(name);
-    let instance = roads.instance.push_name(name);
-    let at = Roads {
-        instance: &instance,
-        schema: &schema_road,
-        reference: roads.reference,
-        evaluation: &evaluation,
-    };
-    read_site(reading, &inner, member, at, progress, observer)
 }
 
 // What `if` tells: what `then` does where its schema accepts, and what `else` does where it does not.

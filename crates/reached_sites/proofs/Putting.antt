@@ -63,8 +63,6 @@ pub no-patterns : (k : Keyword) → ((p : Bor (List ℕ)) → k ≡ keyword.Patt
 no-patterns keyword.Nothing p a = refl
 no-patterns (keyword.Assertion w) p a = refl
 no-patterns (keyword.Pattern t) p a = absurd (p t refl)
-no-patterns (keyword.Items start schema) p a = refl
-no-patterns (keyword.Properties schemas) p a = refl
 no-patterns (keyword.If schema then_schema else_schema) p a = refl
 no-patterns (keyword.Consequent k schema) p a = refl
 no-patterns (keyword.Applicator w) p a = absurd (a w refl)

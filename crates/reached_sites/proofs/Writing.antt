@@ -113,8 +113,6 @@ keyword-shown : (docs : Documents) (s : Site) (k : Keyword) → flat_map shown (
 keyword-shown docs s keyword.Nothing = refl
 keyword-shown docs s (keyword.Assertion a) = ap (λ (ps : List (List ℕ)). ps ++ []) (assertion-shown a)
 keyword-shown docs s (keyword.Pattern p) = refl
-keyword-shown docs s (keyword.Items start schema) = refl
-keyword-shown docs s (keyword.Properties schemas) = refl
 keyword-shown docs s (keyword.If schema then_schema else_schema) = refl
 keyword-shown docs s (keyword.Consequent k schema) = refl
 keyword-shown docs s (keyword.Applicator a) = append-nil (shown (applied.shape_of (below docs s) a)) ∙ applied-shown (below docs s) a

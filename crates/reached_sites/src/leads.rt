@@ -70,22 +70,6 @@ fn push_at<'r>(
     Ok(())
 }
 
-fn push_properties<'r>(
-    alloc: Global,
-    visit: &Visit<'r>,
-    map: &'r Map<String, Value>,
-    leads: &mut Vec<Visit<'r>>,
-) -> Result<(), AllocError>
-    ensures { OnOk result (Adds (documents_in visit.now.site.resolver) leads.old.items leads.new.items (read.leads_of (documents_at visit.now.site) (site_of visit.now) (Keyword.Properties map.entry))) }
-{
-    let point = visit.point.member(alloc, "properties")?;
-    for (name, schema) in map.iter() {
-        let inner = point.member(alloc, name.as_str())?;
-        leads.push(visit.below(alloc, inner, schema)?)?;
-    }
-    Ok(())
-}
-
 // Where a subschema is.
 fn point_of(
     alloc: Global,
@@ -163,8 +147,6 @@ pub fn push_leads<'r>(
         Keyword::Nothing => Ok(()),
         Keyword::Assertion(_) => Ok(()),
         Keyword::Pattern(_) => Ok(()),
-        Keyword::Items { schema, .. } => push_at(alloc, visit, "items", schema, leads),
-        Keyword::Properties(map) => push_properties(alloc, visit, map, leads),
         Keyword::If { condition, .. } => push_at(alloc, visit, "if", condition, leads),
         Keyword::Consequent { name, schema } => push_at(alloc, visit, name, schema, leads),
         Keyword::Applicator(applicator) => push_applied(alloc, visit, applicator, leads),

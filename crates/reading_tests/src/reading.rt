@@ -1,9 +1,10 @@
 // How members of schemas are read.
 use crate::applicator_rows::{cut, json};
 use applicator_reading::neighbours::Neighbours;
-use applicator_reading::reading::read;
+use applicator_reading::reading::{Reading, condition, consequent, read};
 use schema_dialects::Dialect;
 use schema_drafts::draft::Draft;
+use serde_json::Value;
 use std::alloc::Global;
 use std::process::Abort;
 
@@ -63,6 +64,19 @@ const DRAFT_2020_12: &str = r#"
 {"additionalProperties":true} :: additionalProperties :: Nothing
 "#;
 
+// What a member is, by the call that reads its name.
+fn read_member<'r>(
+    neighbours: Neighbours<'r>,
+    name: &str,
+    value: &'r Value,
+) -> Option<Reading<'r>> {
+    match name {
+        "if" => Some(condition(neighbours, value)),
+        "then" | "else" => Some(consequent(neighbours, value)),
+        _ => read(neighbours, name, value),
+    }
+}
+
 fn told(rt: &impl Abort, alloc: Global, draft: Draft, schema: &str, name: &str) -> String {
     let schema = json(rt, alloc, schema);
     let members = schema.as_object().expect(rt, "an object");
@@ -71,7 +85,7 @@ fn told(rt: &impl Abort, alloc: Global, draft: Draft, schema: &str, name: &str) 
         dialect: Dialect::standard(draft),
         members,
     };
-    match read(neighbours, name, value) {
+    match read_member(neighbours, name, value) {
         Some(reading) => format!(in alloc; "{reading:?}").expect(rt, "memory"),
         None => format!(in alloc; "left").expect(rt, "memory"),
     }

@@ -1,11 +1,9 @@
 -- Keywords that apply the schemas in their values.
-use Rattle.std.proofs.Common.{◌≡◌, ◌∙◌, refl, sym, ap, subst, ℕ, List, true, false, true≢false}
+use Rattle.std.proofs.Common.{◌≡◌, ◌∙◌, sym, ap, subst, ℕ, List, true}
 use Rattle.serde_json.specs.Data.{Data, Members}
 use Rattle.serde_json.specs.View.{members_view}
-use Rattle.schema_meaning.specs.Members.{is_listed}
 use Rattle.schema_definitions.specs.Rows.{Row, BuildCause, Context, counts_here, nothing_read, readers, read_among, row_at}
 use Rattle.applicator_reading.specs.Beside as beside
-use Rattle.applicator_reading.specs.Names.{applicator_names, valued_names}
 use Rattle.applicator_reading.specs.Reads as applying
 use Rattle.applicator_reading.specs.declared.neighbours.Neighbours.{Neighbours}
 use Rattle.assertions.specs.Reads.{IsCause}
@@ -16,7 +14,6 @@ use Rattle.schema_sites.specs.declared.keyword.Refusal.{Refusal}
 use Rattle.schema_sites.specs.declared.site.Site as code
 use Rattle.schema_sites.proofs.ArmLemmas.{row-if}
 use Rattle.schema_sites.proofs.MadeLemmas.{same-row}
-use Rattle.schema_sites.proofs.AssertingLemmas.{every-listed}
 
 pub same-cause : (cause : BuildCause) (row : Row) → applying.IsCause cause row → IsCause cause row
 same-cause cause row h = record { stands = h.stands; alone = h.alone }
@@ -26,11 +23,6 @@ surrounded c ms n x dialect members s = record {
   dialect = s.stands.dialect ∙ ap (λ y. Rattle.schema_dialects.specs.Dialects.dialect_of y) (sym dialect);
   members = s.members ∙ sym members;
 }
-
--- ---- such a name is read
-
-pub always-read : {P : Type 0} (k : List ℕ) → is_listed k valued_names ≡ true → is_listed k applicator_names ≡ false → P
-always-read k listed none = absurd (true≢false (sym (every-listed (λ n. is_listed n applicator_names) k valued_names refl listed) ∙ none))
 
 -- its row where the name counts
 pub row-counted : (x : Context) (k : List ℕ) (d : Data) → counts_here x k ≡ true → row_at x k d ≡ read_among readers x k d

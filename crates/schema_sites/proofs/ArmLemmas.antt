@@ -1,18 +1,17 @@
 -- The row of a member by its name.
-use Rattle.std.proofs.Common.{◌≡◌, ◌∙◌, refl, sym, ap, subst, ℕ, List, [], ◌∷◌, Bool, true, false, true≢false, codes, if◌then◌else◌, None}
+use Rattle.std.proofs.Common.{◌≡◌, ◌∙◌, refl, sym, ap, subst, ℕ, List, [], ◌∷◌, Bool, true, false, true≢false, codes, if◌then◌else◌}
 use Rattle.serde_json.specs.Data.{Data, Members}
-use Rattle.serde_json.specs.Find.{get_member}
 use Rattle.schema_drafts.specs.Counts.{counts}
 use Rattle.schema_definitions.specs.Places.{Dialect}
 use Rattle.schema_meaning.specs.Members.{first}
 use Rattle.referencing.specs.Resolved.{scope_of}
-use Rattle.schema_definitions.specs.Rows.{Row, nothing_read, refused, keyword_value, left_out, place_at, at, bad_value, Context, counts_here, has_reference, beside, if_row, consequent_row, row_at}
+use Rattle.schema_definitions.specs.Rows.{Row, nothing_read, refused, keyword_value, left_out, place_at, at, bad_value, Context, counts_here, has_reference, if_row, consequent_row, readers, read_among, row_at}
 use Rattle.schema_definitions.specs.Sites.{Site}
-use Rattle.schema_sites.specs.Arms.{one_items_row, one_pattern_row, properties_row}
+use Rattle.schema_sites.specs.Arms.{one_pattern_row}
 use Rattle.schema_sites.specs.Read.{IsRowOf, context_at, Surrounds}
 use Rattle.assertions.specs.Reads.{IsCause}
 use Rattle.schema_sites.specs.Refused.{Refuses}
-use Rattle.schema_sites.specs.Seen.{Stands, counts_at, beside_at}
+use Rattle.schema_sites.specs.Seen.{Stands, counts_at}
 use Rattle.schema_sites.specs.declared.keyword.Keyword.{Keyword}
 use Rattle.schema_sites.specs.declared.keyword.Keyword.TheVariants.{Nothing}
 use Rattle.schema_sites.specs.declared.keyword.Refusal.{Refusal}
@@ -35,21 +34,13 @@ surrounding c ms makes s stands scope = record { documents = refl; members = ref
 pub counts-there : (c : code.Site) (ms : Members) (s : Site) → Stands c s → (k : List ℕ) → counts s.dialect.draft s.dialect.vocabularies (has_reference ms) k ≡ counts_at c (has_reference ms) k
 counts-there c ms s stands k = ap (λ (y : Dialect). counts y.draft y.vocabularies (has_reference ms) k) stands.dialect
 
-pub neighbour : (c : code.Site) (ms : Members) (x : Context) → Surrounds c ms x → (k : List ℕ) → beside x k ≡ beside_at c ms k
-neighbour c ms x s k =
-    ap (λ (m : Members). if counts x.site.dialect.draft x.site.dialect.vocabularies (has_reference m) k then get_member k m else None) s.members
-    ∙ ap (λ (b : Bool). if b then get_member k ms else None) (counts-there c ms x.site s.stands k)
-
 -- ---- the rows of the names that are read
-
-pub items-row : (x : Context) (d : Data) → counts_here x (codes "items") ≡ true → row_at x (codes "items") d ≡ one_items_row x d
-items-row x d e = row-if (counts_here x (codes "items")) (one_items_row x d) nothing_read e
 
 pub pattern-row : (x : Context) (d : Data) → counts_here x (codes "pattern") ≡ true → row_at x (codes "pattern") d ≡ one_pattern_row x d
 pattern-row x d e = row-if (counts_here x (codes "pattern")) (one_pattern_row x d) nothing_read e
 
-pub properties-row : (x : Context) (d : Data) → counts_here x (codes "properties") ≡ true → row_at x (codes "properties") d ≡ properties_row x d
-properties-row x d e = row-if (counts_here x (codes "properties")) (properties_row x d) nothing_read e
+pub dependencies-row : (x : Context) (d : Data) → counts_here x (codes "dependencies") ≡ true → row_at x (codes "dependencies") d ≡ read_among readers x (codes "dependencies") d
+dependencies-row x d e = row-if (counts_here x (codes "dependencies")) (read_among readers x (codes "dependencies") d) nothing_read e
 
 pub if-row : (x : Context) (d : Data) → counts_here x (codes "if") ≡ true → row_at x (codes "if") d ≡ if_row x (codes "if") d
 if-row x d e = row-if (counts_here x (codes "if")) (if_row x (codes "if") d) nothing_read e
@@ -69,8 +60,8 @@ left-items-row x d e = row-if (counts_here x (codes "unevaluatedItems")) (left_r
 pub left-properties-row : (x : Context) (d : Data) → counts_here x (codes "unevaluatedProperties") ≡ true → row_at x (codes "unevaluatedProperties") d ≡ left_row (codes "unevaluatedProperties") x d
 left-properties-row x d e = row-if (counts_here x (codes "unevaluatedProperties")) (left_row (codes "unevaluatedProperties") x d) nothing_read e
 
--- a name that is known, with its row
-module _ (c : code.Site) (ms : Members) (k known : List ℕ) (d : Data) (row : Context → Data → Row) (is : k ≡ known)
+-- a name that is known, with its row, in such contexts
+module _ (P : Context → Type 0) (k known : List ℕ) (d : Data) (row : Context → Data → Row) (is : k ≡ known)
     (row-known : (x : Context) (e : Data) → counts_here x known ≡ true → row_at x known e ≡ row x e) where
   there : (x : Context) → counts_here x k ≡ true → counts_here x known ≡ true
   there x e = ap (λ (n : List ℕ). counts_here x n) (sym is) ∙ e
@@ -78,12 +69,11 @@ module _ (c : code.Site) (ms : Members) (k known : List ℕ) (d : Data) (row : C
   row-here : (x : Context) → counts_here x k ≡ true → row_at x k d ≡ row x d
   row-here x e = ap (λ (n : List ℕ). row_at x n d) is ∙ row-known x d (there x e)
 
-  pub read-here : (r : Keyword) → ((x : Context) → Surrounds c ms x → IsRowOf x known (row x d) r)
-      → (x : Context) → Surrounds c ms x → counts_here x k ≡ true → IsRowOf x k (row_at x k d) r
+  pub read-here : (r : Keyword) → ((x : Context) → P x → IsRowOf x known (row x d) r) → (x : Context) → P x → counts_here x k ≡ true → IsRowOf x k (row_at x k d) r
   read-here r h x s e = same-row x k (row_at x k d) (row x d) r (row-here x e) (subst (λ (n : List ℕ). IsRowOf x n (row x d) r) (sym is) (h x s))
 
-  pub refused-here : (e : Refusal) → ((x : Context) → Surrounds c ms x → counts_here x known ≡ true → Refuses x known d (row x d) e)
-      → (x : Context) → Surrounds c ms x → counts_here x k ≡ true → Refuses x k d (row_at x k d) e
+  pub refused-here : (e : Refusal) → ((x : Context) → P x → counts_here x known ≡ true → Refuses x known d (row x d) e)
+      → (x : Context) → P x → counts_here x k ≡ true → Refuses x k d (row_at x k d) e
   refused-here e h x s counted =
       subst (λ (r : Row). Refuses x k d r e) (sym (row-here x counted)) (subst (λ (n : List ℕ). Refuses x n d (row x d) e) (sym is) (h x s (there x counted)))
 

@@ -2,22 +2,24 @@
 use Rattle.std.proofs.Common.{◌≡◌, ◌∙◌, refl, sym, ap, subst, ℕ, List, [], ◌∷◌, ◌++◌, Bool, true, false, true≢false, ◌&&◌, ◌||◌, bytes_eq, codes, if◌then◌else◌, Option, Some, None, IfSome}
 use Rattle.std.proofs.lemmas.Slice.Eq.{bytes_eq-Decides}
 use Rattle.std.specs.List.{AllByRecursion}
-use Rattle.serde_json.specs.Data.{Data, Members}
+use Rattle.serde_json.specs.Data.{Data}
 use Rattle.schema_definitions.specs.Places.{Dialect}
 use Rattle.schema_meaning.specs.Members.{is_listed}
 use Rattle.schema_definitions.specs.Rows.{Row, Context, counts_here, nothing_read, Reader, readers, read_among, row_at}
+use Rattle.applicator_reading.specs.Beside.{beside_in, Surrounds}
+use Rattle.applicator_reading.specs.Names.{applicator_names}
+use Rattle.applicator_reading.specs.declared.neighbours.Neighbours.{Neighbours}
+use Rattle.applicator_reading.proofs.RowLemmas.{neighbour}
 use Rattle.assertions.specs.Names.{assertion_names}
 use Rattle.assertions.specs.Reads.{ReadsAs}
 use Rattle.assertions.specs.Reads as asserting
 use Rattle.assertions.specs.declared.reading.Reading.{Reading}
-use Rattle.schema_sites.specs.Read.{IsRowOf, Surrounds}
-use Rattle.schema_sites.specs.Refused.{Refuses}
-use Rattle.schema_sites.specs.Seen.{beside_at}
+use Rattle.schema_sites.specs.Read.{IsRowOf, ReadCounted}
+use Rattle.schema_sites.specs.Refused.{Refuses, RefusedCounted}
 use Rattle.schema_sites.specs.References.{named}
 use Rattle.schema_sites.specs.declared.keyword.Keyword.{Keyword}
 use Rattle.schema_sites.specs.declared.keyword.Refusal.{Refusal}
-use Rattle.schema_sites.specs.declared.site.Site as code
-use Rattle.schema_sites.proofs.ArmLemmas.{row-if, neighbour}
+use Rattle.schema_sites.proofs.ArmLemmas.{row-if}
 use Rattle.schema_sites.proofs.NamedLemmas.{named-none}
 
 pub some-of : {A : Type 0} (P : A → Type 0) (o : Option A) (x : A) → o ≡ Some x → IfSome o P → P x
@@ -25,26 +27,24 @@ some-of P o x e h = subst (λ p. IfSome p P) e h
 
 -- ---- by its reading
 
-module _ (c : code.Site) (ms : Members) (k : List ℕ) (d : Data) (strict : Option Data) (r : Reading)
-    (maximum : k ≡ codes "maximum" → strict ≡ beside_at c ms (codes "exclusiveMaximum")) (minimum : k ≡ codes "minimum" → strict ≡ beside_at c ms (codes "exclusiveMinimum"))
-    (reads : (x : Context) → asserting.Surrounds c.dialect.draft strict k x → ReadsAs x k (read_among readers x k d) r) where
-  surrounded : (x : Context) → Surrounds c ms x → asserting.Surrounds c.dialect.draft strict k x
+module _ (n : Neighbours) (k : List ℕ) (d : Data) (strict : Option Data) (r : Reading)
+    (maximum : k ≡ codes "maximum" → strict ≡ beside_in n (codes "exclusiveMaximum")) (minimum : k ≡ codes "minimum" → strict ≡ beside_in n (codes "exclusiveMinimum"))
+    (reads : (x : Context) → asserting.Surrounds n.dialect.draft strict k x → ReadsAs x k (read_among readers x k d) r) where
+  surrounded : (x : Context) → Surrounds n x → asserting.Surrounds n.dialect.draft strict k x
   surrounded x s = record {
-    draft = ap (λ (y : Dialect). y.draft) s.stands.dialect;
-    maximum = λ is. neighbour c ms x s (codes "exclusiveMaximum") ∙ sym (maximum is);
-    minimum = λ is. neighbour c ms x s (codes "exclusiveMinimum") ∙ sym (minimum is);
+    draft = ap (λ (y : Dialect). y.draft) s.dialect;
+    maximum = λ is. neighbour n x s (codes "exclusiveMaximum") ∙ sym (maximum is);
+    minimum = λ is. neighbour n x s (codes "exclusiveMinimum") ∙ sym (minimum is);
   }
 
-  reads-here : (x : Context) → Surrounds c ms x → counts_here x k ≡ true → ReadsAs x k (row_at x k d) r
+  reads-here : (x : Context) → Surrounds n x → counts_here x k ≡ true → ReadsAs x k (row_at x k d) r
   reads-here x s counted =
       subst (λ (row : Row). ReadsAs x k row r) (sym (row-if (counts_here x k) (read_among readers x k d) nothing_read counted)) (reads x (surrounded x s))
 
-  pub asserted-read : (w : Keyword) → ((x : Context) (n : List ℕ) (row : Row) → ReadsAs x n row r → IsRowOf x n row w)
-      → (x : Context) → Surrounds c ms x → counts_here x k ≡ true → IsRowOf x k (row_at x k d) w
+  pub asserted-read : (w : Keyword) → ((x : Context) (n : List ℕ) (row : Row) → ReadsAs x n row r → IsRowOf x n row w) → ReadCounted n k d w
   asserted-read w h x s counted = h x k (row_at x k d) (reads-here x s counted)
 
-  pub asserted-refused : (e : Refusal) → ((x : Context) (n : List ℕ) (d : Data) (row : Row) → ReadsAs x n row r → Refuses x n d row e)
-      → (x : Context) → Surrounds c ms x → counts_here x k ≡ true → Refuses x k d (row_at x k d) e
+  pub asserted-refused : (e : Refusal) → ((x : Context) (n : List ℕ) (d : Data) (row : Row) → ReadsAs x n row r → Refuses x n d row e) → RefusedCounted n k d e
   asserted-refused e h x s counted = h x k d (row_at x k d) (reads-here x s counted)
 
 -- ---- names that are among others
@@ -52,15 +52,6 @@ module _ (c : code.Site) (ms : Members) (k : List ℕ) (d : Data) (strict : Opti
 abbrev pub every : (List ℕ → Bool) → List (List ℕ) → Bool
 every p [] = true
 every p (n ∷ ns) = p n && every p ns
-
-pub every-listed : (p : List ℕ → Bool) (k : List ℕ) (names : List (List ℕ)) → every p names ≡ true → is_listed k names ≡ true → p k ≡ true
-every-listed p k [] all e = absurd (true≢false (sym e))
-every-listed p k (n ∷ ns) all e = by (bytes_eq k n) (p n) refl refl all e (every-listed p k ns)
-  where
-    by : (b c : Bool) → bytes_eq k n ≡ b → p n ≡ c → (c && every p ns) ≡ true → (b || is_listed k ns) ≡ true → (every p ns ≡ true → is_listed k ns ≡ true → p k ≡ true) → p k ≡ true
-    by true true is holds all e rest = ap p ((bytes_eq-Decides k n).0 is) ∙ holds
-    by false true is holds all e rest = rest all e
-    by b false is holds all e rest = absurd (true≢false (sym all))
 
 -- ---- a name that is none of the readers'
 
@@ -86,12 +77,9 @@ no-reference k e =
     ap (λ (b : Bool). b || (bytes_eq k (codes "$dynamicRef") || (bytes_eq k (codes "$recursiveRef") || false))) n.plain
     ∙ ap (λ (b : Bool). b || (bytes_eq k (codes "$recursiveRef") || false)) n.dynamic ∙ ap (λ (b : Bool). b || false) n.recursive
 
--- the names of readers that are neither a reference's nor an assertion's
-abbrev pub applied_names : List (List ℕ)
-applied_names =
-    codes "items" ∷ codes "properties" ∷ codes "unevaluatedItems" ∷ codes "unevaluatedProperties" ∷ codes "prefixItems" ∷ codes "dependentSchemas" ∷ codes "allOf" ∷ codes "additionalItems"
-    ∷ codes "anyOf" ∷ codes "oneOf" ∷ codes "not" ∷ codes "contains" ∷ codes "minContains" ∷ codes "maxContains" ∷ codes "dependencies"
-    ∷ codes "if" ∷ codes "then" ∷ codes "else" ∷ codes "pattern" ∷ codes "patternProperties" ∷ codes "additionalProperties" ∷ codes "propertyNames" ∷ []
+-- the names of the other keywords that are read by calls of their own
+abbrev pub own_names : List (List ℕ)
+own_names = codes "pattern" ∷ codes "unevaluatedItems" ∷ codes "unevaluatedProperties" ∷ codes "dependencies" ∷ codes "if" ∷ codes "then" ∷ codes "else" ∷ []
 
 abbrev names_of : List (List ℕ × Reader) → List (List ℕ)
 names_of [] = []
@@ -108,8 +96,11 @@ none-among known x k d none (r ∷ rs) all = by (bytes_eq r.0 k) (is_listed r.0 
     by false true is listed all rest = rest all
     by b false is listed all rest = absurd (true≢false (sym all))
 
-pub none-read : (x : Context) (k : List ℕ) (d : Data) → named k ≡ None → is_listed k assertion_names ≡ false → is_listed k applied_names ≡ false → read_among readers x k d ≡ nothing_read
-none-read x k d reference assertion other =
+pub none-read : (x : Context) (k : List ℕ) (d : Data) → named k ≡ None → is_listed k assertion_names ≡ false → is_listed k own_names ≡ false → is_listed k applicator_names ≡ false
+    → read_among readers x k d ≡ nothing_read
+none-read x k d reference assertion own other =
     let references = codes "$ref" ∷ codes "$dynamicRef" ∷ codes "$recursiveRef" ∷ [] in
-    none-among (references ++ assertion_names ++ applied_names) x k d
-    (unlisted-both k references (assertion_names ++ applied_names) (no-reference k reference) (unlisted-both k assertion_names applied_names assertion other)) readers refl
+    none-among (references ++ assertion_names ++ own_names ++ applicator_names) x k d
+    (unlisted-both k references (assertion_names ++ own_names ++ applicator_names) (no-reference k reference)
+    (unlisted-both k assertion_names (own_names ++ applicator_names) assertion (unlisted-both k own_names applicator_names own other)))
+    readers refl

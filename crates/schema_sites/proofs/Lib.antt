@@ -4,7 +4,6 @@ pub mod ArmLemmas
 pub mod NamedLemmas
 pub mod AssertingLemmas
 pub mod ApplyingLemmas
-pub mod MemberLemmas
 pub mod ReferredLemmas
 pub mod ResultLemmas
 pub mod ChoosingLemmas

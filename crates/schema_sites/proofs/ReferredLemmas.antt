@@ -14,7 +14,7 @@ use Rattle.schema_definitions.specs.Lookup.{LookupCause, invalid_uri, Target}
 use Rattle.schema_definitions.specs.Scopes.{recursive_lookup}
 use Rattle.schema_definitions.specs.Places.{is_schema}
 use Rattle.schema_meaning.specs.Keywords.{Reference, recursive, reference}
-use Rattle.schema_meaning.specs.Members.{In, first}
+use Rattle.schema_meaning.specs.Members.{In, first, later}
 use Rattle.schema_definitions.specs.Rows.{Row, BuildCause, keyword_value, bad_reference, Context, place_at, at, bad_value, with_causes, target_causes, no_schema_there, is_hash, led_to, ref_row, dynamic_row, reads}
 use Rattle.schema_definitions.specs.Sites.{target_site}
 use Rattle.schema_sites.specs.Errors.{IsRefusalOf}
@@ -27,7 +27,15 @@ use Rattle.schema_sites.specs.declared.keyword.Refusal.{Refusal}
 use Rattle.schema_sites.specs.declared.reference_keyword.ReferenceKeyword.{ReferenceKeyword}
 use Rattle.schema_sites.specs.declared.reference_keyword.ReferenceKeyword.TheVariants.{Ref, DynamicRef, RecursiveRef}
 use Rattle.schema_sites.specs.declared.site.Site as code
-use Rattle.schema_sites.proofs.MemberLemmas.{in-before, in-behind}
+
+in-before : {A : Type 0} {x : A} (xs ys : List A) → In x xs → In x (xs ++ ys)
+in-before {x = x} [] ys i = elim i [ ]
+in-before (y ∷ xs) ys first = first
+in-before (y ∷ xs) ys (later i) = later (in-before xs ys i)
+
+in-behind : {A : Type 0} {x : A} (xs ys : List A) → In x ys → In x (xs ++ ys)
+in-behind [] ys i = i
+in-behind (y ∷ xs) ys i = later (in-behind xs ys i)
 
 with-cause : (causes : List BuildCause) (cause : BuildCause) (row : Row) → In cause causes → IsCause cause (with_causes causes row)
 with-cause [] cause row i = elim i [ ]

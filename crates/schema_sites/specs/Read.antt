@@ -1,32 +1,29 @@
 -- What the code's keywords stand for at a site.
 use Rattle.std.specs.Prelude.{◌≡◌, ℕ, List, [], ◌∷◌, Bool, true, false, codes, option_map, Ok}
-use Rattle.serde_json.specs.Data.{Data, object, Members, no_members, member}
-use Rattle.serde_json.specs.View.{view, members_view}
+use Rattle.serde_json.specs.Data.{Data, Members}
+use Rattle.serde_json.specs.View.{view}
 use Rattle.json_values.specs.Parts.{Part, name}
 use Rattle.schema_definitions.specs.Bearers.{Documents}
-use Rattle.schema_meaning.specs.Keywords.{Shape, pattern, items, properties, condition, reference}
+use Rattle.schema_meaning.specs.Keywords.{Shape, pattern, condition, reference}
 use Rattle.schema_definitions.specs.Scopes.{entered_scope}
 use Rattle.referencing.specs.Resolved.{base_of, scope_of, documents_in, target_in}
 use Rattle.referencing.specs.declared.resolver.Resolved.{Resolved}
 use Rattle.schema_definitions.specs.Sites.{Site, below, target_site}
 use Rattle.schema_meaning.specs.Members.{In}
-use Rattle.schema_definitions.specs.Rows.{Row, bad_pattern, reads, at, assertion, sites_named, Context, place_at}
+use Rattle.schema_definitions.specs.Rows.{Row, bad_pattern, reads, at, assertion, Context, place_at, counts_here, row_at}
 use Rattle.assertions.specs.Shapes.{assertion_of}
 use Rattle.applicators.specs.Shapes as applied
 use Rattle.applicators.specs.Combined.{is_by_answers}
 use Rattle.applicators.specs.Made.{is_made_by, AreMade}
 use Rattle.applicators.specs.Made as making
+use Rattle.applicator_reading.specs.Beside as beside
+use Rattle.applicator_reading.specs.declared.neighbours.Neighbours.{Neighbours}
 use Rattle.schema_sites.specs.Seen.{documents_at, Stands}
 use Rattle.schema_sites.specs.References.{kind_of, looked_up, MayBe}
 use Rattle.schema_sites.specs.declared.reference_keyword.ReferenceKeyword.{ReferenceKeyword}
 use Rattle.schema_sites.specs.declared.site.Site as code
 use Rattle.schema_sites.specs.declared.keyword.Keyword.{Keyword}
-use Rattle.schema_sites.specs.declared.keyword.Keyword.TheVariants.{Nothing, Assertion, Pattern, Items, Properties, If, Consequent, Applicator, Reference}
-
--- the sites of the members of a keyword's value, with their names
-abbrev pub each_below : Documents → Site → List ℕ → Members → List (List ℕ × Site)
-each_below docs s k no_members = []
-each_below docs s k (member n d ms) = (n, below docs s (name n ∷ name k ∷ []) d) ∷ each_below docs s k ms
+use Rattle.schema_sites.specs.declared.keyword.Keyword.TheVariants.{Nothing, Assertion, Pattern, If, Consequent, Applicator, Reference}
 
 -- the site of a schema at a keyword
 abbrev pub site_at : Documents → Site → List ℕ → Data → Site
@@ -36,8 +33,6 @@ abbrev pub shapes_of : Documents → Site → Keyword → List (Shape Site)
 shapes_of docs s Nothing = []
 shapes_of docs s (Assertion a) = assertion (assertion_of a)
 shapes_of docs s (Pattern p) = assertion (pattern p.now)
-shapes_of docs s (Items start schema) = items start (below docs s (at (codes "items")) (view schema.now)) ∷ []
-shapes_of docs s (Properties map) = properties (each_below docs s (codes "properties") (members_view map.now.entries)) ∷ []
 shapes_of docs s (If schema then_schema else_schema) =
     condition (site_at docs s (codes "if") (view schema.now)) (option_map (λ v. site_at docs s (codes "then") (view v.now)) then_schema)
     (option_map (λ v. site_at docs s (codes "else") (view v.now)) else_schema) ∷ []
@@ -50,8 +45,6 @@ abbrev pub leads_of : Documents → Site → Keyword → List Site
 leads_of docs s Nothing = []
 leads_of docs s (Assertion a) = []
 leads_of docs s (Pattern p) = []
-leads_of docs s (Items start schema) = below docs s (at (codes "items")) (view schema.now) ∷ []
-leads_of docs s (Properties map) = sites_named (each_below docs s (codes "properties") (members_view map.now.entries))
 leads_of docs s (If schema then_schema else_schema) = site_at docs s (codes "if") (view schema.now) ∷ []
 leads_of docs s (Consequent k schema) = site_at docs s k.now (view schema.now) ∷ []
 leads_of docs s (Applicator a) = applied.leads_of (below docs s) a
@@ -65,8 +58,6 @@ abbrev pub patterns_in : Keyword → List (List ℕ)
 patterns_in Nothing = []
 patterns_in (Assertion a) = []
 patterns_in (Pattern p) = p.now ∷ []
-patterns_in (Items start schema) = []
-patterns_in (Properties map) = []
 patterns_in (If schema then_schema else_schema) = []
 patterns_in (Consequent k schema) = []
 patterns_in (Applicator a) = making.patterns_in a
@@ -77,8 +68,6 @@ abbrev pub pattern_parts : Keyword → List ℕ → List ℕ → List Part
 pattern_parts Nothing k p = name p ∷ name k ∷ []
 pattern_parts (Assertion a) k p = name p ∷ name k ∷ []
 pattern_parts (Pattern text) k p = name k ∷ []
-pattern_parts (Items start schema) k p = name p ∷ name k ∷ []
-pattern_parts (Properties map) k p = name p ∷ name k ∷ []
 pattern_parts (If schema then_schema else_schema) k p = name p ∷ name k ∷ []
 pattern_parts (Consequent n schema) k p = name p ∷ name k ∷ []
 pattern_parts (Applicator a) k p = name p ∷ name k ∷ []
@@ -105,6 +94,14 @@ pub record Surrounds (c : code.Site) (ms : Members) (x : Context) : Type 0 where
 abbrev pub ReadAs : code.Site → Members → List ℕ → (Context → Row) → Keyword → Type 0
 ReadAs c ms n row k = (x : Context) → Surrounds c ms x → IsRowOf x n (row x) k
 
+-- the row that a member has beside these neighbours
+abbrev pub ReadBeside : Neighbours → List ℕ → (Context → Row) → Keyword → Type 0
+ReadBeside n k row w = (x : Context) → beside.Surrounds n x → IsRowOf x k (row x) w
+
+-- where its name counts
+abbrev pub ReadCounted : Neighbours → List ℕ → Data → Keyword → Type 0
+ReadCounted n k d w = (x : Context) → beside.Surrounds n x → counts_here x k ≡ true → IsRowOf x k (row_at x k d) w
+
 -- what a reference at a site leads to
 pub record FindsTarget (c : code.Site) (keyword : ReferenceKeyword) (text : List ℕ) (target : Resolved) : Type 0 where
   pub found : looked_up keyword (documents_at c) (base_of c.resolver) (scope_of c.resolver) text ≡ Ok (target_in target)
@@ -117,8 +114,6 @@ abbrev pub Finds : code.Site → Data → Keyword → Type 0
 Finds c d Nothing = Unit {0}
 Finds c d (Assertion a) = Unit {0}
 Finds c d (Pattern p) = Unit {0}
-Finds c d (Items start schema) = d ≡ view schema.now
-Finds c d (Properties map) = d ≡ object (members_view map.now.entries)
 Finds c d (If schema then_schema else_schema) = d ≡ view schema.now
 Finds c d (Consequent k schema) = d ≡ view schema.now
 Finds c d (Applicator a) = is_by_answers a ≡ true

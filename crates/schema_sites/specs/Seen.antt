@@ -1,13 +1,11 @@
 -- What the code's sites stand for.
-use Rattle.std.specs.Prelude.{◌≡◌, ℕ, List, [], ◌∷◌, Bool, if◌then◌else◌, Option, None}
-use Rattle.serde_json.specs.Data.{Data, Members}
-use Rattle.serde_json.specs.Find.{get_member}
+use Rattle.std.specs.Prelude.{◌≡◌, ℕ, List, [], ◌∷◌, Bool}
 use Rattle.serde_json.specs.View.{view}
 use Rattle.schema_drafts.specs.Counts.{counts}
 use Rattle.schema_definitions.specs.Bearers.{Documents}
 use Rattle.schema_dialects.specs.Dialects.{dialect_of}
 use Rattle.referencing.specs.Resolved.{base_of, documents_in}
-use Rattle.schema_definitions.specs.Rows.{has_reference, is_draft_4}
+use Rattle.schema_definitions.specs.Rows.{is_draft_4}
 use Rattle.schema_definitions.specs.Sites.{Site}
 use Rattle.schema_sites.specs.declared.site.Site as code
 
@@ -24,10 +22,6 @@ pub record Stands (c : code.Site) (s : Site) : Type 0 where
 -- whether a keyword counts there, `$ref` beside or not
 abbrev pub counts_at : code.Site → Bool → List ℕ → Bool
 counts_at c beside_ref k = counts (dialect_of c.dialect).draft (dialect_of c.dialect).vocabularies beside_ref k
-
--- a neighbour among the members of its schema, where it counts
-abbrev pub beside_at : code.Site → Members → List ℕ → Option Data
-beside_at c ms k = if counts_at c (has_reference ms) k then get_member k ms else None
 
 -- whether the schema is of Draft 4
 abbrev pub is_draft_4_at : code.Site → Bool

@@ -2,22 +2,22 @@
 
 ghost use Rattle.std.specs.Borrow.{Bor};
 ghost use Rattle.std.specs.Prelude.{◌≡◌, IfOk, IfErr, Option, codes};
-ghost use Rattle.serde_json.specs.View.{view, members_view};
+ghost use Rattle.serde_json.specs.View.{view};
 ghost use Rattle.serde_json.specs.declared.value.Value as json;
 ghost use Rattle.applicators.specs.declared.applicator.Applicator.TheVariants as applied;
 ghost use Rattle.schema_definitions.specs.Rows as rows;
-ghost use Rattle.schema_sites.specs.Read.{ReadAs, Finds};
-ghost use Rattle.schema_sites.specs.Refused.{RefusedAs};
+ghost use Rattle.schema_sites.specs.Read.{ReadBeside, Finds};
+ghost use Rattle.schema_sites.specs.Refused.{RefusedBeside};
 ghost use Rattle.schema_sites.specs.declared.keyword.Keyword.TheVariants as keyword;
+ghost use Rattle.schema_sites.specs.declared.site.Site as code;
 
 use crate::keyword::{Keyword, Refusal};
-use crate::site::Site;
 use applicator_reading::neighbours::Neighbours;
 use applicator_reading::reading::{
     Reading, condition as read_condition, consequent as read_consequent,
 };
 use applicators::applicator::Applicator;
-use serde_json::{Map, Value};
+use serde_json::Value;
 
 // An applicator as it is found: an `if` is a keyword of its own.
 const fn found<'r>(applicator: Applicator<'r>) -> Keyword<'r>
@@ -39,18 +39,15 @@ const fn found<'r>(applicator: Applicator<'r>) -> Keyword<'r>
 
 // What `if` is: nothing without `then` or `else` beside.
 pub(crate) fn condition<'r>(
-    site: &Site<'r>,
-    members: &'r Map<String, Value>,
+    neighbours: Neighbours<'r>,
     value: &'r Value,
 ) -> Result<Keyword<'r>, Refusal<'r>>
-    ensures read { IfOk result (ReadAs site.now (members_view members.now.entries) (codes "if") (λ x. rows.if_row x (codes "if") (view value.now))) }
-    ensures found { IfOk result (λ k. Finds site.now (view value.now) k) }
-    ensures refused { IfErr result (RefusedAs site.now (members_view members.now.entries) (codes "if") (view value.now) (λ x. rows.if_row x (codes "if") (view value.now))) }
+    ensures read { IfOk result (ReadBeside neighbours.entry (codes "if")
+        (λ x. rows.if_row x (codes "if") (view value.now))) }
+    ensures found { IfOk result (λ k. (c : code.Site) → Finds c (view value.now) k) }
+    ensures refused { IfErr result (RefusedBeside neighbours.entry (codes "if") (view value.now)
+        (λ x. rows.if_row x (codes "if") (view value.now))) }
 {
-    let neighbours = Neighbours {
-        dialect: site.dialect,
-        members,
-    };
     match read_condition(neighbours, value) {
         Reading::Applied(applicator) => Ok(found(applicator)),
         Reading::Value { expected } => Err(Refusal::Value { expected }),
@@ -60,19 +57,16 @@ pub(crate) fn condition<'r>(
 
 // What `then` or `else` is: nothing without `if` beside.
 pub(crate) fn consequent<'r>(
-    site: &Site<'r>,
-    members: &'r Map<String, Value>,
+    neighbours: Neighbours<'r>,
     name: &'static str,
     value: &'r Value,
 ) -> Result<Keyword<'r>, Refusal<'r>>
-    ensures read { IfOk result (ReadAs site.now (members_view members.now.entries) name.now (λ x. rows.consequent_row x name.now (view value.now))) }
-    ensures found { IfOk result (λ k. Finds site.now (view value.now) k) }
-    ensures refused { IfErr result (RefusedAs site.now (members_view members.now.entries) name.now (view value.now) (λ x. rows.consequent_row x name.now (view value.now))) }
+    ensures read { IfOk result (ReadBeside neighbours.entry name.now
+        (λ x. rows.consequent_row x name.now (view value.now))) }
+    ensures found { IfOk result (λ k. (c : code.Site) → Finds c (view value.now) k) }
+    ensures refused { IfErr result (RefusedBeside neighbours.entry name.now (view value.now)
+        (λ x. rows.consequent_row x name.now (view value.now))) }
 {
-    let neighbours = Neighbours {
-        dialect: site.dialect,
-        members,
-    };
     match read_consequent(neighbours, value) {
         Reading::Consequent(schema) => Ok(Keyword::Consequent { name, schema }),
         Reading::Value { expected } => Err(Refusal::Value { expected }),

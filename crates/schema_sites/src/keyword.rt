@@ -4,7 +4,7 @@ use crate::reference_keyword::ReferenceKeyword;
 use applicators::applicator::Applicator;
 use assertions::assertion::Assertion;
 use referencing::{Error, Resolved};
-use serde_json::{Map, Value};
+use serde_json::Value;
 use std::alloc::AllocError;
 
 /// What a member of a schema is: nothing that asserts, or a keyword read from its value and its neighbours.
@@ -15,12 +15,6 @@ pub enum Keyword<'r> {
     Assertion(Assertion<'r>),
     /// `pattern`, whose text a maker has to make.
     Pattern(&'r str),
-    /// One schema for the items from `start` on, which is the length of the list at `prefixItems` beside.
-    Items {
-        start: usize,
-        schema: &'r Value,
-    },
-    Properties(&'r Map<String, Value>),
     /// `if`, with the schemas of `then` and `else` where they stand beside.
     If {
         condition: &'r Value,

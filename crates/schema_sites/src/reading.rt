@@ -1,18 +1,17 @@
 //! What a member of a schema is, read from its value and its neighbours.
 
-ghost use Rattle.std.specs.Prelude.{◌≡◌, List, ℕ, Bool, IfOk, IfErr, codes, false, true, None, option_map};
+ghost use Rattle.std.specs.Prelude.{◌≡◌, List, ℕ, Bool, IfOk, IfErr, codes, false, None};
 ghost use Rattle.serde_json.specs.Data.{Members};
 ghost use Rattle.serde_json.specs.View.{view, members_view};
 ghost use Rattle.referencing.specs.Resolved.{scope_of};
 ghost use Rattle.schema_meaning.specs.Members.{is_listed};
-ghost use Rattle.applicator_reading.specs.Names.{valued_names};
 ghost use Rattle.assertions.specs.Names.{assertion_names};
 ghost use Rattle.schema_definitions.specs.Rows as rows;
 ghost use Rattle.schema_definitions.specs.Sites as sites;
 ghost use Rattle.schema_sites.specs.Arms as arms;
-ghost use Rattle.schema_sites.specs.Read.{IsRowOf, context_at, ReadAs, Finds, Surrounds};
+ghost use Rattle.schema_sites.specs.Read.{IsRowOf, context_at, ReadAs, ReadCounted, Finds};
 ghost use Rattle.schema_sites.specs.References as references;
-ghost use Rattle.schema_sites.specs.Refused.{Refuses, RefusedAs};
+ghost use Rattle.schema_sites.specs.Refused.{Refuses, RefusedAs, RefusedCounted};
 ghost use Rattle.schema_sites.specs.Seen.{Stands};
 ghost use Rattle.schema_sites.specs.declared.site.Site as code;
 
@@ -20,39 +19,16 @@ use crate::applying::applying;
 use crate::asserting::asserting;
 use crate::choosing::{condition, consequent};
 use crate::keyword::{Keyword, Refusal};
-use crate::neighbours::{has_reference, prefix_length, strict_limit};
+use crate::neighbours::strict_limit;
 use crate::reference_keyword::ReferenceKeyword;
 use crate::referred::{led_to, look_up};
 use crate::site::Site;
 use applicator_reading::dependencies::dependencies as read_dependencies;
-use applicator_reading::neighbours::Neighbours;
+use applicator_reading::neighbours::{Neighbours, has_reference};
 use applicator_reading::reading::read as read_applicator;
 use assertions::reading::read as read_assertion;
-use schema_places::place::is_schema;
 use serde_json::{Map, Value};
 use std::alloc::Global;
-
-// What a member is whose keyword asks the schemas in its value, and whose verdict is by their answers.
-fn applying_values<'r>(
-    site: &Site<'r>,
-    members: &'r Map<String, Value>,
-    name: &str,
-    value: &'r Value,
-) -> Result<Keyword<'r>, Refusal<'r>>
-    requires values { is_listed name.now valued_names ≡ true }
-    ensures read { IfOk result (λ k. (x : rows.Context) → Surrounds site.now (members_view members.now.entries) x → IsRowOf x name.now (rows.read_among rows.readers x name.now (view value.now)) k) }
-    ensures found { IfOk result (λ k. Finds site.now (view value.now) k) }
-    ensures refused { IfErr result (λ e. (x : rows.Context) → Surrounds site.now (members_view members.now.entries) x → rows.counts_here x name.now ≡ true → Refuses x name.now (view value.now) (rows.read_among rows.readers x name.now (view value.now)) e) }
-{
-    let neighbours = Neighbours {
-        dialect: site.dialect,
-        members,
-    };
-    match read_applicator(neighbours, name, value) {
-        Some(reading) => applying(reading),
-        None => unreachable!(),
-    }
-}
 
 fn pattern<'r>(value: &'r Value) -> Result<Keyword<'r>, Refusal<'r>>
     ensures read { IfOk result (λ k. (x : rows.Context) → IsRowOf x (codes "pattern") (arms.one_pattern_row x (view value.now)) k) }
@@ -72,54 +48,6 @@ fn dependencies<'r>(alloc: Global, value: &'r Value) -> Result<Keyword<'r>, Refu
 {
     let reading = read_dependencies(alloc, value)?;
     applying(reading)
-}
-
-fn items<'r>(
-    site: &Site<'r>,
-    members: &'r Map<String, Value>,
-    value: &'r Value,
-) -> Result<Keyword<'r>, Refusal<'r>>
-    ensures read { IfOk result (ReadAs site.now (members_view members.now.entries) (codes "items") (λ x. arms.one_items_row x (view value.now))) }
-    ensures found { IfOk result (λ k. Finds site.now (view value.now) k) }
-    ensures refused { IfErr result (RefusedAs site.now (members_view members.now.entries) (codes "items") (view value.now) (λ x. arms.one_items_row x (view value.now))) }
-{
-    if is_schema(value) {
-        Ok(Keyword::Items {
-            start: prefix_length(site, members),
-            schema: value,
-        })
-    } else {
-        applying_values(site, members, "items", value)
-    }
-}
-
-// The name of the first member that is no schema.
-fn first_other<'m>(map: &'m Map<String, Value>) -> Option<&'m str>
-    ensures { option_map (λ n. n.now) result ≡ arms.first_other (members_view map.now.entries) }
-{
-    for (name, value) in map.iter() {
-        if !is_schema(value) {
-            return Some(name.as_str());
-        }
-    }
-    None
-}
-
-fn properties<'r>(value: &'r Value) -> Result<Keyword<'r>, Refusal<'r>>
-    ensures read { IfOk result (λ k. (x : rows.Context) → IsRowOf x (codes "properties") (arms.properties_row x (view value.now)) k) }
-    ensures found { IfOk result (λ k. (c : code.Site) → Finds c (view value.now) k) }
-    ensures refused { IfErr result (λ e. (x : rows.Context) → Refuses x (codes "properties") (view value.now) (arms.properties_row x (view value.now)) e) }
-{
-    let Some(map) = value.as_object() else {
-        return Err(Refusal::Value { expected: "object" });
-    };
-    match first_other(map) {
-        Some(name) => Err(Refusal::Entry {
-            name,
-            expected: "schema",
-        }),
-        None => Ok(Keyword::Properties(map)),
-    }
 }
 
 fn hash_text(value: &Value) -> Result<&str, &'static str>
@@ -168,61 +96,47 @@ fn reference<'r>(
 // What a member is whose name counts and is no reference's, nor that of a keyword that only asserts.
 fn applied<'r>(
     alloc: Global,
-    site: &Site<'r>,
-    members: &'r Map<String, Value>,
+    neighbours: Neighbours<'r>,
     name: &str,
     value: &'r Value,
 ) -> Result<Keyword<'r>, Refusal<'r>>
     requires reference { references.named name.now ≡ None }
     requires assertion { is_listed name.now assertion_names ≡ false }
-    ensures read { IfOk result (λ k. (x : rows.Context) → Surrounds site.now (members_view members.now.entries) x → rows.counts_here x name.now ≡ true → IsRowOf x name.now (rows.row_at x name.now (view value.now)) k) }
-    ensures found { IfOk result (λ k. Finds site.now (view value.now) k) }
-    ensures refused { IfErr result (λ e. (x : rows.Context) → Surrounds site.now (members_view members.now.entries) x → rows.counts_here x name.now ≡ true → Refuses x name.now (view value.now) (rows.row_at x name.now (view value.now)) e) }
+    ensures read { IfOk result (ReadCounted neighbours.entry name.now (view value.now)) }
+    ensures found { IfOk result (λ k. (c : code.Site) → Finds c (view value.now) k) }
+    ensures refused { IfErr result (RefusedCounted neighbours.entry name.now (view value.now)) }
 {
     match name {
-        "items" => items(site, members, value),
         "pattern" => pattern(value),
-        "properties" => properties(value),
         "unevaluatedItems" => Err(Refusal::LeftOut),
         "unevaluatedProperties" => Err(Refusal::LeftOut),
-        "prefixItems" => applying_values(site, members, name, value),
-        "patternProperties" => applying_values(site, members, name, value),
-        "dependentSchemas" => applying_values(site, members, name, value),
-        "allOf" => applying_values(site, members, name, value),
-        "additionalItems" => applying_values(site, members, name, value),
-        "additionalProperties" => applying_values(site, members, name, value),
-        "propertyNames" => applying_values(site, members, name, value),
-        "anyOf" => applying_values(site, members, name, value),
-        "oneOf" => applying_values(site, members, name, value),
-        "not" => applying_values(site, members, name, value),
-        "contains" => applying_values(site, members, name, value),
-        "minContains" => applying_values(site, members, name, value),
-        "maxContains" => applying_values(site, members, name, value),
         "dependencies" => dependencies(alloc, value),
-        "if" => condition(site, members, value),
-        "then" => consequent(site, members, "then", value),
-        "else" => consequent(site, members, "else", value),
-        _ => Ok(Keyword::Nothing),
+        "if" => condition(neighbours, value),
+        "then" => consequent(neighbours, "then", value),
+        "else" => consequent(neighbours, "else", value),
+        _ => match read_applicator(neighbours, name, value) {
+            Some(reading) => applying(reading),
+            None => Ok(Keyword::Nothing),
+        },
     }
 }
 
 // What a member is whose name counts and is no reference's.
 fn counted<'r>(
     alloc: Global,
-    site: &Site<'r>,
-    members: &'r Map<String, Value>,
+    neighbours: Neighbours<'r>,
     name: &str,
     value: &'r Value,
 ) -> Result<Keyword<'r>, Refusal<'r>>
     requires other { references.named name.now ≡ None }
-    ensures read { IfOk result (λ k. (x : rows.Context) → Surrounds site.now (members_view members.now.entries) x → rows.counts_here x name.now ≡ true → IsRowOf x name.now (rows.row_at x name.now (view value.now)) k) }
-    ensures found { IfOk result (λ k. Finds site.now (view value.now) k) }
-    ensures refused { IfErr result (λ e. (x : rows.Context) → Surrounds site.now (members_view members.now.entries) x → rows.counts_here x name.now ≡ true → Refuses x name.now (view value.now) (rows.row_at x name.now (view value.now)) e) }
+    ensures read { IfOk result (ReadCounted neighbours.entry name.now (view value.now)) }
+    ensures found { IfOk result (λ k. (c : code.Site) → Finds c (view value.now) k) }
+    ensures refused { IfErr result (RefusedCounted neighbours.entry name.now (view value.now)) }
 {
-    let strict = strict_limit(site, members, name);
-    match read_assertion(alloc, site.dialect.draft, name, value, strict)? {
+    let strict = strict_limit(neighbours, name);
+    match read_assertion(alloc, neighbours.dialect.draft, name, value, strict)? {
         Some(reading) => asserting(reading),
-        None => applied(alloc, site, members, name, value),
+        None => applied(alloc, neighbours, name, value),
     }
 }
 
@@ -250,8 +164,12 @@ pub fn keyword<'r>(
     if !site.counts(has_reference(members), name) {
         return Ok(Keyword::Nothing);
     }
+    let neighbours = Neighbours {
+        dialect: site.dialect,
+        members,
+    };
     match ReferenceKeyword::named(name) {
         Some(found) => reference(alloc, site, found, value),
-        None => counted(alloc, site, members, name, value),
+        None => counted(alloc, neighbours, name, value),
     }
 }

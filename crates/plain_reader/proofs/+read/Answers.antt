@@ -1,6 +1,6 @@
-use Rattle.std.proofs.Common.{rules, string_bytes, arith, None, ◌≡◌, ◌<◌, ℕ, List, [], ◌∷◌, ◌++◌, true, false, refl, sym, ap, ap₂, ◌∙◌, subst, ◌+◌, length, Bor, drop, add-one, codes}
-use Rattle.serde_json.specs.Data.{member, object, array, string, no_items, boolean}
-use Rattle.serde_json.specs.View.{view, members_view, items_view}
+use Rattle.std.proofs.Common.{rules, string_bytes, arith, ◌≡◌, ℕ, List, [], ◌∷◌, ◌++◌, true, false, refl, sym, ap, ap₂, ◌∙◌, subst, ◌+◌, Bor, drop}
+use Rattle.serde_json.specs.Data.{member, object, string, boolean}
+use Rattle.serde_json.specs.View.{view, members_view}
 use Rattle.json_values.specs.Parts.{Part, name}
 use Rattle.schema_meaning.specs.Cut.{is_in_progress}
 use Rattle.schema_definitions.specs.Scopes.{entered_scope}
@@ -12,7 +12,7 @@ use Rattle.schema_patterns.specs.Read.{reads}
 use Rattle.schema_reports.specs.RoadPaths.{instance_in, evaluation_in}
 use Rattle.plain_reader.specs.Spots.{spots_of}
 use Rattle.plain_reader.specs.Keys.{key, keys_in}
-use Rattle.plain_reader.proofs.Left.{MembersLeft, ItemsLeft, QuestionsLeft, NamedLeft, DeclaredLeft, CountLeft, BranchesLeft}
+use Rattle.plain_reader.proofs.Left.{MembersLeft, QuestionsLeft, NamedLeft, CountLeft, BranchesLeft}
 use Rattle.plain_reader.proofs.MemberTelling.{members_first, members_settled, members_step, members_last, members_listed}
 use Rattle.plain_reader.proofs.LookedLemmas.{looked_up_lies, looked_up_reads}
 use Rattle.plain_reader.proofs.TargetTelling.{target_deeper, target_back, target_on, falls_by_target, shallow_by_target, at_target_told}
@@ -20,21 +20,13 @@ use Rattle.schema_meaning.specs.Members.{In, first}
 use Rattle.applicators.specs.declared.question.Question.{Question}
 use Rattle.applicators.specs.declared.subschema.Entry.TheVariants as entry
 use Rattle.schema_reports.specs.References.{text_of}
-use Rattle.schema_meaning.specs.Questions.{each_item, items_from, items_of}
-use Rattle.plain_reader.specs.Shapes.{keyword_leads, keyword_shapes, items_site}
+use Rattle.plain_reader.specs.Shapes.{keyword_leads, keyword_shapes}
 use Rattle.std.proofs.lemmas.List.{drop_more, drop_all}
-use Rattle.serde_json.proofs.Views.{view-Array, view-Object}
+use Rattle.serde_json.proofs.Views.{view-Object}
 use Rattle.serde_json.specs.declared.value.Value.{Value, the_lemmas}
 use Rattle.serde_json.specs.declared.value.Value.TheVariants as json
-use Rattle.schema_definitions.specs.AllKeys.{spots_in, spots_of_items}
-use Rattle.plain_reader.proofs.ItemTelling.{Child, Where, child_falls, child_shallow, item_within, member_within, drop-items, no_items_told, items_init, items_settled, items_step, items_done, item_asked, member_asked, property_told, declared_init, declared_settled, declared_absent, none_declared, declared_step, declared_done}
-use Rattle.json_values.specs.Rising.{are_rising}
-use Rattle.json_values.specs.Equality.{rises_from}
-use Rattle.serde_json.specs.Find.{get, get_member}
-use Rattle.json_values.proofs.Walked.{entries_rise}
-use Rattle.member_walks.specs.Left.{left_in}
-use Rattle.member_walks.specs.Found.{AreFound}
-use Rattle.member_walks.proofs.Found.{all_found, still_found, rest_rises}
+use Rattle.schema_definitions.specs.AllKeys.{spots_in}
+use Rattle.plain_reader.proofs.ItemTelling.{Child}
 use Rattle.std.proofs.lemmas.Result.{on_ok_weaker}
 use Rattle.schema_sites.specs.Passed.{assertion_of}
 use Rattle.plain_reader.proofs.AppliedTelling.{asks_inside, question_inside, question_part, told_of_value, told_of_item, told_of_member, told_of_name, behind_entry, question_told, questions_init, questions_settled, questions_step, questions_done}
@@ -46,70 +38,9 @@ use Rattle.applicators.specs.Questions.{step_of}
 use Rattle.plain_reader.proofs.CombinedTelling.{count_yes, count_no, branches_step, branches_done, combined_accepted, combined_heard, combined_told}
 use Rattle.plain_reader.proofs.Reading.{member_inside}
 use Rattle.plain_reader.proofs.ChoiceTelling.{value_part, asked_inside_of, some_inside, then_told, else_told, beside_told, none_told}
-use Rattle.plain_reader.proofs.KeywordTelling.{tells_nothing, tells_assertion, tells_pattern, tells_items, tells_properties, tells_every, tells_applicator, tells_choice, tells_reference, tells_member, tells_refused, tells_object, tells_false, tells_no_object}
+use Rattle.plain_reader.proofs.KeywordTelling.{tells_nothing, tells_assertion, tells_pattern, tells_every, tells_applicator, tells_choice, tells_reference, tells_member, tells_refused, tells_object, tells_false, tells_no_object}
 use Rattle.plain_reader.proofs.+read.Goals.{read::read_member-in-Memory, read::read_member-in_default, read::count_accepted-then-heard_none, read::count_accepted-else-heard_none, read::read_combined-then-carries_branches+in_ok-context, read::read_combined-else-carries_branches}
 use Rattle.plain_reader.proofs.+read.Goals as goal
-
-pub read::read_items-returns-in_default : goal.read::read_items-returns-in_default
-read::read_items-returns-in_default t c =
-    let nothing : items_of (view c.args.value.now) ≡ no_items = search (rules, the_lemmas) in
-    no_items_told c.args.site.now _ _ c.args.roads _ (view c.args.schema.now) c.args.start c.args.observer.now (λ x. ap (λ ds. each_item (codes "items") (items_site (view c.args.schema.now) x) c.args.start (items_from c.args.start ds)) nothing)
-
-pub read::read_items-loop-index-init : goal.read::read_items-loop-index-init
-read::read_items-loop-index-init t c =
-    let xs = c.in-Array.items.items in
-    let is : view c.args.value.now ≡ array (items_view xs) = ap view c.in-Array.is ∙ view-Array c.in-Array.items in
-    items_init c.args.site.now _ _ c.args.roads _ _ c.args.start (items_view xs) _ c.args.observer.now is (drop-items c.args.start xs)
-
-pub read::read_items-returns-then-is_settled : goal.read::read_items-returns-then-is_settled
-read::read_items-returns-then-is_settled t c =
-    items_settled c.args.site.now _ _ c.args.roads _ _ c.args.start c.loop-index.index _ _ _ c.loop-index.observer (λ kept gs hs h. c.is_settled.ensures c.if-is_settled.true kept gs hs h) c.loop-index.invariant
-
-pub read::read_items-read_site-requires : goal.read::read_items-read_site-requires
-read::read_items-read_site-requires t c =
-    let xs = c.in-Array.items.items in
-    let is : view c.args.value.now ≡ array (items_view xs) = ap view c.in-Array.is ∙ view-Array c.in-Array.items in
-    let l = c.loop-index in
-    let x = c.index.result.now in
-    let short : l.index < length xs = omega arith in
-    let here : drop l.index xs ≡ x ∷ drop (l.index + 1) xs = drop_more xs l.index x short ∙ ap (λ y. y ∷ drop (l.index + 1) xs) (sym c.index.ensures) in
-    let child : Child c.args.site.now c.in_ok-inner.inner (view c.args.schema.now) = record {
-      contents = ap (λ (b : Bor Value). view b.now) c.in_ok-inner.ensures.contents;
-      documents = c.in_ok-inner.ensures.documents;
-      scope = c.in_ok-inner.ensures.scope;
-      stands = λ s added. c.in_ok-inner.ensures.stands s added;
-      matches = c.in_ok-inner.ensures.matches;
-    } in
-    let among = subst (λ ys. (w : Where) → In w (spots_of_items (instance_in c.args.roads) l.index (items_view ys)) → In w (spots_of_items (instance_in c.args.roads) 0 (items_view xs))) here l.invariant.within in (
-      omega (arith, child_falls c.args.site.now _ _ (spots_of c.args.reading.now) (keys_in c.args.progress.now) child c.requires.inside),
-      (child_shallow c.args.site.now _ _ child c.requires.inside c.requires.shallow, item_within l.index (view x) _ _ (items_view xs) _ _ _ is c.push_index-instance.ensures among c.requires.within),
-    )
-
-pub read::read_items-loop-index-preserved : goal.read::read_items-loop-index-preserved
-read::read_items-loop-index-preserved t c =
-    let xs = c.in-Array.items.items in
-    let l = c.loop-index in
-    let x = c.index.result.now in
-    let short : l.index < length xs = omega arith in
-    let here : drop l.index xs ≡ x ∷ drop (l.index + 1) xs = drop_more xs l.index x short ∙ ap (λ y. y ∷ drop (l.index + 1) xs) (sym c.index.ensures) in
-    let child : Child c.args.site.now c.in_ok-inner.inner (view c.args.schema.now) = record {
-      contents = ap (λ (b : Bor Value). view b.now) c.in_ok-inner.ensures.contents;
-      documents = c.in_ok-inner.ensures.documents;
-      scope = c.in_ok-inner.ensures.scope;
-      stands = λ s added. c.in_ok-inner.ensures.stands s added;
-      matches = c.in_ok-inner.ensures.matches;
-    } in
-    let left = subst (λ ys. ItemsLeft c.args.site.now (spots_of c.args.reading.now) (view c.args.value.now) c.args.roads (keys_in c.args.progress.now) (view c.args.schema.now) c.args.start l.index (items_view xs) (items_view ys) c.args.observer.now l.observer) here l.invariant in
-    let next = items_step c.args.site.now _ _ c.args.roads _ _ c.args.start _ _ l.index _ _ (view x) _ _ _ c.in_ok-read_site.ensures child (item_asked l.index _ (view x) c.args.roads _ c.push_index-instance.ensures c.push_name-schema_road.ensures refl c.push_name-evaluation.ensures) c.requires.inside left in
-    subst (λ i. ItemsLeft c.args.site.now (spots_of c.args.reading.now) (view c.args.value.now) c.args.roads (keys_in c.args.progress.now) (view c.args.schema.now) c.args.start i (items_view xs) (items_view (drop (l.index + 1) xs)) c.args.observer.now c.read_site.new.observer) (sym (add-one l.index)) next
-
-pub read::read_items-returns : goal.read::read_items-returns
-read::read_items-returns t c =
-    let xs = c.in-Array.items.items in
-    let l = c.loop-index in
-    let nothing : drop l.index xs ≡ [] = drop_all l.index xs (omega arith) in
-    let left = subst (λ ys. ItemsLeft c.args.site.now (spots_of c.args.reading.now) (view c.args.value.now) c.args.roads (keys_in c.args.progress.now) (view c.args.schema.now) c.args.start l.index (items_view xs) (items_view ys) c.args.observer.now l.observer) nothing l.invariant in
-    items_done c.args.site.now _ _ c.args.roads _ _ c.args.start l.index _ _ l.observer left
 
 pub read::read_keyword-returns-in-Nothing : goal.read::read_keyword-returns-in-Nothing
 read::read_keyword-returns-in-Nothing t c =
@@ -133,24 +64,6 @@ read::read_keyword-returns-in-Pattern t c =
     on_ok_weaker c.tell_pattern.result
     (tells_pattern c.args.site.now whole d c.args.roads keys c.args.keyword c.in-Pattern.pattern.now c.args.observer.now c.tell_pattern.new.observer (λ x. ap (λ k. keyword_shapes k x) c.in-Pattern.is))
     c.tell_pattern.ensures
-
-pub read::read_keyword-returns-in-Items : goal.read::read_keyword-returns-in-Items
-read::read_keyword-returns-in-Items t c =
-    let whole = spots_of c.args.reading.now in
-    let d = view c.args.value.now in
-    let keys = keys_in c.args.progress.now in
-    on_ok_weaker c.read_items.result
-    (tells_items c.args.site.now whole d c.args.roads keys c.args.keyword c.in-Items.start (view c.in-Items.schema.now) c.args.observer.now c.read_items.new.observer (λ x. ap (λ k. keyword_leads k x) c.in-Items.is) (λ x. ap (λ k. keyword_shapes k x) c.in-Items.is))
-    c.read_items.ensures
-
-pub read::read_keyword-returns-in-Properties : goal.read::read_keyword-returns-in-Properties
-read::read_keyword-returns-in-Properties t c =
-    let whole = spots_of c.args.reading.now in
-    let d = view c.args.value.now in
-    let keys = keys_in c.args.progress.now in
-    on_ok_weaker c.read_properties.result
-    (tells_properties c.args.site.now whole d c.args.roads keys c.args.keyword (members_view c.in-Properties.schemas.now.entries) c.args.observer.now c.read_properties.new.observer (λ x. ap (λ k. keyword_leads k x) c.in-Properties.is) (λ x. ap (λ k. keyword_shapes k x) c.in-Properties.is))
-    c.read_properties.ensures
 
 pub read::read_keyword-returns-in-Reference : goal.read::read_keyword-returns-in-Reference
 read::read_keyword-returns-in-Reference t c =
@@ -217,118 +130,6 @@ read::read_members-returns t c =
     let all = members_view c.args.members.now.entries in
     members_last c.args.site.now (spots_of c.args.reading.now) (view c.args.value.now) c.args.roads (keys_in c.args.progress.now) all c.args.observer.now l.observer
     (subst (λ es. MembersLeft c.args.site.now (spots_of c.args.reading.now) (view c.args.value.now) c.args.roads (keys_in c.args.progress.now) all (members_view es) c.args.observer.now l.observer) c.in-None.ensures.steps.0 l.invariant.left)
-
-pub read::read_properties-returns-in_default : goal.read::read_properties-returns-in_default
-read::read_properties-returns-in_default t c =
-    let value = view c.args.value.now in
-    let none : (k : List ℕ) → get k value ≡ None = λ k. search (rules, the_lemmas) in
-    none_declared c.args.site.now _ value c.args.roads _ _ _ _ _ none (declared_init c.args.site.now _ value c.args.roads _ _ _)
-
-pub read::read_properties-loop-name-init : goal.read::read_properties-loop-name-init
-read::read_properties-loop-name-init t c =
-    let whole = spots_of c.args.reading.now in
-    let value = view c.args.value.now in
-    let keys = keys_in c.args.progress.now in
-    let all = members_view c.args.schemas.now.entries in
-    let same : members_view c.into_iter-name-iterator.result ≡ all = ap members_view (c.into_iter-name-iterator.ensures.into_iter_gives ∙ c.iter-name-items.ensures.rest) in
-    record {
-      whole = same;
-      rising = ap are_rising same ∙ entries_rise c.args.schemas.now.entries c.iter-name-items.ensures.ordered;
-      walked = c.new-walk.ensures.rises;
-      found = all_found _ _ _ value c.new-walk.ensures.left (ap view c.in-Object.is ∙ view-Object c.in-Object.members);
-      left = subst (λ ms. DeclaredLeft c.args.site.now whole value c.args.roads keys all ms c.args.observer.now c.args.observer.now) (sym same) (declared_init c.args.site.now whole value c.args.roads keys all c.args.observer.now);
-    }
-
-pub read::read_properties-returns-then-is_settled : goal.read::read_properties-returns-then-is_settled
-read::read_properties-returns-then-is_settled t c =
-    declared_settled c.args.site.now _ _ c.args.roads _ _ _ _ c.loop-name.observer (λ kept gs hs h. c.is_settled.ensures c.if-is_settled.true kept gs hs h) c.loop-name.invariant.left
-
-pub read::read_properties-loop-name-preserved-in-Continue-1 :
-    goal.read::read_properties-loop-name-preserved-in-Continue-1
-read::read_properties-loop-name-preserved-in-Continue-1 t c =
-    let l = c.loop-name in
-    let whole = spots_of c.args.reading.now in
-    let value = view c.args.value.now in
-    let keys = keys_in c.args.progress.now in
-    let all = members_view c.args.schemas.now.entries in
-    let rest = members_view c.next.new.self in
-    let d = view c.in-Some.schema.now in
-    let k = c.as_str-name.result.now in
-    let e = view c.in-Some-seek.member.now in
-    let rises_one = subst (λ es. are_rising (members_view es) ≡ true) c.in-Some.ensures.steps l.invariant.rising in
-    let rises = subst (λ n. rises_from n rest ≡ true) (sym c.as_str-name.ensures.value) rises_one in
-    let found_one = subst (λ es. AreFound (members_view es) (left_in l.walk) value) c.in-Some.ensures.steps l.invariant.found in
-    let found = subst (λ n. get_member n (left_in l.walk) ≡ get n value) (sym c.as_str-name.ensures.value) found_one.0 in
-    let left_one = subst (λ es. DeclaredLeft c.args.site.now whole value c.args.roads keys all (members_view es) c.args.observer.now l.observer) c.in-Some.ensures.steps l.invariant.left in
-    let left = subst (λ n. DeclaredLeft c.args.site.now whole value c.args.roads keys all (member n d rest) c.args.observer.now l.observer) (sym c.as_str-name.ensures.value) left_one in
-    record {
-      whole = l.invariant.whole;
-      rising = rest_rises k rest rises;
-      walked = c.seek.ensures.rises;
-      found = still_found k rest (left_in l.walk) (left_in c.seek.new.self) value rises c.seek.ensures.later found_one.1;
-      left = declared_step c.args.site.now whole value c.args.roads keys k d e all rest _ _ _ (sym (c.in-Some-seek.ensures.found ∙ found)) c.in_ok-read_property.ensures left;
-    }
-
-pub read::read_properties-loop-name-preserved : goal.read::read_properties-loop-name-preserved
-read::read_properties-loop-name-preserved t c =
-    let l = c.loop-name in
-    let whole = spots_of c.args.reading.now in
-    let value = view c.args.value.now in
-    let keys = keys_in c.args.progress.now in
-    let all = members_view c.args.schemas.now.entries in
-    let rest = members_view c.next.new.self in
-    let d = view c.in-Some.schema.now in
-    let k = c.as_str-name.result.now in
-    let rises_one = subst (λ es. are_rising (members_view es) ≡ true) c.in-Some.ensures.steps l.invariant.rising in
-    let rises = subst (λ n. rises_from n rest ≡ true) (sym c.as_str-name.ensures.value) rises_one in
-    let found_one = subst (λ es. AreFound (members_view es) (left_in l.walk) value) c.in-Some.ensures.steps l.invariant.found in
-    let found = subst (λ n. get_member n (left_in l.walk) ≡ get n value) (sym c.as_str-name.ensures.value) found_one.0 in
-    let left_one = subst (λ es. DeclaredLeft c.args.site.now whole value c.args.roads keys all (members_view es) c.args.observer.now l.observer) c.in-Some.ensures.steps l.invariant.left in
-    let left = subst (λ n. DeclaredLeft c.args.site.now whole value c.args.roads keys all (member n d rest) c.args.observer.now l.observer) (sym c.as_str-name.ensures.value) left_one in
-    record {
-      whole = l.invariant.whole;
-      rising = rest_rises k rest rises;
-      walked = c.seek.ensures.rises;
-      found = still_found k rest (left_in l.walk) (left_in c.seek.new.self) value rises c.seek.ensures.later found_one.1;
-      left = declared_absent c.args.site.now whole value c.args.roads keys k d all rest _ _ (sym (c.in_default-seek.ensures.found ∙ found)) left;
-    }
-
-pub read::read_properties-returns : goal.read::read_properties-returns
-read::read_properties-returns t c =
-    let l = c.loop-name in
-    let whole = spots_of c.args.reading.now in
-    let value = view c.args.value.now in
-    let keys = keys_in c.args.progress.now in
-    let all = members_view c.args.schemas.now.entries in
-    declared_done c.args.site.now whole value c.args.roads keys all _ _ (subst (λ es. DeclaredLeft c.args.site.now whole value c.args.roads keys all (members_view es) c.args.observer.now l.observer) c.in-None.ensures.steps.0 l.invariant.left)
-
-pub read::read_property-read_site-requires : goal.read::read_property-read_site-requires
-read::read_property-read_site-requires t c =
-    let child : Child c.args.site.now c.in_ok-inner.inner (view c.args.schema.now) = record {
-      contents = ap (λ (b : Bor Value). view b.now) c.in_ok-inner.ensures.contents;
-      documents = c.in_ok-inner.ensures.documents;
-      scope = c.in_ok-inner.ensures.scope;
-      stands = λ s added. c.in_ok-inner.ensures.stands s added;
-      matches = c.in_ok-inner.ensures.matches;
-    } in
-    let requires = c.requires.1.1 in
-    let inside = requires.1.1.0 in (
-      omega (arith, child_falls c.args.site.now _ _ (spots_of c.args.reading.now) (keys_in c.args.progress.now) child inside, c.requires.1.0),
-      (child_shallow c.args.site.now _ _ child inside requires.0, member_within c.args.name.now _ _ _ _ _ requires.1.1.1 c.push_name-instance.ensures requires.1.0),
-    )
-
-pub read::read_property-returns : goal.read::read_property-returns
-read::read_property-returns t c =
-    let child : Child c.args.site.now c.in_ok-inner.inner (view c.args.schema.now) = record {
-      contents = ap (λ (b : Bor Value). view b.now) c.in_ok-inner.ensures.contents;
-      documents = c.in_ok-inner.ensures.documents;
-      scope = c.in_ok-inner.ensures.scope;
-      stands = λ s added. c.in_ok-inner.ensures.stands s added;
-      matches = c.in_ok-inner.ensures.matches;
-    } in
-    let path = c.push_name-schema_road.ensures ∙ ap (λ p. name c.args.name.now ∷ p) c.push_name-schema_above.ensures in
-    let evaluation = c.push_name-evaluation.ensures ∙ ap (λ p. name c.args.name.now ∷ p) c.push_name-evaluation_above.ensures in
-    on_ok_weaker c.read_site.result (λ told. property_told c.args.site.now _ _ c.args.roads _ _ _ c.args.name.now _ _ _ _ told child (member_asked c.args.name.now _ _ c.args.roads _ c.push_name-instance.ensures path refl evaluation) c.requires.1.1.1.1.0) c.read_site.ensures
 
 pub read::read_site-returns-in-Bool-true : goal.read::read_site-returns-in-Bool-true
 read::read_site-returns-in-Bool-true t c =

@@ -1,15 +1,12 @@
-use Rattle.std.proofs.Common.{[], ◌≡◌, true, ◌≤◌, ◌+◌, ◌*◌, drop}
-use Rattle.serde_json.specs.View.{view, items_view, members_view}
+use Rattle.std.proofs.Common.{[], ◌≡◌, ◌≤◌, ◌+◌, ◌*◌, drop}
+use Rattle.serde_json.specs.View.{view, members_view}
 use Rattle.schema_sites.specs.Seen.{documents_at}
 use Rattle.plain_reader.specs.Spots.{spots_of}
 use Rattle.schema_definitions.specs.AllKeys.{spots_in}
 use Rattle.schema_reports.specs.RoadPaths.{instance_in}
 use Rattle.plain_reader.specs.Keys.{keys_in}
 use Rattle.plain_reader.specs.Tellings.{room}
-use Rattle.plain_reader.proofs.Left.{MembersLeft, ItemsLeft, QuestionsLeft, NamedLeft, DeclaredLeft, CountLeft, BranchesLeft}
-use Rattle.json_values.specs.Rising.{are_rising}
-use Rattle.member_walks.specs.Left.{left_in}
-use Rattle.member_walks.specs.Found.{AreFound}
+use Rattle.plain_reader.proofs.Left.{MembersLeft, QuestionsLeft, NamedLeft, CountLeft, BranchesLeft}
 use Rattle.plain_reader.proofs.+read.Given as goal
 
 abbrev pub decreases-read::read_site : goal.decreases-read::read_site
@@ -23,15 +20,6 @@ decreases-read::read_member l = 12 * room (documents_at l.site.now) (spots_of l.
 
 abbrev pub decreases-read::read_keyword : goal.decreases-read::read_keyword
 decreases-read::read_keyword l = 12 * room (documents_at l.site.now) (spots_of l.reading.now) (keys_in l.progress.now) (view l.site.now.contents.now) + 8
-
-abbrev pub decreases-read::read_items : goal.decreases-read::read_items
-decreases-read::read_items l = 12 * room (documents_at l.site.now) (spots_of l.reading.now) (keys_in l.progress.now) (view l.site.now.contents.now) + 3
-
-abbrev pub decreases-read::read_properties : goal.decreases-read::read_properties
-decreases-read::read_properties l = 12 * room (documents_at l.site.now) (spots_of l.reading.now) (keys_in l.progress.now) (view l.site.now.contents.now) + 3
-
-abbrev pub decreases-read::read_property : goal.decreases-read::read_property
-decreases-read::read_property l = 12 * room (documents_at l.site.now) (spots_of l.reading.now) (keys_in l.progress.now) (view l.site.now.contents.now) + 2
 
 abbrev pub decreases-read::read_condition : goal.decreases-read::read_condition
 decreases-read::read_condition l = 12 * room (documents_at l.site.now) (spots_of l.reading.now) (keys_in l.progress.now) (view l.site.now.contents.now) + 7
@@ -82,22 +70,6 @@ invariant-read::read_members-loop-name l =
     record {
       whole : members_view l.initial.name-iterator ≡ all;
       left : MembersLeft l.site (spots_of l.reading) (view l.value) l.roads (keys_in l.progress) all rest l.fn.observer l.observer;
-    }
-
-abbrev pub invariant-read::read_items-loop-index : goal.invariant-read::read_items-loop-index
-invariant-read::read_items-loop-index l =
-    ItemsLeft l.site (spots_of l.reading) (view l.value) l.roads (keys_in l.progress) (view l.schema) l.start l.index (items_view l.items.items) (items_view (drop l.index l.items.items)) l.fn.observer l.observer
-
-abbrev pub invariant-read::read_properties-loop-name : goal.invariant-read::read_properties-loop-name
-invariant-read::read_properties-loop-name l =
-    let all = members_view l.schemas.entries in
-    let rest = members_view l.name-iterator in
-    record {
-      whole : members_view l.initial.name-iterator ≡ all;
-      rising : are_rising rest ≡ true;
-      walked : are_rising (left_in l.walk) ≡ true;
-      found : AreFound rest (left_in l.walk) (view l.value);
-      left : DeclaredLeft l.site (spots_of l.reading) (view l.value) l.roads (keys_in l.progress) all rest l.fn.observer l.observer;
     }
 
 abbrev pub invariant-read::read_questions-loop-question : goal.invariant-read::read_questions-loop-question

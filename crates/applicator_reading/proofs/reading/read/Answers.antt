@@ -1,6 +1,6 @@
 use Rattle.std.proofs.Common.{codes, refl}
 use Rattle.serde_json.specs.View.{view}
-use Rattle.applicator_reading.proofs.NamedLemmas.{read-at, named-at, not-valued}
+use Rattle.applicator_reading.proofs.NamedLemmas.{read-at, named-at}
 use Rattle.applicator_reading.proofs.reading.read.Goals as goal
 
 pub returns-in-items-clause-read : goal.returns-in-items-clause-read
@@ -81,24 +81,6 @@ returns-in-not-clause-read c = read-at c.args.name.now (codes "not") c.args.neig
 pub returns-in-not-clause-named : goal.returns-in-not-clause-named
 returns-in-not-clause-named c = named-at c.args.name.now (codes "not") c.in-not.is refl
 
-pub returns-in-if-clause-read : goal.returns-in-if-clause-read
-returns-in-if-clause-read c = read-at c.args.name.now (codes "if") c.args.neighbours (view c.args.value.now) c.condition.result c.in-if.is (λ x s. c.condition.ensures.read x s)
-
-pub returns-in-if-clause-named : goal.returns-in-if-clause-named
-returns-in-if-clause-named c = named-at c.args.name.now (codes "if") c.in-if.is refl
-
-pub returns-in-then-clause-read : goal.returns-in-then-clause-read
-returns-in-then-clause-read c = read-at c.args.name.now (codes "then") c.args.neighbours (view c.args.value.now) c.consequent.result c.in-then.is (λ x s. c.consequent.ensures.read x (codes "then") s)
-
-pub returns-in-then-clause-named : goal.returns-in-then-clause-named
-returns-in-then-clause-named c = named-at c.args.name.now (codes "then") c.in-then.is refl
-
-pub returns-in-else-clause-read : goal.returns-in-else-clause-read
-returns-in-else-clause-read c = read-at c.args.name.now (codes "else") c.args.neighbours (view c.args.value.now) c.consequent-in-else.result c.in-else.is (λ x s. c.consequent-in-else.ensures.read x (codes "else") s)
-
-pub returns-in-else-clause-named : goal.returns-in-else-clause-named
-returns-in-else-clause-named c = named-at c.args.name.now (codes "else") c.in-else.is refl
-
 pub returns-in-patternProperties-clause-read : goal.returns-in-patternProperties-clause-read
 returns-in-patternProperties-clause-read c = read-at c.args.name.now (codes "patternProperties") c.args.neighbours (view c.args.value.now) c.map-in-patternProperties.result c.in-patternProperties.is (λ x s. c.map-in-patternProperties.ensures.read x)
 
@@ -110,57 +92,3 @@ returns-in-additionalProperties-clause-read c = read-at c.args.name.now (codes "
 
 pub returns-in-additionalProperties-clause-named : goal.returns-in-additionalProperties-clause-named
 returns-in-additionalProperties-clause-named c = named-at c.args.name.now (codes "additionalProperties") c.in-additionalProperties.is refl
-
-pub returns-in-items-clause-answers : goal.returns-in-items-clause-answers
-returns-in-items-clause-answers c = λ l. c.items.ensures.answers
-
-pub returns-in-prefixItems-clause-answers : goal.returns-in-prefixItems-clause-answers
-returns-in-prefixItems-clause-answers c = λ l. c.list.ensures.answers
-
-pub returns-in-additionalItems-clause-answers : goal.returns-in-additionalItems-clause-answers
-returns-in-additionalItems-clause-answers c = λ l. c.additional_items.ensures.answers
-
-pub returns-in-contains-clause-answers : goal.returns-in-contains-clause-answers
-returns-in-contains-clause-answers c = λ l. c.contains.ensures.answers
-
-pub returns-in-minContains-clause-answers : goal.returns-in-minContains-clause-answers
-returns-in-minContains-clause-answers c = λ l. c.bound.ensures.answers
-
-pub returns-in-maxContains-clause-answers : goal.returns-in-maxContains-clause-answers
-returns-in-maxContains-clause-answers c = λ l. c.bound-in-maxContains.ensures.answers
-
-pub returns-in-properties-clause-answers : goal.returns-in-properties-clause-answers
-returns-in-properties-clause-answers c = λ l. c.map.ensures.answers
-
-pub returns-in-propertyNames-clause-answers : goal.returns-in-propertyNames-clause-answers
-returns-in-propertyNames-clause-answers c = λ l. c.property_names.ensures.answers
-
-pub returns-in-dependentSchemas-clause-answers : goal.returns-in-dependentSchemas-clause-answers
-returns-in-dependentSchemas-clause-answers c = λ l. c.map-in-dependentSchemas.ensures.answers
-
-pub returns-in-allOf-clause-answers : goal.returns-in-allOf-clause-answers
-returns-in-allOf-clause-answers c = λ l. c.list-in-allOf.ensures.answers
-
-pub returns-in-anyOf-clause-answers : goal.returns-in-anyOf-clause-answers
-returns-in-anyOf-clause-answers c = λ l. c.list-in-anyOf.ensures.answers
-
-pub returns-in-oneOf-clause-answers : goal.returns-in-oneOf-clause-answers
-returns-in-oneOf-clause-answers c = λ l. c.list-in-oneOf.ensures.answers
-
-pub returns-in-not-clause-answers : goal.returns-in-not-clause-answers
-returns-in-not-clause-answers c = λ l. c.negation.ensures.answers
-
-pub returns-in-if-clause-answers : goal.returns-in-if-clause-answers
-returns-in-if-clause-answers c = λ l. absurd (not-valued c.args.name.now (codes "if") c.in-if.is refl l)
-
-pub returns-in-then-clause-answers : goal.returns-in-then-clause-answers
-returns-in-then-clause-answers c = λ l. absurd (not-valued c.args.name.now (codes "then") c.in-then.is refl l)
-
-pub returns-in-else-clause-answers : goal.returns-in-else-clause-answers
-returns-in-else-clause-answers c = λ l. absurd (not-valued c.args.name.now (codes "else") c.in-else.is refl l)
-
-pub returns-in-patternProperties-clause-answers : goal.returns-in-patternProperties-clause-answers
-returns-in-patternProperties-clause-answers c = λ l. c.map-in-patternProperties.ensures.answers
-
-pub returns-in-additionalProperties-clause-answers : goal.returns-in-additionalProperties-clause-answers
-returns-in-additionalProperties-clause-answers c = λ l. c.additional_properties.ensures.answers

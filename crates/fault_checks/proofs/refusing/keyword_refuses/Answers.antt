@@ -1,6 +1,6 @@
-use Rattle.std.proofs.Common.{◌++◌, not, false, ap, refl, sym, subst, codes}
+use Rattle.std.proofs.Common.{◌++◌, not, false, ap, refl, sym, subst}
 use Rattle.std.proofs.lemmas.Result.{IfOk-weaker}
-use Rattle.serde_json.specs.View.{view, members_view}
+use Rattle.serde_json.specs.View.{view}
 use Rattle.schema_meaning.specs.Questions as asking
 use Rattle.schema_definitions.specs.Sites.{path_of_reference}
 use Rattle.plain_reader.specs.Passed.{assertion_of, target_in}
@@ -8,7 +8,7 @@ use Rattle.plain_reader.specs.Passed.{row_of}
 use Rattle.plain_reader.specs.Passed.{name_of}
 use Rattle.schema_reports.specs.Locations.{location_of}
 use Rattle.schema_reports.specs.References.{text_of}
-use Rattle.fault_checks.specs.Rows.{items_row, items_questions, properties_row, properties_questions, reference_row, reference_questions}
+use Rattle.fault_checks.specs.Rows.{reference_row, reference_questions}
 use Rattle.fault_checks.specs.Verdicts.{rules_by, IsRefusalAt, LiesIn}
 use Rattle.fault_checks.proofs.Gathered.{by_questions, by_assertion, by_pattern, by_nothing}
 use Rattle.fault_checks.proofs.NamedRefusals.{HasOneName, under_name}
@@ -36,12 +36,6 @@ returns-in_ok-accepts_text-in-Pattern c =
     under_name c.args.site.now path d c.args.keyword c.args.name.now (not c.in_ok-accepts_text-in-Pattern.field-0) (subst HasOneName (sym c.in-Pattern.is) tt)
     (by_pattern c.args.site.now path d c.args.keyword c.in-Pattern.pattern.now c.in_ok-accepts_text-in-Pattern.field-0 c.in_ok-accepts_text-in-Pattern.ensures (λ x s. ap (λ k. rules_by x s d k) c.in-Pattern.is))
 
-pub some_item_refused-requires : goal.some_item_refused-requires
-some_item_refused-requires c = record { shallow = c.requires.shallow; inside = subst (LiesIn c.args.site.now) c.in-Items.is c.requires.lies }
-
-pub some_member_refused-requires : goal.some_member_refused-requires
-some_member_refused-requires c = record { shallow = c.requires.shallow; inside = subst (LiesIn c.args.site.now) c.in-Properties.is c.requires.lies }
-
 pub applicator_refuses-requires : goal.applicator_refuses-requires
 applicator_refuses-requires c = record { shallow = c.requires.shallow; applies = subst (LiesIn c.args.site.now) c.in-Applicator.is c.requires.lies }
 
@@ -67,29 +61,6 @@ returns-in-Consequent c =
 
 pub is_target_refused-requires : goal.is_target_refused-requires
 is_target_refused-requires c = record { shallow = c.requires.shallow; found = subst (LiesIn c.args.site.now) c.in-Reference.is c.requires.lies }
-
-pub returns-in-Items : goal.returns-in-Items
-returns-in-Items c =
-    let d = view c.args.value.now in
-    let path = location_of c.args.schema.now ++ path_of_reference (text_of c.args.reference) in
-    let start = c.in-Items.start in
-    let part = view c.in-Items.part.now in
-    IfOk-weaker c.some_item_refused.result _ _
-    (λ b h. under_name c.args.site.now path d c.args.keyword c.args.name.now b (subst HasOneName (sym c.in-Items.is) tt)
-    (by_questions c.args.site.now path d c.args.keyword (items_row start part) (asking.at (codes "items")) (items_questions start part d) b c.requires.shallow
-    (λ x s. ap (λ k. row_of x.documents s k) c.in-Items.is) (λ x s. refl) h))
-    c.some_item_refused.ensures
-
-pub returns-in-Properties : goal.returns-in-Properties
-returns-in-Properties c =
-    let d = view c.args.value.now in
-    let path = location_of c.args.schema.now ++ path_of_reference (text_of c.args.reference) in
-    let ms = members_view c.in-Properties.schemas.now.entries in
-    IfOk-weaker c.some_member_refused.result _ _
-    (λ b h. under_name c.args.site.now path d c.args.keyword c.args.name.now b (subst HasOneName (sym c.in-Properties.is) tt)
-    (by_questions c.args.site.now path d c.args.keyword (properties_row ms) (asking.at (codes "properties")) (properties_questions ms d) b c.requires.shallow
-    (λ x s. ap (λ k. row_of x.documents s k) c.in-Properties.is) (λ x s. refl) h))
-    c.some_member_refused.ensures
 
 pub returns-in-Reference : goal.returns-in-Reference
 returns-in-Reference c =

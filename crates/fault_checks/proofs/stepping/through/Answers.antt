@@ -1,20 +1,13 @@
 use Rattle.std.proofs.Common.{ap, subst, sym}
 use Rattle.std.proofs.lemmas.Result.{IfOk-weaker}
-use Rattle.serde_json.specs.View.{view, members_view}
 use Rattle.schema_meaning.specs.Keywords.{pattern}
 use Rattle.fault_checks.specs.Passed.{assertion_of, target_in}
 use Rattle.fault_checks.specs.Passed.{row_of}
-use Rattle.fault_checks.specs.Rows.{items_row, properties_row, applied_row, reference_row}
+use Rattle.fault_checks.specs.Rows.{applied_row, reference_row}
 use Rattle.fault_checks.specs.Verdicts.{LiesIn}
 use Rattle.fault_checks.specs.Steps.{PassesBy}
 use Rattle.fault_checks.proofs.ReferenceSteps.{asserted_passes, nothing_passes, by_row}
 use Rattle.fault_checks.proofs.stepping.through.Goals as goal
-
-pub through_items-requires : goal.through_items-requires
-through_items-requires c = record { inside = subst (LiesIn c.args.walk.site) c.in-Items.is c.requires.lies; more = c.requires.more }
-
-pub through_properties-requires : goal.through_properties-requires
-through_properties-requires c = record { inside = subst (LiesIn c.args.walk.site) c.in-Properties.is c.requires.lies; more = c.requires.more }
 
 pub through_applicator-requires : goal.through_applicator-requires
 through_applicator-requires c = record { applies = subst (LiesIn c.args.walk.site) c.in-Applicator.is c.requires.lies; more = c.requires.more }
@@ -24,18 +17,6 @@ through_condition-requires c = record { lies = subst (LiesIn c.args.walk.site) c
 
 pub through_reference-requires : goal.through_reference-requires
 through_reference-requires c = record { found = subst (LiesIn c.args.walk.site) c.in-Reference.is c.requires.lies; more = c.requires.more }
-
-pub returns-in-Items-clause-passes : goal.returns-in-Items-clause-passes
-returns-in-Items-clause-passes c =
-    IfOk-weaker c.through_items.result _ _
-    (λ st h. by_row c.args.walk c.args.keyword (items_row c.in-Items.start (view c.in-Items.schema.now)) c.args.name.now c.args.after st (λ x s. ap (λ k. row_of x.documents s k) c.in-Items.is) h)
-    c.through_items.ensures.passes
-
-pub returns-in-Properties-clause-passes : goal.returns-in-Properties-clause-passes
-returns-in-Properties-clause-passes c =
-    IfOk-weaker c.through_properties.result _ _
-    (λ st h. by_row c.args.walk c.args.keyword (properties_row (members_view c.in-Properties.schemas.now.entries)) c.args.name.now c.args.after st (λ x s. ap (λ k. row_of x.documents s k) c.in-Properties.is) h)
-    c.through_properties.ensures.passes
 
 pub returns-in-Applicator-clause-passes : goal.returns-in-Applicator-clause-passes
 returns-in-Applicator-clause-passes c =

@@ -33,7 +33,7 @@ returns c =
       matches = c.in_ok-site.ensures.matches;
       path =
           ap (λ ps. behind ps [] ++ rest) c.in_ok-push.ensures.items
-          ∙ ap (λ (p : List Part). p ++ rest) (behind_more c.in_ok-parts.parts.items _ [] ∙ ap (λ (p : List Part). name (codes "propertyNames") ∷ p) (c.in_ok-parts.ensures ∙ ap (λ ps. behind ps []) c.deref.ensures.value));
+          ∙ ap (λ (p : List Part). p ++ rest) (behind_more c.in_ok-parts.parts.items _ [] ∙ ap (λ (p : List Part). name (codes "propertyNames") ∷ p) (ap (λ ps. behind ps []) (c.in_ok-parts.ensures ∙ c.deref.ensures.value)));
       value = refl;
       instance = refl;
       evaluation = refl;

@@ -22,7 +22,7 @@ returns c =
       ]
       | in-Counted w ↦ rw w.result-is (counted_refused m d n context a _ _ (sym is ∙ w.in-Counted.is))
       | in_default+in_ok-asked_refusal-in_default w ↦
-        rw w.result-is
-        (asked_refused m d n context a c.combining.result _ is w.in_default.not-SomeBranch w.in_default.not-OneBranch w.in_default.not-Counted
-        (w.in_ok-asked_refusal-in_default.ensures ∙ ap (λ f. kind_asked m f d) w.asks.ensures))
+          rw w.result-is
+          (asked_refused m d n context a c.combining.result _ is w.in_default.not-SomeBranch w.in_default.not-OneBranch w.in_default.not-Counted
+          (w.in_ok-asked_refusal-in_default.ensures ∙ ap (λ f. kind_asked m f d) w.asks.ensures))
     ]

@@ -24,11 +24,8 @@ returns-in-Assertion c = as_keyword c.args.visit.now _ _ _ _ c.in-Assertion.is (
 pub returns-in-Pattern : goal.returns-in-Pattern
 returns-in-Pattern c = as_keyword c.args.visit.now _ _ _ _ c.in-Pattern.is (adds-none _ c.args.leads.now.items)
 
-pub returns-in-Items : goal.returns-in-Items
-returns-in-Items c = on_ok_weaker c.push_at.result (λ h. as_keyword c.args.visit.now _ _ _ _ c.in-Items.is h) c.push_at.ensures
-
 pub returns-in-If : goal.returns-in-If
-returns-in-If c = on_ok_weaker c.push_at-in-If.result (λ h. as_keyword c.args.visit.now _ _ _ _ c.in-If.is h) c.push_at-in-If.ensures
+returns-in-If c = on_ok_weaker c.push_at.result (λ h. as_keyword c.args.visit.now _ _ _ _ c.in-If.is h) c.push_at.ensures
 
 pub returns-in-Consequent : goal.returns-in-Consequent
 returns-in-Consequent c = on_ok_weaker c.push_at-in-Consequent.result (λ h. as_keyword c.args.visit.now _ _ _ _ c.in-Consequent.is h) c.push_at-in-Consequent.ensures

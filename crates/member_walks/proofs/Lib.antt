@@ -1,2 +1,0 @@
-mod Passed
-pub mod Found
