@@ -1,18 +1,17 @@
 -- How the answers to an applicator's questions are combined.
 use Rattle.std.proofs.lemmas.Bool.Decides.{nat_tests}
-use Rattle.std.proofs.Common.{◌≡◌, ◌==◌, ◌≤◌, ◌∙◌, ◌&&◌, ℕ, nat_lt, List, [], ◌∷◌, Bool, true, false, not, length, Option, Bor, refl, sym, ap, subst, arith, ◌++◌, codes, ap₂, is_some, if◌then◌else◌}
+use Rattle.std.proofs.Common.{◌≡◌, ◌==◌, ◌≤◌, ◌∙◌, ◌&&◌, ℕ, nat_lt, List, [], ◌∷◌, Bool, true, false, not, length, Option, refl, sym, ap, subst, arith, ◌++◌, ap₂, if◌then◌else◌}
 use Rattle.serde_json.specs.Data.{Data, null, boolean, number, string, array, object, Members, no_members, member}
-use Rattle.serde_json.specs.Find.{get, as_array}
-use Rattle.serde_json.specs.View.{view, members_view}
-use Rattle.serde_json.specs.declared.value.Value.{Value}
+use Rattle.serde_json.specs.Find.{get}
+use Rattle.serde_json.specs.View.{members_view}
 use Rattle.json_values.specs.Parts.{Part}
 use Rattle.schema_meaning.specs.Members.{is_empty, all_true, some_true, count_true}
-use Rattle.schema_meaning.specs.Rules.{Rule, accepts, asks, is_enough, is_few, Note, every, together, each_named, some_branch, one_branch, refusal, counted, conditional}
+use Rattle.schema_meaning.specs.Rules.{Rule, accepts, asks, is_enough, is_few, Note, every, together, each_named, some_branch, one_branch, refusal, counted}
 use Rattle.schema_meaning.specs.Keywords.{rule, missing, missing_beside, needed}
 use Rattle.schema_definitions.specs.Sites.{Site}
 use Rattle.applicators.specs.Combining.{Named, Combines, tells_each, counts_answers, decided_by}
-use Rattle.applicators.specs.Combined.{name_of, combining_of, asks_of, named_of, notes_by, Follows, is_every, IsEvery, is_by_answers, has_notes, decided, Decides}
-use Rattle.applicators.specs.Shapes.{shape_of, site_of, dependency_at, dependencies_in}
+use Rattle.applicators.specs.Combined.{name_of, combining_of, asks_of, named_of, Follows, is_every, IsEvery, decided, Decides}
+use Rattle.applicators.specs.Shapes.{shape_of, dependency_at, dependencies_in}
 use Rattle.std.specs.List.{flat_map}
 use Rattle.schema_meaning.specs.Questions.{at, if_member}
 use Rattle.assertions.specs.Texts.{texts_in, entries_of}
@@ -24,7 +23,7 @@ use Rattle.applicators.specs.Forms.{noted, kind_in, value_in, stands, named_in}
 use Rattle.applicators.specs.Asks.{form_by, may_note, noted_by, kind_asked, value_asked}
 use Rattle.applicators.specs.declared.asks.Asks.{Asks}
 use Rattle.applicators.specs.declared.asks.Asks.TheVariants as asking
-use Rattle.applicators.proofs.FormLemmas.{built}
+use Rattle.applicators.proofs.FormLemmas.{IsKeyword, a_keyword, built}
 
 -- ---- what `dependencies` notes
 
@@ -62,6 +61,15 @@ value_so : (site : List Part → Data → Site) (k : List ℕ) (f : Asks) (d : D
 value_so site k (asking.Members schema) d = refl
 value_so site k f d = refl
 
+module _ (site : List Part → Data → Site) where
+  stands_so : (a : Applicator) → stands (name_of a) (combining_of a) (form_by site (name_of a) (asks_of a)) ≡ true
+  stands_so (code.Items start schema) = refl
+  stands_so a = refl
+
+  -- each is a keyword of its name
+  pub is_keyword : (a : Applicator) → IsKeyword (name_of a) (combining_of a) (form_by site (name_of a) (asks_of a))
+  is_keyword a = a_keyword (name_of a) (combining_of a) (form_by site (name_of a) (asks_of a)) (stands_so a)
+
 module _ (site : List Part → Data → Site) (matches : List ℕ → List ℕ → Bool) where
   named_so : (a : Applicator) (d : Data) → named_in matches (name_of a) (form_by site (name_of a) (asks_of a)) d ≡ named_of matches a d
   named_so a d =
@@ -71,14 +79,9 @@ module _ (site : List Part → Data → Site) (matches : List ℕ → List ℕ �
       ∙ ap (λ kind. record { name = k; notes = noted_by f d; note = record { kind = kind; value = value_in (form_by site k f) d } }) (kind_so site matches k f d)
       ∙ ap (λ value. record { name = k; notes = noted_by f d; note = record { kind = kind_asked matches f d; value = value } }) (value_so site k f d)
 
-  -- each is a keyword of its name
-  pub stands_so : (a : Applicator) → stands (name_of a) (combining_of a) (form_by site (name_of a) (asks_of a)) ≡ true
-  stands_so (code.Items start schema) = refl
-  stands_so a = refl
-
   pub follows : (d : Data) (a : Applicator) → Follows a site matches d
   follows d a =
-      let is = built matches d (name_of a) (combining_of a) (form_by site (name_of a) (asks_of a)) (stands_so a) in
+      let is = built matches d (name_of a) (combining_of a) (form_by site (name_of a) (asks_of a)) (is_keyword site a) in
       record { combined = subst (λ w. Combines w d (combining_of a) (rule matches d (shape_of site a))) (named_so a d) is.combined; asked = is.asked }
 
 every_by : {S : Type 0} (w : Named) (d : Data) (c : Combining) (r : Rule S) → Combines w d c r → tells_each c ≡ true → r ≡ every (at w.name) w.notes (asks r)

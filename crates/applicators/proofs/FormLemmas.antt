@@ -1,5 +1,5 @@
--- The rule of a keyword by its name, what it asks and how it combines the answers.
-use Rattle.std.proofs.Common.{◌≡◌, ◌∙◌, ◌==◌, ◌||◌, ◌&&◌, ◌∷◌, ◌⊎◌, [], ℕ, List, Bool, true, false, Option, inl, inr, bytes_eq, codes, refl, sym, ap, subst}
+-- Keywords by their name, what they ask and how they combine the answers, and the rule of each.
+use Rattle.std.proofs.Common.{◌≡◌, ◌==◌, ◌||◌, ◌&&◌, ◌∷◌, ◌⊎◌, [], ℕ, List, Bool, true, false, Option, inl, inr, bytes_eq, codes, refl, sym, subst}
 use Rattle.std.proofs.lemmas.Slice.Eq.{bytes_eq-Decides}
 use Rattle.std.proofs.lemmas.Bool.Decides.{nat_tests}
 use Rattle.std.proofs.Common.{arith}
@@ -7,12 +7,34 @@ use Rattle.serde_json.specs.Data.{Data, null, boolean, number, string, array, ob
 use Rattle.schema_meaning.specs.Members.{is_listed}
 use Rattle.schema_meaning.specs.Questions.{Declared}
 use Rattle.schema_meaning.specs.Keywords.{Dependency, rule}
-use Rattle.schema_meaning.specs.Rules.{asks}
 use Rattle.applicators.specs.Combining.{Combines}
-use Rattle.applicators.specs.Forms.{Form, each_from, by_index, by_name, by_pattern, of_others, of_members, of_names, of_triggered, of_dependencies, of_branches, of_value, of_condition, asked, shape_by, stands, named_in, IsBuilt}
+use Rattle.applicators.specs.Forms.{Form, each_from, by_index, by_name, by_pattern, of_others, of_members, of_names, of_triggered, of_dependencies, of_branches, of_value, of_condition, shape_by, stands, named_in, IsBuilt}
 use Rattle.applicators.specs.declared.combining.Combining.{Combining}
 use Rattle.applicators.specs.declared.combining.Combining.TheVariants as code
 use Rattle.applicators.proofs.ContainsLemmas.{contains_asks}
+
+-- a keyword by its name, how it combines and what it asks
+pub data IsKeyword {S : Type 0} : List ℕ → Combining → Form S → Type 0 where
+  from_start : (start : ℕ) (s : S) → IsKeyword (codes "items") code.Every (each_from start s)
+  from_the_list : (start : ℕ) (s : S) → IsKeyword (codes "additionalItems") code.Every (each_from start s)
+  as_list : (ss : List S) → IsKeyword (codes "items") code.Every (by_index ss)
+  as_prefix : (ss : List S) → IsKeyword (codes "prefixItems") code.Every (by_index ss)
+  declared_members : (ps : List (List ℕ × S)) → IsKeyword (codes "properties") code.Every (by_name ps)
+  matching_members : (ps : List (List ℕ × S)) → IsKeyword (codes "patternProperties") code.Every (by_pattern ps)
+  other_ones : (declared : Declared) (s : S) → IsKeyword (codes "additionalProperties") code.Every (of_others declared s)
+  triggered : (ps : List (List ℕ × S)) → IsKeyword (codes "dependentSchemas") code.Every (of_triggered ps)
+  depending : (ps : List (List ℕ × Dependency S)) → IsKeyword (codes "dependencies") code.Every (of_dependencies ps)
+  every_branch : (ss : List S) → IsKeyword (codes "allOf") code.Every (of_branches ss)
+  no_items : (start : ℕ) (s : S) → IsKeyword (codes "additionalItems") code.Together (each_from start s)
+  no_others : (declared : Declared) (s : S) → IsKeyword (codes "additionalProperties") code.Together (of_others declared s)
+  no_members : (s : S) → IsKeyword (codes "additionalProperties") code.Together (of_members s)
+  no_names : (s : S) → IsKeyword (codes "propertyNames") code.Together (of_names s)
+  each_name_of : (s : S) → IsKeyword (codes "propertyNames") code.EachNamed (of_names s)
+  one_or_more : (ss : List S) → IsKeyword (codes "anyOf") code.SomeBranch (of_branches ss)
+  only_one : (ss : List S) → IsKeyword (codes "oneOf") code.OneBranch (of_branches ss)
+  refused : (schema : Data) (s : S) → IsKeyword (codes "not") code.Refusal (of_value schema s)
+  counted_items : (least most : Option ℕ) (s : S) → IsKeyword (codes "contains") (code.Counted least most) (each_from 0 s)
+  chosen_by : (s : S) (t e : Option S) → IsKeyword (codes "if") code.Conditional (of_condition s t e)
 
 either_of : (k a b : List ℕ) → is_listed k (a ∷ b ∷ []) ≡ true → (k ≡ a) ⊎ (k ≡ b)
 either_of k a b h = by (bytes_eq k a) (bytes_eq k b) refl refl h
@@ -27,15 +49,39 @@ both_are true true h = (refl, refl)
 both_are true false h = absurd (cc)
 both_are false c h = absurd (cc)
 
-module _ {S : Type 0} (matches : List ℕ → List ℕ → Bool) (d : Data) where
-  abbrev Built : Combining → Form S → List ℕ → Type 0
-  Built c f k = IsBuilt matches d c f k
+module _ {S : Type 0} (c : Combining) (f : Form S) where
+  called : (k l : List ℕ) → bytes_eq k l ≡ true → IsKeyword l c f → IsKeyword k c f
+  called k l h is = subst (λ n. IsKeyword n c f) (sym ((bytes_eq-Decides k l).0 h)) is
 
-  named : (c : Combining) (f : Form S) (k l : List ℕ) → bytes_eq k l ≡ true → Built c f l → Built c f k
-  named c f k l h built = subst (Built c f) (sym ((bytes_eq-Decides k l).0 h)) built
+  called_either : (k l m : List ℕ) → is_listed k (l ∷ m ∷ []) ≡ true → IsKeyword l c f → IsKeyword m c f → IsKeyword k c f
+  called_either k l m h one other = elim (either_of k l m h) [ inl e ↦ subst (λ n. IsKeyword n c f) (sym e) one | inr e ↦ subst (λ n. IsKeyword n c f) (sym e) other ]
 
-  named_either : (c : Combining) (f : Form S) (k l m : List ℕ) → is_listed k (l ∷ m ∷ []) ≡ true → Built c f l → Built c f m → Built c f k
-  named_either c f k l m h one other = elim (either_of k l m h) [ inl e ↦ subst (Built c f) (sym e) one | inr e ↦ subst (Built c f) (sym e) other ]
+module _ {S : Type 0} where
+  counts_from : (k : List ℕ) (least most : Option ℕ) (start : ℕ) (s : S) → (bytes_eq k (codes "contains") ≡ true) × ((start == 0) ≡ true) → IsKeyword k (code.Counted least most) (each_from start s)
+  counts_from k least most start s w =
+      let zeros : start ≡ 0 = grind (arith, nat_tests, w.1) in
+      subst (λ n. IsKeyword k (code.Counted least most) (each_from n s)) (sym zeros) (called (code.Counted least most) (each_from 0 s) k _ w.0 (counted_items least most s))
+
+  pub a_keyword : (k : List ℕ) (c : Combining) (f : Form S) → stands k c f ≡ true → IsKeyword k c f
+  a_keyword k code.Every (each_from start s) h = called_either code.Every (each_from start s) k _ _ h (from_start start s) (from_the_list start s)
+  a_keyword k code.Every (by_index ss) h = called_either code.Every (by_index ss) k _ _ h (as_list ss) (as_prefix ss)
+  a_keyword k code.Every (by_name ps) h = called code.Every (by_name ps) k _ h (declared_members ps)
+  a_keyword k code.Every (by_pattern ps) h = called code.Every (by_pattern ps) k _ h (matching_members ps)
+  a_keyword k code.Every (of_others declared s) h = called code.Every (of_others declared s) k _ h (other_ones declared s)
+  a_keyword k code.Every (of_triggered ps) h = called code.Every (of_triggered ps) k _ h (triggered ps)
+  a_keyword k code.Every (of_dependencies ps) h = called code.Every (of_dependencies ps) k _ h (depending ps)
+  a_keyword k code.Every (of_branches ss) h = called code.Every (of_branches ss) k _ h (every_branch ss)
+  a_keyword k code.Together (each_from start s) h = called code.Together (each_from start s) k _ h (no_items start s)
+  a_keyword k code.Together (of_others declared s) h = called code.Together (of_others declared s) k _ h (no_others declared s)
+  a_keyword k code.Together (of_members s) h = called code.Together (of_members s) k _ h (no_members s)
+  a_keyword k code.Together (of_names s) h = called code.Together (of_names s) k _ h (no_names s)
+  a_keyword k code.EachNamed (of_names s) h = called code.EachNamed (of_names s) k _ h (each_name_of s)
+  a_keyword k code.SomeBranch (of_branches ss) h = called code.SomeBranch (of_branches ss) k _ h (one_or_more ss)
+  a_keyword k code.OneBranch (of_branches ss) h = called code.OneBranch (of_branches ss) k _ h (only_one ss)
+  a_keyword k code.Refusal (of_value schema s) h = called code.Refusal (of_value schema s) k _ h (refused schema s)
+  a_keyword k (code.Counted least most) (each_from start s) h = counts_from k least most start s (both_are (bytes_eq k (codes "contains")) (start == 0) h)
+  a_keyword k code.Conditional (of_condition s t e) h = called code.Conditional (of_condition s t e) k _ h (chosen_by s t e)
+  a_keyword k c f h = absurd (cc)
 
 module _ {S : Type 0} (matches : List ℕ → List ℕ → Bool) (s : S) (least most : Option ℕ) where
   counted_combines : (d : Data) → Combines (named_in matches (codes "contains") (each_from 0 s) d) d (code.Counted least most) (rule matches d (shape_by (codes "contains") (code.Counted least most) (each_from 0 s)))
@@ -46,32 +92,25 @@ module _ {S : Type 0} (matches : List ℕ → List ℕ → Bool) (s : S) (least 
   counted_combines (array ds) = (refl, refl, refl, refl)
   counted_combines (object ms) = (refl, refl, refl)
 
-  counted_built : (d : Data) → IsBuilt matches d (code.Counted least most) (each_from 0 s) (codes "contains")
-  counted_built d = record { combined = counted_combines d; asked = sym (contains_asks d s least most) }
-
 module _ {S : Type 0} (matches : List ℕ → List ℕ → Bool) (d : Data) where
-  counted_named : (k : List ℕ) (least most : Option ℕ) (start : ℕ) (s : S) → bytes_eq k (codes "contains") ≡ true → start ≡ 0 → IsBuilt matches d (code.Counted least most) (each_from start s) k
-  counted_named k least most start s is zeros =
-      subst (λ n. IsBuilt matches d (code.Counted least most) (each_from n s) k) (sym zeros) (named matches d (code.Counted least most) (each_from 0 s) k (codes "contains") is (counted_built matches s least most d))
-
-  pub built : (k : List ℕ) (c : Combining) (f : Form S) → stands k c f ≡ true → IsBuilt matches d c f k
-  built k code.Every (each_from start s) h = named_either matches d code.Every (each_from start s) k (codes "items") (codes "additionalItems") h (record { combined = (refl, refl); asked = refl }) (record { combined = (refl, refl); asked = refl })
-  built k code.Every (by_index ss) h = named_either matches d code.Every (by_index ss) k (codes "items") (codes "prefixItems") h (record { combined = (refl, refl); asked = refl }) (record { combined = (refl, refl); asked = refl })
-  built k code.Every (by_name ps) h = named matches d code.Every (by_name ps) k (codes "properties") h (record { combined = (refl, refl); asked = refl })
-  built k code.Every (by_pattern ps) h = named matches d code.Every (by_pattern ps) k (codes "patternProperties") h (record { combined = (refl, refl); asked = refl })
-  built k code.Every (of_others declared s) h = named matches d code.Every (of_others declared s) k (codes "additionalProperties") h (record { combined = (refl, refl); asked = refl })
-  built k code.Every (of_triggered ps) h = named matches d code.Every (of_triggered ps) k (codes "dependentSchemas") h (record { combined = (refl, refl); asked = refl })
-  built k code.Every (of_dependencies ps) h = named matches d code.Every (of_dependencies ps) k (codes "dependencies") h (record { combined = (refl, refl); asked = refl })
-  built k code.Every (of_branches ss) h = named matches d code.Every (of_branches ss) k (codes "allOf") h (record { combined = (refl, refl); asked = refl })
-  built k code.Together (each_from start s) h = named matches d code.Together (each_from start s) k (codes "additionalItems") h (record { combined = (refl, refl); asked = refl })
-  built k code.Together (of_others declared s) h = named matches d code.Together (of_others declared s) k (codes "additionalProperties") h (record { combined = (refl, refl); asked = refl })
-  built k code.Together (of_members s) h = named matches d code.Together (of_members s) k (codes "additionalProperties") h (record { combined = (refl, refl); asked = refl })
-  built k code.Together (of_names s) h = named matches d code.Together (of_names s) k (codes "propertyNames") h (record { combined = (refl, refl); asked = refl })
-  built k code.EachNamed (of_names s) h = named matches d code.EachNamed (of_names s) k (codes "propertyNames") h (record { combined = refl; asked = refl })
-  built k code.SomeBranch (of_branches ss) h = named matches d code.SomeBranch (of_branches ss) k (codes "anyOf") h (record { combined = (refl, refl); asked = refl })
-  built k code.OneBranch (of_branches ss) h = named matches d code.OneBranch (of_branches ss) k (codes "oneOf") h (record { combined = (refl, refl); asked = refl })
-  built k code.Refusal (of_value schema s) h = named matches d code.Refusal (of_value schema s) k (codes "not") h (record { combined = (refl, refl, refl); asked = refl })
-  built k (code.Counted least most) (each_from start s) h =
-      let w = both_are (bytes_eq k (codes "contains")) (start == 0) h in counted_named k least most start s w.0 (grind (arith, nat_tests, w.1))
-  built k code.Conditional (of_condition s t e) h = named matches d code.Conditional (of_condition s t e) k (codes "if") h (record { combined = tt; asked = refl })
-  built k c f h = absurd (cc)
+  pub built : (k : List ℕ) (c : Combining) (f : Form S) → IsKeyword k c f → IsBuilt matches d c f k
+  built _ _ _ (from_start start s) = record { combined = (refl, refl); asked = refl }
+  built _ _ _ (from_the_list start s) = record { combined = (refl, refl); asked = refl }
+  built _ _ _ (as_list ss) = record { combined = (refl, refl); asked = refl }
+  built _ _ _ (as_prefix ss) = record { combined = (refl, refl); asked = refl }
+  built _ _ _ (declared_members ps) = record { combined = (refl, refl); asked = refl }
+  built _ _ _ (matching_members ps) = record { combined = (refl, refl); asked = refl }
+  built _ _ _ (other_ones declared s) = record { combined = (refl, refl); asked = refl }
+  built _ _ _ (triggered ps) = record { combined = (refl, refl); asked = refl }
+  built _ _ _ (depending ps) = record { combined = (refl, refl); asked = refl }
+  built _ _ _ (every_branch ss) = record { combined = (refl, refl); asked = refl }
+  built _ _ _ (no_items start s) = record { combined = (refl, refl); asked = refl }
+  built _ _ _ (no_others declared s) = record { combined = (refl, refl); asked = refl }
+  built _ _ _ (no_members s) = record { combined = (refl, refl); asked = refl }
+  built _ _ _ (no_names s) = record { combined = (refl, refl); asked = refl }
+  built _ _ _ (each_name_of s) = record { combined = refl; asked = refl }
+  built _ _ _ (one_or_more ss) = record { combined = (refl, refl); asked = refl }
+  built _ _ _ (only_one ss) = record { combined = (refl, refl); asked = refl }
+  built _ _ _ (refused schema s) = record { combined = (refl, refl, refl); asked = refl }
+  built _ _ _ (counted_items least most s) = record { combined = counted_combines matches s least most d; asked = sym (contains_asks d s least most) }
+  built _ _ _ (chosen_by s t e) = record { combined = tt; asked = refl }

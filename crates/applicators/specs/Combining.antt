@@ -1,8 +1,8 @@
 -- How the answers to a keyword's questions are combined.
-use Rattle.std.specs.Prelude.{◌≡◌, ◌==◌, ℕ, nat_lt, List, [], Bool, true, false, not, ◌&&◌, codes, Option, is_some, if◌then◌else◌}
+use Rattle.std.specs.Prelude.{◌≡◌, ◌==◌, ℕ, nat_lt, List, [], Bool, true, false, not, ◌&&◌, is_some, if◌then◌else◌}
 use Rattle.serde_json.specs.Data.{Data}
 use Rattle.serde_json.specs.Find.{as_array}
-use Rattle.schema_meaning.specs.Faults.{Kind, AnyOf, Contains, FalseSchema, Not, Faults, branches_of}
+use Rattle.schema_meaning.specs.Faults.{Kind, AnyOf, Contains, Not, Faults, branches_of}
 use Rattle.schema_meaning.specs.Members.{count_true}
 use Rattle.schema_meaning.specs.Questions.{at}
 use Rattle.schema_meaning.specs.Rules.{Rule, Note, every, together, each_named, some_branch, one_branch, refusal, counted, conditional, is_enough, is_few, count_refused_at, one_of_kind, verdicts_of}

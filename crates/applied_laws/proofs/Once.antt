@@ -1,5 +1,5 @@
 -- The one fault of a keyword that tells no fault of its subschemas as its own.
-use Rattle.std.proofs.Common.{◌≡◌, ◌∙◌, ◌&&◌, ℕ, List, [], ◌∷◌, Bool, true, false, Option, length, codes, refl, sym, ap, ap₂, subst, arith, Bor, String, Global}
+use Rattle.std.proofs.Common.{◌≡◌, ◌&&◌, List, [], ◌∷◌, Bool, true, false, length, refl, sym, ap, ap₂, subst, arith, Bor, String, Global}
 use Rattle.std.specs.BTreeMap.{BTreeMap}
 use Rattle.serde_json.specs.Data.{Data}
 use Rattle.serde_json.specs.declared.value.Value.{Value}
@@ -8,15 +8,13 @@ use Rattle.schema_meaning.specs.Members.{count_true}
 use Rattle.schema_meaning.specs.Places.{Spot}
 use Rattle.schema_meaning.specs.Faults.{Fault, Faults, Kind, AnyOf, Contains, branches_of}
 use Rattle.schema_meaning.specs.Questions.{Question, at}
-use Rattle.schema_meaning.specs.Rules.{Rule, Note, every, together, each_named, some_branch, one_branch, refusal, counted, conditional, accepts, asks, faults, is_enough, is_few, count_refused_at, one_fault, one_of_kind, own_fault, verdicts_of}
+use Rattle.schema_meaning.specs.Rules.{Rule, Note, every, together, some_branch, one_branch, refusal, counted, accepts, asks, faults, count_refused_at, one_fault, one_of_kind, own_fault, verdicts_of}
 use Rattle.schema_meaning.specs.Keywords.{rule}
-use Rattle.schema_definitions.specs.Sites.{Site}
 use Rattle.applicators.specs.Shapes.{shape_of}
 use Rattle.applicators.specs.Combining.{Named, Combines, tells_each, tells_names, counts_answers, refused_under, kind_combined}
 use Rattle.applicators.specs.Asks.{may_note, noted_by}
-use Rattle.applicators.specs.Combined.{combining_of, asks_of, named_of, is_every, has_notes, notes_by}
+use Rattle.applicators.specs.Combined.{combining_of, asks_of, named_of, is_every, has_notes}
 use Rattle.applicators.specs.declared.applicator.Applicator.{Applicator}
-use Rattle.applicators.specs.declared.applicator.Applicator.TheVariants as code
 use Rattle.applicators.specs.declared.combining.Combining.{Combining}
 use Rattle.applicators.specs.declared.combining.Combining.TheVariants as combining
 use Rattle.applicators.specs.declared.asks.Asks.{Asks}

@@ -49,32 +49,16 @@ use Rattle.fault_checks.specs.declared.walk.Step.{Step}
 use Rattle.fault_checks.specs.declared.walk.Step.TheVariants.{Answered, On, Named}
 use Rattle.fault_checks.specs.Steps.{path_at, IsLeft, IsMore, IsNotLonger, GoesInto, LeadsInto, PassesThrough}
 use Rattle.fault_paths.specs.Obliged.{obliges}
+use Rattle.applicators.proofs.Asking.{by_answers}
 use Rattle.fault_checks.proofs.ObligedFacts.{AllOrNone, all_or_none}
 use Rattle.fault_checks.proofs.Going.{Goes, going_by, gone_by, not_named}
 
 -- ---- a keyword whose questions oblige refuses under its own name
 
 is_one : (site : List Part → Data → Site) (a : Applicator) (k : List ℕ) (n : ℕ) → obliges a n ≡ true → Bears k (shape_of site a) → IsOf k (shape_of site a)
-is_one site (code.Items start schema) k n obliging is = is
-is_one site (code.ItemList schemas) k n obliging is = is
-is_one site (code.PrefixItems schemas) k n obliging is = is
-is_one site (code.AdditionalItems start schema) k n obliging is = is
-is_one site (code.NoAdditionalItems start schema) k n obliging is = is
 is_one site (code.Contains schema least most) k n obliging is = cc
-is_one site (code.Properties schemas) k n obliging is = is
-is_one site (code.PatternProperties schemas) k n obliging is = is
-is_one site (code.AdditionalProperties declared schema) k n obliging is = is
-is_one site (code.NoAdditionalProperties declared schema) k n obliging is = is
-is_one site (code.NoProperties schema) k n obliging is = is
-is_one site (code.PropertyNames schema) k n obliging is = is
-is_one site (code.NoPropertyNames schema) k n obliging is = is
-is_one site (code.DependentSchemas schemas) k n obliging is = is
-is_one site (code.Dependencies entries) k n obliging is = is
-is_one site (code.AllOf schemas) k n obliging is = is
-is_one site (code.AnyOf schemas) k n obliging is = is
-is_one site (code.OneOf schemas) k n obliging is = is
-is_one site (code.Not schema) k n obliging is = is
 is_one site (code.If condition then_schema else_schema) k n obliging is = cc
+is_one site a k n obliging is = is
 
 -- ---- the last part
 
@@ -111,7 +95,7 @@ module _ (x : Scene) (s : Site) (d : Data) (a : Applicator) (values : asks_value
     steps_are b is bs =
         let site = below x.documents s in
         subst (λ c. AllOrNone c all (obliged the_rule bs)) is
-        (all_or_none site x.matches d bs a (length qs) values (ap length (sym are) ∙ length-map qs (question_of site)))
+        (all_or_none site x.matches d bs a (length qs) (by_answers a values) (ap length (sym are) ∙ length-map qs (question_of site)))
 
     asked_here : (q : Question) → In q qs → In (question_of (below x.documents s) q) all
     asked_here q i = subst (λ ks. In (question_of (below x.documents s) q) ks) are (elements.in_mapped (question_of (below x.documents s)) q qs i)

@@ -1,23 +1,27 @@
 -- Under which name keywords refuse.
-use Rattle.std.proofs.Common.{◌≡◌, ◌∙◌, ℕ, List, [], ◌∷◌, Bool, true, false, true≢false, suc, Option, None, Some, Bor, length, map, refl, sym, ap, subst, arith}
+use Rattle.std.proofs.Common.{◌≡◌, ◌∙◌, ℕ, List, [], ◌∷◌, Bool, true, false, true≢false, suc, Option, None, Some, length, map, refl, sym, ap, ap₂, subst, arith, ◌&&◌}
 use Rattle.std.proofs.lemmas.List.{length-map}
 use Rattle.std.specs.List.{AllByRecursion}
-use Rattle.serde_json.specs.Data.{Data, null, boolean, number, string, array, object}
-use Rattle.serde_json.specs.declared.value.Value.{Value}
+use Rattle.serde_json.specs.Data.{Data}
 use Rattle.json_values.specs.Parts.{Part}
 use Rattle.schema_definitions.specs.Bearers.{Documents}
-use Rattle.schema_meaning.specs.Members.{known_too, all_known, all_true, count_true}
+use Rattle.schema_meaning.specs.Members.{known_too, all_known, all_true, count_true, is_empty}
 use Rattle.schema_meaning.specs.Places.{whole}
 use Rattle.schema_meaning.specs.Questions.{at, asked_at}
-use Rattle.schema_meaning.specs.Rules.{Rule, asks, accepts, refuses_at}
+use Rattle.schema_meaning.specs.Rules.{Rule, Note, every, together, each_named, some_branch, one_branch, refusal, counted, asks, accepts, refuses_at, count_refused_at}
 use Rattle.schema_meaning.specs.Keywords.{rule}
 use Rattle.schema_meaning.specs.Readings.{Reading, verdicts, told}
 use Rattle.schema_meaning.specs.Certificates.{AreAnswers}
 use Rattle.schema_definitions.specs.Sites.{Site, below}
 use Rattle.applicators.specs.Shapes.{shape_of}
-use Rattle.applicators.specs.Combined.{is_by_answers, is_every, refused_name}
+use Rattle.applicators.specs.Combining as by
+use Rattle.applicators.specs.Combining.{Named, Combines, counts_answers}
+use Rattle.applicators.specs.Combined.{combining_of, named_of, is_by_answers, is_every, refused_name}
 use Rattle.applicators.specs.declared.applicator.Applicator.{Applicator}
 use Rattle.applicators.specs.declared.applicator.Applicator.TheVariants as applied
+use Rattle.applicators.specs.declared.combining.Combining.{Combining}
+use Rattle.applicators.specs.declared.combining.Combining.TheVariants as combining
+use Rattle.applicators.proofs.CombinedLemmas.{follows}
 use Rattle.plain_reader.specs.Passed.{row_of}
 use Rattle.plain_reader.specs.Passed as code
 use Rattle.certificate_laws.specs.Words.{IsOf, Bears}
@@ -28,26 +32,9 @@ use Rattle.fault_checks.specs.Verdicts.{IsRefusal, IsRefusalAt}
 -- ---- keywords that refuse under one name
 
 one_name : (site : List Part → Data → Site) (a : Applicator) (n : List ℕ) → is_every a ≡ true → Bears n (shape_of site a) → IsOf n (shape_of site a)
-one_name site (applied.Items start schema) n h g = g
-one_name site (applied.ItemList schemas) n h g = g
-one_name site (applied.PrefixItems schemas) n h g = g
-one_name site (applied.AdditionalItems start schema) n h g = g
-one_name site (applied.NoAdditionalItems start schema) n h g = g
 one_name site (applied.Contains schema least most) n h g = cc
-one_name site (applied.Properties schemas) n h g = g
-one_name site (applied.PatternProperties schemas) n h g = g
-one_name site (applied.AdditionalProperties declared schema) n h g = g
-one_name site (applied.NoAdditionalProperties declared schema) n h g = g
-one_name site (applied.Dependencies entries) n h g = g
-one_name site (applied.NoProperties schema) n h g = g
-one_name site (applied.PropertyNames schema) n h g = g
-one_name site (applied.NoPropertyNames schema) n h g = g
-one_name site (applied.DependentSchemas schemas) n h g = g
-one_name site (applied.AllOf schemas) n h g = g
-one_name site (applied.AnyOf schemas) n h g = g
-one_name site (applied.OneOf schemas) n h g = g
-one_name site (applied.Not schema) n h g = g
 one_name site (applied.If condition then_schema else_schema) n h g = cc
+one_name site a n h g = g
 
 -- of those that apply subschemas, the ones whose answers all have to be yes
 abbrev pub HasOneName : code.Keyword → Type 0
@@ -98,40 +85,24 @@ nothing_refused : (bs : List Bool) → length bs ≡ 0 → all_true bs ≡ false
 nothing_refused [] many wrong = true≢false wrong
 nothing_refused (b ∷ bs) many wrong = absurd (omega (arith, many))
 
+under_by : {S : Type 0} (v : Named) (d : Data) (bs : List Bool) (c : Combining) (r : Rule S) → Combines v d c r → counts_answers c ≡ true → length bs ≡ length (asks r) → accepts r bs ≡ false
+    → refuses_at r bs ≡ at (by.refused_under v.name c (count_true bs))
+under_by v d bs combining.Every (every p notes qs) h e many wrong = h.0
+under_by v d bs combining.Together (together p note qs) h e many wrong = h.0
+under_by v d bs combining.EachNamed (each_named p s names) h e many wrong = h
+under_by v d bs combining.SomeBranch (some_branch p qs) h e many wrong = h.0
+under_by v d bs combining.OneBranch (one_branch p qs) h e many wrong = h.0
+under_by v d bs combining.Refusal (refusal p schema q) h e many wrong = h.0
+under_by v d bs (combining.Counted least most) (counted l m qs) h e many wrong = ap₂ (λ x y. at (count_refused_at x y (count_true bs))) h.0 h.1
+under_by v d bs (combining.Counted least most) (every p notes qs) h e many wrong =
+    absurd (nothing_refused bs (many ∙ ap length h.1) (ap (λ (ns : List Note). is_empty ns && all_true bs) (sym h.0) ∙ wrong))
+under_by v d bs combining.Conditional r h e many wrong = absurd (cc)
+under_by v d bs c r h e many wrong = elim h [ ]
+
 module _ (site : List Part → Data → Site) (matches : List ℕ → List ℕ → Bool) (bs : List Bool) where
   abbrev rule_of : Applicator → Data → Rule Site
   rule_of a d = rule matches d (shape_of site a)
 
-  abbrev Names : Applicator → Data → Type 0
-  Names a d = refuses_at (rule_of a d) bs ≡ at (refused_name a (count_true bs))
-
-  counts_under : (schema : Bor Value) (least most : Option ℕ) (d : Data) → length bs ≡ length (asks (rule_of (applied.Contains schema least most) d))
-      → accepts (rule_of (applied.Contains schema least most) d) bs ≡ false → Names (applied.Contains schema least most) d
-  counts_under schema least most null many wrong = absurd (nothing_refused bs many wrong)
-  counts_under schema least most (boolean b) many wrong = absurd (nothing_refused bs many wrong)
-  counts_under schema least most (number n) many wrong = absurd (nothing_refused bs many wrong)
-  counts_under schema least most (string s) many wrong = absurd (nothing_refused bs many wrong)
-  counts_under schema least most (array ds) many wrong = refl
-  counts_under schema least most (object ms) many wrong = absurd (nothing_refused bs many wrong)
-
-  pub refused_under : (a : Applicator) (d : Data) → is_by_answers a ≡ true → length bs ≡ length (asks (rule_of a d)) → accepts (rule_of a d) bs ≡ false → Names a d
-  refused_under (applied.Items start schema) d by_answers many wrong = refl
-  refused_under (applied.ItemList schemas) d by_answers many wrong = refl
-  refused_under (applied.PrefixItems schemas) d by_answers many wrong = refl
-  refused_under (applied.AdditionalItems start schema) d by_answers many wrong = refl
-  refused_under (applied.NoAdditionalItems start schema) d by_answers many wrong = refl
-  refused_under (applied.Contains schema least most) d by_answers many wrong = counts_under schema least most d many wrong
-  refused_under (applied.Properties schemas) d by_answers many wrong = refl
-  refused_under (applied.PatternProperties schemas) d by_answers many wrong = refl
-  refused_under (applied.AdditionalProperties declared schema) d by_answers many wrong = refl
-  refused_under (applied.NoAdditionalProperties declared schema) d by_answers many wrong = refl
-  refused_under (applied.Dependencies entries) d by_answers many wrong = refl
-  refused_under (applied.NoProperties schema) d by_answers many wrong = refl
-  refused_under (applied.PropertyNames schema) d by_answers many wrong = refl
-  refused_under (applied.NoPropertyNames schema) d by_answers many wrong = refl
-  refused_under (applied.DependentSchemas schemas) d by_answers many wrong = refl
-  refused_under (applied.AllOf schemas) d by_answers many wrong = refl
-  refused_under (applied.AnyOf schemas) d by_answers many wrong = refl
-  refused_under (applied.OneOf schemas) d by_answers many wrong = refl
-  refused_under (applied.Not schema) d by_answers many wrong = refl
-  refused_under (applied.If condition then_schema else_schema) d by_answers many wrong = cc
+  pub refused_under : (a : Applicator) (d : Data) → is_by_answers a ≡ true → length bs ≡ length (asks (rule_of a d)) → accepts (rule_of a d) bs ≡ false
+      → refuses_at (rule_of a d) bs ≡ at (refused_name a (count_true bs))
+  refused_under a d counts many wrong = under_by (named_of matches a d) d bs (combining_of a) (rule_of a d) (follows site matches d a).combined counts many wrong

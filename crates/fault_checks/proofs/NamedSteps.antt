@@ -13,11 +13,14 @@ use Rattle.schema_meaning.specs.Keywords.{rule}
 use Rattle.schema_definitions.specs.Sites.{Site, below}
 use Rattle.schema_definitions.specs.PathTexts.{path_text}
 use Rattle.applicators.specs.Shapes.{shape_of, site_of, leads_of}
-use Rattle.applicators.specs.Combined.{asks_names}
+use Rattle.applicators.specs.Asks.{are_names}
+use Rattle.applicators.specs.Combined.{asks_of}
 use Rattle.applicators.specs.declared.applicator.Applicator.{Applicator}
 use Rattle.applicators.specs.declared.applicator.Applicator.TheVariants as code
+use Rattle.applicators.specs.declared.asks.Asks.{Asks}
+use Rattle.applicators.specs.declared.asks.Asks.TheVariants as asking
 use Rattle.applicators.specs.declared.question.Asked.TheVariants as asked
-use Rattle.applicators.specs.declared.question.Question as asking
+use Rattle.applicators.specs.declared.question.Question as questions
 use Rattle.applicators.specs.declared.subschema.Entry.TheVariants as entry
 use Rattle.certificate_laws.specs.Spelled.{AreSpelled}
 use Rattle.certificate_laws.proofs.Answers.{answers_there}
@@ -57,7 +60,7 @@ pub record AreOfNames (a : Applicator) (schema : Data) : Type 0 where
   pub own : (site : List Part → Data → Site) (matches : List ℕ → List ℕ → Bool) (d : Data) (bs : List Bool) → refuses_at (rule matches d (shape_of site a)) bs ≡ at keyword
   pub named : (site : List Part → Data → Site) (k : List ℕ) → Bears k (shape_of site a) → keyword ≡ k
 
-pub of_names : (schema : Bor Value) → AreOfNames (code.PropertyNames schema) (view schema.now)
+of_names : (schema : Bor Value) → AreOfNames (code.PropertyNames schema) (view schema.now)
 of_names schema = record {
   led = λ site. first;
   asked = λ site matches d. refl;
@@ -66,7 +69,7 @@ of_names schema = record {
   named = λ site k is. is;
 }
 
-pub of_no_names : (schema : Bor Value) → AreOfNames (code.NoPropertyNames schema) (view schema.now)
+of_no_names : (schema : Bor Value) → AreOfNames (code.NoPropertyNames schema) (view schema.now)
 of_no_names schema = record {
   led = λ site. first;
   asked = λ site matches d. refl;
@@ -75,47 +78,42 @@ of_no_names schema = record {
   named = λ site k is. is;
 }
 
--- of another that is by its answers, none
-pub asks_none : (a : Applicator) → ((schema : Bor Value) → a ≡ code.PropertyNames schema → ⊥) → ((schema : Bor Value) → a ≡ code.NoPropertyNames schema → ⊥) → asks_names a ≡ false
-asks_none (code.Items start schema) g h = refl
-asks_none (code.ItemList schemas) g h = refl
-asks_none (code.PrefixItems schemas) g h = refl
-asks_none (code.AdditionalItems start schema) g h = refl
-asks_none (code.NoAdditionalItems start schema) g h = refl
-asks_none (code.Contains schema least most) g h = refl
-asks_none (code.Properties schemas) g h = refl
-asks_none (code.PatternProperties schemas) g h = refl
-asks_none (code.AdditionalProperties declared schema) g h = refl
-asks_none (code.NoAdditionalProperties declared schema) g h = refl
-asks_none (code.NoProperties schema) g h = refl
-asks_none (code.PropertyNames schema) g h = absurd (g schema refl)
-asks_none (code.NoPropertyNames schema) g h = absurd (h schema refl)
-asks_none (code.DependentSchemas schemas) g h = refl
-asks_none (code.Dependencies entries) g h = refl
-asks_none (code.AllOf schemas) g h = refl
-asks_none (code.AnyOf schemas) g h = refl
-asks_none (code.OneOf schemas) g h = refl
-asks_none (code.Not schema) g h = refl
-asks_none (code.If condition then_schema else_schema) g h = refl
+same_schema : (s t : Bor Value) → asking.Names s ≡ asking.Names t → s ≡ t
+same_schema s t is = cc
+
+-- those that ask names
+pub are_of_names : (a : Applicator) (schema : Bor Value) → asks_of a ≡ asking.Names schema → AreOfNames a (view schema.now)
+are_of_names (code.PropertyNames s) schema is = subst (λ (t : Bor Value). AreOfNames (code.PropertyNames s) (view t.now)) (same_schema s schema is) (of_names s)
+are_of_names (code.NoPropertyNames s) schema is = subst (λ (t : Bor Value). AreOfNames (code.NoPropertyNames s) (view t.now)) (same_schema s schema is) (of_no_names s)
+are_of_names a schema is = absurd (cc)
+
+pub asks_none : (f : Asks) → ((schema : Bor Value) → f ≡ asking.Names schema → ⊥) → are_names f ≡ false
+asks_none (asking.Names schema) other = absurd (other schema refl)
+asks_none f other = refl
 
 -- ---- the schema of names lies in the one around, as the question of a name says
 
 one_member : Data
 one_member = object (member [] null no_members)
 
-abbrev of_a_name : Bor Value → asking.Question
+abbrev of_a_name : Bor Value → questions.Question
 of_a_name schema = record {
   subschema = record { keyword = record { ref_ptr = (0, 0); now = keyword }; entry = entry.Whole; schema = schema };
   asked = asked.Name (record { ref_ptr = (0, 0); now = [] });
 }
 
-pub names_inside : (c : seen.Site) (schema : Bor Value) → EachInside c (code.PropertyNames schema) → depth (view schema.now) < depth (view c.contents.now)
+names_inside : (c : seen.Site) (schema : Bor Value) → EachInside c (code.PropertyNames schema) → depth (view schema.now) < depth (view c.contents.now)
 unfolding one_member
 names_inside c schema each = question_inside (λ p t. false) (code.PropertyNames schema) one_member (of_a_name schema ∷ []) (λ site. refl) refl (of_a_name schema) first c each
 
-pub no_names_inside : (c : seen.Site) (schema : Bor Value) → EachInside c (code.NoPropertyNames schema) → depth (view schema.now) < depth (view c.contents.now)
+no_names_inside : (c : seen.Site) (schema : Bor Value) → EachInside c (code.NoPropertyNames schema) → depth (view schema.now) < depth (view c.contents.now)
 unfolding one_member
 no_names_inside c schema each = question_inside (λ p t. false) (code.NoPropertyNames schema) one_member (of_a_name schema ∷ []) (λ site. refl) refl (of_a_name schema) first c each
+
+pub lies_inside : (c : seen.Site) (a : Applicator) (schema : Bor Value) → asks_of a ≡ asking.Names schema → EachInside c a → depth (view schema.now) < depth (view c.contents.now)
+lies_inside c (code.PropertyNames s) schema is each = subst (λ (t : Bor Value). depth (view t.now) < depth (view c.contents.now)) (same_schema s schema is) (names_inside c s each)
+lies_inside c (code.NoPropertyNames s) schema is each = subst (λ (t : Bor Value). depth (view t.now) < depth (view c.contents.now)) (same_schema s schema is) (no_names_inside c s each)
+lies_inside c a schema is each = absurd (cc)
 
 -- ---- the step
 

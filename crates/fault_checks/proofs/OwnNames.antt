@@ -1,5 +1,5 @@
 -- The names under which the shapes of a keyword may refuse.
-use Rattle.std.proofs.Common.{◌≡◌, ◌∙◌, ℕ, List, [], ◌∷◌, Bool, true, false, ◌||◌, bytes_eq, codes, refl, sym, ap}
+use Rattle.std.proofs.Common.{◌≡◌, ◌∙◌, ℕ, List, [], ◌∷◌, Bool, true, false, ◌||◌, bytes_eq, codes, refl, sym, ap, subst}
 use Rattle.std.specs.List.{AllByRecursion}
 use Rattle.std.proofs.lemmas.Slice.Eq.{bytes_eq-Decides}
 use Rattle.json_values.specs.Parts.{Part}
@@ -11,13 +11,16 @@ use Rattle.schema_meaning.specs.Keywords.{Shape, named, static, dynamic, recursi
 use Rattle.schema_meaning.specs.Keywords as told
 use Rattle.schema_definitions.specs.Sites.{Site, below}
 use Rattle.applicators.specs.Shapes.{shape_of}
+use Rattle.applicators.specs.Combined.{name_of, combining_of}
 use Rattle.applicators.specs.declared.applicator.Applicator as code
 use Rattle.applicators.specs.declared.applicator.Applicator.TheVariants as applied
+use Rattle.applicators.specs.declared.combining.Combining.{Combining}
+use Rattle.applicators.specs.declared.combining.Combining.TheVariants as combining
 use Rattle.certificate_laws.specs.Words.{Bears, IsUnder, member_of, count_names, choice_names}
 use Rattle.certificate_laws.proofs.Named.{listed_in}
 use Rattle.fault_checks.specs.Passed.{Keyword, assertion_of, kind_of, row_of}
 use Rattle.fault_checks.specs.Passed.{Nothing, Assertion, Pattern, If, Consequent, Applicator, Reference}
-use Rattle.fault_checks.specs.Names.{bears, applicator_bears}
+use Rattle.fault_checks.specs.Names.{bears, combining_bears, applicator_bears}
 
 -- a shape that may refuse under a name, which is written as it is
 pub record IsOwn (n : List ℕ) (shape : Shape Site) : Type 0 where
@@ -59,50 +62,56 @@ module _ (old : Bool) (member n : List ℕ) where
   reference_member dynamic = refl
   reference_member recursive = refl
 
+  -- where answers are combined so, a keyword of this name may refuse under the name
+  abbrev BearsBy : List ℕ → Combining → Type 0
+  BearsBy k combining.Every = k ≡ n
+  BearsBy k combining.Together = k ≡ n
+  BearsBy k combining.EachNamed = k ≡ n
+  BearsBy k combining.SomeBranch = k ≡ n
+  BearsBy k combining.OneBranch = k ≡ n
+  BearsBy k combining.Refusal = k ≡ n
+  BearsBy k (combining.Counted least most) = In n count_names
+  BearsBy k combining.Conditional = In n choice_names
+
+  named_by : (c : Combining) (k : List ℕ) (shape : Shape Site) → IsUnder old member shape → Bears k shape → member_of old k ≡ k → combining_bears c member n ≡ true → BearsBy k c
+  named_by combining.Every k shape u g own e = to_own k shape u g own e
+  named_by combining.Together k shape u g own e = to_own k shape u g own e
+  named_by combining.EachNamed k shape u g own e = to_own k shape u g own e
+  named_by combining.SomeBranch k shape u g own e = to_own k shape u g own e
+  named_by combining.OneBranch k shape u g own e = to_own k shape u g own e
+  named_by combining.Refusal k shape u g own e = to_own k shape u g own e
+  named_by (combining.Counted least most) k shape u g own e = listed_in n count_names e
+  named_by combining.Conditional k shape u g own e = listed_in n choice_names e
+
+  bears_by : (c : Combining) (k : List ℕ) (shape : Shape Site) → IsUnder old member shape → Bears k shape → member_of old k ≡ k → BearsBy k c → combining_bears c member n ≡ true
+  bears_by combining.Every k shape u g own e = of_own k shape u g own e
+  bears_by combining.Together k shape u g own e = of_own k shape u g own e
+  bears_by combining.EachNamed k shape u g own e = of_own k shape u g own e
+  bears_by combining.SomeBranch k shape u g own e = of_own k shape u g own e
+  bears_by combining.OneBranch k shape u g own e = of_own k shape u g own e
+  bears_by combining.Refusal k shape u g own e = of_own k shape u g own e
+  bears_by (combining.Counted least most) k shape u g own e = in_listed n count_names e
+  bears_by combining.Conditional k shape u g own e = in_listed n choice_names e
+
+  own_member : (a : code.Applicator) → member_of old (name_of a) ≡ name_of a
+  own_member (applied.Items start schema) = refl
+  own_member a = refl
+
   module _ (site : List Part → Data → Site) where
+    bears_own : (a : code.Applicator) → Bears (name_of a) (shape_of site a)
+    bears_own (applied.Contains schema least most) = first
+    bears_own (applied.If condition then_schema else_schema) = first
+    bears_own a = refl
+
+    as_combined : (a : code.Applicator) → Bears n (shape_of site a) ≡ BearsBy (name_of a) (combining_of a)
+    as_combined (applied.Items start schema) = refl
+    as_combined a = refl
+
     applied_named : (a : code.Applicator) → IsUnder old member (shape_of site a) → applicator_bears a member n ≡ true → Bears n (shape_of site a)
-    applied_named (applied.Items start schema) u e = to_own (codes "items") _ u refl refl e
-    applied_named (applied.ItemList schemas) u e = to_own (codes "items") _ u refl refl e
-    applied_named (applied.PrefixItems schemas) u e = to_own (codes "prefixItems") _ u refl refl e
-    applied_named (applied.AdditionalItems start schema) u e = to_own (codes "additionalItems") _ u refl refl e
-    applied_named (applied.NoAdditionalItems start schema) u e = to_own (codes "additionalItems") _ u refl refl e
-    applied_named (applied.Contains schema least most) u e = listed_in n count_names e
-    applied_named (applied.Properties schemas) u e = to_own (codes "properties") _ u refl refl e
-    applied_named (applied.PatternProperties schemas) u e = to_own (codes "patternProperties") _ u refl refl e
-    applied_named (applied.AdditionalProperties declared schema) u e = to_own (codes "additionalProperties") _ u refl refl e
-    applied_named (applied.NoAdditionalProperties declared schema) u e = to_own (codes "additionalProperties") _ u refl refl e
-    applied_named (applied.Dependencies entries) u e = to_own (codes "dependencies") _ u refl refl e
-    applied_named (applied.NoProperties schema) u e = to_own (codes "additionalProperties") _ u refl refl e
-    applied_named (applied.PropertyNames schema) u e = to_own (codes "propertyNames") _ u refl refl e
-    applied_named (applied.NoPropertyNames schema) u e = to_own (codes "propertyNames") _ u refl refl e
-    applied_named (applied.DependentSchemas schemas) u e = to_own (codes "dependentSchemas") _ u refl refl e
-    applied_named (applied.AllOf schemas) u e = to_own (codes "allOf") _ u refl refl e
-    applied_named (applied.AnyOf schemas) u e = to_own (codes "anyOf") _ u refl refl e
-    applied_named (applied.OneOf schemas) u e = to_own (codes "oneOf") _ u refl refl e
-    applied_named (applied.Not schema) u e = to_own (codes "not") _ u refl refl e
-    applied_named (applied.If condition then_schema else_schema) u e = listed_in n choice_names e
+    applied_named a u e = subst (λ (T : Type 0). T) (sym (as_combined a)) (named_by (combining_of a) (name_of a) (shape_of site a) u (bears_own a) (own_member a) e)
 
     applied_bears : (a : code.Applicator) → IsUnder old member (shape_of site a) → Bears n (shape_of site a) → applicator_bears a member n ≡ true
-    applied_bears (applied.Items start schema) u g = of_own (codes "items") _ u refl refl g
-    applied_bears (applied.ItemList schemas) u g = of_own (codes "items") _ u refl refl g
-    applied_bears (applied.PrefixItems schemas) u g = of_own (codes "prefixItems") _ u refl refl g
-    applied_bears (applied.AdditionalItems start schema) u g = of_own (codes "additionalItems") _ u refl refl g
-    applied_bears (applied.NoAdditionalItems start schema) u g = of_own (codes "additionalItems") _ u refl refl g
-    applied_bears (applied.Contains schema least most) u g = in_listed n count_names g
-    applied_bears (applied.Properties schemas) u g = of_own (codes "properties") _ u refl refl g
-    applied_bears (applied.PatternProperties schemas) u g = of_own (codes "patternProperties") _ u refl refl g
-    applied_bears (applied.AdditionalProperties declared schema) u g = of_own (codes "additionalProperties") _ u refl refl g
-    applied_bears (applied.NoAdditionalProperties declared schema) u g = of_own (codes "additionalProperties") _ u refl refl g
-    applied_bears (applied.Dependencies entries) u g = of_own (codes "dependencies") _ u refl refl g
-    applied_bears (applied.NoProperties schema) u g = of_own (codes "additionalProperties") _ u refl refl g
-    applied_bears (applied.PropertyNames schema) u g = of_own (codes "propertyNames") _ u refl refl g
-    applied_bears (applied.NoPropertyNames schema) u g = of_own (codes "propertyNames") _ u refl refl g
-    applied_bears (applied.DependentSchemas schemas) u g = of_own (codes "dependentSchemas") _ u refl refl g
-    applied_bears (applied.AllOf schemas) u g = of_own (codes "allOf") _ u refl refl g
-    applied_bears (applied.AnyOf schemas) u g = of_own (codes "anyOf") _ u refl refl g
-    applied_bears (applied.OneOf schemas) u g = of_own (codes "oneOf") _ u refl refl g
-    applied_bears (applied.Not schema) u g = of_own (codes "not") _ u refl refl g
-    applied_bears (applied.If condition then_schema else_schema) u g = in_listed n choice_names g
+    applied_bears a u g = bears_by (combining_of a) (name_of a) (shape_of site a) u (bears_own a) (own_member a) (subst (λ (T : Type 0). T) (as_combined a) g)
 
   -- the shapes of a keyword that may refuse under the name
   pub own_named : (k : Keyword) (docs : Documents) (s : Site) → AllByRecursion (IsUnder old member) (row_of docs s k).shapes → bears k member n ≡ true

@@ -2,34 +2,27 @@
 use Rattle.std.specs.Prelude.{ℕ, List, Bool, bytes_eq}
 use Rattle.schema_meaning.specs.Members.{is_listed}
 use Rattle.schema_meaning.specs.Keywords.{named}
+use Rattle.applicators.specs.Combined.{combining_of}
 use Rattle.applicators.specs.declared.applicator.Applicator as applied
-use Rattle.applicators.specs.declared.applicator.Applicator.TheVariants as code
+use Rattle.applicators.specs.declared.combining.Combining.{Combining}
+use Rattle.applicators.specs.declared.combining.Combining.TheVariants as code
 use Rattle.fault_checks.specs.Passed.{Keyword, assertion_of}
 use Rattle.fault_checks.specs.Passed.{Nothing, Assertion, Pattern, If, Consequent, Applicator, Reference}
 use Rattle.certificate_laws.specs.Words.{count_names, choice_names}
 
--- `contains` may under those of its bounds too, `if` under `then` and `else`
+-- where it counts, under those of its bounds too; where an answer chooses, under `then` and `else`
+abbrev pub combining_bears : Combining → List ℕ → List ℕ → Bool
+combining_bears code.Every member n = bytes_eq member n
+combining_bears code.Together member n = bytes_eq member n
+combining_bears code.EachNamed member n = bytes_eq member n
+combining_bears code.SomeBranch member n = bytes_eq member n
+combining_bears code.OneBranch member n = bytes_eq member n
+combining_bears code.Refusal member n = bytes_eq member n
+combining_bears (code.Counted least most) member n = is_listed n count_names
+combining_bears code.Conditional member n = is_listed n choice_names
+
 abbrev pub applicator_bears : applied.Applicator → List ℕ → List ℕ → Bool
-applicator_bears (code.Items start schema) member n = bytes_eq member n
-applicator_bears (code.ItemList schemas) member n = bytes_eq member n
-applicator_bears (code.PrefixItems schemas) member n = bytes_eq member n
-applicator_bears (code.AdditionalItems start schema) member n = bytes_eq member n
-applicator_bears (code.NoAdditionalItems start schema) member n = bytes_eq member n
-applicator_bears (code.Contains schema least most) member n = is_listed n count_names
-applicator_bears (code.Properties schemas) member n = bytes_eq member n
-applicator_bears (code.PatternProperties schemas) member n = bytes_eq member n
-applicator_bears (code.AdditionalProperties declared schema) member n = bytes_eq member n
-applicator_bears (code.NoAdditionalProperties declared schema) member n = bytes_eq member n
-applicator_bears (code.Dependencies entries) member n = bytes_eq member n
-applicator_bears (code.NoProperties schema) member n = bytes_eq member n
-applicator_bears (code.PropertyNames schema) member n = bytes_eq member n
-applicator_bears (code.NoPropertyNames schema) member n = bytes_eq member n
-applicator_bears (code.DependentSchemas schemas) member n = bytes_eq member n
-applicator_bears (code.AllOf schemas) member n = bytes_eq member n
-applicator_bears (code.AnyOf schemas) member n = bytes_eq member n
-applicator_bears (code.OneOf schemas) member n = bytes_eq member n
-applicator_bears (code.Not schema) member n = bytes_eq member n
-applicator_bears (code.If condition then_schema else_schema) member n = is_listed n choice_names
+applicator_bears a member n = combining_bears (combining_of a) member n
 
 -- an assertion under its own, which for a strict limit of Draft 4 is that of the boolean beside
 abbrev pub bears : Keyword → List ℕ → List ℕ → Bool

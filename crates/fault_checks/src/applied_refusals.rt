@@ -19,6 +19,7 @@ ghost use Rattle.fault_checks.specs.Verdicts.{AppliesIn, AreRefused, AreCounted,
 
 use crate::refusing::is_refused;
 use applicators::applicator::Applicator;
+use applicators::asks::Asks;
 use applicators::question::{Asked, Question};
 use applicators::questions::questions;
 use applicators::subschema::Entry;
@@ -132,8 +133,8 @@ fn accepted_of<'a, 'r>(
 fn is_noted(applicator: &Applicator<'_>, value: &Value) -> bool
     ensures { result ≡ not (is_empty (notes_by applicator.now (view value.now))) }
 {
-    match *applicator {
-        Applicator::Dependencies(entries) => first_missing_beside(entries, value).is_some(),
+    match applicator.asks() {
+        Asks::Dependencies(entries) => first_missing_beside(entries, value).is_some(),
         _ => false,
     }
 }

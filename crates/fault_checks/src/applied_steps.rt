@@ -18,6 +18,7 @@ ghost use Rattle.fault_checks.specs.Steps.{PassesThrough, LeadsInto, IsMore, IsN
 use crate::road::RoadPart;
 use crate::walk::{AtNames, Step, Walk};
 use applicators::applicator::Applicator;
+use applicators::asks::Asks;
 use applicators::question::{Asked, Question};
 use applicators::questions::questions;
 use applicators::subschema::Entry;
@@ -144,13 +145,8 @@ pub fn through_applicator<'r, 'i, 'p>(
     ensures passes { IfOk result (PassesThrough walk.entry (applied_row applicator.entry) after.entry) }
     ensures shorter { IfOk result (IsNotLonger after.entry) }
 {
-    match applicator {
-        Applicator::PropertyNames(schema) => Ok(Step::Named(AtNames {
-            walk,
-            schema,
-            evaluation: after,
-        })),
-        Applicator::NoPropertyNames(schema) => Ok(Step::Named(AtNames {
+    match applicator.asks() {
+        Asks::Names(schema) => Ok(Step::Named(AtNames {
             walk,
             schema,
             evaluation: after,

@@ -7,6 +7,7 @@ ghost use Rattle.fault_checks.specs.Names as naming;
 
 use crate::{Keyword, Site};
 use applicators::applicator::Applicator;
+use applicators::combining::Combining;
 
 /// The name of the member whose keyword may refuse under a name: of Draft 4's strict limits that of the limit itself, of the bounds of
 /// `contains` that, of `then` and `else` the `if` beside.
@@ -26,9 +27,9 @@ pub(crate) fn member_of<'p>(site: &Site<'_>, name: &'p str) -> &'p str
 fn applicator_bears(applicator: &Applicator<'_>, member: &str, name: &str) -> bool
     ensures { result ≡ naming.applicator_bears applicator.now member.now name.now }
 {
-    match applicator {
-        Applicator::Contains { .. } => matches!(name, "contains" | "minContains" | "maxContains"),
-        Applicator::If { .. } => matches!(name, "if" | "then" | "else"),
+    match applicator.combining() {
+        Combining::Counted { .. } => matches!(name, "contains" | "minContains" | "maxContains"),
+        Combining::Conditional => matches!(name, "if" | "then" | "else"),
         _ => member == name,
     }
 }

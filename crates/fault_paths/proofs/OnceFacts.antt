@@ -1,6 +1,6 @@
 -- Of the questions of an applicator, texts lead to one at most.
-use Rattle.std.proofs.Common.{◌≡◌, ◌∙◌, ◌+◌, ◌<◌, ◌^◌, ◌∷◌, ℕ, List, [], Some, Option, length, Bool, true, false, not, codes, refl, sym, ap, subst, arith}
-use Rattle.serde_json.specs.Data.{Data, Members, null, boolean, number, string, array, object, no_items, item}
+use Rattle.std.proofs.Common.{◌≡◌, ◌∙◌, ◌+◌, ◌<◌, ◌^◌, ◌∷◌, ℕ, List, [], Some, length, Bool, true, false, not, codes, refl, sym, ap, subst, arith}
+use Rattle.serde_json.specs.Data.{Data, Members}
 use Rattle.serde_json.specs.Find.{get, get_item, get_member}
 use Rattle.serde_json.specs.Find as finding
 use Rattle.serde_json.specs.View.{view, items_view, members_view}
@@ -17,7 +17,7 @@ use Rattle.fault_paths.specs.Found.{IsIndexed}
 use Rattle.fault_paths.proofs.ItemFacts.{at_items, some_one}
 use Rattle.applicators.specs.Shapes.{shape_of, site_of, sites_of_list, sites_of_map, declared_by, dependency_at, dependencies_in}
 use Rattle.applicators.specs.Asks.{asked_by, are_names, chooses}
-use Rattle.applicators.specs.Combined.{name_of, asks_of, asks_values}
+use Rattle.applicators.specs.Combined.{name_of, asks_of}
 use Rattle.applicators.specs.declared.applicator.Applicator.{Applicator}
 use Rattle.applicators.specs.declared.asks.Asks.{Asks}
 use Rattle.applicators.specs.declared.asks.Asks.TheVariants as code

@@ -1,12 +1,12 @@
 -- The kind of the one fault of a keyword whose verdict is by the number of answers that are yes.
-use Rattle.std.proofs.Common.{◌≡◌, ◌<◌, ℕ, zero, suc, List, Bool, true, refl, sym, ap, ◌∙◌, arith, Bor, Option}
+use Rattle.std.proofs.Common.{◌≡◌, ◌<◌, ℕ, zero, suc, List, Bool, refl, sym, ap, ◌∙◌, arith, Bor, Option}
 use Rattle.std.specs.declared.alloc.Global.{Global}
 use Rattle.std.specs.declared.vec.Vec.{Vec}
 use Rattle.serde_json.specs.Data.{Data}
 use Rattle.serde_json.specs.declared.value.Value.{Value}
 use Rattle.schema_meaning.specs.Members.{count_true}
 use Rattle.schema_meaning.specs.Faults as told
-use Rattle.schema_meaning.specs.Faults.{Faults, Branches, branches_of}
+use Rattle.schema_meaning.specs.Faults.{Faults, Branches}
 use Rattle.schema_meaning.specs.Rules.{one_of_kind, verdicts_of}
 use Rattle.applicators.specs.Asks.{kind_asked}
 use Rattle.applicators.specs.Combining.{kind_combined}

@@ -6,7 +6,7 @@ use Rattle.document_sources.specs.Given.{Given}
 use Rattle.schema_registries.specs.Seen.{given_under}
 use Rattle.schema_registries.specs.Refused.{RefusesValue}
 use Rattle.schema_registries.specs.declared.error.DocumentError.{DocumentError}
-use Rattle.schema_registries.specs.Passed as document
+use Rattle.schema_registries.specs.declared.error.DocumentError.TheVariants as document
 use Rattle.schema_registries.specs.Roots.{Patterns}
 use Rattle.schema_validators.specs.Refused.{RefusesPreparing}
 use Rattle.schema_validators.specs.Built.{IsBuilt, RefusesBuilding}
