@@ -13,8 +13,8 @@ use Rattle.schema_definitions.specs.Sites.{Site}
 use Rattle.schema_definitions.specs.Values.{count_of}
 use Rattle.schema_definitions.specs.Rows.{Row, nothing_read, reads, bad_value, keyword_value, place_at, at, Context, beside, subschema, one_schema, schema_list, length_of_list, takes_list, items_row, is_false, behind_items, asserted, bound_row, names_of_object, declared_beside, is_alone, refuses_others, additional_properties_row, schema_beside, if_row, consequent_row}
 use Rattle.applicators.specs.Shapes.{site_of, shape_of, leads_of, declared_by}
-use Rattle.applicators.specs.declared.applicator.Applicator.{Applicator}
-use Rattle.applicators.specs.declared.declared.Declared as beside_all
+use Rattle.applicators.specs.Applied.{Applicator}
+use Rattle.applicators.specs.Lent as beside_all
 use Rattle.applicator_reading.specs.Beside.{schema_in, beside_in, declared_in, Surrounds}
 use Rattle.applicator_reading.specs.Reads.{site_in, IsCause}
 use Rattle.applicator_reading.specs.declared.neighbours.Neighbours.{Neighbours}

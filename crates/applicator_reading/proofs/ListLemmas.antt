@@ -13,7 +13,7 @@ use Rattle.applicators.specs.Shapes.{sites_of_list, sites_of_map, shape_of, lead
 use Rattle.applicator_reading.proofs.RowLemmas.{value-cause}
 use Rattle.applicator_reading.specs.Arms.{list_name, list_word, list_shape, list_row}
 use Rattle.applicator_reading.specs.Others.{first_other_item, first_other_member}
-use Rattle.applicators.specs.declared.applicator.Applicator.{Applicator}
+use Rattle.applicators.specs.Applied.{Applicator}
 use Rattle.applicator_reading.specs.Reads.{site_in, IsCause, IsRefusedFor}
 use Rattle.applicator_reading.specs.declared.keyword.ListKeyword.{ListKeyword}
 

@@ -9,7 +9,7 @@ use Rattle.schema_meaning.specs.Members.{In, first, later}
 use Rattle.schema_definitions.specs.Rows.{Row, BuildCause, row_of, reads, bad_value, keyword_value, bad_pattern, place_at, at, Context, each_named, sites_named, is_made, member_names, names_of_object, patterns_wrong, with_causes, schema_map}
 use Rattle.applicators.specs.Made.{is_made_by, patterns_in}
 use Rattle.applicators.specs.Shapes.{sites_of_map, shape_of, leads_of}
-use Rattle.applicators.specs.declared.applicator.Applicator.{Applicator}
+use Rattle.applicators.specs.Applied.{Applicator}
 use Rattle.applicator_reading.specs.Arms.{map_name, map_shape, map_row, map_patterns}
 use Rattle.applicator_reading.specs.Others.{first_other_member}
 use Rattle.applicator_reading.specs.Reads.{site_in, IsCause, AppliesAs}

@@ -12,7 +12,7 @@ use Rattle.schema_definitions.specs.Sites.{Site}
 use Rattle.schema_definitions.specs.Rows.{Row, row_of, reads, expected, bad_value, keyword_value, place_at, at, Context, has_reference, beside, one_schema}
 use Rattle.applicators.specs.Shapes.{shape_of, leads_of}
 use Rattle.applicators.specs.Made.{patterns_in}
-use Rattle.applicators.specs.declared.applicator.Applicator.{Applicator}
+use Rattle.applicators.specs.Applied.{Applicator}
 use Rattle.applicator_reading.specs.Beside.{beside_in, Surrounds}
 use Rattle.applicator_reading.specs.Reads.{site_in, IsCause, AppliesAs}
 use Rattle.applicator_reading.specs.declared.neighbours.Neighbours.{Neighbours}

@@ -1,9 +1,10 @@
 -- What `if`, `then` and `else` are read as.
-use Rattle.std.specs.Prelude.{◌≡◌, Option}
+use Rattle.std.specs.Prelude.{◌≡◌, codes, Option}
 use Rattle.std.specs.Borrow.{Bor}
 use Rattle.serde_json.specs.declared.value.Value.{Value}
-use Rattle.applicators.specs.declared.applicator.Applicator.{Applicator}
-use Rattle.applicators.specs.declared.applicator.Applicator.TheVariants as code
+use Rattle.applicators.specs.Applied.{Applicator}
+use Rattle.applicators.specs.declared.asks.AsksOf.TheVariants as asking
+use Rattle.applicators.specs.declared.combining.Combining.TheVariants as combining
 use Rattle.applicator_reading.specs.declared.reading.Reading.{Reading}
 use Rattle.applicator_reading.specs.declared.reading.Reading.TheVariants as reading
 
@@ -11,7 +12,9 @@ use Rattle.applicator_reading.specs.declared.reading.Reading.TheVariants as read
 pub record IsIf (value : Bor Value) (a : Applicator) : Type 0 where
   pub then_schema : Option (Bor Value)
   pub else_schema : Option (Bor Value)
-  pub is : a ≡ code.If value then_schema else_schema
+  pub named : a.keyword.now ≡ codes "if"
+  pub asked : a.asks ≡ asking.Condition value then_schema else_schema
+  pub combined : a.combining ≡ combining.Conditional
 
 -- what the value of `if` is read as: nothing, the condition, or no schema
 abbrev pub IsCondition : Bor Value → Reading → Type 0

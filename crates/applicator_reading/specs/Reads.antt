@@ -9,7 +9,7 @@ use Rattle.schema_definitions.specs.Rows.{Row, BuildCause, keyword_value, bad_pa
 use Rattle.applicators.specs.Shapes.{shape_of, leads_of}
 use Rattle.applicators.specs.Combined.{is_by_answers}
 use Rattle.applicators.specs.Made.{is_made_by, AreMade, patterns_in}
-use Rattle.applicators.specs.declared.applicator.Applicator.{Applicator}
+use Rattle.applicators.specs.Applied.{Applicator}
 use Rattle.applicator_reading.specs.declared.reading.Reading.{Reading}
 use Rattle.applicator_reading.specs.declared.reading.Reading.TheVariants as reading
 

@@ -11,6 +11,8 @@ ghost use Rattle.applicator_reading.specs.Reads.{ReadsAs, IsByAnswers, site_in};
 
 use crate::reading::Reading;
 use applicators::applicator::Applicator;
+use applicators::asks::Asks;
+use applicators::combining::Combining;
 use assertions::names::{NameList, name_list};
 use schema_places::place::is_schema;
 use serde_json::{Map, Value};
@@ -99,6 +101,10 @@ pub fn dependencies<'r>(alloc: Global, value: &'r Value) -> Result<Reading<'r>, 
     };
     match first_refused(alloc, entries)? {
         Some(refused) => Ok(refused),
-        None => Ok(Reading::Applied(Applicator::Dependencies(entries))),
+        None => Ok(Reading::Applied(Applicator {
+            keyword: "dependencies",
+            asks: Asks::Dependencies(entries),
+            combining: Combining::Every,
+        })),
     }
 }

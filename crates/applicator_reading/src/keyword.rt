@@ -11,6 +11,8 @@ ghost use Rattle.applicators.specs.Made.{patterns_in};
 ghost use Rattle.applicator_reading.specs.Arms.{list_name, list_word, list_shape, map_name, map_shape, map_patterns};
 
 use applicators::applicator::Applicator;
+use applicators::asks::Asks;
+use applicators::combining::Combining;
 use serde_json::{Map, Value};
 
 /// A keyword whose value is a list of schemas.
@@ -49,12 +51,21 @@ impl ListKeyword {
         ensures patterns { patterns_in result ≡ [] }
         ensures answers { is_by_answers result ≡ true }
     {
-        match self {
-            ListKeyword::ItemList => Applicator::ItemList(schemas),
-            ListKeyword::PrefixItems => Applicator::PrefixItems(schemas),
-            ListKeyword::AllOf => Applicator::AllOf(schemas),
-            ListKeyword::AnyOf => Applicator::AnyOf(schemas),
-            ListKeyword::OneOf => Applicator::OneOf(schemas),
+        let (keyword, asks, combining) = match self {
+            ListKeyword::ItemList => ("items", Asks::ItemByItem(schemas), Combining::Every),
+            ListKeyword::PrefixItems => (
+                "prefixItems",
+                Asks::ItemByItem(schemas),
+                Combining::Every,
+            ),
+            ListKeyword::AllOf => ("allOf", Asks::Branches(schemas), Combining::Every),
+            ListKeyword::AnyOf => ("anyOf", Asks::Branches(schemas), Combining::SomeBranch),
+            ListKeyword::OneOf => ("oneOf", Asks::Branches(schemas), Combining::OneBranch),
+        };
+        Applicator {
+            keyword,
+            asks,
+            combining,
         }
     }
 }
@@ -66,10 +77,15 @@ impl MapKeyword {
         ensures patterns { patterns_in result ≡ map_patterns self (members_view schemas.now.entries) }
         ensures answers { is_by_answers result ≡ true }
     {
-        match self {
-            MapKeyword::Properties => Applicator::Properties(schemas),
-            MapKeyword::PatternProperties => Applicator::PatternProperties(schemas),
-            MapKeyword::DependentSchemas => Applicator::DependentSchemas(schemas),
+        let (keyword, asks) = match self {
+            MapKeyword::Properties => ("properties", Asks::DeclaredMembers(schemas)),
+            MapKeyword::PatternProperties => ("patternProperties", Asks::MatchingMembers(schemas)),
+            MapKeyword::DependentSchemas => ("dependentSchemas", Asks::Triggered(schemas)),
+        };
+        Applicator {
+            keyword,
+            asks,
+            combining: Combining::Every,
         }
     }
 }

@@ -23,12 +23,14 @@ use crate::neighbours::{
     prefix_length, schema_beside,
 };
 use applicators::applicator::Applicator;
+use applicators::asks::Asks;
+use applicators::combining::Combining;
 use schema_drafts::draft::Draft;
 use schema_places::place::is_schema;
 use serde_json::Value;
 
 /// What a member of a schema is, where its name is that of a keyword that applies subschemas.
-#[derive(Clone, Copy, Debug)]
+#[derive(Drop, Debug)]
 pub enum Reading<'r> {
     Applied(Applicator<'r>),
     /// It applies nothing.
@@ -126,9 +128,13 @@ fn items<'r>(neighbours: Neighbours<'r>, value: &'r Value) -> Reading<'r>
     ensures answers { IsByAnswers result }
 {
     if is_schema(value) {
-        return Reading::Applied(Applicator::Items {
-            start: prefix_length(neighbours),
-            schema: value,
+        return Reading::Applied(Applicator {
+            keyword: "items",
+            asks: Asks::ItemsFrom {
+                start: prefix_length(neighbours),
+                schema: value,
+            },
+            combining: Combining::Every,
         });
     }
     if takes_list(neighbours.dialect.draft) {
@@ -147,15 +153,19 @@ fn additional_items<'r>(neighbours: Neighbours<'r>, value: &'r Value) -> Reading
     };
     let schema = value;
     if is_false(value) {
-        if_schema(
-            value,
-            Reading::Applied(Applicator::NoAdditionalItems { start, schema }),
-        )
+        let refusing = Applicator {
+            keyword: "additionalItems",
+            asks: Asks::ItemsFrom { start, schema },
+            combining: Combining::Together,
+        };
+        if_schema(value, Reading::Applied(refusing))
     } else {
-        if_schema(
-            value,
-            Reading::Applied(Applicator::AdditionalItems { start, schema }),
-        )
+        let applicator = Applicator {
+            keyword: "additionalItems",
+            asks: Asks::ItemsFrom { start, schema },
+            combining: Combining::Every,
+        };
+        if_schema(value, Reading::Applied(applicator))
     }
 }
 
@@ -165,10 +175,13 @@ fn contains<'r>(neighbours: Neighbours<'r>, value: &'r Value) -> Reading<'r>
 {
     let least = count_beside(neighbours, "minContains");
     let most = count_beside(neighbours, "maxContains");
-    let applicator = Applicator::Contains {
-        schema: value,
-        least,
-        most,
+    let applicator = Applicator {
+        keyword: "contains",
+        asks: Asks::ItemsFrom {
+            start: 0,
+            schema: value,
+        },
+        combining: Combining::Counted { least, most },
     };
     if_schema(value, Reading::Applied(applicator))
 }
@@ -197,12 +210,19 @@ fn refusing_others<'r>(neighbours: Neighbours<'r>, schema: &'r Value) -> Applica
     ensures answers { is_by_answers result ≡ true }
 {
     if is_alone(neighbours) {
-        Applicator::NoProperties(schema)
-    } else {
-        Applicator::NoAdditionalProperties {
+        return Applicator {
+            keyword: "additionalProperties",
+            asks: Asks::Members(schema),
+            combining: Combining::Together,
+        };
+    }
+    Applicator {
+        keyword: "additionalProperties",
+        asks: Asks::OtherMembers {
             declared: declared_beside(neighbours),
             schema,
-        }
+        },
+        combining: Combining::Together,
     }
 }
 
@@ -214,9 +234,13 @@ fn additional_properties<'r>(neighbours: Neighbours<'r>, value: &'r Value) -> Re
         Some(true) => Reading::Nothing,
         Some(false) => Reading::Applied(refusing_others(neighbours, value)),
         None => {
-            let applicator = Applicator::AdditionalProperties {
-                declared: declared_beside(neighbours),
-                schema: value,
+            let applicator = Applicator {
+                keyword: "additionalProperties",
+                asks: Asks::OtherMembers {
+                    declared: declared_beside(neighbours),
+                    schema: value,
+                },
+                combining: Combining::Every,
             };
             if_schema(value, Reading::Applied(applicator))
         }
@@ -229,10 +253,18 @@ fn property_names<'r>(value: &'r Value) -> Reading<'r>
 {
     match value.as_bool() {
         Some(true) => Reading::Nothing,
-        Some(false) => Reading::Applied(Applicator::NoPropertyNames(value)),
+        Some(false) => Reading::Applied(Applicator {
+            keyword: "propertyNames",
+            asks: Asks::Names(value),
+            combining: Combining::Together,
+        }),
         None => {
             if is_schema(value) {
-                Reading::Applied(Applicator::PropertyNames(value))
+                Reading::Applied(Applicator {
+                    keyword: "propertyNames",
+                    asks: Asks::Names(value),
+                    combining: Combining::EachNamed,
+                })
             } else {
                 Reading::Nothing
             }
@@ -244,7 +276,12 @@ fn negation<'r>(value: &'r Value) -> Reading<'r>
     ensures read { (x : rows.Context) → ReadsAs x (codes "not") (rows.read_among rows.readers x (codes "not") (view value.now)) result }
     ensures answers { IsByAnswers result }
 {
-    if_schema(value, Reading::Applied(Applicator::Not(value)))
+    let negated = Applicator {
+        keyword: "not",
+        asks: Asks::Value(value),
+        combining: Combining::Refusal,
+    };
+    if_schema(value, Reading::Applied(negated))
 }
 
 /// What `if` is: nothing without `then` or `else` beside.
@@ -257,10 +294,14 @@ pub fn condition<'r>(neighbours: Neighbours<'r>, value: &'r Value) -> Reading<'r
     if has_consequent(neighbours) {
         let then_schema = schema_beside(neighbours, "then");
         let else_schema = schema_beside(neighbours, "else");
-        let applicator = Applicator::If {
-            condition: value,
-            then_schema,
-            else_schema,
+        let applicator = Applicator {
+            keyword: "if",
+            asks: Asks::Condition {
+                condition: value,
+                then_schema,
+                else_schema,
+            },
+            combining: Combining::Conditional,
         };
         if_schema(value, Reading::Applied(applicator))
     } else {

@@ -15,14 +15,14 @@ use Rattle.applicators.specs.Shapes.{shape_of, dependency_at, dependencies_in}
 use Rattle.std.specs.List.{flat_map}
 use Rattle.schema_meaning.specs.Questions.{at, if_member}
 use Rattle.assertions.specs.Texts.{texts_in, entries_of}
-use Rattle.applicators.specs.declared.applicator.Applicator.{Applicator}
-use Rattle.applicators.specs.declared.applicator.Applicator.TheVariants as code
+use Rattle.applicators.specs.Applied.{Applicator}
 use Rattle.applicators.specs.declared.combining.Combining.{Combining}
 use Rattle.applicators.specs.declared.combining.Combining.TheVariants as combining
 use Rattle.applicators.specs.Forms.{noted, kind_in, value_in, stands, named_in}
+use Rattle.applicators.specs.Bare.{bare}
 use Rattle.applicators.specs.Asks.{form_by, may_note, noted_by, kind_asked, value_asked}
-use Rattle.applicators.specs.declared.asks.Asks.{Asks}
-use Rattle.applicators.specs.declared.asks.Asks.TheVariants as asking
+use Rattle.applicators.specs.Lent.{Asks}
+use Rattle.applicators.specs.declared.asks.AsksOf.TheVariants as asking
 use Rattle.applicators.proofs.FormLemmas.{IsKeyword, a_keyword, built}
 
 -- ---- what `dependencies` notes
@@ -62,13 +62,21 @@ value_so site k (asking.Members schema) d = refl
 value_so site k f d = refl
 
 module _ (site : List Part → Data → Site) where
-  stands_so : (a : Applicator) → stands (name_of a) (combining_of a) (form_by site (name_of a) (asks_of a)) ≡ true
-  stands_so (code.Items start schema) = refl
-  stands_so a = refl
+  -- wherever its subschemas stand
+  stands_so : (k : List ℕ) (c : Combining) (f : Asks) → stands k c (form_by site k f) ≡ stands k c (bare f)
+  stands_so k combining.Every (asking.ItemsFrom start schema) = refl
+  stands_so k combining.Together (asking.ItemsFrom start schema) = refl
+  stands_so k combining.EachNamed (asking.ItemsFrom start schema) = refl
+  stands_so k combining.SomeBranch (asking.ItemsFrom start schema) = refl
+  stands_so k combining.OneBranch (asking.ItemsFrom start schema) = refl
+  stands_so k combining.Refusal (asking.ItemsFrom start schema) = refl
+  stands_so k (combining.Counted least most) (asking.ItemsFrom start schema) = refl
+  stands_so k combining.Conditional (asking.ItemsFrom start schema) = refl
+  stands_so k c f = refl
 
   -- each is a keyword of its name
   pub is_keyword : (a : Applicator) → IsKeyword (name_of a) (combining_of a) (form_by site (name_of a) (asks_of a))
-  is_keyword a = a_keyword (name_of a) (combining_of a) (form_by site (name_of a) (asks_of a)) (stands_so a)
+  is_keyword a = a_keyword (name_of a) (combining_of a) (form_by site (name_of a) (asks_of a)) (stands_so (name_of a) (combining_of a) (asks_of a) ∙ a.stands)
 
 module _ (site : List Part → Data → Site) (matches : List ℕ → List ℕ → Bool) where
   named_so : (a : Applicator) (d : Data) → named_in matches (name_of a) (form_by site (name_of a) (asks_of a)) d ≡ named_of matches a d

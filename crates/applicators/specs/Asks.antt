@@ -12,8 +12,9 @@ use Rattle.schema_meaning.specs.Keywords.{first_value, missing_beside}
 use Rattle.assertions.specs.Texts.{entries_of}
 use Rattle.applicators.specs.Sites.{site_of, sites_of_list, sites_of_map, declared_by, dependencies_in}
 use Rattle.applicators.specs.Forms.{Form, each_from, by_index, by_name, by_pattern, of_others, of_members, of_names, of_triggered, of_dependencies, of_branches, of_value, of_condition, asked}
-use Rattle.applicators.specs.declared.asks.Asks.{Asks}
-use Rattle.applicators.specs.declared.asks.Asks.TheVariants as code
+use Rattle.applicators.specs.Lent.{Asks}
+use Rattle.applicators.specs.declared.asks.AsksOf.{AsksOf}
+use Rattle.applicators.specs.declared.asks.AsksOf.TheVariants as code
 
 -- what is asked by the sites of its schemas, at a keyword of this name; `site` gives the site of a schema below
 abbrev pub form_by : (List Part → Data → Site) → List ℕ → Asks → Form Site
@@ -56,17 +57,17 @@ patterns_among (code.MatchingMembers schemas) = member_names (members_view schem
 patterns_among asks = []
 
 -- whether it asks the names of members
-abbrev pub are_names : Asks → Bool
+abbrev pub are_names : {S L N P E V : Type 0} → AsksOf S L N P E V → Bool
 are_names (code.Names schema) = true
 are_names asks = false
 
 -- whether the answer to its first question chooses among the others
-abbrev pub chooses : Asks → Bool
+abbrev pub chooses : {S L N P E V : Type 0} → AsksOf S L N P E V → Bool
 chooses (code.Condition condition then_schema else_schema) = true
 chooses asks = false
 
 -- whether it may note something of the value itself
-abbrev pub may_note : Asks → Bool
+abbrev pub may_note : {S L N P E V : Type 0} → AsksOf S L N P E V → Bool
 may_note (code.Dependencies entries) = true
 may_note asks = false
 

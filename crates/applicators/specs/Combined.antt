@@ -8,21 +8,22 @@ use Rattle.schema_meaning.specs.Questions.{at}
 use Rattle.schema_meaning.specs.Rules.{every, asks, accepts, Note}
 use Rattle.schema_meaning.specs.Keywords.{rule}
 use Rattle.applicators.specs.Shapes.{shape_of}
-pub use Rattle.applicators.specs.Tables.{name_of, combining_of, asks_of}
+pub use Rattle.applicators.specs.Applied.{name_of, combining_of, asks_of}
+use Rattle.applicators.specs.declared.applicator.ApplicatorOf.{ApplicatorOf}
 use Rattle.applicators.specs.Combining.{tells_each, tells_names, counts_answers, decided_by, refused_under, Named, Combines}
 use Rattle.applicators.specs.Asks.{asked_by, may_note, noted_by, are_names, kind_asked, value_asked}
-use Rattle.applicators.specs.declared.applicator.Applicator.{Applicator}
+use Rattle.applicators.specs.Applied.{Applicator}
 
 -- the name under which it refuses, where so many answers are yes
-abbrev pub refused_name : Applicator → ℕ → List ℕ
+abbrev pub refused_name : {S L N P E V : Type 0} → ApplicatorOf S L N P E V → ℕ → List ℕ
 refused_name a n = refused_under (name_of a) (combining_of a) n
 
 -- whether its rule is `every`: nothing is noted of the value itself, and every answer is yes
-abbrev pub is_every : Applicator → Bool
+abbrev pub is_every : {S L N P E V : Type 0} → ApplicatorOf S L N P E V → Bool
 is_every a = tells_each (combining_of a)
 
 -- whether it may note something of the value itself beside what it asks
-abbrev pub has_notes : Applicator → Bool
+abbrev pub has_notes : {S L N P E V : Type 0} → ApplicatorOf S L N P E V → Bool
 has_notes a = tells_each (combining_of a) && may_note (asks_of a)
 
 -- what it notes of the value itself: the names that are missing beside
@@ -34,24 +35,24 @@ abbrev pub IsEvery : Applicator → Type 0
 IsEvery a = (site : List Part → Data → Site) (matches : List ℕ → List ℕ → Bool) (d : Data) → rule matches d (shape_of site a) ≡ every (at (name_of a)) (notes_by a d) (asks (rule matches d (shape_of site a)))
 
 -- whether its verdict is by the number of answers that are yes and by what it notes of the value itself
-abbrev pub is_by_answers : Applicator → Bool
+abbrev pub is_by_answers : {S L N P E V : Type 0} → ApplicatorOf S L N P E V → Bool
 is_by_answers a = counts_answers (combining_of a)
 
 -- whether its questions ask the names of members
-abbrev pub asks_names : Applicator → Bool
+abbrev pub asks_names : {S L N P E V : Type 0} → ApplicatorOf S L N P E V → Bool
 asks_names a = are_names (asks_of a)
 
 -- whether its rule is `each_named`: every answer of a name is yes, and a name's faults are told of the object
-abbrev pub is_each_named : Applicator → Bool
+abbrev pub is_each_named : {S L N P E V : Type 0} → ApplicatorOf S L N P E V → Bool
 is_each_named a = tells_names (combining_of a)
 
 -- whether its verdict is by the number of answers that are yes and by what it notes of the value itself, and its questions ask the
 -- value, its items or its members
-abbrev pub asks_values : Applicator → Bool
+abbrev pub asks_values : {S L N P E V : Type 0} → ApplicatorOf S L N P E V → Bool
 asks_values a = is_by_answers a && not (asks_names a)
 
 -- whether a value is accepted of which so many questions are asked, so many of them answered yes; `contains` counts in lists alone
-abbrev pub decided : Applicator → Data → ℕ → ℕ → Bool
+abbrev pub decided : {S L N P E V : Type 0} → ApplicatorOf S L N P E V → Data → ℕ → ℕ → Bool
 decided a d n m = decided_by (combining_of a) d n m
 
 -- the verdict, where so many questions are asked and so many of them are answered yes

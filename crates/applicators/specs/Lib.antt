@@ -1,10 +1,12 @@
+pub mod Lent
 pub mod Sites
 pub mod Matching
 pub mod Questions
 pub mod Combining
 pub mod Forms
+pub mod Bare
 pub mod Asks
-pub mod Tables
+pub mod Applied
 pub mod Shapes
 pub mod Made
 pub mod Combined

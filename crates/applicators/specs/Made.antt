@@ -3,8 +3,8 @@ use Rattle.std.specs.Prelude.{◌≡◌, ℕ, List, Bool, true, ◌||◌, is_som
 use Rattle.json_values.specs.Patterns.{literal_of}
 use Rattle.schema_meaning.specs.Members.{In}
 use Rattle.applicators.specs.Asks.{patterns_among}
-use Rattle.applicators.specs.Tables.{asks_of}
-use Rattle.applicators.specs.declared.applicator.Applicator.{Applicator}
+use Rattle.applicators.specs.Applied.{asks_of}
+use Rattle.applicators.specs.Applied.{Applicator}
 
 -- a literal form needs no maker
 abbrev pub is_made_by : (List ℕ → Bool) → List ℕ → Bool

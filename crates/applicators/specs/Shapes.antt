@@ -4,11 +4,12 @@ use Rattle.serde_json.specs.Data.{Data}
 use Rattle.json_values.specs.Parts.{Part}
 use Rattle.schema_definitions.specs.Sites.{Site}
 use Rattle.schema_meaning.specs.Keywords.{Shape}
-pub use Rattle.applicators.specs.Sites.{Schemas, added_at, place_of, sites_of_list, sites_of_map, dependency_at, dependencies_in, site_of, names_declared, declared_by, others_among}
+pub use Rattle.applicators.specs.Lent.{Schemas}
+pub use Rattle.applicators.specs.Sites.{added_at, place_of, sites_of_list, sites_of_map, dependency_at, dependencies_in, site_of, names_declared, declared_by, others_among}
 use Rattle.applicators.specs.Forms.{shape_by}
 use Rattle.applicators.specs.Asks.{form_by, leads_by}
-use Rattle.applicators.specs.Tables.{name_of, combining_of, asks_of}
-use Rattle.applicators.specs.declared.applicator.Applicator.{Applicator}
+use Rattle.applicators.specs.Applied.{name_of, combining_of, asks_of}
+use Rattle.applicators.specs.Applied.{Applicator}
 
 abbrev pub shape_of : (List Part → Data → Site) → Applicator → Shape Site
 shape_of site a = shape_by (name_of a) (combining_of a) (form_by site (name_of a) (asks_of a))

@@ -1,25 +1,19 @@
 -- The sites of the subschemas in the values of keywords.
-use Rattle.std.specs.Prelude.{ℕ, suc, List, [], ◌∷◌, Bool, not, Option, None, Some, codes, String}
-use Rattle.std.specs.Global.{Global}
-use Rattle.std.specs.BTreeMap.{BTreeMap}
+use Rattle.std.specs.Prelude.{ℕ, suc, List, [], ◌∷◌, Bool, not, Option, None, Some, codes}
 use Rattle.std.specs.Borrow.{Bor}
 use Rattle.std.specs.List.{filter}
 use Rattle.serde_json.specs.Data.{Data, Items, no_items, item, Members, no_members, member}
 use Rattle.serde_json.specs.View.{view, members_view}
 use Rattle.json_values.specs.Parts.{Part}
 use Rattle.schema_definitions.specs.Sites.{Site}
-use Rattle.serde_json.specs.declared.value.Value.{Value}
 use Rattle.schema_definitions.specs.Rows.{member_names, in_list}
 use Rattle.schema_meaning.specs.Questions.{at, at_name, at_index, Declared, is_declared}
 use Rattle.schema_meaning.specs.Keywords.{Dependency, needs, applies}
 use Rattle.assertions.specs.Texts.{texts_of}
-use Rattle.applicators.specs.declared.declared.Declared as beside
+use Rattle.applicators.specs.Lent as lent
 use Rattle.applicators.specs.declared.subschema.Entry.{Entry}
 use Rattle.applicators.specs.declared.subschema.Entry.TheVariants as entry
 use Rattle.applicators.specs.declared.subschema.Subschema.{Subschema}
-
-abbrev pub Schemas : Type 0
-Schemas = BTreeMap (String Global) Value
 
 -- the parts from a schema to a subschema at a keyword, last part first
 abbrev pub added_at : List ℕ → Entry → List Part
@@ -53,12 +47,12 @@ abbrev pub site_of : (List Part → Data → Site) → List ℕ → Data → Sit
 site_of site k d = site (at k) d
 
 -- the names of the members of an object that may stand beside
-abbrev pub names_declared : Option (Bor Schemas) → List (List ℕ)
+abbrev pub names_declared : Option (Bor lent.Schemas) → List (List ℕ)
 names_declared None = []
 names_declared (Some schemas) = member_names (members_view schemas.now.entries)
 
 -- what `properties` and `patternProperties` beside declare: names, and patterns
-abbrev pub declared_by : beside.Declared → Declared
+abbrev pub declared_by : lent.Declared → Declared
 declared_by declared = record { names = names_declared declared.names; patterns = names_declared declared.patterns }
 
 -- the members that are not declared

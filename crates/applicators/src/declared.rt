@@ -13,12 +13,15 @@ use schema_patterns::matches::Matches;
 use serde_json::{Map, Value};
 use std::alloc::{AllocError, Global};
 
-/// The objects at `properties` and at `patternProperties` beside `additionalProperties`, where there are any.
+/// What stands at `properties` and at `patternProperties` beside `additionalProperties`, where there is any.
 #[derive(Clone, Copy, Debug)]
-pub struct Declared<'r> {
-    pub names: Option<&'r Map<String, Value>>,
-    pub patterns: Option<&'r Map<String, Value>>,
+pub struct DeclaredOf<N, P> {
+    pub names: Option<N>,
+    pub patterns: Option<P>,
 }
+
+/// The objects there, of a schema that is read.
+pub type Declared<'r> = DeclaredOf<&'r Map<String, Value>, &'r Map<String, Value>>;
 
 fn is_named(names: Option<&Map<String, Value>>, name: &str) -> bool
     ensures { result ≡ is_listed name.now (names_declared names.entry) }

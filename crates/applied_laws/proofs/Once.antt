@@ -14,11 +14,11 @@ use Rattle.applicators.specs.Shapes.{shape_of}
 use Rattle.applicators.specs.Combining.{Named, Combines, tells_each, tells_names, counts_answers, refused_under, kind_combined}
 use Rattle.applicators.specs.Asks.{may_note, noted_by}
 use Rattle.applicators.specs.Combined.{combining_of, asks_of, named_of, is_every, has_notes}
-use Rattle.applicators.specs.declared.applicator.Applicator.{Applicator}
+use Rattle.applicators.specs.Applied.{Applicator}
 use Rattle.applicators.specs.declared.combining.Combining.{Combining}
 use Rattle.applicators.specs.declared.combining.Combining.TheVariants as combining
-use Rattle.applicators.specs.declared.asks.Asks.{Asks}
-use Rattle.applicators.specs.declared.asks.Asks.TheVariants as asking
+use Rattle.applicators.specs.Lent.{Asks}
+use Rattle.applicators.specs.declared.asks.AsksOf.TheVariants as asking
 use Rattle.applicators.proofs.CombinedLemmas.{follows}
 use Rattle.applied_laws.specs.Notes.{TellOnce}
 

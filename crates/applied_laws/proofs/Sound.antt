@@ -14,20 +14,23 @@ use Rattle.schema_meaning.specs.Questions.{Question, question, at, at_name, each
 use Rattle.schema_meaning.specs.Rules.{asks}
 use Rattle.schema_meaning.specs.Keywords.{rule, Dependency, needs, applies, applied}
 use Rattle.schema_definitions.specs.Sites.{Site}
-use Rattle.schema_definitions.specs.Rows.{sites_applied}
+use Rattle.schema_definitions.specs.Rows.{sites_named, sites_applied}
 use Rattle.schema_definitions.specs.AllKeys.{spots_in}
 use Rattle.reading_laws.proofs.Steps.{Keeps, first_spot}
 use Rattle.reading_laws.proofs.Elements.{each_in, each_laid_flat, in_mapped}
 use Rattle.reading_laws.proofs.Asked.{Holds, Sound, all_sound, IsApplied}
 use Rattle.applicators.specs.Shapes.{shape_of, leads_of, site_of, declared_by, sites_of_list, sites_of_map, dependencies_in}
 use Rattle.applicators.specs.Questions.{each_dependency}
-use Rattle.applicators.specs.Asks.{asked_by}
-use Rattle.applicators.specs.Combined.{name_of, asks_of, is_by_answers}
-use Rattle.applicators.specs.declared.applicator.Applicator.{Applicator}
-use Rattle.applicators.specs.declared.applicator.Applicator.TheVariants as code
-use Rattle.applicators.specs.declared.asks.Asks.{Asks}
-use Rattle.applicators.specs.declared.asks.Asks.TheVariants as asking
-use Rattle.applicators.proofs.CombinedLemmas.{follows}
+use Rattle.applicators.specs.Asks.{form_by, asked_by, leads_by}
+use Rattle.applicators.specs.Combined.{name_of, combining_of, asks_of, is_by_answers}
+use Rattle.applicators.specs.Applied.{Applicator}
+use Rattle.applicators.specs.Combining.{counts_answers}
+use Rattle.applicators.specs.Forms.{Form, each_from, by_index, by_name, by_pattern, of_others, of_members, of_names, of_triggered, of_dependencies, of_branches, of_value, of_condition, shape_by}
+use Rattle.applicators.specs.declared.combining.Combining.{Combining}
+use Rattle.applicators.proofs.FormLemmas.{IsKeyword, as_list, as_prefix, every_branch, one_or_more, only_one, declared_members, matching_members, triggered, depending, chosen_by}
+use Rattle.applicators.specs.Lent.{Asks}
+use Rattle.applicators.specs.declared.asks.AsksOf.TheVariants as asking
+use Rattle.applicators.proofs.CombinedLemmas.{is_keyword, follows}
 use Rattle.applied_laws.specs.Laws.{QuestionsAreSound}
 
 -- ---- where subschemas stand
@@ -49,33 +52,52 @@ module _ (P : Site → Type 0) where
   applied_among [] h = tt
   applied_among (p ∷ ps) h = (one_applied p.1 (sites_applied ps) h, applied_among ps (rest_applied p.1 (sites_applied ps) h))
 
-abbrev Led : (List Part → Data → Site) → Applicator → Site → Type 0
-Led site a s = In s (leads_of site a)
+-- the sites of what is asked: those of `then` and `else` are led to by these
+leads_in : Form Site → List Site
+leads_in (each_from start s) = s ∷ []
+leads_in (by_index ss) = ss
+leads_in (by_name ps) = sites_named ps
+leads_in (by_pattern ps) = sites_named ps
+leads_in (of_others declared s) = s ∷ []
+leads_in (of_members s) = s ∷ []
+leads_in (of_names s) = s ∷ []
+leads_in (of_triggered ps) = sites_named ps
+leads_in (of_dependencies ps) = sites_applied ps
+leads_in (of_branches ss) = ss
+leads_in (of_value schema s) = s ∷ []
+leads_in (of_condition s t e) = s ∷ []
 
-all_led : (site : List Part → Data → Site) (a : Applicator) → is_by_answers a ≡ true → Holds (Led site a) (λ s. ⊤) (shape_of site a)
-all_led site (code.Items start schema) h = first
-all_led site (code.ItemList schemas) h = each_among (λ s. s) (sites_of_list site (codes "items") 0 (items_view schemas.now)) (Led site (code.ItemList schemas)) (λ s i. i)
-all_led site (code.PrefixItems schemas) h = each_among (λ s. s) (sites_of_list site (codes "prefixItems") 0 (items_view schemas.now)) (Led site (code.PrefixItems schemas)) (λ s i. i)
-all_led site (code.AdditionalItems start schema) h = first
-all_led site (code.NoAdditionalItems start schema) h = first
-all_led site (code.Contains schema least most) h = first
-all_led site (code.Properties schemas) h =
-    let ps = sites_of_map site (codes "properties") (members_view schemas.now.entries) in each_among (λ p. p.1) ps (Led site (code.Properties schemas)) (λ p i. in_mapped (λ q. q.1) p ps i)
-all_led site (code.PatternProperties schemas) h =
-    let ps = sites_of_map site (codes "patternProperties") (members_view schemas.now.entries) in each_among (λ p. p.1) ps (Led site (code.PatternProperties schemas)) (λ p i. in_mapped (λ q. q.1) p ps i)
-all_led site (code.AdditionalProperties declared schema) h = first
-all_led site (code.NoAdditionalProperties declared schema) h = first
-all_led site (code.NoProperties schema) h = first
-all_led site (code.PropertyNames schema) h = first
-all_led site (code.NoPropertyNames schema) h = first
-all_led site (code.DependentSchemas schemas) h =
-    let ps = sites_of_map site (codes "dependentSchemas") (members_view schemas.now.entries) in each_among (λ p. p.1) ps (Led site (code.DependentSchemas schemas)) (λ p i. in_mapped (λ q. q.1) p ps i)
-all_led site (code.Dependencies entries) h = applied_among (Led site (code.Dependencies entries)) (dependencies_in site (members_view entries.now.entries)) (λ s i. i)
-all_led site (code.AllOf schemas) h = each_among (λ s. s) (sites_of_list site (codes "allOf") 0 (items_view schemas.now)) (Led site (code.AllOf schemas)) (λ s i. i)
-all_led site (code.AnyOf schemas) h = each_among (λ s. s) (sites_of_list site (codes "anyOf") 0 (items_view schemas.now)) (Led site (code.AnyOf schemas)) (λ s i. i)
-all_led site (code.OneOf schemas) h = each_among (λ s. s) (sites_of_list site (codes "oneOf") 0 (items_view schemas.now)) (Led site (code.OneOf schemas)) (λ s i. i)
-all_led site (code.Not schema) h = first
-all_led site (code.If condition then_schema else_schema) h = absurd (cc)
+abbrev Led : List Site → Site → Type 0
+Led ss s = In s ss
+
+all_named : (ps : List (List ℕ × Site)) → AllByRecursion (λ p. Led (sites_named ps) p.1) ps
+all_named ps = each_among (λ p. p.1) ps (Led (sites_named ps)) (λ p i. in_mapped (λ q. q.1) p ps i)
+
+led_to : (k : List ℕ) (c : Combining) (f : Form Site) → IsKeyword k c f → counts_answers c ≡ true → Holds (Led (leads_in f)) (λ s. ⊤) (shape_by k c f)
+unfolding leads_in
+led_to _ _ _ (as_list ss) h = each_among (λ s. s) ss (Led ss) (λ s i. i)
+led_to _ _ _ (as_prefix ss) h = each_among (λ s. s) ss (Led ss) (λ s i. i)
+led_to _ _ _ (every_branch ss) h = each_among (λ s. s) ss (Led ss) (λ s i. i)
+led_to _ _ _ (one_or_more ss) h = each_among (λ s. s) ss (Led ss) (λ s i. i)
+led_to _ _ _ (only_one ss) h = each_among (λ s. s) ss (Led ss) (λ s i. i)
+led_to _ _ _ (declared_members ps) h = all_named ps
+led_to _ _ _ (matching_members ps) h = all_named ps
+led_to _ _ _ (triggered ps) h = all_named ps
+led_to _ _ _ (depending ps) h = applied_among (Led (sites_applied ps)) ps (λ s i. i)
+led_to _ _ _ (chosen_by s t e) h = absurd (cc)
+led_to _ _ _ is h = first
+
+leads_are : (site : List Part → Data → Site) (k : List ℕ) (f : Asks) → leads_in (form_by site k f) ≡ leads_by site k f
+unfolding leads_in
+leads_are site k (asking.ItemsFrom start schema) = refl
+leads_are site k f = refl
+
+all_led : (site : List Part → Data → Site) (a : Applicator) → is_by_answers a ≡ true → Holds (Led (leads_of site a)) (λ s. ⊤) (shape_of site a)
+all_led site a h =
+    let k = name_of a in
+    let c = combining_of a in
+    let f = form_by site k (asks_of a) in
+    subst (λ ss. Holds (Led ss) (λ s. ⊤) (shape_by k c f)) (leads_are site k (asks_of a)) (led_to k c f (is_keyword site a) h)
 
 -- ---- no reference is followed
 
@@ -170,7 +192,7 @@ name_lies d step keeps k is path =
 
 pub questions_are_sound : QuestionsAreSound
 questions_are_sound site matches d a counts q i =
-    let known = each_in (Sound (Led site a) (λ s. ⊤) d) (asks (rule matches d (shape_of site a))) (all_sound (Led site a) (λ s. ⊤) matches d (shape_of site a) (all_led site a counts)) q i in
+    let known = each_in (Sound (Led (leads_of site a)) (λ s. ⊤) d) (asks (rule matches d (shape_of site a))) (all_sound (Led (leads_of site a)) (λ s. ⊤) matches d (shape_of site a) (all_led site a counts)) q i in
     let asked = (follows site matches d a).asked in
     let calm = each_in IsCalm (asks (rule matches d (shape_of site a))) (subst (λ qs. AllByRecursion IsCalm qs) (sym asked) (all_calm site matches (name_of a) d (asks_of a))) q i in
     record { led = known.within calm; within = calm; spots = λ path w h. known.step.inside path w h; named = λ k is path. name_lies d q.step known.step k is path }

@@ -11,7 +11,7 @@ use Rattle.schema_definitions.specs.Sites.{Site}
 use Rattle.schema_definitions.specs.AllKeys.{spots_in}
 use Rattle.applicators.specs.Shapes.{shape_of, leads_of}
 use Rattle.applicators.specs.Combined.{is_by_answers}
-use Rattle.applicators.specs.declared.applicator.Applicator.{Applicator}
+use Rattle.applicators.specs.Applied.{Applicator}
 
 -- its site is one that the keyword leads to; it follows no reference; the places of what it asks of, and of a name, are the value's
 pub record IsSound (site : List Part → Data → Site) (a : Applicator) (d : Data) (q : Question Site) : Type 0 where

@@ -13,7 +13,7 @@ use Rattle.applicators.specs.Shapes.{shape_of}
 use Rattle.applicators.specs.Combining.{kind_combined}
 use Rattle.applicators.specs.Asks.{kind_asked, value_asked}
 use Rattle.applicators.specs.Combined.{combining_of, asks_of, refused_name, is_every, is_by_answers, is_each_named}
-use Rattle.applicators.specs.declared.applicator.Applicator.{Applicator}
+use Rattle.applicators.specs.Applied.{Applicator}
 
 -- its kind, by the matches, the value and what answers the keyword's questions; of the others it says nothing
 abbrev pub kind_by : (List ℕ → List ℕ → Bool) → Applicator → Data → List Faults → Kind

@@ -4,7 +4,7 @@ use Rattle.std.specs.Prelude.{Box}
 use Rattle.std.specs.declared.alloc.Global.{Global}
 use Rattle.std.proofs.lemmas.Bool.{true≢false}
 use Rattle.serde_json.specs.Data.{Data}
-use Rattle.schema_meaning.specs.Faults.{Faults, none, also, joined, is_none}
+use Rattle.schema_meaning.specs.Faults.{Kind, Faults, none, also, joined, is_none}
 use Rattle.schema_meaning.specs.Rules.{Note, own_faults}
 use Rattle.schema_meaning.specs.Questions.{at}
 use Rattle.schema_meaning.specs.Keywords.{Assertion, named, wrong}
@@ -17,7 +17,7 @@ use Rattle.schema_reports.specs.declared.observer.Observation.{Observation}
 use Rattle.schema_reports.specs.declared.observer.Observation.TheVariants as kept
 use Rattle.schema_reports.specs.declared.observer.Observer.{Observer}
 use Rattle.schema_reports.specs.declared.observer.Observer.TheVariants as observers
-use Rattle.schema_reports.proofs.FaultLemmas.{joined-none, joined-joined, not_none, Told-joined}
+use Rattle.schema_reports.proofs.FaultLemmas.{joined-none, joined-joined, not_none, among-joined}
 use Rattle.assertions.specs.Wrong.{head, note_of, notes_of, kind_of}
 use Rattle.assertions.specs.declared.assertion.Wrong.{Wrong}
 use Rattle.assertion_faults.specs.Tellings.{spot_at, fault_at, TellsOne, TellsNotes, TellsAssertion}
@@ -26,7 +26,7 @@ use Rattle.assertion_faults.specs.Tellings.{spot_at, fault_at, TellsOne, TellsNo
 
 one_more : (o : Option (Box ValidationError Global)) (ts gs : Faults) → is_none ts ≡ false → is_kept_of o ts → is_kept_of o (joined ts gs)
 one_more None ts gs some e = absurd (true≢false (sym (ap is_none e) ∙ some))
-one_more (Some x) ts gs some told = Told-joined gs told
+one_more (Some x) ts gs some told = among-joined gs told
 
 first_enough : (k : Observation) (old new : Observer) (fs ts gs : Faults) → is_for_all old ≡ false → is_none ts ≡ false → Hears k old fs → Hears k new ts → Hears k new (joined ts gs)
 first_enough kept.Verdict old (observers.Verdict v) fs none gs last some before h = absurd (true≢false some)
@@ -64,6 +64,11 @@ module _ (d : Data) (roads : Roads) (keyword : List ℕ) where
         let enough = first_enough k old new fs (joined fs (also fault none)) (told_of notes) last (not_none fs fault) h (one.tells k fs h) in
         subst (Hears k new) (joined-joined fs (also fault none) (told_of notes)) enough;
   }
+
+  -- one that wants to be told is told
+  pub tells_wanted : (kind : Kind) (old now new : Observer) → ((k : Observation) (fs : Faults) → Hears k old fs → Hears k now fs) → TellsOne d roads keyword kind now new
+      → TellsOne d roads keyword kind old new
+  tells_wanted kind old now new unheard one = record { tells = λ k fs h. one.tells k fs (unheard k fs h) }
 
 -- ---- an assertion, by its notes
 

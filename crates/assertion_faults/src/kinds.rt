@@ -2,7 +2,7 @@
 ghost use Rattle.std.specs.Prelude.{◌≡◌, IfOk};
 ghost use Rattle.serde_json.specs.Data.{array};
 ghost use Rattle.serde_json.specs.View.{view, items_view};
-ghost use Rattle.schema_reports.specs.Kinds.{kind_of};
+ghost use Rattle.schema_reports.specs.Kinds.{StandsFor};
 ghost use Rattle.assertions.specs.Shapes.{integer_of};
 ghost use Rattle.assertions.specs.Wrong.{bound_kind, count_kind, kind_of as kind_of_wrong};
 
@@ -20,7 +20,7 @@ fn list_of(alloc: Global, values: &[Value]) -> Result<Value, AllocError>
 }
 
 fn out_of_bound<'i>(bound: Bound, number: WholeNumber) -> ValidationErrorKind<'i>
-    ensures { kind_of result ≡ bound_kind bound (integer_of number) }
+    ensures { StandsFor result (bound_kind bound (integer_of number)) }
 {
     let limit = number.to_value();
     match bound {
@@ -32,7 +32,7 @@ fn out_of_bound<'i>(bound: Bound, number: WholeNumber) -> ValidationErrorKind<'i
 }
 
 const fn out_of_count<'i>(count: Count, limit: u64) -> ValidationErrorKind<'i>
-    ensures { kind_of result ≡ count_kind count limit }
+    ensures { StandsFor result (count_kind count limit) }
 {
     match count {
         Count::MaxLength => ValidationErrorKind::MaxLength { limit },
@@ -49,7 +49,7 @@ pub(crate) fn kind_of_wrong<'i>(
     alloc: Global,
     wrong: Wrong<'_>,
 ) -> Result<ValidationErrorKind<'i>, AllocError>
-    ensures { IfOk result (λ k. kind_of k ≡ kind_of_wrong wrong.entry) }
+    ensures { IfOk result (λ k. StandsFor k (kind_of_wrong wrong.entry)) }
 {
     Ok(match wrong {
         Wrong::Types(names) => ValidationErrorKind::Types {

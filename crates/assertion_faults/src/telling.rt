@@ -3,7 +3,8 @@ ghost use Rattle.std.specs.Prelude.{◌≡◌, false, OnOk};
 ghost use Rattle.serde_json.specs.View.{view, members_view};
 ghost use Rattle.schema_meaning.specs.Keywords.{missing_beside};
 ghost use Rattle.assertions.specs.Texts.{entries_of};
-ghost use Rattle.schema_reports.specs.Kinds.{kind_of};
+ghost use Rattle.schema_meaning.specs.Faults.{Kind};
+ghost use Rattle.schema_reports.specs.Kinds.{StandsFor};
 ghost use Rattle.schema_reports.specs.Observers.{is_for_all};
 ghost use Rattle.assertions.specs.Shapes.{assertion_of};
 ghost use Rattle.assertions.specs.Wrong.{kind_of as kind_of_wrong, notes_of};
@@ -25,7 +26,7 @@ pub(crate) fn tell_kind<'i>(
     roads: Roads<'_>,
     observer: &mut Observer<'i>,
 ) -> Result<(), AllocError>
-    ensures { OnOk result (TellsOne (view value.now) roads.entry keyword.now (kind_of kind.entry) observer.old observer.new) }
+    ensures { OnOk result ((said : Kind) → StandsFor kind.entry said → TellsOne (view value.now) roads.entry keyword.now said observer.old observer.new) }
 {
     let schema = roads.schema.push_name(keyword);
     let evaluation = roads.evaluation.push_name(keyword);

@@ -16,7 +16,7 @@ use Rattle.schema_definitions.specs.Plain.{deepest}
 use Rattle.applicators.specs.Shapes.{shape_of, place_of, added_at}
 use Rattle.applicators.specs.Combined.{is_every, is_by_answers, name_of, notes_by}
 use Rattle.applicators.specs.Questions.{step_of, question_of, questions_of}
-use Rattle.applicators.specs.declared.applicator.Applicator.{Applicator}
+use Rattle.applicators.specs.Applied.{Applicator}
 use Rattle.applicators.specs.declared.question.Asked.{Asked}
 use Rattle.applicators.specs.declared.question.Asked.TheVariants as asked
 use Rattle.applicators.specs.declared.question.Question.{Question}

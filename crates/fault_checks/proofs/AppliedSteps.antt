@@ -14,10 +14,14 @@ use Rattle.schema_meaning.specs.Circular.{IsCircular}
 use Rattle.schema_definitions.specs.Sites.{Site, below}
 use Rattle.schema_definitions.specs.PathTexts.{path_text}
 use Rattle.applicators.specs.Shapes.{shape_of, place_of, added_at}
-use Rattle.applicators.specs.Combined.{asks_values}
+use Rattle.applicators.specs.Combined.{name_of, combining_of, asks_of, asks_values}
 use Rattle.applicators.specs.Questions.{step_of, question_of, questions_of}
-use Rattle.applicators.specs.declared.applicator.Applicator.{Applicator}
-use Rattle.applicators.specs.declared.applicator.Applicator.TheVariants as code
+use Rattle.applicators.specs.Applied.{Applicator}
+use Rattle.applicators.specs.Asks.{form_by}
+use Rattle.applicators.specs.Forms.{Form, shape_by}
+use Rattle.applicators.specs.declared.combining.Combining.{Combining}
+use Rattle.applicators.proofs.FormLemmas.{IsKeyword, counted_items, chosen_by}
+use Rattle.applicators.proofs.CombinedLemmas.{is_keyword}
 use Rattle.applicators.specs.declared.question.Question.{Question}
 use Rattle.applied_laws.proofs.Sound.{questions_are_sound}
 use Rattle.certificate_laws.specs.Spelled.{AreSpelled}
@@ -48,17 +52,20 @@ use Rattle.fault_checks.specs.declared.walk.Walk.{Walk}
 use Rattle.fault_checks.specs.declared.walk.Step.{Step}
 use Rattle.fault_checks.specs.declared.walk.Step.TheVariants.{Answered, On, Named}
 use Rattle.fault_checks.specs.Steps.{path_at, IsLeft, IsMore, IsNotLonger, GoesInto, LeadsInto, PassesThrough}
-use Rattle.fault_paths.specs.Obliged.{obliges}
+use Rattle.fault_paths.specs.Obliged.{obliges_by, obliges}
 use Rattle.applicators.proofs.Asking.{by_answers}
 use Rattle.fault_checks.proofs.ObligedFacts.{AllOrNone, all_or_none}
 use Rattle.fault_checks.proofs.Going.{Goes, going_by, gone_by, not_named}
 
 -- ---- a keyword whose questions oblige refuses under its own name
 
+one_of : (m : List ℕ) (n : ℕ) (k : List ℕ) (c : Combining) (f : Form Site) → IsKeyword k c f → obliges_by c n ≡ true → Bears m (shape_by k c f) → IsOf m (shape_by k c f)
+one_of m n _ _ _ (counted_items least most s) obliging is = cc
+one_of m n _ _ _ (chosen_by s t e) obliging is = cc
+one_of m n _ _ _ keyword obliging is = is
+
 is_one : (site : List Part → Data → Site) (a : Applicator) (k : List ℕ) (n : ℕ) → obliges a n ≡ true → Bears k (shape_of site a) → IsOf k (shape_of site a)
-is_one site (code.Contains schema least most) k n obliging is = cc
-is_one site (code.If condition then_schema else_schema) k n obliging is = cc
-is_one site a k n obliging is = is
+is_one site a k n obliging is = one_of k n (name_of a) (combining_of a) (form_by site (name_of a) (asks_of a)) (is_keyword site a) obliging is
 
 -- ---- the last part
 

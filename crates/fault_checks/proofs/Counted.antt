@@ -17,7 +17,7 @@ use Rattle.meaning_laws.proofs.Refuses.{answers_once, told_once}
 use Rattle.applicators.specs.Shapes.{shape_of}
 use Rattle.applicators.specs.Combined.{is_by_answers, has_notes, refused_name, Decides}
 use Rattle.applicators.specs.Questions.{question_of, questions_of}
-use Rattle.applicators.specs.declared.applicator.Applicator.{Applicator}
+use Rattle.applicators.specs.Applied.{Applicator}
 use Rattle.applicators.specs.declared.question.Question.{Question}
 use Rattle.certificate_laws.proofs.Answers.{answers_there}
 use Rattle.certificate_laws.proofs.Values.{is_told_same}

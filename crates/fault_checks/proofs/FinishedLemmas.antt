@@ -14,9 +14,14 @@ one_known o a b e f = cc (e, f)
 none_known : (o : Option Bool) (a : Bool) → o ≡ Some a → o ≡ None → ⊥
 none_known o a e f = cc (e, f)
 
+-- matches that finish agree with what is known
+pub agree_finished : (p : Patterns) (r : Root) (d : Data) (matches : List ℕ → List ℕ → Bool) (target : Target) → Finish p r matches target d → AgreeWithKnown p r matches target d
+agree_finished p r d matches target finish = record {
+  agree = λ pattern text asked answer is. one_known (known p.finished pattern text) _ answer (finish.each pattern text asked) is;
+}
+
 pub none_unfinished : (p : Patterns) (r : Root) (d : Data) (instance evaluation : List ℕ) → IsChecked p r d instance evaluation Unfinished
     → (matches : List ℕ → List ℕ → Bool) (target : Target) → Finds r target → Finish p r matches target d → ⊥
 none_unfinished p r d instance evaluation h matches target found finish =
-    let agree : AgreeWithKnown p r matches target d = record { agree = λ pattern text asked answer is. one_known (known p.finished pattern text) _ answer (finish.each pattern text asked) is } in
-    let stays = h.unfinished refl matches target found agree in
+    let stays = h.unfinished refl matches target found (agree_finished p r d matches target finish) in
     none_known (known p.finished stays.pattern stays.text) _ (finish.each stays.pattern stays.text stays.asked) stays.unfinished

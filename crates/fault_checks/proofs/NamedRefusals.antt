@@ -1,5 +1,5 @@
 -- Under which name keywords refuse.
-use Rattle.std.proofs.Common.{◌≡◌, ◌∙◌, ℕ, List, [], ◌∷◌, Bool, true, false, true≢false, suc, Option, None, Some, length, map, refl, sym, ap, ap₂, subst, arith, ◌&&◌}
+use Rattle.std.proofs.Common.{◌≡◌, ◌∙◌, ℕ, List, [], ◌∷◌, Bool, true, false, true≢false, suc, Option, None, Some, length, refl, sym, ap, ap₂, subst, arith, ◌&&◌}
 use Rattle.std.proofs.lemmas.List.{length-map}
 use Rattle.std.specs.List.{AllByRecursion}
 use Rattle.serde_json.specs.Data.{Data}
@@ -16,12 +16,15 @@ use Rattle.schema_definitions.specs.Sites.{Site, below}
 use Rattle.applicators.specs.Shapes.{shape_of}
 use Rattle.applicators.specs.Combining as by
 use Rattle.applicators.specs.Combining.{Named, Combines, counts_answers}
-use Rattle.applicators.specs.Combined.{combining_of, named_of, is_by_answers, is_every, refused_name}
-use Rattle.applicators.specs.declared.applicator.Applicator.{Applicator}
-use Rattle.applicators.specs.declared.applicator.Applicator.TheVariants as applied
+use Rattle.applicators.specs.Combined.{name_of, combining_of, asks_of, named_of, is_by_answers, is_every, refused_name}
+use Rattle.applicators.specs.Applied.{Applicator}
+use Rattle.applicators.specs.Asks.{form_by}
+use Rattle.applicators.specs.Combining.{tells_each}
+use Rattle.applicators.specs.Forms.{Form, shape_by}
+use Rattle.applicators.proofs.FormLemmas.{IsKeyword, counted_items, chosen_by}
 use Rattle.applicators.specs.declared.combining.Combining.{Combining}
 use Rattle.applicators.specs.declared.combining.Combining.TheVariants as combining
-use Rattle.applicators.proofs.CombinedLemmas.{follows}
+use Rattle.applicators.proofs.CombinedLemmas.{is_keyword, follows}
 use Rattle.plain_reader.specs.Passed.{row_of}
 use Rattle.plain_reader.specs.Passed as code
 use Rattle.certificate_laws.specs.Words.{IsOf, Bears}
@@ -31,10 +34,13 @@ use Rattle.fault_checks.specs.Verdicts.{IsRefusal, IsRefusalAt}
 
 -- ---- keywords that refuse under one name
 
+one_name_of : (n k : List ℕ) (c : Combining) (f : Form Site) → IsKeyword k c f → tells_each c ≡ true → Bears n (shape_by k c f) → IsOf n (shape_by k c f)
+one_name_of n _ _ _ (counted_items least most s) h g = cc
+one_name_of n _ _ _ (chosen_by s t e) h g = cc
+one_name_of n _ _ _ is h g = g
+
 one_name : (site : List Part → Data → Site) (a : Applicator) (n : List ℕ) → is_every a ≡ true → Bears n (shape_of site a) → IsOf n (shape_of site a)
-one_name site (applied.Contains schema least most) n h g = cc
-one_name site (applied.If condition then_schema else_schema) n h g = cc
-one_name site a n h g = g
+one_name site a n h g = one_name_of n (name_of a) (combining_of a) (form_by site (name_of a) (asks_of a)) (is_keyword site a) h g
 
 -- of those that apply subschemas, the ones whose answers all have to be yes
 abbrev pub HasOneName : code.Keyword → Type 0

@@ -12,13 +12,18 @@ use Rattle.schema_meaning.specs.Rules.{asks, obliged, refuses_at}
 use Rattle.schema_meaning.specs.Keywords.{rule}
 use Rattle.schema_definitions.specs.Sites.{Site, below}
 use Rattle.schema_definitions.specs.PathTexts.{path_text}
-use Rattle.applicators.specs.Shapes.{shape_of, site_of, leads_of}
-use Rattle.applicators.specs.Asks.{are_names}
-use Rattle.applicators.specs.Combined.{asks_of}
-use Rattle.applicators.specs.declared.applicator.Applicator.{Applicator}
-use Rattle.applicators.specs.declared.applicator.Applicator.TheVariants as code
-use Rattle.applicators.specs.declared.asks.Asks.{Asks}
-use Rattle.applicators.specs.declared.asks.Asks.TheVariants as asking
+use Rattle.applicators.specs.Shapes.{shape_of, site_of}
+use Rattle.applicators.specs.Asks.{form_by, leads_by, are_names}
+use Rattle.applicators.specs.Combined.{name_of, combining_of, asks_of}
+use Rattle.applicators.specs.Applied.{Applicator}
+use Rattle.applicators.specs.Bare.{bare}
+use Rattle.applicators.specs.Combining.{counts_answers}
+use Rattle.applicators.specs.Forms.{shape_by, stands}
+use Rattle.applicators.specs.declared.combining.Combining.{Combining}
+use Rattle.applicators.specs.declared.combining.Combining.TheVariants as combining
+use Rattle.std.proofs.lemmas.Slice.Eq.{bytes_eq-Decides}
+use Rattle.applicators.specs.Lent.{Asks}
+use Rattle.applicators.specs.declared.asks.AsksOf.TheVariants as asking
 use Rattle.applicators.specs.declared.question.Asked.TheVariants as asked
 use Rattle.applicators.specs.declared.question.Question as questions
 use Rattle.applicators.specs.declared.subschema.Entry.TheVariants as entry
@@ -51,41 +56,55 @@ abbrev keyword : List ℕ
 keyword = codes "propertyNames"
 
 -- their questions, all of which oblige, and the name under which they refuse
-pub record AreOfNames (a : Applicator) (schema : Data) : Type 0 where
-  pub led : (site : List Part → Data → Site) → In (site_of site keyword schema) (leads_of site a)
+pub record AreOfNamesBy (k : List ℕ) (c : Combining) (f : Asks) (schema : Data) : Type 0 where
+  pub led : (site : List Part → Data → Site) → In (site_of site keyword schema) (leads_by site k f)
   pub asked : (site : List Part → Data → Site) (matches : List ℕ → List ℕ → Bool) (d : Data)
-      → asks (rule matches d (shape_of site a)) ≡ each_name (at keyword) (site_of site keyword schema) (names_of d)
+      → asks (rule matches d (shape_by k c (form_by site k f))) ≡ each_name (at keyword) (site_of site keyword schema) (names_of d)
   pub obliged_all : (site : List Part → Data → Site) (matches : List ℕ → List ℕ → Bool) (d : Data) (bs : List Bool)
-      → obliged (rule matches d (shape_of site a)) bs ≡ each_name (at keyword) (site_of site keyword schema) (names_of d)
-  pub own : (site : List Part → Data → Site) (matches : List ℕ → List ℕ → Bool) (d : Data) (bs : List Bool) → refuses_at (rule matches d (shape_of site a)) bs ≡ at keyword
-  pub named : (site : List Part → Data → Site) (k : List ℕ) → Bears k (shape_of site a) → keyword ≡ k
+      → obliged (rule matches d (shape_by k c (form_by site k f))) bs ≡ each_name (at keyword) (site_of site keyword schema) (names_of d)
+  pub own : (site : List Part → Data → Site) (matches : List ℕ → List ℕ → Bool) (d : Data) (bs : List Bool)
+      → refuses_at (rule matches d (shape_by k c (form_by site k f))) bs ≡ at keyword
+  pub named : (site : List Part → Data → Site) (n : List ℕ) → Bears n (shape_by k c (form_by site k f)) → keyword ≡ n
+  pub counts : counts_answers c ≡ true
 
-of_names : (schema : Bor Value) → AreOfNames (code.PropertyNames schema) (view schema.now)
-of_names schema = record {
+abbrev pub AreOfNames : Applicator → Data → Type 0
+AreOfNames a schema = AreOfNamesBy (name_of a) (combining_of a) (asks_of a) schema
+
+of_each_name : (schema : Bor Value) → AreOfNamesBy keyword combining.EachNamed (asking.Names schema) (view schema.now)
+of_each_name schema = record {
   led = λ site. first;
   asked = λ site matches d. refl;
   obliged_all = λ site matches d bs. refl;
   own = λ site matches d bs. refl;
   named = λ site k is. is;
+  counts = refl;
 }
 
-of_no_names : (schema : Bor Value) → AreOfNames (code.NoPropertyNames schema) (view schema.now)
+of_no_names : (schema : Bor Value) → AreOfNamesBy keyword combining.Together (asking.Names schema) (view schema.now)
 of_no_names schema = record {
   led = λ site. first;
   asked = λ site matches d. refl;
   obliged_all = λ site matches d bs. refl;
   own = λ site matches d bs. refl;
   named = λ site k is. is;
+  counts = refl;
 }
 
-same_schema : (s t : Bor Value) → asking.Names s ≡ asking.Names t → s ≡ t
-same_schema s t is = cc
+abbrev names_asked : Bor Value → Asks
+names_asked schema = asking.Names schema
+
+of_names : (k : List ℕ) (c : Combining) (schema : Bor Value) → stands k c (bare (names_asked schema)) ≡ true → AreOfNamesBy k c (asking.Names schema) (view schema.now)
+of_names k combining.Together schema h =
+    subst (λ (n : List ℕ). AreOfNamesBy n combining.Together (asking.Names schema) (view schema.now)) (sym ((bytes_eq-Decides k keyword).0 h)) (of_no_names schema)
+of_names k combining.EachNamed schema h =
+    subst (λ (n : List ℕ). AreOfNamesBy n combining.EachNamed (asking.Names schema) (view schema.now)) (sym ((bytes_eq-Decides k keyword).0 h)) (of_each_name schema)
+of_names k c schema h = absurd (cc)
 
 -- those that ask names
 pub are_of_names : (a : Applicator) (schema : Bor Value) → asks_of a ≡ asking.Names schema → AreOfNames a (view schema.now)
-are_of_names (code.PropertyNames s) schema is = subst (λ (t : Bor Value). AreOfNames (code.PropertyNames s) (view t.now)) (same_schema s schema is) (of_names s)
-are_of_names (code.NoPropertyNames s) schema is = subst (λ (t : Bor Value). AreOfNames (code.NoPropertyNames s) (view t.now)) (same_schema s schema is) (of_no_names s)
-are_of_names a schema is = absurd (cc)
+are_of_names a schema is =
+    subst (λ (f : Asks). AreOfNamesBy (name_of a) (combining_of a) f (view schema.now)) (sym is)
+    (of_names (name_of a) (combining_of a) schema (subst (λ (f : Asks). stands (name_of a) (combining_of a) (bare f) ≡ true) is a.stands))
 
 pub asks_none : (f : Asks) → ((schema : Bor Value) → f ≡ asking.Names schema → ⊥) → are_names f ≡ false
 asks_none (asking.Names schema) other = absurd (other schema refl)
@@ -102,18 +121,11 @@ of_a_name schema = record {
   asked = asked.Name (record { ref_ptr = (0, 0); now = [] });
 }
 
-names_inside : (c : seen.Site) (schema : Bor Value) → EachInside c (code.PropertyNames schema) → depth (view schema.now) < depth (view c.contents.now)
-unfolding one_member
-names_inside c schema each = question_inside (λ p t. false) (code.PropertyNames schema) one_member (of_a_name schema ∷ []) (λ site. refl) refl (of_a_name schema) first c each
-
-no_names_inside : (c : seen.Site) (schema : Bor Value) → EachInside c (code.NoPropertyNames schema) → depth (view schema.now) < depth (view c.contents.now)
-unfolding one_member
-no_names_inside c schema each = question_inside (λ p t. false) (code.NoPropertyNames schema) one_member (of_a_name schema ∷ []) (λ site. refl) refl (of_a_name schema) first c each
-
 pub lies_inside : (c : seen.Site) (a : Applicator) (schema : Bor Value) → asks_of a ≡ asking.Names schema → EachInside c a → depth (view schema.now) < depth (view c.contents.now)
-lies_inside c (code.PropertyNames s) schema is each = subst (λ (t : Bor Value). depth (view t.now) < depth (view c.contents.now)) (same_schema s schema is) (names_inside c s each)
-lies_inside c (code.NoPropertyNames s) schema is each = subst (λ (t : Bor Value). depth (view t.now) < depth (view c.contents.now)) (same_schema s schema is) (no_names_inside c s each)
-lies_inside c a schema is each = absurd (cc)
+unfolding one_member
+lies_inside c a schema is each =
+    let of = are_of_names a schema is in
+    question_inside (λ p t. false) a one_member (of_a_name schema ∷ []) (λ site. sym (of.asked site (λ p t. false) one_member)) of.counts (of_a_name schema) first c each
 
 -- ---- the step
 

@@ -10,7 +10,7 @@ use Rattle.schema_definitions.specs.Sites.{Site, below}
 use Rattle.schema_definitions.specs.Plain.{deepest}
 use Rattle.applicators.specs.Shapes.{shape_of}
 use Rattle.applicators.specs.Combined.{is_every, notes_by}
-use Rattle.applicators.specs.declared.applicator.Applicator.{Applicator}
+use Rattle.applicators.specs.Applied.{Applicator}
 use Rattle.applicators.proofs.CombinedLemmas.{every_rule}
 use Rattle.assertions.specs.Wrong.{head}
 use Rattle.certificate_laws.proofs.Answers.{answers_there}

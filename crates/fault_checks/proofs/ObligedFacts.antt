@@ -9,7 +9,7 @@ use Rattle.schema_definitions.specs.Sites.{Site}
 use Rattle.applicators.specs.Shapes.{shape_of}
 use Rattle.applicators.specs.Combining.{Named, Combines, counts_answers}
 use Rattle.applicators.specs.Combined.{combining_of, named_of, is_by_answers}
-use Rattle.applicators.specs.declared.applicator.Applicator.{Applicator}
+use Rattle.applicators.specs.Applied.{Applicator}
 use Rattle.applicators.specs.declared.combining.Combining.{Combining}
 use Rattle.applicators.specs.declared.combining.Combining.TheVariants as code
 use Rattle.applicators.proofs.CombinedLemmas.{follows}

@@ -11,9 +11,12 @@ use Rattle.schema_meaning.specs.Keywords.{Shape, named, static, dynamic, recursi
 use Rattle.schema_meaning.specs.Keywords as told
 use Rattle.schema_definitions.specs.Sites.{Site, below}
 use Rattle.applicators.specs.Shapes.{shape_of}
-use Rattle.applicators.specs.Combined.{name_of, combining_of}
-use Rattle.applicators.specs.declared.applicator.Applicator as code
-use Rattle.applicators.specs.declared.applicator.Applicator.TheVariants as applied
+use Rattle.applicators.specs.Combined.{name_of, combining_of, asks_of}
+use Rattle.applicators.specs.Applied as code
+use Rattle.applicators.specs.Asks.{form_by}
+use Rattle.applicators.specs.Forms.{Form, shape_by}
+use Rattle.applicators.proofs.FormLemmas.{IsKeyword, from_start, counted_items, chosen_by}
+use Rattle.applicators.proofs.CombinedLemmas.{is_keyword}
 use Rattle.applicators.specs.declared.combining.Combining.{Combining}
 use Rattle.applicators.specs.declared.combining.Combining.TheVariants as combining
 use Rattle.certificate_laws.specs.Words.{Bears, IsUnder, member_of, count_names, choice_names}
@@ -93,25 +96,36 @@ module _ (old : Bool) (member n : List ℕ) where
   bears_by (combining.Counted least most) k shape u g own e = in_listed n count_names e
   bears_by combining.Conditional k shape u g own e = in_listed n choice_names e
 
-  own_member : (a : code.Applicator) → member_of old (name_of a) ≡ name_of a
-  own_member (applied.Items start schema) = refl
-  own_member a = refl
+  own_member : (k : List ℕ) (c : Combining) (f : Form Site) → IsKeyword k c f → member_of old k ≡ k
+  own_member _ _ _ (from_start start s) = refl
+  own_member _ _ _ is = refl
 
-  module _ (site : List Part → Data → Site) where
-    bears_own : (a : code.Applicator) → Bears (name_of a) (shape_of site a)
-    bears_own (applied.Contains schema least most) = first
-    bears_own (applied.If condition then_schema else_schema) = first
-    bears_own a = refl
+  bears_own : (k : List ℕ) (c : Combining) (f : Form Site) → IsKeyword k c f → Bears k (shape_by k c f)
+  bears_own _ _ _ (counted_items least most s) = first
+  bears_own _ _ _ (chosen_by s t e) = first
+  bears_own _ _ _ is = refl
 
-    as_combined : (a : code.Applicator) → Bears n (shape_of site a) ≡ BearsBy (name_of a) (combining_of a)
-    as_combined (applied.Items start schema) = refl
-    as_combined a = refl
+  as_combined : (k : List ℕ) (c : Combining) (f : Form Site) → IsKeyword k c f → Bears n (shape_by k c f) ≡ BearsBy k c
+  as_combined _ _ _ (from_start start s) = refl
+  as_combined _ _ _ is = refl
 
-    applied_named : (a : code.Applicator) → IsUnder old member (shape_of site a) → applicator_bears a member n ≡ true → Bears n (shape_of site a)
-    applied_named a u e = subst (λ (T : Type 0). T) (sym (as_combined a)) (named_by (combining_of a) (name_of a) (shape_of site a) u (bears_own a) (own_member a) e)
+  module _ (site : List Part → Data → Site) (a : code.Applicator) where
+    abbrev form : Form Site
+    form = form_by site (name_of a) (asks_of a)
 
-    applied_bears : (a : code.Applicator) → IsUnder old member (shape_of site a) → Bears n (shape_of site a) → applicator_bears a member n ≡ true
-    applied_bears a u g = bears_by (combining_of a) (name_of a) (shape_of site a) u (bears_own a) (own_member a) (subst (λ (T : Type 0). T) (as_combined a) g)
+    applied_named : IsUnder old member (shape_of site a) → applicator_bears a member n ≡ true → Bears n (shape_of site a)
+    applied_named u e =
+        let k = name_of a in
+        let c = combining_of a in
+        let is = is_keyword site a in
+        subst (λ (T : Type 0). T) (sym (as_combined k c form is)) (named_by c k (shape_of site a) u (bears_own k c form is) (own_member k c form is) e)
+
+    applied_bears : IsUnder old member (shape_of site a) → Bears n (shape_of site a) → applicator_bears a member n ≡ true
+    applied_bears u g =
+        let k = name_of a in
+        let c = combining_of a in
+        let is = is_keyword site a in
+        bears_by c k (shape_of site a) u (bears_own k c form is) (own_member k c form is) (subst (λ (T : Type 0). T) (as_combined k c form is) g)
 
   -- the shapes of a keyword that may refuse under the name
   pub own_named : (k : Keyword) (docs : Documents) (s : Site) → AllByRecursion (IsUnder old member) (row_of docs s k).shapes → bears k member n ≡ true

@@ -1,5 +1,5 @@
 -- What the answer of a check says of two paths.
-use Rattle.std.specs.Prelude.{◌≡◌, ℕ, List, Bool, true, false, Option, Some, None}
+use Rattle.std.specs.Prelude.{◌≡◌, ℕ, List, [], ◌∷◌, Bool, true, false, Option, Some, None}
 use Rattle.serde_json.specs.Data.{Data}
 use Rattle.schema_definitions.specs.Bearers.{Documents}
 use Rattle.schema_definitions.specs.Lookup.{Target}
@@ -20,6 +20,8 @@ use Rattle.reached_sites.specs.declared.cause.BuildCause.TheVariants.{KeywordVal
 use Rattle.certificate_laws.specs.Spelled.{AreSpelled}
 use Rattle.fault_checks.specs.Scenes.{Scene, reading_of, IsRight, IsStraight}
 use Rattle.fault_checks.specs.Verdicts.{IsDecided}
+use Rattle.fault_checks.specs.Passed.{IsPlaced, Resolved, documents_in, target_in}
+use Rattle.fault_checks.specs.declared.checking.FaultPath.{FaultPath}
 use Rattle.fault_checks.specs.declared.checking.CheckAnswer.{CheckAnswer}
 use Rattle.fault_checks.specs.declared.checking.CheckAnswer.TheVariants.{Accepted, Refused, Circular, Unfinished}
 
@@ -28,6 +30,10 @@ pub record DecidesRoot (t : Target) (docs : Documents) (m : Matches) (d : Data) 
   pub decides : (makes : List ℕ → Bool)
       → let x : Scene = record { documents = docs; makes = makes; matches = reads m } in
       IsRight x (root_site t) → IsStraight x (root_site t) d → IsDecided b (AreSpelled (reading_of x) (root_site t) d instance evaluation)
+
+-- the same from what a reference leads to
+abbrev pub DecidesAt : Resolved → Matches → Data → List ℕ → List ℕ → Bool → Type 0
+DecidesAt root m d instance evaluation b = DecidesRoot (target_in root) (documents_in root.resolver ∷ []) m d instance evaluation b
 
 -- of each match that a value asks for these say what is known of it
 pub record AgreeWithKnown (p : Patterns) (r : Root) (matches : List ℕ → List ℕ → Bool) (target : Target) (d : Data) : Type 0 where
@@ -41,20 +47,30 @@ pub record StaysUnfinished (p : Patterns) (r : Root) (matches : List ℕ → Lis
   pub asked : IsAsked r.documents p.makes (root_site target) matches d pattern text
   pub unfinished : known p.finished pattern text ≡ None
 
--- where the matches finish and no references come back, two texts are accepted exactly where they are a certificate; where it is said that references
--- come back, they do; and where it is said that a match stays unfinished, one does
+-- where the matches finish and no references come back, two texts are accepted exactly where they are a certificate; by whatever matches agree with
+-- what is known, references come back where it is said that they do, and a match stays unfinished where it is said that one does
 pub record IsChecked (p : Patterns) (r : Root) (d : Data) (instance evaluation : List ℕ) (answer : CheckAnswer) : Type 0 where
   pub accepted : answer ≡ Accepted → (matches : List ℕ → List ℕ → Bool) (target : Target) → Finds r target → Finish p r matches target d
       → (ComesBack p r matches target d → ⊥) → AreCertificate r.documents p.makes matches target d instance evaluation
   pub refused : answer ≡ Refused → (matches : List ℕ → List ℕ → Bool) (target : Target) → Finds r target → Finish p r matches target d
       → (ComesBack p r matches target d → ⊥) → AreCertificate r.documents p.makes matches target d instance evaluation → ⊥
-  pub circular : answer ≡ Circular → (matches : List ℕ → List ℕ → Bool) (target : Target) → Finds r target → Finish p r matches target d → ComesBack p r matches target d
-  pub unfinished : answer ≡ Unfinished → (matches : List ℕ → List ℕ → Bool) (target : Target) → Finds r target → AgreeWithKnown p r matches target d → StaysUnfinished p r matches target d
+  pub circular : answer ≡ Circular → (matches : List ℕ → List ℕ → Bool) (target : Target) → Finds r target → AgreeWithKnown p r matches target d
+      → ComesBack p r matches target d
+  pub unfinished : answer ≡ Unfinished → (matches : List ℕ → List ℕ → Bool) (target : Target) → Finds r target → AgreeWithKnown p r matches target d
+      → StaysUnfinished p r matches target d
+
+-- of the two paths of a fault, where a build takes the root
+abbrev pub AnswersPath : Patterns → Root → Data → FaultPath → CheckAnswer → Type 0
+AnswersPath p r d path answer = IsSound p r → IsChecked p r d path.instance_path.now path.evaluation_path.now answer
 
 -- what a check of the faults of a value goes by: the matches of the patterns reached from a root, and none where no build takes the root
 abbrev pub AreReadIn : Patterns → Root → Data → Option Matches → Type 0
 AreReadIn p r d None = IsSound p r → ⊥
 AreReadIn p r d (Some m) = AreReadOf p r d m
+
+-- the answer for the two paths of a fault by matches that were read of the value
+abbrev pub AnswersBy : Option Matches → Root → Data → FaultPath → CheckAnswer → Type 0
+AnswersBy matches r d path answer = (p : Patterns) → AreReadIn p r d matches → AnswersPath p r d path answer
 
 -- the same of the patterns reached from a target, and none where a schema there is wrong
 pub record ReadsReached (p : Patterns) (docs : Documents) (t : Target) (d : Data) (m : Matches) : Type 0 where
@@ -78,3 +94,7 @@ pub record HasCauseAt (p : Patterns) (docs : Documents) (t : Target) : Type 0 wh
 abbrev pub ReadsAt : Patterns → Documents → Target → Data → Option Matches → Type 0
 ReadsAt p docs t d None = HasCauseAt p docs t
 ReadsAt p docs t d (Some m) = ReadsReached p docs t d m
+
+-- from what a reference leads to, where that is placed in the documents
+abbrev pub ReadsPlaced : Patterns → Resolved → Data → Option Matches → Type 0
+ReadsPlaced p root d m = IsPlaced (documents_in root.resolver) (target_in root) → ReadsAt p (documents_in root.resolver ∷ []) (target_in root) d m

@@ -2,6 +2,7 @@ pub mod Roads
 pub mod Scenes
 pub mod Rows
 pub mod Verdicts
+pub mod Trials
 pub mod Passed
 pub mod PassedRefusals
 pub mod Names

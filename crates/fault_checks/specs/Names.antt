@@ -3,7 +3,7 @@ use Rattle.std.specs.Prelude.{ℕ, List, Bool, bytes_eq}
 use Rattle.schema_meaning.specs.Members.{is_listed}
 use Rattle.schema_meaning.specs.Keywords.{named}
 use Rattle.applicators.specs.Combined.{combining_of}
-use Rattle.applicators.specs.declared.applicator.Applicator as applied
+use Rattle.applicators.specs.Applied as applied
 use Rattle.applicators.specs.declared.combining.Combining.{Combining}
 use Rattle.applicators.specs.declared.combining.Combining.TheVariants as code
 use Rattle.fault_checks.specs.Passed.{Keyword, assertion_of}

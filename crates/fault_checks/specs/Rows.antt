@@ -6,7 +6,7 @@ use Rattle.schema_meaning.specs.Questions.{Question, at}
 use Rattle.schema_meaning.specs.Rules.{asks}
 use Rattle.schema_meaning.specs.Keywords.{reference, rule}
 use Rattle.applicators.specs.Shapes.{shape_of, leads_of}
-use Rattle.applicators.specs.declared.applicator.Applicator.{Applicator}
+use Rattle.applicators.specs.Applied.{Applicator}
 use Rattle.schema_definitions.specs.Lookup.{Target}
 use Rattle.schema_definitions.specs.Sites.{Site, below, target_site}
 use Rattle.schema_definitions.specs.Rows.{Row, reads}

@@ -22,7 +22,7 @@ use Rattle.plain_reader.specs.Choices.{IsInside, AreInside}
 use Rattle.applicators.specs.Shapes.{shape_of, place_of}
 use Rattle.applicators.specs.Combined.{is_by_answers}
 use Rattle.applicators.specs.Questions.{step_of, question_of}
-use Rattle.applicators.specs.declared.applicator.Applicator as applied
+use Rattle.applicators.specs.Applied as applied
 use Rattle.applicators.specs.declared.question.Question as asking
 use Rattle.fault_checks.specs.Rows.{applied_row}
 use Rattle.fault_checks.specs.Scenes.{Scene, reading_of, IsRight, Meets, IsStraight, Stage}

@@ -1,103 +1,122 @@
 //! What keywords that apply subschemas ask of a value, by those subschemas.
-ghost use Rattle.std.specs.Prelude.{◌≤◌, ◌<◌, ◌++◌, ◌≡◌, List, length, ℕ, IfOk, true, not};
+ghost use Rattle.std.specs.Prelude.{◌<◌, ◌≡◌, length, IfOk, true, not};
 ghost use Rattle.serde_json.specs.Data.{depth};
 ghost use Rattle.serde_json.specs.View.{view};
-ghost use Rattle.schema_meaning.specs.Places.{value_after};
-ghost use Rattle.schema_definitions.specs.Plain.{deepest};
-ghost use Rattle.schema_definitions.specs.Sites.{path_of_reference};
 ghost use Rattle.schema_meaning.specs.Members.{is_empty};
 ghost use Rattle.applicators.specs.Combined.{is_by_answers, notes_by};
-ghost use Rattle.applicators.specs.Questions.{step_of};
-ghost use Rattle.schema_patterns.specs.Read.{reads};
-ghost use Rattle.plain_reader.specs.Applied.{EachInside, AreAsked};
-ghost use Rattle.plain_reader.specs.Passed.{documents_at};
-ghost use Rattle.schema_reports.specs.Locations.{location_of};
-ghost use Rattle.schema_reports.specs.References.{text_of};
-ghost use Rattle.fault_checks.specs.Rows.{applied_row, applied_questions};
+ghost use Rattle.plain_reader.specs.Applied.{EachInside};
 ghost use Rattle.plain_reader.specs.Passed as code;
-ghost use Rattle.fault_checks.specs.Verdicts.{AppliesIn, AreRefused, AreCounted, IsVerdict, IsAnswered, IsRefusalAt};
+ghost use Rattle.fault_checks.specs.Verdicts.{AppliesIn};
+ghost use Rattle.fault_checks.specs.Trials.{IsOtherRefused, IsAskedRefused, IsEntryRefused, IsQuestionRefused};
+ghost use Rattle.fault_checks.specs.Trials.{AreItsQuestions, IsSomeRefused, CountsAccepted, KeywordRefuses};
 
 use crate::refusing::is_refused;
+use crate::trial::Trial;
 use applicators::applicator::Applicator;
 use applicators::asks::Asks;
 use applicators::question::{Asked, Question};
 use applicators::questions::questions;
 use applicators::subschema::Entry;
 use assertions::missing::first_missing_beside;
-use plain_reader::Site;
-use schema_reports::{LazyLocation, Reference};
 use serde_json::Value;
-use std::alloc::{AllocError, Global};
+use std::alloc::AllocError;
 
-// Whether what a question asks of is refused by the subschema at a site.
-fn is_asked_refused<'a, 'r>(
-    alloc: Global,
-    inner: &Site<'r>,
-    schema: &'a LazyLocation<'a, 'a>,
-    reference: Reference<'a>,
-    asked: Asked<'_>,
-    value: &Value,
-) -> Result<bool, AllocError>
-    requires shallow { depth (view inner.now.contents.now) ≤ deepest (documents_at inner.now) }
-    ensures { IfOk result (λ b. IsVerdict inner.now (location_of schema.now ++ path_of_reference (text_of reference.entry)) (value_after (view value.now) (step_of asked.entry)) (not b)) }
+// Whether the schema refuses another value.
+fn is_other_refused(trial: &Trial<'_, '_, '_>, value: &Value) -> Result<bool, AllocError>
+    ensures { IfOk result (λ b. IsOtherRefused trial.now (view value.now) b) }
+{
+    let other = Trial {
+        alloc: trial.alloc,
+        site: trial.site,
+        schema: trial.schema,
+        reference: trial.reference,
+        value,
+    };
+    is_refused(&other)
+}
+
+// Whether what a question asks of is refused.
+fn is_asked_refused(trial: &Trial<'_, '_, '_>, asked: Asked<'_>) -> Result<bool, AllocError>
+    ensures { IfOk result (λ b. IsAskedRefused trial.now asked.entry b) }
 {
     match asked {
-        Asked::Value => is_refused(alloc, inner, schema, reference, value),
-        Asked::Item { item, .. } => is_refused(alloc, inner, schema, reference, item),
-        Asked::Member { member, .. } => is_refused(alloc, inner, schema, reference, member),
+        Asked::Value => is_refused(trial),
+        Asked::Item { item, .. } => is_other_refused(trial, item),
+        Asked::Member { member, .. } => is_other_refused(trial, member),
         Asked::Name(name) => {
-            let text = Value::String(String::from_str(alloc, name)?);
-            is_refused(alloc, inner, schema, reference, &text)
+            let text = Value::String(String::from_str(trial.alloc, name)?);
+            is_other_refused(trial, &text)
         }
     }
 }
 
 // Whether a question's answer is no.
-fn is_question_refused<'a, 'r>(
-    alloc: Global,
-    site: &Site<'r>,
-    schema: &'a LazyLocation<'a, 'a>,
-    reference: Reference<'a>,
+fn is_question_refused<'r>(
+    trial: &Trial<'_, 'r, '_>,
     question: Question<'r, '_>,
-    value: &Value,
 ) -> Result<bool, AllocError>
-    requires shallow { depth (view site.now.contents.now) ≤ deepest (documents_at site.now) }
-    requires inside { depth (view question.subschema.schema.now) < depth (view site.now.contents.now) }
-    ensures { IfOk result (λ b. IsAnswered site.now (location_of schema.now ++ path_of_reference (text_of reference.entry)) (view value.now) question.entry (not b)) }
+    requires inside { depth (view question.subschema.schema.now) < depth (view trial.now.site.now.contents.now) }
+    ensures { IfOk result (λ b. IsQuestionRefused trial.now question.entry b) }
 {
-    let inner = site.below(alloc, question.subschema.schema)?;
-    let road = schema.push_name(question.subschema.keyword);
+    let inner = trial.site.below(trial.alloc, question.subschema.schema)?;
+    let road = trial.schema.push_name(question.subschema.keyword);
+    let below = Trial {
+        alloc: trial.alloc,
+        site: &inner,
+        schema: &road,
+        reference: trial.reference,
+        value: trial.value,
+    };
+    is_entry_refused(&below, question)
+}
+
+// Whether a question's answer is no, from its keyword on.
+fn is_entry_refused<'r>(
+    trial: &Trial<'_, 'r, '_>,
+    question: Question<'r, '_>,
+) -> Result<bool, AllocError>
+    ensures { IfOk result (λ b. IsEntryRefused trial.now question.entry b) }
+{
     match question.subschema.entry {
-        Entry::Whole => is_asked_refused(alloc, &inner, &road, reference, question.asked, value),
+        Entry::Whole => is_asked_refused(trial, question.asked),
         Entry::Name(name) => {
-            let road = road.push_name(name);
-            is_asked_refused(alloc, &inner, &road, reference, question.asked, value)
+            let road = trial.schema.push_name(name);
+            let below = Trial {
+                alloc: trial.alloc,
+                site: trial.site,
+                schema: &road,
+                reference: trial.reference,
+                value: trial.value,
+            };
+            is_asked_refused(&below, question.asked)
         }
         Entry::Index(index) => {
-            let road = road.push_index(index);
-            is_asked_refused(alloc, &inner, &road, reference, question.asked, value)
+            let road = trial.schema.push_index(index);
+            let below = Trial {
+                alloc: trial.alloc,
+                site: trial.site,
+                schema: &road,
+                reference: trial.reference,
+                value: trial.value,
+            };
+            is_asked_refused(&below, question.asked)
         }
     }
 }
 
 // Whether one of them is answered no.
-fn some_of_refused<'a, 'r>(
-    alloc: Global,
-    site: &Site<'r>,
-    schema: &'a LazyLocation<'a, 'a>,
-    reference: Reference<'a>,
-    applicator: Applicator<'r>,
+fn some_of_refused<'r>(
+    trial: &Trial<'_, 'r, '_>,
+    applicator: &Applicator<'r>,
     asked: &[Question<'r, '_>],
-    value: &Value,
 ) -> Result<bool, AllocError>
-    requires shallow { depth (view site.now.contents.now) ≤ deepest (documents_at site.now) }
-    requires by_answers { is_by_answers applicator ≡ true }
-    requires inside { EachInside site.now applicator }
-    requires asked { AreAsked (reads site.now.matches.now) applicator (view value.now) asked.now }
-    ensures { IfOk result (AreRefused site.now (location_of schema.now ++ path_of_reference (text_of reference.entry)) (view value.now) (applied_row applicator.entry) (applied_questions applicator.entry (view value.now))) }
+    requires by_answers { is_by_answers applicator.now ≡ true }
+    requires inside { EachInside trial.now.site.now applicator.now }
+    requires asked { AreItsQuestions trial.now applicator.now asked.now }
+    ensures { IfOk result (λ b. IsSomeRefused trial.now applicator.now b) }
 {
     for question in asked {
-        if is_question_refused(alloc, site, &*schema, reference, *question, value)? {
+        if is_question_refused(trial, *question)? {
             return Ok(true);
         }
     }
@@ -105,24 +124,19 @@ fn some_of_refused<'a, 'r>(
 }
 
 // How many of them are answered yes.
-fn accepted_of<'a, 'r>(
-    alloc: Global,
-    site: &Site<'r>,
-    schema: &'a LazyLocation<'a, 'a>,
-    reference: Reference<'a>,
-    applicator: Applicator<'r>,
+fn accepted_of<'r>(
+    trial: &Trial<'_, 'r, '_>,
+    applicator: &Applicator<'r>,
     asked: &[Question<'r, '_>],
-    value: &Value,
 ) -> Result<usize, AllocError>
-    requires shallow { depth (view site.now.contents.now) ≤ deepest (documents_at site.now) }
-    requires by_answers { is_by_answers applicator ≡ true }
-    requires inside { EachInside site.now applicator }
-    requires asked { AreAsked (reads site.now.matches.now) applicator (view value.now) asked.now }
-    ensures { IfOk result (AreCounted site.now (location_of schema.now ++ path_of_reference (text_of reference.entry)) (view value.now) applicator.entry (length asked.now)) }
+    requires by_answers { is_by_answers applicator.now ≡ true }
+    requires inside { EachInside trial.now.site.now applicator.now }
+    requires asked { AreItsQuestions trial.now applicator.now asked.now }
+    ensures { IfOk result (λ n. CountsAccepted trial.now applicator.now (length asked.now) n) }
 {
     let mut accepted = 0;
     for question in asked {
-        if !is_question_refused(alloc, site, &*schema, reference, *question, value)? {
+        if !is_question_refused(trial, *question)? {
             accepted += 1;
         }
     }
@@ -142,28 +156,24 @@ fn is_noted(applicator: &Applicator<'_>, value: &Value) -> bool
 /// Whether an applicator refuses a value under a name, where it may refuse under that name.
 ///
 /// It takes memory for the list of questions.
-pub fn applicator_refuses<'a, 'r>(
-    alloc: Global,
-    site: &Site<'r>,
-    schema: &'a LazyLocation<'a, 'a>,
-    reference: Reference<'a>,
-    applicator: Applicator<'r>,
+pub fn applicator_refuses<'r>(
+    trial: &Trial<'_, 'r, '_>,
+    applicator: &Applicator<'r>,
     name: &str,
-    value: &Value,
 ) -> Result<bool, AllocError>
-    requires shallow { depth (view site.now.contents.now) ≤ deepest (documents_at site.now) }
-    requires applies { AppliesIn site.now applicator }
-    ensures { IfOk result (IsRefusalAt site.now (location_of schema.now ++ path_of_reference (text_of reference.entry)) (view value.now) (code.Applicator applicator.entry) name.now) }
+    requires applies { AppliesIn trial.now.site.now applicator.now }
+    ensures { IfOk result (λ b. KeywordRefuses trial.now (code.Applicator applicator.now) name.now b) }
 {
-    let asked = questions(alloc, site.matches, &applicator, value)?;
+    let value = trial.value;
+    let asked = questions(trial.alloc, trial.site.matches, applicator, value)?;
     let asked = asked.as_slice();
     if applicator.is_every() {
-        if is_noted(&applicator, value) {
+        if is_noted(applicator, value) {
             return Ok(true);
         }
-        return some_of_refused(alloc, site, schema, reference, applicator, asked, value);
+        return some_of_refused(trial, applicator, asked);
     }
-    let accepted = accepted_of(alloc, site, schema, reference, applicator, asked, value)?;
+    let accepted = accepted_of(trial, applicator, asked)?;
     if applicator.refused_name(accepted) != name {
         return Ok(false);
     }

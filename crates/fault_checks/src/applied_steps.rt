@@ -89,17 +89,17 @@ pub(crate) fn to_question<'r, 'i, 'p>(
 fn along<'r, 'i, 'p>(
     alloc: Global,
     walk: Walk<'r, 'i, 'p>,
-    applicator: Applicator<'r>,
+    applicator: &Applicator<'r>,
     asked: &[Question<'r, 'i>],
     after: Option<&'p str>,
 ) -> Result<Step<'r, 'i, 'p>, AllocError>
-    requires applies { AppliesIn walk.site applicator }
-    requires values { asks_values applicator ≡ true }
+    requires applies { AppliesIn walk.site applicator.now }
+    requires values { asks_values applicator.now ≡ true }
     requires more { IsMore walk.instance after }
-    requires asked { AreAsked (reads walk.site.matches.now) applicator (view walk.value.now) asked.now }
-    requires obliging { obliges applicator (length asked.now) ≡ true }
-    requires once { OneAhead applicator (view walk.value.now) }
-    ensures passes { IfOk result (PassesThrough walk.entry (applied_row applicator.entry) after.entry) }
+    requires asked { AreAsked (reads walk.site.matches.now) applicator.now (view walk.value.now) asked.now }
+    requires obliging { obliges applicator.now (length asked.now) ≡ true }
+    requires once { OneAhead applicator.now (view walk.value.now) }
+    ensures passes { IfOk result (PassesThrough walk.entry (applied_row applicator.now) after.entry) }
     ensures shorter { IfOk result (IsNotLonger after.entry) }
 {
     match question_ahead(alloc, asked, walk.instance, after)? {
@@ -112,19 +112,19 @@ fn along<'r, 'i, 'p>(
 fn through_questions<'r, 'i, 'p>(
     alloc: Global,
     walk: Walk<'r, 'i, 'p>,
-    applicator: Applicator<'r>,
+    applicator: &Applicator<'r>,
     after: Option<&'p str>,
 ) -> Result<Step<'r, 'i, 'p>, AllocError>
-    requires applies { AppliesIn walk.site applicator }
-    requires values { asks_values applicator ≡ true }
+    requires applies { AppliesIn walk.site applicator.now }
+    requires values { asks_values applicator.now ≡ true }
     requires more { IsMore walk.instance after }
-    ensures passes { IfOk result (PassesThrough walk.entry (applied_row applicator.entry) after.entry) }
+    ensures passes { IfOk result (PassesThrough walk.entry (applied_row applicator.now) after.entry) }
     ensures shorter { IfOk result (IsNotLonger after.entry) }
 {
-    one_ahead(&applicator, walk.value);
-    let asked = questions(alloc, walk.site.matches, &applicator, walk.value)?;
+    one_ahead(applicator, walk.value);
+    let asked = questions(alloc, walk.site.matches, applicator, walk.value)?;
     let asked = asked.as_slice();
-    if obliges(&applicator, asked.len()) {
+    if obliges(applicator, asked.len()) {
         return along(alloc, walk, applicator, asked, after);
     }
     Ok(Step::Answered(false))
@@ -137,12 +137,12 @@ fn through_questions<'r, 'i, 'p>(
 pub fn through_applicator<'r, 'i, 'p>(
     alloc: Global,
     walk: Walk<'r, 'i, 'p>,
-    applicator: Applicator<'r>,
+    applicator: &Applicator<'r>,
     after: Option<&'p str>,
 ) -> Result<Step<'r, 'i, 'p>, AllocError>
-    requires applies { AppliesIn walk.site applicator }
+    requires applies { AppliesIn walk.site applicator.now }
     requires more { IsMore walk.instance after }
-    ensures passes { IfOk result (PassesThrough walk.entry (applied_row applicator.entry) after.entry) }
+    ensures passes { IfOk result (PassesThrough walk.entry (applied_row applicator.now) after.entry) }
     ensures shorter { IfOk result (IsNotLonger after.entry) }
 {
     match applicator.asks() {

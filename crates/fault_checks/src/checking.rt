@@ -1,11 +1,12 @@
 //! Checks of faults by the documents alone.
-ghost use Rattle.std.specs.Prelude.{◌≡◌, ◌≤◌, ◌∷◌, [], IfOk, option_copied};
+ghost use Rattle.std.specs.Prelude.{◌≡◌, ◌≤◌, ◌∷◌, [], true, IfOk, option_copied};
 ghost use Rattle.serde_json.specs.Data.{depth};
 ghost use Rattle.serde_json.specs.View.{view};
 ghost use Rattle.schema_definitions.specs.Plain.{deepest};
 ghost use Rattle.fault_checks.specs.Passed.{documents_in, target_in};
-ghost use Rattle.schema_registries.specs.Roots.{Patterns, IsSound, root_on};
-ghost use Rattle.fault_checks.specs.Checked.{AreReadIn, IsChecked, DecidesRoot};
+ghost use Rattle.schema_registries.specs.Roots.{root_on};
+ghost use Rattle.schema_registries.specs.Whole.{only_whole};
+ghost use Rattle.fault_checks.specs.Checked.{AnswersPath, AnswersBy, DecidesAt};
 ghost use Rattle.fault_paths.specs.Texts.{text_left};
 
 use crate::reading::read_matches;
@@ -50,7 +51,7 @@ fn is_spelled(
     evaluation: Option<&str>,
 ) -> Result<bool, AllocError>
     requires shallow { depth (target_in root.now).contents ≤ deepest (documents_in root.now.resolver ∷ []) }
-    ensures { IfOk result (DecidesRoot (target_in root.now) (documents_in root.now.resolver ∷ []) matches.now (view value.now) (text_left instance.entry) (text_left evaluation.entry)) }
+    ensures { IfOk result (DecidesAt root.now matches.now (view value.now) (text_left instance.entry) (text_left evaluation.entry)) }
 {
     let site = at_root(root, matches)?;
     let walk = Walk {
@@ -69,7 +70,7 @@ fn is_spelled(
 /// It reads the documents plainly and asks no validator: the patterns that are reached from the root are made and their matches read,
 /// then comes one step for each part of the evaluation path, each with the look-up of its keyword or reference, and at the end the verdict
 /// of one keyword. Behind `propertyNames` it takes the steps again for each name, until one's are right. For a root that leads nowhere, and
-/// for schemas that no build takes, it refuses.
+/// for schemas that no build takes, it refuses. The numbers of the value are whole numbers of 64 bits, as `has_only_whole` tells.
 ///
 /// # Errors
 ///
@@ -82,7 +83,8 @@ pub fn check_fault<P: PatternMaker>(
     value: &Value,
     path: FaultPath<'_>,
 ) -> Result<CheckAnswer, AllocError>
-    ensures { IfOk result (λ a. IsSound (P.patterns maker.now) (root_on registry.now root.now) → IsChecked (P.patterns maker.now) (root_on registry.now root.now) (view value.now) path.entry.instance_path.now path.entry.evaluation_path.now a) }
+    requires whole { only_whole (view value.now) ≡ true }
+    ensures { IfOk result (AnswersPath (P.patterns maker.now) (root_on registry.now root.now) (view value.now) path.entry) }
 {
     let matches = read_matches(alloc, registry, root, maker, value)?;
     check_by(alloc, registry, root, matches.as_ref(), value, path)
@@ -101,7 +103,7 @@ pub fn check_by(
     value: &Value,
     path: FaultPath<'_>,
 ) -> Result<CheckAnswer, AllocError>
-    ensures { IfOk result (λ a. (p : Patterns) → AreReadIn p (root_on registry.now root.now) (view value.now) (option_copied matches.entry) → IsSound p (root_on registry.now root.now) → IsChecked p (root_on registry.now root.now) (view value.now) path.entry.instance_path.now path.entry.evaluation_path.now a) }
+    ensures { IfOk result (AnswersBy (option_copied matches.entry) (root_on registry.now root.now) (view value.now) path.entry) }
 {
     let Some(matches) = matches else {
         return Ok(CheckAnswer::Refused);

@@ -6,6 +6,7 @@ ghost use Rattle.fault_checks.specs.Steps.{PassesBy, IsMore, IsNotLonger};
 
 use crate::applied_steps::to_question;
 use crate::choice_refusals::{chosen, is_refused_inside};
+use crate::trial::Trial;
 use crate::walk::{Step, Walk};
 use applicators::question::{Asked, Question};
 use applicators::subschema::{Entry, Subschema};
@@ -31,16 +32,14 @@ pub fn through_condition<'r, 'i, 'p>(
     ensures shorter { IfOk result (IsNotLonger after.entry) }
 {
     let start = LazyLocation::new();
-    let refused = is_refused_inside(
+    let trial = Trial {
         alloc,
-        &walk.site,
-        &walk.parts,
-        &start,
-        walk.reference,
-        "if",
-        condition,
-        walk.value,
-    )?;
+        site: &walk.site,
+        schema: &start,
+        reference: walk.reference,
+        value: walk.value,
+    };
+    let refused = is_refused_inside(&trial, &walk.parts, "if", condition)?;
     let (keyword, part) = chosen(!refused, then_schema, else_schema);
     if keyword != name {
         return Ok(Step::Answered(false));

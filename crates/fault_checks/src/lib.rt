@@ -11,6 +11,7 @@ pub mod reading;
 pub mod refusing;
 pub mod road;
 pub mod stepping;
+pub mod trial;
 pub mod walk;
 pub mod walking;
 

@@ -1,10 +1,8 @@
 //! Matches that checks of faults go by.
-ghost use Rattle.std.specs.Prelude.{◌≡◌, ◌∷◌, [], IfOk};
+ghost use Rattle.std.specs.Prelude.{◌≡◌, IfOk};
 ghost use Rattle.serde_json.specs.View.{view};
-ghost use Rattle.fault_checks.specs.Passed.{documents_in, target_in};
-ghost use Rattle.reached_sites.specs.Roots.{IsPlaced};
 ghost use Rattle.schema_registries.specs.Roots.{root_on};
-ghost use Rattle.fault_checks.specs.Checked.{AreReadIn, ReadsAt, is_of_schemas as is_cause_of_schemas};
+ghost use Rattle.fault_checks.specs.Checked.{AreReadIn, ReadsPlaced, is_of_schemas as is_cause_of_schemas};
 
 use crate::{Error, Resolved};
 use reached_sites::cause::BuildCause;
@@ -33,7 +31,7 @@ fn read_reached<P: PatternMaker>(
     maker: &P,
     value: &Value,
 ) -> Result<Option<Matches>, AllocError>
-    ensures { IfOk result (λ m. IsPlaced (documents_in root.now.resolver) (target_in root.now) → ReadsAt (P.patterns maker.now) (documents_in root.now.resolver ∷ []) (target_in root.now) (view value.now) m) }
+    ensures { IfOk result (ReadsPlaced (P.patterns maker.now) root.now (view value.now)) }
 {
     match check_reached(alloc, root, maker, usize::MAX) {
         Ok(table) => Ok(Some(Matches::read(alloc, &table, value)?)),

@@ -1,6 +1,5 @@
 //! One step of a walk.
 ghost use Rattle.std.specs.Prelude.{◌≡◌, ◌<◌, ◌∷◌, ◌||◌, IfOk, is_some};
-ghost use Rattle.serde_json.specs.Data.{depth};
 ghost use Rattle.serde_json.specs.View.{view};
 ghost use Rattle.fault_checks.specs.Passed.{target_in};
 ghost use Rattle.fault_checks.specs.Passed.{FindsTarget};
@@ -13,6 +12,7 @@ use crate::applied_steps::through_applicator;
 use crate::choice_steps::through_condition;
 use crate::names::{bears, member_of};
 use crate::refusing::refuses;
+use crate::trial::Trial;
 use crate::walk::{Step, Walk};
 use crate::{Keyword, ReferenceKeyword, Refusal, Resolved, at_target, keyword as read_keyword};
 use fault_paths::members::member_named;
@@ -76,7 +76,7 @@ fn through<'r, 'i, 'p>(
                 after,
             )
         }
-        Keyword::Applicator(applicator) => through_applicator(alloc, walk, applicator, after),
+        Keyword::Applicator(applicator) => through_applicator(alloc, walk, &applicator, after),
         Keyword::Reference {
             keyword: by,
             text,
@@ -112,16 +112,14 @@ fn by_keyword<'r, 'i, 'p>(
         return through(alloc, walk, keyword, name, after);
     }
     let start = LazyLocation::new();
-    let refused = refuses(
+    let trial = Trial {
         alloc,
-        &walk.site,
-        &walk.parts,
-        &start,
-        walk.reference,
-        keyword,
-        name,
-        walk.value,
-    )?;
+        site: &walk.site,
+        schema: &start,
+        reference: walk.reference,
+        value: walk.value,
+    };
+    let refused = refuses(&trial, &walk.parts, keyword, name)?;
     Ok(Step::Answered(refused))
 }
 

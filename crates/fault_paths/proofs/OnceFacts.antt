@@ -18,9 +18,9 @@ use Rattle.fault_paths.proofs.ItemFacts.{at_items, some_one}
 use Rattle.applicators.specs.Shapes.{shape_of, site_of, sites_of_list, sites_of_map, declared_by, dependency_at, dependencies_in}
 use Rattle.applicators.specs.Asks.{asked_by, are_names, chooses}
 use Rattle.applicators.specs.Combined.{name_of, asks_of}
-use Rattle.applicators.specs.declared.applicator.Applicator.{Applicator}
-use Rattle.applicators.specs.declared.asks.Asks.{Asks}
-use Rattle.applicators.specs.declared.asks.Asks.TheVariants as code
+use Rattle.applicators.specs.Applied.{Applicator}
+use Rattle.applicators.specs.Lent.{Asks}
+use Rattle.applicators.specs.declared.asks.AsksOf.TheVariants as code
 use Rattle.applicators.proofs.Asking.{by_values}
 use Rattle.applicators.proofs.CombinedLemmas.{follows}
 use Rattle.fault_paths.specs.Laws.{NamesRiseIn, BranchesFitIn, MembersRise, OneAhead}

@@ -13,9 +13,9 @@ use Rattle.certificate_laws.proofs.Listed.{item_question, declared_question}
 use Rattle.applicators.specs.Shapes.{shape_of, site_of, sites_of_list, sites_of_map, dependencies_in, declared_by}
 use Rattle.applicators.specs.Asks.{asked_by, are_names, chooses}
 use Rattle.applicators.specs.Combined.{name_of, asks_of, asks_values}
-use Rattle.applicators.specs.declared.applicator.Applicator.{Applicator}
-use Rattle.applicators.specs.declared.asks.Asks.{Asks}
-use Rattle.applicators.specs.declared.asks.Asks.TheVariants as code
+use Rattle.applicators.specs.Applied.{Applicator}
+use Rattle.applicators.specs.Lent.{Asks}
+use Rattle.applicators.specs.declared.asks.AsksOf.TheVariants as code
 use Rattle.fault_paths.proofs.AskedFacts.{branch_question, listed_question, triggered_question, member_question, matching_question, dependency_question}
 use Rattle.applicators.proofs.Asking.{by_values}
 use Rattle.applicators.proofs.CombinedLemmas.{follows}

@@ -14,9 +14,9 @@ use Rattle.json_values.specs.Rising.{are_rising}
 use Rattle.certificate_laws.specs.Words.{IsRest}
 use Rattle.applicators.specs.Shapes.{shape_of}
 use Rattle.applicators.specs.Combined.{asks_values}
-use Rattle.applicators.specs.declared.applicator.Applicator.{Applicator}
-use Rattle.applicators.specs.declared.asks.Asks.{Asks}
-use Rattle.applicators.specs.declared.asks.Asks.TheVariants as code
+use Rattle.applicators.specs.Applied.{Applicator}
+use Rattle.applicators.specs.Lent.{Asks}
+use Rattle.applicators.specs.declared.asks.AsksOf.TheVariants as code
 
 -- the names of its schemas rise
 abbrev pub NamesRiseIn : Asks → Type 0

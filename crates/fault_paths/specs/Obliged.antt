@@ -1,7 +1,7 @@
 -- Whether the questions of an applicator oblige: whether a no to one of them is the keyword's no.
 use Rattle.std.specs.Prelude.{◌==◌, ℕ, Bool, true, false}
 use Rattle.applicators.specs.Combined.{combining_of}
-use Rattle.applicators.specs.declared.applicator.Applicator.{Applicator}
+use Rattle.applicators.specs.Applied.{Applicator}
 use Rattle.applicators.specs.declared.combining.Combining.{Combining}
 use Rattle.applicators.specs.declared.combining.Combining.TheVariants as code
 

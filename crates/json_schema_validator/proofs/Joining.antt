@@ -5,7 +5,7 @@ use Rattle.schema_meaning.specs.Faults.{Fault, Faults, also, told_first, told_la
 use Rattle.schema_registries.specs.Roots.{Root, Patterns}
 use Rattle.schema_registries.specs.Certified.{IsCertified, HasCertificate, HaveCertificates}
 use Rattle.fault_checks.specs.Checked.{IsChecked}
-use Rattle.fault_checks.proofs.FinishedLemmas.{none_unfinished}
+use Rattle.fault_checks.proofs.FinishedLemmas.{agree_finished, none_unfinished}
 use Rattle.fault_checks.specs.declared.checking.CheckAnswer.{CheckAnswer}
 use Rattle.fault_checks.specs.declared.checking.CheckAnswer.TheVariants.{Accepted, Refused, Circular, Unfinished}
 use Rattle.json_schema_validator.specs.Joined.{IsFaultChecked, WhereStraight}
@@ -15,7 +15,7 @@ pub fault_accepted : (p : Patterns) (r : Root) (d : Data) (f : Fault) (a : Check
 fault_accepted p r d f Accepted h c matches target found finish straight = refl
 fault_accepted p r d f Refused h c matches target found finish straight =
     absurd (h.refused refl matches target found finish straight (c matches target found finish straight))
-fault_accepted p r d f Circular h c matches target found finish straight = absurd (straight (h.circular refl matches target found finish))
+fault_accepted p r d f Circular h c matches target found finish straight = absurd (straight (h.circular refl matches target found (agree_finished p r d matches target finish)))
 fault_accepted p r d f Unfinished h c matches target found finish straight = absurd (none_unfinished p r d _ _ h matches target found finish)
 
 pub first_certified : (p : Patterns) (r : Root) (d : Data) (f : Fault) (fs : Faults) → HaveCertificates p r d (also f fs) → HasCertificate p r d f

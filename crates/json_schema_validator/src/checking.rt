@@ -1,12 +1,13 @@
 //! What validators answer, held against the check of faults.
 
-ghost use Rattle.std.specs.Prelude.{◌≡◌, IfOk, IfSome, false, is_none, option_copied};
+ghost use Rattle.std.specs.Prelude.{◌≡◌, IfOk, IfSome, true, false, is_none, option_copied};
 ghost use Rattle.serde_json.specs.View.{view};
 ghost use Rattle.schema_meaning.specs.Readings.{verdicts};
 ghost use Rattle.schema_reports.specs.Left.{errors_left};
 ghost use Rattle.schema_reports.specs.Told.{fault_of, faults_of};
 ghost use Rattle.schema_registries.specs.Roots.{Patterns, IsSound, root_on};
 ghost use Rattle.schema_registries.specs.Answers.{IsAnswer};
+ghost use Rattle.schema_registries.specs.Whole.{only_whole};
 ghost use Rattle.schema_registries.specs.Certified.{HasCertificate, HaveCertificates};
 ghost use Rattle.fault_checks.specs.Checked.{AreReadIn, IsChecked};
 ghost use Rattle.schema_validators.specs.Made.{IsMadeBy};
@@ -37,6 +38,7 @@ pub fn check_error<P: PatternMaker>(
     value: &Value,
     error: &ValidationError<'_>,
 ) -> Result<CheckAnswer, AllocError>
+    requires whole { only_whole (view value.now) ≡ true }
     ensures checked { IfOk result (λ a. IsSound (P.patterns maker.now) (root_on registry.now root.now) → IsFaultChecked (P.patterns maker.now) (root_on registry.now root.now) (view value.now) (fault_of error.now) a) }
     ensures accepted { IfOk result (λ a. IsSound (P.patterns maker.now) (root_on registry.now root.now) → HasCertificate (P.patterns maker.now) (root_on registry.now root.now) (view value.now) (fault_of error.now) → WhereStraight (P.patterns maker.now) (root_on registry.now root.now) (view value.now) (a ≡ CheckAnswer.Accepted)) }
 {
@@ -99,6 +101,7 @@ pub fn check_errors<M: PatternMatcher, P: PatternMaker>(
     maker: &P,
     value: &Value,
 ) -> Result<Vec<CheckAnswer>, AllocError>
+    requires whole { only_whole (view value.now) ≡ true }
     requires built { root_in validator.now ≡ root_on registry.now root.now }
     ensures accepted { IfOk result (λ v. IsMadeBy M.finds (P.patterns maker.now) validator.now → AreAccepted (P.patterns maker.now) (root_in validator.now) (view value.now) v.items) }
 {
@@ -123,6 +126,7 @@ pub fn check_first<M: PatternMatcher, P: PatternMaker>(
     maker: &P,
     value: &Value,
 ) -> Result<Option<CheckAnswer>, AllocError>
+    requires whole { only_whole (view value.now) ≡ true }
     requires built { root_in validator.now ≡ root_on registry.now root.now }
     ensures verdict { IfOk result (λ o. (p : Patterns) → IsMadeBy M.finds p validator.now → IsAnswer verdicts p (root_in validator.now) (view value.now) (is_none o)) }
     ensures accepted { IfOk result (λ o. IfSome o (λ a. IsMadeBy M.finds (P.patterns maker.now) validator.now → WhereStraight (P.patterns maker.now) (root_in validator.now) (view value.now) (a ≡ CheckAnswer.Accepted))) }
@@ -153,6 +157,7 @@ pub fn check_path<M: PatternMatcher, P: PatternMaker>(
     value: &Value,
     path: FaultPath<'_>,
 ) -> Result<(CheckAnswer, bool), AllocError>
+    requires whole { only_whole (view value.now) ≡ true }
     requires built { root_in validator.now ≡ root_on registry.now root.now }
     ensures checked { IfOk result (λ both. IsMadeBy M.finds (P.patterns maker.now) validator.now → IsChecked (P.patterns maker.now) (root_in validator.now) (view value.now) path.entry.instance_path.now path.entry.evaluation_path.now both.0) }
     ensures verdict { IfOk result (λ both. (p : Patterns) → IsMadeBy M.finds p validator.now → IsAnswer verdicts p (root_in validator.now) (view value.now) both.1) }

@@ -11,8 +11,8 @@ pub use checking::{check_error, check_errors, check_first, check_path};
 pub use fault_checks::checking::{CheckAnswer, FaultPath, check_fault};
 pub use schema_validators::{
     BuildCause, BuildError, DefaultRetriever, DocumentError, Documents, Draft, Error,
-    ErrorIterator, MapRetriever, MatchAnswer, PatternError, PatternMaker, PatternMatcher,
-    RegexMaker, RegexMatcher, Retrieve, SchemaPlace, SchemaRegistry, SharedRegistry, Uri,
-    ValidationError, ValidationErrorKind, ValidationOptions, Validator, ValidatorMap, WholeNumbers,
-    has_only_whole, uri,
+    ErrorIterator, MapRetriever, MatchAnswer, NumberError, PatternError, PatternMaker,
+    PatternMatcher, RegexMaker, RegexMatcher, Retrieve, SchemaPlace, SchemaRegistry,
+    SharedRegistry, Uri, ValidationError, ValidationErrorKind, ValidationOptions, Validator,
+    ValidatorMap, WholeNumbers, has_only_whole, uri,
 };

@@ -6,6 +6,14 @@ const CARRIED: &str = r##"
     {} :: Enumeration of {} # #/enum #/enum; Enumeration { options: Array [Number(1), String("a")] } MinProperties of {} # #/minProperties #/minProperties; MinProperties { limit: 2 } Required of {} # #/required #/required; Required { property: "k" }
 - {"type":["null","array"],"maximum":-1,"const":0}
     7 :: Constant of 7 # #/const #/const; Constant { expected_value: Number(0) } Maximum of 7 # #/maximum #/maximum; Maximum { limit: Number(-1) } Types of 7 # #/type #/type; Types { names: Several([Null, Array]) }
+- {"enum":[],"exclusiveMinimum":0}
+    0 :: Enumeration of 0 # #/enum #/enum; Enumeration { options: Array [] } ExclusiveMinimum of 0 # #/exclusiveMinimum #/exclusiveMinimum; ExclusiveMinimum { limit: Number(0) }
+- {"exclusiveMaximum":0,"minimum":18446744073709551615,"multipleOf":3}
+    7 :: ExclusiveMaximum of 7 # #/exclusiveMaximum #/exclusiveMaximum; ExclusiveMaximum { limit: Number(0) } Minimum of 7 # #/minimum #/minimum; Minimum { limit: Number(18446744073709551615) } MultipleOf of 7 # #/multipleOf #/multipleOf; MultipleOf { multiple_of: Number(3) }
+- {"$schema":"http://json-schema.org/draft-04/schema#","maximum":-9223372036854775808,"exclusiveMaximum":true}
+    0 :: ExclusiveMaximum of 0 # #/exclusiveMaximum #/exclusiveMaximum; ExclusiveMaximum { limit: Number(-9223372036854775808) }
+- {"anyOf":[{"minimum":0},{"enum":[]}]}
+    -1 :: AnyOf of -1 # #/anyOf #/anyOf; [ Minimum of -1 # #/anyOf/0/minimum #/anyOf/0/minimum; ] [ Enumeration of -1 # #/anyOf/1/enum #/anyOf/1/enum; ]
 - {"anyOf":[{"minimum":2,"type":"null"},{"items":{}},false]}
     [] :: valid
 - {"anyOf":[{"minimum":2,"type":"null"},false]}

@@ -1,4 +1,8 @@
 // Paths that are and are not certificates, over a root document beside one that it may refer to.
+ghost use Rattle.std.specs.Prelude.{◌≡◌, true};
+ghost use Rattle.serde_json.specs.View.{view};
+ghost use Rattle.json_schema_validator.specs.Numbers.{only_whole};
+
 use crate::subject::{documents_of, options_at, value_of};
 use json_schema_validator::{
     CheckAnswer, FaultPath, RegexMaker, SchemaRegistry, Validator, check_errors, check_fault,
@@ -285,7 +289,9 @@ fn answers_of(
     alloc: Global,
     registry: &SchemaRegistry,
     value: &Value,
-) -> Vec<CheckAnswer> {
+) -> Vec<CheckAnswer>
+    requires whole { only_whole (view value.now) ≡ true }
+{
     let options = Validator::options(alloc).expect(rt, "memory");
     let validator = options.build_on(registry, "").expect(rt, "a validator");
     let answers = check_errors(alloc, &validator, registry, "", &RegexMaker, value);
@@ -298,7 +304,9 @@ fn first_of(
     alloc: Global,
     registry: &SchemaRegistry,
     value: &Value,
-) -> Option<CheckAnswer> {
+) -> Option<CheckAnswer>
+    requires whole { only_whole (view value.now) ≡ true }
+{
     let options = Validator::options(alloc).expect(rt, "memory");
     let validator = options.build_on(registry, "").expect(rt, "a validator");
     let answer = check_first(alloc, &validator, registry, "", &RegexMaker, value);
@@ -351,7 +359,9 @@ fn beside_verdict_on(
     registry: &SchemaRegistry,
     value: &Value,
     evaluation_path: &str,
-) -> (CheckAnswer, bool) {
+) -> (CheckAnswer, bool)
+    requires whole { only_whole (view value.now) ≡ true }
+{
     let options = Validator::options(alloc).expect(rt, "memory");
     let validator = options.build_on(registry, "").expect(rt, "a validator");
     let path = FaultPath {

@@ -1,16 +1,25 @@
 // What is told of values by schemas, held against rows.
+ghost use Rattle.std.specs.Prelude.{◌≡◌, true};
+ghost use Rattle.serde_json.specs.View.{view};
+ghost use Rattle.json_schema_validator.specs.Numbers.{only_whole};
+
 use crate::details::write_details;
 use json_schema_validator::{
     CheckAnswer, Documents, ErrorIterator, RegexMaker, SchemaRegistry, ValidationError,
-    ValidationOptions, Validator, check_error,
+    ValidationOptions, Validator, check_error, has_only_whole,
 };
 use serde_json::Value;
 use std::alloc::Global;
 use std::process::Abort;
 use uri_references::uri::from_str;
 
-pub(crate) fn value_of(rt: &impl Abort, alloc: Global, text: &str) -> Value {
-    Value::from_str(alloc, text).expect(rt, "JSON")
+pub(crate) fn value_of(rt: &impl Abort, alloc: Global, text: &str) -> Value
+    ensures whole { only_whole (view result) ≡ true }
+{
+    let value = Value::from_str(alloc, text).expect(rt, "JSON");
+    let is_whole = has_only_whole(&value);
+    assert!(rt; is_whole, "{text}");
+    value
 }
 
 pub(crate) fn documents_of(rt: &impl Abort, alloc: Global, uri: &str, text: &str) -> Documents {
@@ -53,7 +62,9 @@ fn assert_accepted(
     registry: &SchemaRegistry,
     value: &Value,
     error: &ValidationError<'_>,
-) {
+)
+    requires whole { only_whole (view value.now) ≡ true }
+{
     let answer = check_error(alloc, registry, "", &RegexMaker, value, error);
     assert_eq!(rt;
         answer.expect(rt, "memory"),
@@ -62,7 +73,9 @@ fn assert_accepted(
     );
 }
 
-fn errors_of<'v>(rt: &impl Abort, validator: &Validator, value: &'v Value) -> ErrorIterator<'v> {
+fn errors_of<'v>(rt: &impl Abort, validator: &Validator, value: &'v Value) -> ErrorIterator<'v>
+    requires whole { only_whole (view value.now) ≡ true }
+{
     validator.iter_errors(value).expect(rt, "memory")
 }
 
@@ -74,7 +87,9 @@ fn told(
     value: &Value,
     errors: ErrorIterator<'_>,
     is_detailed: bool,
-) -> String {
+) -> String
+    requires whole { only_whole (view value.now) ≡ true }
+{
     let mut text = String::new(alloc);
     for error in errors {
         assert_accepted(rt, alloc, registry, value, &error);
@@ -88,7 +103,9 @@ fn told(
 }
 
 // The other two observers have to agree.
-fn assert_verdict(rt: &impl Abort, validator: &Validator, value: &Value, is_valid: bool) {
+fn assert_verdict(rt: &impl Abort, validator: &Validator, value: &Value, is_valid: bool)
+    requires whole { only_whole (view value.now) ≡ true }
+{
     let answer = validator.validate(value).expect(rt, "memory");
     let accepts = validator.is_valid(value).expect(rt, "memory");
     assert!(rt;
@@ -104,7 +121,9 @@ fn told_on(
     registry: &SchemaRegistry,
     value: &Value,
     is_detailed: bool,
-) -> String {
+) -> String
+    requires whole { only_whole (view value.now) ≡ true }
+{
     let validator = validator_on(rt, alloc, registry);
     let errors = errors_of(rt, &validator, value);
     let text = told(rt, alloc, registry, value, errors, is_detailed);

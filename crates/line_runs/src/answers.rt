@@ -1,6 +1,7 @@
 //! What is written for a line.
-ghost use Rattle.std.specs.Prelude.{◌≡◌, ◌++◌, ℕ, List, OnOk, option_map, string_bytes};
+ghost use Rattle.std.specs.Prelude.{◌≡◌, ◌++◌, ℕ, List, true, IfSome, OnOk, option_map, string_bytes};
 ghost use Rattle.serde_json.specs.View.{view};
+ghost use Rattle.schema_registries.specs.Whole.{only_whole};
 ghost use Rattle.line_runs.specs.Runs.{IsLineTextBy, ValueTextBy};
 
 use crate::{line_value, write_faults};
@@ -45,6 +46,7 @@ fn answer_value<M: PatternMatcher>(
     value: Option<Value>,
     text: &mut String,
 ) -> Result<(), AllocError>
+    requires whole { IfSome value (λ v. only_whole (view v) ≡ true) }
     ensures { OnOk result ((written : List ℕ) × ValueTextBy M.finds validator.now (option_map (λ v. view v) value) written × (string_bytes text.new ≡ string_bytes text.old ++ written)) }
 {
     match value {

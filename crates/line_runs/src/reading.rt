@@ -1,7 +1,8 @@
 //! The value of a line.
-ghost use Rattle.std.specs.Prelude.{◌≡◌, IfOk, option_map};
+ghost use Rattle.std.specs.Prelude.{◌≡◌, true, IfOk, IfSome, option_map};
 ghost use Rattle.serde_json.specs.View.{view};
 ghost use Rattle.schema_definitions.specs.Lines as lines;
+ghost use Rattle.schema_registries.specs.Whole.{only_whole};
 
 use schema_registries::numbers::has_only_whole;
 use serde_json::Value;
@@ -12,7 +13,8 @@ use std::alloc::{AllocError, Global};
 ///
 /// It takes time in the length of the line. The error comes where memory was refused.
 pub fn line_value(alloc: Global, line: &[u8]) -> Result<Option<Value>, AllocError>
-    ensures { IfOk result (λ o. option_map (λ v. view v) o ≡ lines.line_value line.now) }
+    ensures value { IfOk result (λ o. option_map (λ v. view v) o ≡ lines.line_value line.now) }
+    ensures whole { IfOk result (λ o. IfSome o (λ v. only_whole (view v) ≡ true)) }
 {
     match Value::from_slice(alloc, line) {
         Ok(value) => {

@@ -1,5 +1,6 @@
 -- What the questions of applicators tell.
 use Rattle.std.proofs.Common.{◌≡◌, ◌<◌, ◌++◌, ℕ, List, [], ◌∷◌, Bool, true, false, Bor, None, refl, sym, ap, ap₂, subst, ◌∙◌}
+use Rattle.std.proofs.Math.Logic.{∥∥₁_map}
 use Rattle.serde_json.specs.Data.{Data, object, depth, Members}
 use Rattle.serde_json.specs.View.{view}
 use Rattle.serde_json.specs.declared.value.Value.{Value}
@@ -25,7 +26,7 @@ use Rattle.applicators.specs.Shapes.{shape_of, added_at}
 use Rattle.applicators.specs.Made.{patterns_in}
 use Rattle.applicators.specs.Combined.{is_by_answers}
 use Rattle.applicators.specs.Questions.{step_of, question_of, questions_of}
-use Rattle.applicators.specs.declared.applicator.Applicator.{Applicator}
+use Rattle.applicators.specs.Applied.{Applicator}
 use Rattle.applicators.specs.declared.question.Asked.{Asked}
 use Rattle.applicators.specs.declared.question.Asked.TheVariants as asked
 use Rattle.applicators.specs.declared.question.Question.{Question}
@@ -46,9 +47,9 @@ use Rattle.schema_reports.specs.RoadPaths.{instance_in, schema_in, evaluation_in
 use Rattle.schema_reports.specs.declared.roads.Roads.{Roads}
 use Rattle.schema_reports.specs.declared.observer.Observation.{Observation}
 use Rattle.schema_reports.specs.declared.observer.Observer.{Observer}
-use Rattle.plain_reader.specs.Spots.{Spots}
+use Rattle.plain_reader.specs.Spots.{Spots, Within}
 use Rattle.plain_reader.specs.Settings.{Setting, asked_in, asked_by}
-use Rattle.plain_reader.specs.Tellings.{AreRead, Fits, Within, Tells, TellsCalled, TellsQuestions}
+use Rattle.plain_reader.specs.Tellings.{AreRead, Fits, Tells, TellsCalled, TellsQuestions}
 use Rattle.plain_reader.specs.Applied.{applied_leads, applied_questions, AreAsked, question_leads, one_question, EachInside, AsksInside, IsPart, entry_parts, TellsAsked}
 use Rattle.plain_reader.specs.Names.{TellsName}
 use Rattle.plain_reader.proofs.Reading.{row_here, all_made, none_to_make}
@@ -96,9 +97,11 @@ module _ (matches : List ℕ → List ℕ → Bool) (a : Applicator) (d : Data) 
 
 -- ---- what is asked of
 
-pub part_within : (d : Data) (whole : Spots) (path inner : List Part) (a : Asked) → IsPart d a → inner ≡ path_after path (step_of a) → Within d path whole → Within (value_after d (step_of a)) inner whole
-part_within d whole path inner a part is within =
-    subst (λ p. Within (value_after d (step_of a)) p whole) (sym is) (record { spots = λ w h. within.spots w (part.spots path w h) })
+pub part_within : (d : Data) (whole : Spots) (path inner : List Part) (a b : Asked) → IsPart d a → a ≡ b → inner ≡ path_after path (step_of b) → ∥ Within d path whole ∥₁ → ∥ Within (value_after d (step_of b)) inner whole ∥₁
+part_within d whole path inner a b part is at within =
+    ∥∥₁_map within
+    (λ w. subst (λ (p : List Part). Within (value_after d (step_of b)) p whole) (sym at)
+    (subst (λ (x : Asked). Within (value_after d (step_of x)) (path_after path (step_of x)) whole) is (record { spots = λ s h. w.spots s (part.spots path s h) })))
 
 module _ (c : code.Site) (whole : Spots) (d : Data) (roads : Roads) (keys : List Key) where
   pub tells_asked : (at_roads : Roads) (asked : Asked) (old new : Observer) → instance_in at_roads ≡ path_after (instance_in roads) (step_of asked) → schema_in at_roads ≡ schema_in roads

@@ -14,7 +14,7 @@ use Rattle.schema_definitions.specs.Sites.{Site, below}
 use Rattle.applicators.specs.Shapes.{shape_of}
 use Rattle.applicators.specs.Combined.{refused_name, is_every, is_by_answers, is_each_named, Decides}
 use Rattle.applicators.specs.Questions.{question_of, questions_of}
-use Rattle.applicators.specs.declared.applicator.Applicator.{Applicator}
+use Rattle.applicators.specs.Applied.{Applicator}
 use Rattle.applicators.specs.declared.question.Question.{Question}
 use Rattle.applied_laws.specs.Notes.{kind_by, value_by}
 use Rattle.applied_laws.proofs.Once.{tell_once, once_plain}
@@ -23,8 +23,9 @@ use Rattle.schema_sites.specs.Seen.{documents_at}
 use Rattle.schema_sites.specs.declared.site.Site as code
 use Rattle.schema_reports.specs.Observers.{Hears}
 use Rattle.schema_reports.specs.RoadPaths.{schema_in}
-use Rattle.schema_reports.specs.Told.{faults_of, branches_in}
+use Rattle.schema_reports.specs.Told.{faults_of, branches_in, AreAll}
 use Rattle.schema_reports.specs.declared.error.ValidationError.{ValidationError}
+use Rattle.schema_reports.proofs.FaultLemmas.{context_longer}
 use Rattle.schema_reports.specs.declared.roads.Roads.{Roads}
 use Rattle.schema_reports.specs.declared.observer.Observation.{Observation}
 use Rattle.schema_reports.specs.declared.observer.Observation.TheVariants as kept
@@ -104,20 +105,28 @@ told_branches (y ∷ ys) = ap (branch (faults_of y.items)) (told_branches ys)
 
 module _ (c : code.Site) (whole : Spots) (d : Data) (roads : Roads) (keys : List Key) (a : Applicator) where
   pub branches_done : (all : List Question) (context : List (Vec ValidationError Global)) → BranchesLeft c whole d roads keys a all [] context → HasBranches c whole d roads keys a context
-  branches_done all context l = record { told = λ x fits read enough. told_branches context ∙ ap branches_of (sym (l.left x fits read enough)) }
+  branches_done all context l = record {
+    told = λ x fits read enough.
+        let left = l.left x fits read enough in
+        record { told = told_branches context ∙ ap branches_of (sym left.told); proper = left.proper };
+  }
 
   pub branches_step : (all rest : List Question) (q : Question) (context more : List (Vec ValidationError Global)) (e : Vec ValidationError Global) (old new : Observer) → AreAsked (reads c.matches.now) a d all
       → is_by_answers a ≡ true → Hears kept.All old none → TellsQuestions c whole d roads keys (question_leads q) (one_question q) old new
-      → ((fs : Faults) → Hears kept.All new fs → faults_of e.items ≡ fs) → more ≡ context ++ e ∷ []
+      → ((fs : Faults) → Hears kept.All new fs → AreAll e.items fs) → more ≡ context ++ e ∷ []
       → BranchesLeft c whole d roads keys a all (q ∷ rest) context → BranchesLeft c whole d roads keys a all rest more
   branches_step all rest q context more e old new are by_answers begun told says pushed l = record {
     among = λ p i. l.among p (later i);
     left = λ x fits read enough.
         let site = below x.documents x.site in
         let here : (t : Site) → In t (question_leads q x) → AreRead x.documents x.makes t = λ t i. read t (question_led (reads c.matches.now) a d all are by_answers q (l.among q first) x t i) in
-        let is : faults_of e.items ≡ asked_in x (question_of site q) = says _ (answered c whole d roads keys q kept.All old new begun told x fits here enough) in
+        let is : AreAll e.items (asked_in x (question_of site q)) = says _ (answered c whole d roads keys q kept.All old new begun told x fits here enough) in
         let others = map (asked_in x) (questions_of site rest) in
-        l.left x fits read enough ∙ collected context e (asked_in x (question_of site q)) others is ∙ ap (λ es. errors_told es ++ others) (sym pushed);
+        let left = l.left x fits read enough in
+        record {
+          told = left.told ∙ collected context e (asked_in x (question_of site q)) others is.told ∙ ap (λ es. errors_told es ++ others) (sym pushed);
+          proper = context_longer context more e pushed left.proper is.proper;
+        };
   }
 
 -- ---- the fault

@@ -18,7 +18,7 @@ use Rattle.schema_patterns.specs.Read.{reads}
 use Rattle.schema_definitions.specs.Sites.{Site, below, target_site}
 use Rattle.applicators.specs.Shapes.{shape_of}
 use Rattle.applicators.specs.Combined.{is_every, notes_by, name_of as applicator_name}
-use Rattle.applicators.specs.declared.applicator.Applicator.{Applicator}
+use Rattle.applicators.specs.Applied.{Applicator}
 use Rattle.applicators.proofs.CombinedLemmas.{every_rule}
 use Rattle.plain_reader.specs.Spots.{Spots}
 use Rattle.plain_reader.specs.Applied.{applied_leads, applied_shapes, applied_questions}

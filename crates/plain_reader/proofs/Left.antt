@@ -1,5 +1,5 @@
 -- What a loop of the reader has still to tell.
-use Rattle.std.proofs.Common.{◌≡◌, ◌≤◌, ◌+◌, ◌++◌, ℕ, List, map}
+use Rattle.std.proofs.Common.{◌≡◌, ◌≤◌, ◌+◌, ◌++◌, ℕ, List, map, true}
 use Rattle.std.specs.declared.alloc.Global.{Global}
 use Rattle.std.specs.declared.vec.Vec.{Vec}
 use Rattle.serde_json.specs.Data.{Data, Members}
@@ -11,7 +11,7 @@ use Rattle.schema_meaning.specs.Questions.{listed_members}
 use Rattle.schema_meaning.specs.Rules.{verdicts_of, each_of_object}
 use Rattle.schema_definitions.specs.Sites.{Site, below}
 use Rattle.applicators.specs.Questions.{questions_of}
-use Rattle.applicators.specs.declared.applicator.Applicator.{Applicator}
+use Rattle.applicators.specs.Applied.{Applicator}
 use Rattle.applicators.specs.declared.question.Question.{Question}
 use Rattle.schema_sites.specs.Seen.{documents_at}
 use Rattle.schema_sites.specs.declared.site.Site as code
@@ -20,7 +20,7 @@ use Rattle.schema_reports.specs.declared.roads.Roads.{Roads}
 use Rattle.schema_reports.specs.declared.observer.Observation.{Observation}
 use Rattle.schema_reports.specs.declared.observer.Observer.{Observer}
 use Rattle.schema_reports.specs.RoadPaths.{instance_in}
-use Rattle.schema_reports.specs.Told.{faults_of, spot_of}
+use Rattle.schema_reports.specs.Told.{faults_of, context_is_proper, spot_of}
 use Rattle.schema_reports.specs.declared.error.ValidationError.{ValidationError}
 use Rattle.plain_reader.specs.Spots.{Spots}
 use Rattle.plain_reader.specs.Settings.{Setting, told_by, asked_in, asked_by}
@@ -34,6 +34,11 @@ pub record LeftOf (all left : Faults) (kept : Observation) (fs : Faults) (now : 
   pub done : Faults
   pub heard : Hears kept now (joined fs done)
   pub rest : all ≡ joined done left
+
+-- the errors of these branches, and then what is left to tell
+pub record StartWith (context : List (Vec ValidationError Global)) (all left : List Faults) : Type 0 where
+  pub told : all ≡ map (λ es. faults_of es.items) context ++ left
+  pub proper : context_is_proper context ≡ true
 
 module _ (c : code.Site) (whole : Spots) (d : Data) (roads : Roads) (progress : List Key) where
   pub record MembersLeft (all rest : Members) (old now : Observer) : Type 0 where
@@ -69,4 +74,4 @@ module _ (c : code.Site) (whole : Spots) (d : Data) (roads : Roads) (progress : 
     pub among : (q : Question) → In q rest → In q all
     pub left : (x : Setting) → Fits c d roads progress x → ((t : Site) → In t (applied_leads a x) → AreRead x.documents x.makes t)
         → room (documents_at c) whole progress (view c.contents.now) ≤ x.depth
-        → answers_in a d x ≡ map (λ es. faults_of es.items) context ++ map (asked_in x) (questions_of (below x.documents x.site) rest)
+        → StartWith context (answers_in a d x) (map (asked_in x) (questions_of (below x.documents x.site) rest))

@@ -15,3 +15,4 @@ pub mod KeywordTelling
 pub mod ChoiceReading
 pub mod ChoiceTelling
 pub mod NameTelling
+pub mod Rooms

@@ -1,6 +1,8 @@
 -- What is told of the names of members, and for each fault of a name of the object.
 use Rattle.std.proofs.Common.{◌≡◌, ◌≤◌, ◌*◌, ◌+◌, ℕ, suc, List, [], ◌∷◌, Bool, true, map, None, Option, Some, refl, sym, ap, ap₂, ◌∙◌, subst, arith}
 use Rattle.std.proofs.Math.Nat.{mul-le-mul_right}
+use Rattle.std.proofs.Math.Logic.{∥∥₁_elim}
+use Rattle.std.specs.Coded.{le_prop}
 use Rattle.serde_json.specs.Data.{Data, string, depth}
 use Rattle.serde_json.specs.View.{view}
 use Rattle.json_values.specs.Parts.{Part}
@@ -22,7 +24,7 @@ use Rattle.applicators.specs.Shapes.{shape_of}
 use Rattle.applicators.specs.Combining.{Named, Combines, tells_names}
 use Rattle.applicators.specs.Combined.{combining_of, named_of, is_by_answers, is_each_named}
 use Rattle.applicators.specs.Questions.{question_of, questions_of}
-use Rattle.applicators.specs.declared.applicator.Applicator.{Applicator}
+use Rattle.applicators.specs.Applied.{Applicator}
 use Rattle.applicators.specs.declared.combining.Combining.{Combining}
 use Rattle.applicators.specs.declared.combining.Combining.TheVariants as combining
 use Rattle.applicators.specs.declared.question.Question.{Question}
@@ -61,10 +63,11 @@ are_uncalled (Target' document path at p before) key (later i) = are_uncalled be
 room_enough : (a b m x : ℕ) → a ≤ b → a * suc m + x ≤ b * suc m + x
 room_enough a b m x h = let p : a * suc m ≤ b * suc m = mul-le-mul_right (suc m) h in omega (arith, p)
 
-pub name_falls : (docs : Documents) (whole alone : Spots) (path : List Part) (k : List ℕ) (keys : List Key) (schema : Data) → alone ≡ (path, None) ∷ [] → AreUncalled keys → In (path, Some k) whole
+pub name_falls : (docs : Documents) (whole alone : Spots) (path : List Part) (k : List ℕ) (keys : List Key) (schema : Data) → alone ≡ (path, None) ∷ [] → AreUncalled keys → ∥ In (path, Some k) whole ∥₁
     → room docs alone [] schema ≤ room docs whole keys schema
 name_falls docs whole alone path k keys schema stands values named = subst (λ (s : Spots). room docs s [] schema ≤ room docs whole keys schema) (sym stands)
-    (room_enough (left [] (keys_among docs ((path, None) ∷ []))) (left keys (keys_among docs whole)) (deepest docs) (depth schema) (have_room_among docs whole path path k keys values named))
+    (room_enough (left [] (keys_among docs ((path, None) ∷ []))) (left keys (keys_among docs whole)) (deepest docs) (depth schema)
+    (∥∥₁_elim named le_prop (λ n. have_room_among docs whole path path k keys values n)))
 
 pub stands_alone : (path : List Part) (text : Data) (k : List ℕ) → text ≡ string k → spots_in path text ≡ (path, None) ∷ []
 stands_alone path text k is = ap (spots_in path) is
@@ -88,7 +91,7 @@ told_as_text x k values is called =
     ap₂ (λ (d : Data) (o : Option (List ℕ)). tells x.keys d o) is called ∙ read_as_text (reading_in x) x.depth k w.path w.road x.keys x.site values ∙ ap (λ (d : Data). tells [] d None) (sym is)
 
 module _ (c : sites.Site) (whole : Spots) (k : List ℕ) (roads : Roads) (keys : List Key) where
-  pub name_told : (alone : Spots) (text : Data) (old begun heard new : Observer) → text ≡ string k → alone ≡ (instance_in roads, None) ∷ [] → AreUncalled keys → In (instance_in roads, Some k) whole
+  pub name_told : (alone : Spots) (text : Data) (old begun heard new : Observer) → text ≡ string k → alone ≡ (instance_in roads, None) ∷ [] → AreUncalled keys → ∥ In (instance_in roads, Some k) whole ∥₁
       → ((kept : Observation) (fs : Faults) → Hears kept old fs → Hears kept begun none) → Tells c alone text roads [] begun heard
       → ((kept : Observation) (fs gs : Faults) → Hears kept old fs → Hears kept heard gs → Hears kept new (joined fs gs)) → TellsName c whole k roads keys old new
   name_told alone text old begun heard new is stands values named fresh told absorbs = record {

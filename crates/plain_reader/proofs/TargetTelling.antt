@@ -5,6 +5,8 @@ use Rattle.reading_laws.specs.NameLaws.{keys_among}
 use Rattle.schema_patterns.specs.Read.{reads}
 use Rattle.schema_patterns.specs.declared.matches.Matches.{Matches}
 use Rattle.std.proofs.Math.Nat.{mul-le-mul_right}
+use Rattle.std.proofs.Math.Logic.{∥∥₁_elim}
+use Rattle.std.specs.Coded.{le_prop}
 use Rattle.serde_json.specs.Data.{Data, null, boolean, number, string, array, object, depth}
 use Rattle.serde_json.specs.View.{view}
 use Rattle.json_values.specs.Parts.{Part, name}
@@ -28,12 +30,12 @@ use Rattle.schema_reports.specs.Observers.{Hears}
 use Rattle.schema_reports.specs.RoadPaths.{instance_in, schema_in, evaluation_in}
 use Rattle.schema_reports.specs.declared.roads.Roads.{Roads}
 use Rattle.schema_reports.specs.declared.observer.Observer.{Observer}
-use Rattle.plain_reader.specs.Spots.{Spots}
+use Rattle.plain_reader.specs.Spots.{Spots, Within}
 use Rattle.plain_reader.specs.Keys.{key}
 use Rattle.plain_reader.specs.Settings.{Setting, told_in, asked_in, asked_by}
 use Rattle.plain_reader.specs.Targets.{reference_leads, reference_questions}
 use Rattle.assertion_faults.specs.Tellings.{spot_at}
-use Rattle.plain_reader.specs.Tellings.{Fits, Within, room, Tells, TellsQuestions}
+use Rattle.plain_reader.specs.Tellings.{Fits, room, Tells, TellsQuestions}
 use Rattle.schema_reports.proofs.FaultLemmas.{joined-none}
 use Rattle.plain_reader.proofs.ToldLemmas.{asked_by-none, asked_by-more, led_to, key_of, asked_back, asked_on}
 
@@ -57,10 +59,11 @@ known_key docs whole d t path lies within =
     (in_map (λ spot. record { target = place_of t; path = spot.0; called = spot.1 }) (path, None) whole (within.spots (path, None) (own_spot path d)))
 
 pub target_deeper : (docs : Documents) (whole : Spots) (d schema : Data) (t : Target) (path : List Part) (progress : List Key)
-    → Lies docs t → Within d path whole → is_in_progress (key t.document t.path path) progress ≡ false
+    → Lies docs t → ∥ Within d path whole ∥₁ → is_in_progress (key t.document t.path path) progress ≡ false
     → room docs whole (key t.document t.path path ∷ progress) t.contents < room docs whole progress schema
 target_deeper docs whole d schema t path progress lies within new =
-    room_less _ _ (deepest docs) _ _ (left_falls (key t.document t.path path) progress (keys_among docs whole) (known_key docs whole d t path lies within) new) lies.shallow
+    ∥∥₁_elim within le_prop
+    (λ w. room_less _ _ (deepest docs) _ _ (left_falls (key t.document t.path path) progress (keys_among docs whole) (known_key docs whole d t path lies w) new) lies.shallow)
 
 -- ---- the question
 
@@ -87,7 +90,7 @@ module _ (c : code.Site) (whole : Spots) (d : Data) (roads : Roads) (progress : 
 
   pub target_on : (b : Bool) (inner : code.Site) (on : Roads) (old new : Observer)
       → b ≡ is_in_progress (key t.document t.path (instance_in roads)) progress → b ≡ false
-      → Lies (documents_at c) t → Within d (instance_in roads) whole
+      → Lies (documents_at c) t → ∥ Within d (instance_in roads) whole ∥₁
       → documents_at inner ≡ documents_at c → inner.matches ≡ c.matches → t.contents ≡ view inner.contents.now
       → ((s : Site) → Stands inner (target_site s text t))
       → ((s : Site) → s.base ≡ base_of c.resolver → s.scope ≡ scope_of c.resolver → (target_site s text t).scope ≡ scope_of inner.resolver)

@@ -12,7 +12,7 @@ use Rattle.schema_definitions.specs.Sites.{Site, below}
 use Rattle.schema_definitions.specs.AllKeys.{spots_in}
 use Rattle.applicators.specs.Shapes.{shape_of, leads_of, place_of}
 use Rattle.applicators.specs.Questions.{step_of, question_of, questions_of}
-use Rattle.applicators.specs.declared.applicator.Applicator.{Applicator}
+use Rattle.applicators.specs.Applied.{Applicator}
 use Rattle.applicators.specs.declared.question.Asked.{Asked}
 use Rattle.applicators.specs.declared.question.Question.{Question}
 use Rattle.applicators.specs.declared.subschema.Entry.{Entry}

@@ -9,10 +9,10 @@ use Rattle.schema_meaning.specs.Places.{Key}
 use Rattle.schema_meaning.specs.Faults.{Faults, branches_of}
 use Rattle.schema_meaning.specs.Rules.{verdicts_of}
 use Rattle.schema_definitions.specs.Sites.{Site}
-use Rattle.applicators.specs.declared.applicator.Applicator.{Applicator}
+use Rattle.applicators.specs.Applied.{Applicator}
 use Rattle.schema_sites.specs.Seen.{documents_at}
 use Rattle.schema_sites.specs.declared.site.Site as code
-use Rattle.schema_reports.specs.Told.{branches_in}
+use Rattle.schema_reports.specs.Told.{AreBranches}
 use Rattle.schema_reports.specs.declared.error.ValidationError.{ValidationError}
 use Rattle.schema_reports.specs.declared.roads.Roads.{Roads}
 use Rattle.plain_reader.specs.Spots.{Spots}
@@ -34,4 +34,4 @@ module _ (c : code.Site) (whole : Spots) (d : Data) (roads : Roads) (progress : 
   -- the errors are those of each question in turn
   pub record HasBranches (context : List (Vec ValidationError Global)) : Type 0 where
     pub told : (x : Setting) → Fits c d roads progress x → ((t : Site) → In t (applied_leads a x) → AreRead x.documents x.makes t)
-        → room (documents_at c) whole progress (view c.contents.now) ≤ x.depth → branches_in context ≡ branches_of (answers_in a d x)
+        → room (documents_at c) whole progress (view c.contents.now) ≤ x.depth → AreBranches context (branches_of (answers_in a d x))

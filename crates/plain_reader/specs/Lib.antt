@@ -9,6 +9,7 @@ pub mod Names
 pub mod Combined
 pub mod Refusals
 pub mod Targets
+pub mod Readings
 pub mod Roots
 pub mod Sites
 pub mod Passed

@@ -7,12 +7,12 @@ use Rattle.schema_meaning.specs.Members.{count_true}
 use Rattle.schema_meaning.specs.Faults.{Faults, none, also, joined, branches_of}
 use Rattle.schema_meaning.specs.Rules.{verdicts_of}
 use Rattle.applicators.specs.Combined.{combining_of, refused_name}
-use Rattle.applicators.specs.declared.applicator.Applicator.{Applicator}
+use Rattle.applicators.specs.Applied.{Applicator}
 use Rattle.applicators.specs.declared.combining.Combining.{Combining}
 use Rattle.applicators.specs.declared.combining.Combining.TheVariants as code
 use Rattle.applied_laws.specs.Notes.{kind_by, value_by}
-use Rattle.schema_reports.specs.Kinds.{kind_of}
-use Rattle.schema_reports.specs.Told.{branches_in}
+use Rattle.schema_reports.specs.Kinds.{StandsFor}
+use Rattle.schema_reports.specs.Told.{AreBranches}
 use Rattle.schema_reports.specs.Observers.{Hears}
 use Rattle.schema_reports.specs.declared.error.ValidationError.{ValidationError}
 use Rattle.schema_reports.specs.declared.kind.ValidationErrorKind.{ValidationErrorKind}
@@ -38,10 +38,10 @@ carries_branches a = carries (combining_of a)
 -- the number of answers that are yes, and the errors of each subschema, are those of these answers
 pub record AreOf (a : Applicator) (accepted : ℕ) (context : List (Vec ValidationError Global)) (answers : List Faults) : Type 0 where
   pub counted : count_true (verdicts_of answers) ≡ accepted
-  pub told : carries_branches a ≡ true → branches_in context ≡ branches_of answers
+  pub told : carries_branches a ≡ true → AreBranches context (branches_of answers)
 
 pub record IsRefusal (matches : List ℕ → List ℕ → Bool) (d : Data) (a : Applicator) (accepted : ℕ) (context : List (Vec ValidationError Global)) (kind : ValidationErrorKind) : Type 0 where
-  pub is : (answers : List Faults) → AreOf a accepted context answers → kind_of kind ≡ kind_by matches a d answers
+  pub is : (answers : List Faults) → AreOf a accepted context answers → StandsFor kind (kind_by matches a d answers)
 
 pub record TellsRefusal (matches : List ℕ → List ℕ → Bool) (d : Data) (roads : Roads) (a : Applicator) (accepted : ℕ) (context : List (Vec ValidationError Global)) (old new : Observer) : Type 0 where
   pub tells : (answers : List Faults) → AreOf a accepted context answers → (kept : Observation) (fs : Faults) → Hears kept old fs

@@ -2,7 +2,6 @@
 use Rattle.std.specs.Prelude.{◌≡◌, ◌<◌, ◌≤◌, ◌+◌, ◌*◌, ℕ, suc, List, [], Option, Bool}
 use Rattle.serde_json.specs.Data.{Data, depth}
 use Rattle.serde_json.specs.View.{view}
-use Rattle.json_values.specs.Parts.{Part}
 use Rattle.schema_meaning.specs.Members.{In}
 use Rattle.schema_meaning.specs.Places.{Key}
 use Rattle.schema_meaning.specs.Faults.{Faults, joined}
@@ -14,7 +13,6 @@ use Rattle.schema_definitions.specs.Sites.{Site}
 use Rattle.schema_definitions.specs.Rows.{Row, rows_at}
 use Rattle.schema_definitions.specs.BuildCauses.{Reached}
 use Rattle.schema_definitions.specs.Plain.{deepest}
-use Rattle.schema_definitions.specs.AllKeys.{spots_in}
 use Rattle.reading_laws.specs.NameLaws.{keys_among}
 use Rattle.schema_patterns.specs.Read.{reads}
 use Rattle.schema_sites.specs.Passed.{scope_of}
@@ -47,10 +45,6 @@ pub record Fits (c : code.Site) (d : Data) (roads : Roads) (progress : List Key)
 -- how deep a reading of a schema may still go
 abbrev pub room : Documents → Spots → List Key → Data → ℕ
 room docs whole keys schema = left keys (keys_among docs whole) * suc (deepest docs) + depth schema
-
--- the value's places are among these
-pub record Within (d : Data) (path : List Part) (whole : Spots) : Type 0 where
-  pub spots : (spot : List Part × Option (List ℕ)) → In spot (spots_in path d) → In spot whole
 
 module _ (c : code.Site) (whole : Spots) (d : Data) (roads : Roads) (progress : List Key) where
   -- the observer is told what the schema tells

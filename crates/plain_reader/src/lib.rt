@@ -9,6 +9,7 @@ mod read;
 mod refusals;
 pub mod root;
 pub mod site;
+mod standing;
 mod whole;
 
 pub use schema_sites::keyword::{Keyword, Refusal};

@@ -1,8 +1,7 @@
 //! What a keyword that applies subschemas notes of the value itself.
 ghost use Rattle.std.specs.Prelude.{OnOk};
 ghost use Rattle.serde_json.specs.View.{view};
-ghost use Rattle.applicators.specs.Combined.{name_of, notes_by};
-ghost use Rattle.assertion_faults.specs.Tellings.{TellsNotes};
+ghost use Rattle.plain_reader.specs.Readings.{NotesTell};
 
 use applicators::applicator::Applicator;
 use applicators::asks::Asks;
@@ -19,7 +18,7 @@ pub(crate) fn tell_notes<'i>(
     roads: Roads<'_>,
     observer: &mut Observer<'i>,
 ) -> Result<(), AllocError>
-    ensures { OnOk result (TellsNotes (view value.now) roads.entry (name_of applicator.now) (notes_by applicator.now (view value.now)) observer.old observer.new) }
+    ensures { OnOk result (NotesTell applicator.now (view value.now) roads.entry observer.old observer.new) }
 {
     match applicator.asks() {
         Asks::Dependencies(entries) => {

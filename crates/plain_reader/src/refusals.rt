@@ -1,14 +1,16 @@
 //! The one fault of a keyword whose verdict is by the number of answers that are yes.
-ghost use Rattle.std.specs.Prelude.{◌≡◌, IfOk, OnOk, true};
+ghost use Rattle.std.specs.Prelude.{◌≡◌, IfOk, OnOk};
 ghost use Rattle.serde_json.specs.View.{view};
 ghost use Rattle.schema_meaning.specs.Questions.{members_of};
 ghost use Rattle.schema_meaning.specs.Keywords.{first_value};
 ghost use Rattle.applicators.specs.Asks.{kind_asked};
 ghost use Rattle.applied_laws.specs.Notes.{value_by};
-ghost use Rattle.schema_reports.specs.Kinds.{kind_of};
+ghost use Rattle.schema_reports.specs.Kinds.{StandsFor};
 ghost use Rattle.schema_patterns.specs.Read.{reads};
-ghost use Rattle.plain_reader.specs.Refusals.{carries_branches as is_carrier, IsRefusal, TellsRefusal};
+ghost use Rattle.plain_reader.specs.Refusals.{carries_branches as is_carrier, IsRefusal};
+ghost use Rattle.plain_reader.specs.Readings.{RefusalTells};
 
+use crate::standing::Reading;
 use applicators::applicator::Applicator;
 use applicators::asks::Asks;
 use applicators::combining::Combining;
@@ -35,8 +37,7 @@ fn asked_refusal<'i>(
     asks: Asks<'_>,
     value: &Value,
 ) -> Result<ValidationErrorKind<'i>, AllocError>
-    ensures { IfOk result (λ kind.
-        kind_of kind ≡ kind_asked (reads matches.now) asks.entry (view value.now)) }
+    ensures { IfOk result (λ kind. StandsFor kind (kind_asked (reads matches.now) asks.entry (view value.now))) }
 {
     Ok(match asks {
         Asks::ItemsFrom { .. } => ValidationErrorKind::AdditionalItems,
@@ -54,12 +55,12 @@ fn asked_refusal<'i>(
 fn refusal<'i>(
     alloc: Global,
     matches: &Matches,
-    applicator: Applicator<'_>,
+    applicator: &Applicator<'_>,
     accepted: usize,
     context: Vec<Vec<ValidationError<'i>>>,
     value: &Value,
 ) -> Result<ValidationErrorKind<'i>, AllocError>
-    ensures { IfOk result (λ kind. IsRefusal (reads matches.now) (view value.now) applicator.entry accepted context.entry.items kind) }
+    ensures { IfOk result (λ kind. IsRefusal (reads matches.now) (view value.now) applicator.now accepted context.entry.items kind) }
 {
     Ok(match applicator.combining() {
         Combining::SomeBranch => ValidationErrorKind::AnyOf { context },
@@ -99,26 +100,25 @@ fn value_at_fault<'i>(applicator: &Applicator<'_>, value: &'i Value) -> &'i Valu
 }
 
 // Tells an observer of it.
-pub(crate) fn tell_refusal<'i>(
-    alloc: Global,
-    matches: &Matches,
-    applicator: Applicator<'_>,
+pub(crate) fn tell_refusal<'r, 'i>(
+    reading: &Reading<'_, 'r, 'i>,
+    applicator: &Applicator<'r>,
     accepted: usize,
     context: Vec<Vec<ValidationError<'i>>>,
-    value: &'i Value,
-    roads: Roads<'_>,
     observer: &mut Observer<'i>,
 ) -> Result<(), AllocError>
-    ensures { OnOk result (TellsRefusal (reads matches.now) (view value.now) roads.entry applicator.entry accepted context.entry.items observer.old observer.new) }
+    ensures { OnOk result (RefusalTells reading.now applicator.now accepted context.entry.items observer.old observer.new) }
 {
+    let value = reading.value;
+    let matches = reading.site.matches;
     let keyword = applicator.refused_name(accepted);
-    let schema = roads.schema.push_name(keyword);
-    let evaluation = roads.evaluation.push_name(keyword);
+    let schema = reading.roads.schema.push_name(keyword);
+    let evaluation = reading.roads.evaluation.push_name(keyword);
     let at = Roads {
         schema: &schema,
         evaluation: &evaluation,
-        ..roads
+        ..reading.roads
     };
-    let kind = refusal(alloc, matches, applicator, accepted, context, value)?;
-    observer.tell(alloc, kind, value_at_fault(&applicator, value), at)
+    let kind = refusal(reading.alloc, matches, applicator, accepted, context, value)?;
+    observer.tell(reading.alloc, kind, value_at_fault(applicator, value), at)
 }

@@ -1,13 +1,10 @@
 //! What a schema tells of an instance, from where it stands on.
-ghost use Rattle.std.specs.Prelude.{◌≤◌, ◌++◌, OnOk};
+ghost use Rattle.std.specs.Prelude.{◌≤◌, OnOk};
 ghost use Rattle.serde_json.specs.Data.{depth};
 ghost use Rattle.serde_json.specs.View.{view};
 ghost use Rattle.schema_definitions.specs.Plain.{deepest};
-ghost use Rattle.schema_definitions.specs.Sites.{path_of_reference};
 ghost use Rattle.schema_sites.specs.Seen.{documents_at};
-ghost use Rattle.schema_reports.specs.Locations.{location_of};
-ghost use Rattle.schema_reports.specs.References.{text_of};
-ghost use Rattle.plain_reader.specs.Sites.{TellsSite};
+ghost use Rattle.plain_reader.specs.Sites.{TellsSite, path_from};
 
 use crate::whole::read_alone;
 use schema_reports::{LazyLocation, Observer, Reference, Roads};
@@ -32,7 +29,7 @@ pub fn tell_site<'a, 'r, 'i>(
     observer: &mut Observer<'i>,
 ) -> Result<(), AllocError>
     requires shallow { depth (view site.now.contents.now) ≤ deepest (documents_at site.now) }
-    ensures { OnOk result (TellsSite site.now (location_of schema.now ++ path_of_reference (text_of reference.entry)) (view value.now) observer.old observer.new) }
+    ensures { OnOk result (TellsSite site.now (path_from schema.now reference.entry) (view value.now) observer.old observer.new) }
 {
     let instance = LazyLocation::new();
     let evaluation = LazyLocation::new();

@@ -10,6 +10,7 @@ ghost use Rattle.plain_reader.specs.Tellings.{Tells};
 
 use crate::progress::Progress;
 use crate::read::read_site;
+use crate::standing::Reading;
 use schema_reports::{LazyLocation, Observer, Roads};
 use schema_sites::site::Site;
 use serde_json::Value;
@@ -17,9 +18,8 @@ use std::alloc::{AllocError, Global};
 
 /// What is read: a whole value, and the place where it stands.
 #[derive(Clone, Copy)]
-pub struct Reading<'w, 'i> {
-    pub alloc: Global,
-    pub whole: &'i Value,
+pub struct Whole<'w, 'i> {
+    pub value: &'i Value,
     pub at: &'w LazyLocation<'w, 'w>,
 }
 
@@ -35,10 +35,17 @@ pub(crate) fn read_alone<'r, 'i>(
     requires shallow { depth (view site.now.contents.now) ≤ deepest (documents_at site.now) }
     ensures { OnOk result (Tells site.now (spots_in (instance_in roads.entry) (view value.now)) (view value.now) roads.entry [] observer.old observer.new) }
 {
+    let nothing = Progress::Nothing;
     let alone = Reading {
         alloc,
-        whole: value,
-        at: roads.instance,
+        whole: Whole {
+            value,
+            at: roads.instance,
+        },
+        site,
+        value,
+        roads,
+        progress: &nothing,
     };
-    read_site(&alone, site, value, roads, &Progress::Nothing, observer)
+    read_site(&alone, observer)
 }

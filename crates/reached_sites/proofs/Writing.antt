@@ -30,8 +30,15 @@ use Rattle.assertions.specs.declared.assertion.Assertion.TheVariants as asserted
 use Rattle.applicators.specs.Made.{AreMade}
 use Rattle.applicators.specs.Made as making
 use Rattle.applicators.specs.Shapes as applied
-use Rattle.applicators.specs.declared.applicator.Applicator.{Applicator}
-use Rattle.applicators.specs.declared.applicator.Applicator.TheVariants as code
+use Rattle.applicators.specs.Applied.{Applicator}
+use Rattle.applicators.specs.Combined.{name_of, combining_of, asks_of}
+use Rattle.applicators.specs.Asks.{form_by, patterns_among}
+use Rattle.applicators.specs.Forms.{Form, by_pattern, shape_by}
+use Rattle.applicators.specs.Lent.{Asks}
+use Rattle.applicators.specs.declared.asks.AsksOf.TheVariants as asked
+use Rattle.applicators.specs.declared.combining.Combining.{Combining}
+use Rattle.applicators.proofs.FormLemmas.{IsKeyword, from_start}
+use Rattle.applicators.proofs.CombinedLemmas.{is_keyword}
 use Rattle.schema_sites.specs.Read as read
 use Rattle.schema_sites.specs.declared.keyword.Keyword.{Keyword}
 use Rattle.schema_sites.specs.declared.keyword.Keyword.TheVariants as keyword
@@ -104,9 +111,23 @@ names-below : (site : List Part → Data → Site) (k : List ℕ) (ms : Members)
 names-below site k no_members = refl
 names-below site k (member n d ms) = ap (λ (ns : List (List ℕ)). n ∷ ns) (names-below site k ms)
 
+patterns-of : Form Site → List (List ℕ)
+patterns-of (by_pattern ps) = map (λ p. p.0) ps
+patterns-of form = []
+
+form-shown : (k : List ℕ) (c : Combining) (f : Form Site) → IsKeyword k c f → shown (shape_by k c f) ≡ patterns-of f
+unfolding patterns-of
+form-shown _ _ _ (from_start start s) = refl
+form-shown _ _ _ is = refl
+
+patterns-are : (site : List Part → Data → Site) (k : List ℕ) (f : Asks) → patterns-of (form_by site k f) ≡ patterns_among f
+unfolding patterns-of
+patterns-are site k (asked.MatchingMembers schemas) = names-below site k (members_view schemas.now.entries)
+patterns-are site k f = refl
+
 applied-shown : (site : List Part → Data → Site) (a : Applicator) → shown (applied.shape_of site a) ≡ making.patterns_in a
-applied-shown site (code.PatternProperties schemas) = names-below site (codes "patternProperties") (members_view schemas.now.entries)
-applied-shown site a = refl
+applied-shown site a =
+    form-shown (name_of a) (combining_of a) (form_by site (name_of a) (asks_of a)) (is_keyword site a) ∙ patterns-are site (name_of a) (asks_of a)
 
 -- the patterns of a keyword as it was read are those of its shapes
 keyword-shown : (docs : Documents) (s : Site) (k : Keyword) → flat_map shown (read.shapes_of docs s k) ≡ read.patterns_in k

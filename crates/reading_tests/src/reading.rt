@@ -11,28 +11,28 @@ use std::process::Abort;
 // A schema, the name of a member, and how that is read.
 const DRAFT_4: &str = r#"
 {"properties":{"a":{},"b":1}} :: properties :: Entry { name: "b", expected: "schema" }
-{"patternProperties":{"a(":{},"^b":{}}} :: patternProperties :: Applied(PatternProperties({"^b": Object {}, "a(": Object {}}))
-{"additionalProperties":false,"patternProperties":{"^b":{}},"properties":{"a":{}}} :: additionalProperties :: Applied(NoAdditionalProperties { declared: Declared { names: Some({"a": Object {}}), patterns: Some({"^b": Object {}}) }, schema: Bool(false) })
-{"additionalProperties":false,"properties":{}} :: additionalProperties :: Applied(NoAdditionalProperties { declared: Declared { names: Some({}), patterns: None }, schema: Bool(false) })
+{"patternProperties":{"a(":{},"^b":{}}} :: patternProperties :: Applied(ApplicatorOf { keyword: "patternProperties", asks: MatchingMembers({"^b": Object {}, "a(": Object {}}), combining: Every })
+{"additionalProperties":false,"patternProperties":{"^b":{}},"properties":{"a":{}}} :: additionalProperties :: Applied(ApplicatorOf { keyword: "additionalProperties", asks: OtherMembers { declared: DeclaredOf { names: Some({"a": Object {}}), patterns: Some({"^b": Object {}}) }, schema: Bool(false) }, combining: Together })
+{"additionalProperties":false,"properties":{}} :: additionalProperties :: Applied(ApplicatorOf { keyword: "additionalProperties", asks: OtherMembers { declared: DeclaredOf { names: Some({}), patterns: None }, schema: Bool(false) }, combining: Together })
 "#;
 
 const DRAFT_6: &str = r#"
 {"allOf":{}} :: allOf :: Value { expected: "list" }
-{"anyOf":[true,false]} :: anyOf :: Applied(AnyOf([Bool(true), Bool(false)]))
+{"anyOf":[true,false]} :: anyOf :: Applied(ApplicatorOf { keyword: "anyOf", asks: Branches([Bool(true), Bool(false)]), combining: SomeBranch })
 "#;
 
 const DRAFT_7: &str = r#"
-{"items":[true]} :: items :: Applied(ItemList([Bool(true)]))
+{"items":[true]} :: items :: Applied(ApplicatorOf { keyword: "items", asks: ItemByItem([Bool(true)]), combining: Every })
 {"items":3} :: items :: Value { expected: "schema or list" }
 {"patternProperties":{"^b":true,"a(":1}} :: patternProperties :: Entry { name: "a(", expected: "schema" }
-{"not":false} :: not :: Applied(Not(Bool(false)))
-{"propertyNames":false} :: propertyNames :: Applied(NoPropertyNames(Bool(false)))
+{"not":false} :: not :: Applied(ApplicatorOf { keyword: "not", asks: Value(Bool(false)), combining: Refusal })
+{"propertyNames":false} :: propertyNames :: Applied(ApplicatorOf { keyword: "propertyNames", asks: Names(Bool(false)), combining: Together })
 {"propertyNames":true} :: propertyNames :: Nothing
 {"propertyNames":3} :: propertyNames :: Nothing
 {"type":"null"} :: type :: left
-{"contains":true,"minContains":2} :: contains :: Applied(Contains { schema: Bool(true), least: None, most: None })
+{"contains":true,"minContains":2} :: contains :: Applied(ApplicatorOf { keyword: "contains", asks: ItemsFrom { start: 0, schema: Bool(true) }, combining: Counted { least: None, most: None } })
 {"if":true} :: if :: Nothing
-{"if":true,"then":5,"else":false} :: if :: Applied(If { condition: Bool(true), then_schema: None, else_schema: Some(Bool(false)) })
+{"if":true,"then":5,"else":false} :: if :: Applied(ApplicatorOf { keyword: "if", asks: Condition { condition: Bool(true), then_schema: None, else_schema: Some(Bool(false)) }, combining: Conditional })
 {"if":true,"then":5} :: then :: Value { expected: "schema" }
 {"if":true,"then":false} :: then :: Consequent(Bool(false))
 {"then":5} :: then :: Nothing
@@ -40,8 +40,8 @@ const DRAFT_7: &str = r#"
 
 const DRAFT_2019_09: &str = r#"
 {"dependentSchemas":[]} :: dependentSchemas :: Value { expected: "object" }
-{"items":true,"prefixItems":[{},{}]} :: items :: Applied(Items { start: 0, schema: Bool(true) })
-{"items":[{}],"additionalItems":false} :: additionalItems :: Applied(NoAdditionalItems { start: 1, schema: Bool(false) })
+{"items":true,"prefixItems":[{},{}]} :: items :: Applied(ApplicatorOf { keyword: "items", asks: ItemsFrom { start: 0, schema: Bool(true) }, combining: Every })
+{"items":[{}],"additionalItems":false} :: additionalItems :: Applied(ApplicatorOf { keyword: "additionalItems", asks: ItemsFrom { start: 1, schema: Bool(false) }, combining: Together })
 {"items":{},"additionalItems":false} :: additionalItems :: Nothing
 "#;
 
@@ -49,17 +49,17 @@ const DRAFT_2020_12: &str = r#"
 {"items":[true]} :: items :: Value { expected: "schema" }
 {"prefixItems":[true,3,4]} :: prefixItems :: Element { index: 1, expected: "schema" }
 {"patternProperties":["^b"]} :: patternProperties :: Value { expected: "object" }
-{"items":true,"prefixItems":[{},{}]} :: items :: Applied(Items { start: 2, schema: Bool(true) })
-{"contains":true,"minContains":2,"maxContains":"a"} :: contains :: Applied(Contains { schema: Bool(true), least: Some(2), most: None })
+{"items":true,"prefixItems":[{},{}]} :: items :: Applied(ApplicatorOf { keyword: "items", asks: ItemsFrom { start: 2, schema: Bool(true) }, combining: Every })
+{"contains":true,"minContains":2,"maxContains":"a"} :: contains :: Applied(ApplicatorOf { keyword: "contains", asks: ItemsFrom { start: 0, schema: Bool(true) }, combining: Counted { least: Some(2), most: None } })
 {"contains":true,"maxContains":"a"} :: maxContains :: Value { expected: "count" }
 {"maxContains":"a"} :: maxContains :: Nothing
-{"additionalProperties":false} :: additionalProperties :: Applied(NoProperties(Bool(false)))
-{"additionalProperties":false,"patternProperties":3} :: additionalProperties :: Applied(NoAdditionalProperties { declared: Declared { names: None, patterns: None }, schema: Bool(false) })
+{"additionalProperties":false} :: additionalProperties :: Applied(ApplicatorOf { keyword: "additionalProperties", asks: Members(Bool(false)), combining: Together })
+{"additionalProperties":false,"patternProperties":3} :: additionalProperties :: Applied(ApplicatorOf { keyword: "additionalProperties", asks: OtherMembers { declared: DeclaredOf { names: None, patterns: None }, schema: Bool(false) }, combining: Together })
 {"additionalProperties":true,"patternProperties":{}} :: additionalProperties :: Nothing
-{"additionalProperties":{},"patternProperties":{"a(":true}} :: additionalProperties :: Applied(AdditionalProperties { declared: Declared { names: None, patterns: Some({"a(": Bool(true)}) }, schema: Object {} })
-{"additionalProperties":{}} :: additionalProperties :: Applied(AdditionalProperties { declared: Declared { names: None, patterns: None }, schema: Object {} })
-{"additionalProperties":{},"properties":{"a":true}} :: additionalProperties :: Applied(AdditionalProperties { declared: Declared { names: Some({"a": Bool(true)}), patterns: None }, schema: Object {} })
-{"additionalProperties":false,"properties":3} :: additionalProperties :: Applied(NoAdditionalProperties { declared: Declared { names: None, patterns: None }, schema: Bool(false) })
+{"additionalProperties":{},"patternProperties":{"a(":true}} :: additionalProperties :: Applied(ApplicatorOf { keyword: "additionalProperties", asks: OtherMembers { declared: DeclaredOf { names: None, patterns: Some({"a(": Bool(true)}) }, schema: Object {} }, combining: Every })
+{"additionalProperties":{}} :: additionalProperties :: Applied(ApplicatorOf { keyword: "additionalProperties", asks: OtherMembers { declared: DeclaredOf { names: None, patterns: None }, schema: Object {} }, combining: Every })
+{"additionalProperties":{},"properties":{"a":true}} :: additionalProperties :: Applied(ApplicatorOf { keyword: "additionalProperties", asks: OtherMembers { declared: DeclaredOf { names: Some({"a": Bool(true)}), patterns: None }, schema: Object {} }, combining: Every })
+{"additionalProperties":false,"properties":3} :: additionalProperties :: Applied(ApplicatorOf { keyword: "additionalProperties", asks: OtherMembers { declared: DeclaredOf { names: None, patterns: None }, schema: Bool(false) }, combining: Together })
 {"additionalProperties":[],"properties":{}} :: additionalProperties :: Value { expected: "schema" }
 {"additionalProperties":true} :: additionalProperties :: Nothing
 "#;

@@ -1,9 +1,15 @@
 // Chains of references, by the dynamic scope too: where the last one leads, and the base URI there; and the keys of the scopes there.
 // The steps of a chain are `recursive`, `dynamic` and a reference, `enter` and a reference to a subschema, `itself` for the empty
 // reference, or any other.
+
+ghost use Rattle.std.specs.Prelude.{◌≡◌, IfOk};
+ghost use Rattle.referencing.specs.Seen.{documents_of};
+ghost use Rattle.referencing_tests.specs.Alone.{alone_by};
+
 use crate::lookups::{Led, reached, told};
-use crate::registries::{assert_topics, prepared_alone};
-use crate::scripts::{assert_told, cut_word, text_of};
+use crate::registries::{Prepared, assert_topics};
+use crate::scripts::{assert_told, cut_word, json, text_of};
+use document_sources::resource::IntoRegistryResource;
 use referencing::following::{Step, follow};
 use referencing::registry::Registry;
 use referencing::scope_key::ScopeKey;
@@ -115,6 +121,17 @@ fn chains_of_references(rt: HostRuntime) {
     assert_topics(&rt, rt.alloc(), CHAINS);
 }
 
+// The registry of one document, lent or owned.
+fn alone<'a, D: IntoRegistryResource<'a> + Drop>(
+    alloc: Global,
+    uri: &str,
+    document: D,
+) -> Prepared<'a>
+    ensures { IfOk result (λ r. documents_of r ≡ alone_by D.contents D.draft uri.now document) }
+{
+    Registry::new(alloc).add(uri, document)?.prepare()
+}
+
 fn assert_both(rt: &impl Abort, alloc: Global, both: &BothAnswers<'_, '_>, want: &str) {
     assert_told(rt, &told(rt, alloc, &both.left), want, "the left one");
     assert_told(rt, &told(rt, alloc, &both.right), want, "the right one");
@@ -126,14 +143,16 @@ const IN_BOTH: [(&str, &str); 2] = [
 ];
 
 #[test]
-fn chains_in_both(rt: HostRuntime) {
-    let alloc = rt.alloc();
-    let topic = r##"document http://a.test/r {"$defs":{"d":{"$id":"d/","e":[7]}}}"##;
-    let registry = prepared_alone(&rt, alloc, topic).expect(&rt, "a registry");
-    let base = from_str(alloc, "http://a.test/r").expect(&rt, "a URI");
+fn chains_in_lent_and_in_owned_documents(rt: HostRuntime) {
+    let (alloc, uri) = (rt.alloc(), "http://a.test/r");
+    let document = json(&rt, alloc, r##"{"$defs":{"d":{"$id":"d/","e":[7]}}}"##);
+    let lent = alone(alloc, uri, &document).expect(&rt, "a registry");
+    let copy = document.clone().expect(&rt, "memory");
+    let owned = alone(alloc, uri, copy).expect(&rt, "a registry");
+    let base = from_str(alloc, uri).expect(&rt, "a URI");
     for (reference, want) in IN_BOTH {
         let steps = [Step::Lookup("d/"), Step::Lookup(reference)];
-        let both = follow_both(&registry, &registry, &base, &steps);
+        let both = follow_both(&lent, &owned, &base, &steps);
         assert_both(&rt, alloc, &both, want);
     }
 }

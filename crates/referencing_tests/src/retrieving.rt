@@ -160,40 +160,66 @@ const WEB: &str = r##"document http://a.test/r {"$ref":"x"}
 limit 3
 refused :: More than 3 documents wanted"##;
 
-// Answers `true` once, and `false` from then on.
+// Answers `true` once and `false` from then on, and counts how often it is asked.
 #[derive(Drop)]
-struct Changing {
-    asked: Cell<bool>,
+struct Counting<'c> {
+    asked: &'c Cell<u32>,
 }
 
-impl Retrieve for Changing {
+impl Retrieve for Counting<'_> {
     ghost may_answer = { λ _ uri document. Unit {0} };
 
     ghost may_refuse = { λ _ uri. Unit {0} };
 
     fn retrieve(&self, _alloc: Global, _uri: &Uri) -> Result<Value, RetrieveError> {
         let before = self.asked.get();
-        self.asked.set(true);
-        Ok(Value::Bool(!before))
+        self.asked.set(before.wrapping_add(1));
+        Ok(Value::Bool(before == 0))
     }
 }
 
-const TWICE: &str =
-    r##"document http://a.test/r {"properties":{"x":{"$ref":"x"},"y":{"$ref":"http://A.test/x#"}}}
+// Topics, each with how often the retriever is asked for it.
+const COUNTED: [(u32, &str); 4] = [
+    (
+        1,
+        r##"document http://a.test/r {"properties":{"x":{"$ref":"x"},"y":{"$ref":"http://A.test/x#"}}}
 retrieved :: http://a.test/x
-lookup http://a.test/x :: http://a.test/x# http://a.test/x true"##;
+lookup http://a.test/x :: http://a.test/x# http://a.test/x true"##,
+    ),
+    (
+        2,
+        r##"document http://a.test/r {"properties":{"x":{"$ref":"x"},"y":{"$ref":"y"},"z":{"$ref":"x#/a"}}}
+retrieved :: http://a.test/x http://a.test/y
+lookup http://a.test/y :: http://a.test/y# http://a.test/y false"##,
+    ),
+    (
+        0,
+        r##"document http://a.test/r {"$ref":"#/a"}
+retrieved ::"##,
+    ),
+    (
+        0,
+        r##"document http://a.test/r {"properties":{"x":{"$ref":"x"},"y":{"$ref":"y"}}}
+limit 1
+refused :: More than 1 documents wanted"##,
+    ),
+];
+
+fn assert_counted(rt: &impl Abort, alloc: Global, topic: &str, want: u32) {
+    let asked = Cell::new(0);
+    let retriever = Counting { asked: &asked };
+    let prepared = prepared_with(rt, alloc, topic, retriever);
+    assert_asked(rt, alloc, &prepared, topic);
+    assert_eq!(rt; asked.get(), want, "{topic}");
+}
 
 #[test]
-fn a_web_and_a_change(rt: HostRuntime) {
-    let (alloc, asked) = (rt.alloc(), Cell::new(false));
+fn a_web_and_how_often_it_is_asked(rt: HostRuntime) {
+    let alloc = rt.alloc();
     assert_asked(&rt, alloc, &prepared_with(&rt, alloc, WEB, Web), WEB);
-    let changing = Changing { asked };
-    assert_asked(
-        &rt,
-        alloc,
-        &prepared_with(&rt, alloc, TWICE, changing),
-        TWICE,
-    );
+    for (want, topic) in COUNTED {
+        assert_counted(&rt, alloc, topic, want);
+    }
 }
 
 const PARENT: &str = r##"document http://a.test/r {"$ref":"x"}

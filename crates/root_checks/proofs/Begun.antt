@@ -1,7 +1,7 @@
 -- References that begin, one by one.
 use Rattle.std.proofs.Common.{◌≡◌, ◌∙◌, ◌⊎◌, ℕ, List, [], ◌∷◌, ◌++◌, Bool, true, false, Option, Some, None, Ok, Err, refl, sym, ap, subst, inl, inr, append-nil, append_assoc, arith}
 use Rattle.std.specs.List.{list_all}
-use Rattle.schema_meaning.specs.Members.{In, first, later}
+use Rattle.schema_meaning.specs.Members.{In, first}
 use Rattle.schema_definitions.specs.Bearers.{Document}
 use Rattle.schema_definitions.specs.Lookup.{lookup}
 use Rattle.schema_definitions.specs.BuildCauses.{at_root}

@@ -1,5 +1,5 @@
 -- Roots that lead to no node that is wrong.
-use Rattle.std.proofs.Common.{◌≡◌, ◌∙◌, ℕ, List, Bool, true, false, not, true≢false, Option, Some, None, sym, ap, slice_get}
+use Rattle.std.proofs.Common.{◌≡◌, ◌∙◌, ℕ, List, Bool, not, true≢false, Option, Some, None, sym, ap, slice_get}
 use Rattle.std.specs.Bool.{Decides}
 use Rattle.marked_nodes.specs.Leading.{LeadsTo}
 use Rattle.marked_nodes.specs.declared.graph.Edge.{Edge}

@@ -6,7 +6,6 @@ use Rattle.schema_definitions.specs.Bearers.{Document}
 use Rattle.schema_definitions.specs.Lookup.{Target}
 use Rattle.schema_meaning.specs.Members.{In, first, later}
 use Rattle.schema_definitions.specs.BuildCauses.{IsCauseOf}
-use Rattle.schema_definitions.specs.Rows as rows
 use Rattle.schema_definitions.specs.Sites.{root_site}
 use Rattle.schema_patterns.specs.Tables.{AreMadeBy, texts_of_table}
 use Rattle.schema_registries.specs.Roots.{Patterns, IsSound}

@@ -1,14 +1,13 @@
 //! Which of several roots may be read.
 
-ghost use Rattle.std.specs.Prelude.{◌≡◌, ◌<◌, ◌∷◌, [], ℕ, Some, true, map, length, slice_get, string_bytes, IfOk, IfErr};
+ghost use Rattle.std.specs.Prelude.{◌≡◌, ◌<◌, Some, true, map, length, string_bytes, IfOk, IfErr};
 ghost use Rattle.std.specs.List.{list_all, AllZip};
 ghost use Rattle.document_laws.specs.TargetLaws.{are_apart, contents_rise};
 ghost use Rattle.referencing.specs.Resolved.{base_of, documents_in};
 ghost use Rattle.referencing.specs.Seen.{documents_of};
-ghost use Rattle.root_checks.specs.Causes.{RefusesEach};
+ghost use Rattle.root_checks.specs.Causes.{RefusesFrom};
 ghost use Rattle.root_checks.specs.Checks.{IsChecked};
 ghost use Rattle.root_checks.specs.Marked.{IsMarked, IsNode, AreNodes, IsClear};
-ghost use Rattle.root_checks.specs.Starts.{sites_from};
 
 use crate::graph::walk;
 use marked_nodes::{Edge, leading_to};
@@ -68,7 +67,7 @@ fn check<'r, P: PatternMaker>(
     requires apart { are_apart (documents_in resolver.now) ≡ true }
     requires rise { list_all contents_rise (documents_in resolver.now) ≡ true }
     ensures checked { IfOk result (IsChecked P.Matcher.finds (P.patterns maker.now) (documents_in resolver.now) (base_of resolver.now) (map string_bytes references.now) limit) }
-    ensures refused { IfErr result (RefusesEach (documents_in resolver.now ∷ []) (P.patterns maker.now).makes (sites_from (documents_in resolver.now) (base_of resolver.now) (map string_bytes references.now)) limit) }
+    ensures refused { IfErr result (RefusesFrom (P.patterns maker.now).makes (documents_in resolver.now) (base_of resolver.now) (map string_bytes references.now) limit) }
 {
     let graph = walk(alloc, resolver, references, matches, maker, limit)?;
     let starts = graph.starts;
@@ -90,7 +89,7 @@ fn check_from<P: PatternMaker>(
     requires apart { are_apart (documents_in resolver.now) ≡ true }
     requires rise { list_all contents_rise (documents_in resolver.now) ≡ true }
     ensures checked { IfOk result (IsChecked P.Matcher.finds (P.patterns maker.now) (documents_in resolver.now) (base_of resolver.now) (map string_bytes references.now) limit) }
-    ensures refused { IfErr result (RefusesEach (documents_in resolver.now ∷ []) (P.patterns maker.now).makes (sites_from (documents_in resolver.now) (base_of resolver.now) (map string_bytes references.now)) limit) }
+    ensures refused { IfErr result (RefusesFrom (P.patterns maker.now).makes (documents_in resolver.now) (base_of resolver.now) (map string_bytes references.now) limit) }
 {
     let matches = Matches::none(alloc);
     check(alloc, &*resolver, references, &matches, maker, limit)
@@ -115,7 +114,7 @@ pub fn check_each<P: PatternMaker>(
 ) -> Result<Checked<P::Matcher>, BuildCause>
     requires apart { are_apart (documents_of registry.now) ≡ true }
     ensures checked { IfOk result (IsChecked P.Matcher.finds (P.patterns maker.now) (documents_of registry.now) base.now (map string_bytes references.now) limit) }
-    ensures refused { IfErr result (RefusesEach (documents_of registry.now ∷ []) (P.patterns maker.now).makes (sites_from (documents_of registry.now) base.now (map string_bytes references.now)) limit) }
+    ensures refused { IfErr result (RefusesFrom (P.patterns maker.now).makes (documents_of registry.now) base.now (map string_bytes references.now) limit) }
 {
     let resolver = registry.resolver(base.clone()?)?;
     registry.names_rise();

@@ -1,11 +1,10 @@
 //! The schemas that are reached from several roots, as a graph.
 
-ghost use Rattle.std.specs.Prelude.{◌≡◌, ◌∷◌, [], true, map, string_bytes, IfOk, IfErr};
+ghost use Rattle.std.specs.Prelude.{◌≡◌, true, map, string_bytes, IfOk, IfErr};
 ghost use Rattle.std.specs.List.{list_all};
 ghost use Rattle.document_laws.specs.TargetLaws.{are_apart, contents_rise};
 ghost use Rattle.referencing.specs.Resolved.{base_of, documents_in};
-ghost use Rattle.root_checks.specs.Causes.{RefusesEach};
-ghost use Rattle.root_checks.specs.Starts.{sites_from};
+ghost use Rattle.root_checks.specs.Causes.{RefusesFrom};
 ghost use Rattle.root_checks.specs.Walked.{IsWalked};
 
 use crate::led::led_by;
@@ -47,7 +46,7 @@ pub(crate) fn walk<'r, P: PatternMaker>(
     requires apart { are_apart (documents_in resolver.now) ≡ true }
     requires rise { list_all contents_rise (documents_in resolver.now) ≡ true }
     ensures walked { IfOk result (IsWalked P.Matcher.finds (P.patterns maker.now).finished (P.patterns maker.now).makes (documents_in resolver.now) (base_of resolver.now) (map string_bytes references.now) limit) }
-    ensures refused { IfErr result (RefusesEach (documents_in resolver.now ∷ []) (P.patterns maker.now).makes (sites_from (documents_in resolver.now) (base_of resolver.now) (map string_bytes references.now)) limit) }
+    ensures refused { IfErr result (RefusesFrom (P.patterns maker.now).makes (documents_in resolver.now) (base_of resolver.now) (map string_bytes references.now) limit) }
 {
     let mut table = PatternTable::new(alloc);
     let mut edges = Vec::new(alloc);

@@ -1,17 +1,16 @@
 //! Where the keywords of a schema lead that have no cause.
 
-ghost use Rattle.std.specs.Prelude.{◌≡◌, ◌∷◌, ◌&&◌, [], List, ℕ, true, false, IfOk, OnOk, string_bytes};
-ghost use Rattle.serde_json.specs.View.{view, members_view};
-ghost use Rattle.referencing.specs.Resolved.{documents_in};
-ghost use Rattle.schema_meaning.specs.Members.{In, is_listed};
+ghost use Rattle.std.specs.Prelude.{◌≡◌, ◌&&◌, true, false, IfOk, OnOk};
+ghost use Rattle.serde_json.specs.View.{members_view};
+ghost use Rattle.schema_meaning.specs.Members.{In};
 ghost use Rattle.schema_definitions.specs.Sites as sites;
 ghost use Rattle.applicators.specs.Made.{is_made_by};
 ghost use Rattle.schema_patterns.specs.Tables.{texts_of_table};
-ghost use Rattle.reached_sites.specs.Patterns.{text_of, texts_of, written, written_members, Holds, IsFilled};
-ghost use Rattle.reached_sites.specs.Visits.{site_of, Met};
+ghost use Rattle.reached_sites.specs.Patterns.{text_of, texts_of, written, Holds};
+ghost use Rattle.reached_sites.specs.Visits.{Met};
 ghost use Rattle.reached_sites.specs.declared.pattern.Pattern.{Pattern};
 ghost use Rattle.root_checks.specs.Memory as memory;
-ghost use Rattle.root_checks.specs.Led.{written_at, MemberLed, MembersLed, IsLed};
+ghost use Rattle.root_checks.specs.Led.{StaysFilled, MemberLeads, MembersLead, VisitLeads, HoldsMember, HoldsMembers};
 
 use reached_sites::cause::BuildCause;
 use reached_sites::leads::push_leads;
@@ -49,7 +48,7 @@ fn are_made<P: PatternMaker>(
     patterns: &[Pattern<'_>],
     table: &mut PatternTable<P::Matcher>,
 ) -> Result<bool, AllocError>
-    ensures filled { IsFilled P.Matcher.finds (P.patterns maker.now).finished (P.patterns maker.now).makes table.old → IsFilled P.Matcher.finds (P.patterns maker.now).finished (P.patterns maker.now).makes table.new }
+    ensures filled { StaysFilled P.Matcher.finds (P.patterns maker.now) table.old table.new }
     ensures kept { Holds table.new (texts_of_table table.old) }
     ensures made { IfOk result (λ b. b ≡ true → Holds table.new (texts_of patterns.now)) }
     ensures unmade { IfOk result (λ b. b ≡ false → (q : Pattern) × In q patterns.now × (is_made_by (P.patterns maker.now).makes (text_of q) ≡ false)) }
@@ -66,23 +65,30 @@ fn are_made<P: PatternMaker>(
     }
 }
 
+// A member of a schema, among all of them.
+#[derive(Clone, Copy)]
+struct Member<'m, 'r> {
+    members: &'r Map<String, Value>,
+    name: &'m str,
+    value: &'r Value,
+}
+
 // Puts what a member leads to behind others, where it has no cause, and answers whether that is so.
 fn push_member<'r, P: PatternMaker>(
     alloc: Global,
     visit: &Visit<'r>,
-    members: &'r Map<String, Value>,
-    name: &str,
-    value: &'r Value,
+    member: Member<'_, 'r>,
     maker: &P,
     leads: &mut Vec<Visit<'r>>,
     table: &mut PatternTable<P::Matcher>,
 ) -> Result<bool, AllocError>
-    ensures led { IfOk result (λ b. IsFilled P.Matcher.finds (P.patterns maker.now).finished (P.patterns maker.now).makes table.old → MemberLed (documents_in visit.now.site.resolver) (P.patterns maker.now).makes (site_of visit.now) (members_view members.now.entries) name.now (view value.now) leads.old.items leads.new.items b) }
-    ensures filled { OnOk result (IsFilled P.Matcher.finds (P.patterns maker.now).finished (P.patterns maker.now).makes table.old → IsFilled P.Matcher.finds (P.patterns maker.now).finished (P.patterns maker.now).makes table.new) }
+    ensures led { IfOk result (λ b. MemberLeads P.Matcher.finds (P.patterns maker.now) table.old visit.now member.entry leads.old.items leads.new.items b) }
+    ensures filled { OnOk result (StaysFilled P.Matcher.finds (P.patterns maker.now) table.old table.new) }
     ensures kept { OnOk result (Holds table.new (texts_of_table table.old)) }
-    ensures written { IfOk result (λ b. b ≡ true → Holds table.new (written_at (site_of visit.now).dialect (members_view members.now.entries) name.now (view value.now))) }
+    ensures written { IfOk result (λ b. HoldsMember table.new visit.now member.entry b) }
 {
-    match keyword(alloc, &visit.site, members, name, value) {
+    let name = member.name;
+    match keyword(alloc, &visit.site, member.members, name, member.value) {
         Ok(keyword) => {
             let mut patterns = Vec::new(alloc);
             push_patterns(alloc, &visit.point.place, name, &keyword, &mut patterns)?;
@@ -115,16 +121,21 @@ fn led_by_members<'r, P: PatternMaker>(
     maker: &P,
     table: &mut PatternTable<P::Matcher>,
 ) -> Result<(Vec<Visit<'r>>, bool), AllocError>
-    ensures led { IfOk result (λ l. IsFilled P.Matcher.finds (P.patterns maker.now).finished (P.patterns maker.now).makes table.old → MembersLed (documents_in visit.now.site.resolver) (P.patterns maker.now).makes (site_of visit.now) (members_view members.now.entries) l.0.items l.1) }
-    ensures filled { OnOk result (IsFilled P.Matcher.finds (P.patterns maker.now).finished (P.patterns maker.now).makes table.old → IsFilled P.Matcher.finds (P.patterns maker.now).finished (P.patterns maker.now).makes table.new) }
+    ensures led { IfOk result (λ l. MembersLead P.Matcher.finds (P.patterns maker.now) table.old visit.now (members_view members.now.entries) l.0.items l.1) }
+    ensures filled { OnOk result (StaysFilled P.Matcher.finds (P.patterns maker.now) table.old table.new) }
     ensures kept { OnOk result (Holds table.new (texts_of_table table.old)) }
-    ensures written { IfOk result (λ l. l.1 ≡ true → Holds table.new (written_members (site_of visit.now).dialect (members_view members.now.entries) (members_view members.now.entries))) }
+    ensures written { IfOk result (λ l. HoldsMembers table.new visit.now (members_view members.now.entries) l.1) }
 {
     let mut leads = Vec::new(alloc);
     let mut is_right = true;
     for (name, value) in members.iter() {
         let name = name.as_str();
-        let is_clear = push_member(alloc, visit, members, name, value, maker, &mut leads, table)?;
+        let member = Member {
+            members,
+            name,
+            value,
+        };
+        let is_clear = push_member(alloc, visit, member, maker, &mut leads, table)?;
         is_right = are_both(is_right, is_clear);
     }
     Ok((leads, is_right))
@@ -143,8 +154,8 @@ pub(crate) fn led_by<'r, P: PatternMaker>(
     maker: &P,
     table: &mut PatternTable<P::Matcher>,
 ) -> Result<(Vec<Visit<'r>>, bool), AllocError>
-    ensures led { IfOk result (λ l. IsFilled P.Matcher.finds (P.patterns maker.now).finished (P.patterns maker.now).makes table.old → (s : sites.Site) → Met visit.now s → IsLed (documents_in visit.now.site.resolver) (P.patterns maker.now).makes s l.0.items l.1) }
-    ensures filled { OnOk result (IsFilled P.Matcher.finds (P.patterns maker.now).finished (P.patterns maker.now).makes table.old → IsFilled P.Matcher.finds (P.patterns maker.now).finished (P.patterns maker.now).makes table.new) }
+    ensures led { IfOk result (λ l. VisitLeads P.Matcher.finds (P.patterns maker.now) table.old visit.now l.0.items l.1) }
+    ensures filled { OnOk result (StaysFilled P.Matcher.finds (P.patterns maker.now) table.old table.new) }
     ensures kept { OnOk result (Holds table.new (texts_of_table table.old)) }
     ensures written { IfOk result (λ l. l.1 ≡ true → (s : sites.Site) → Met visit.now s → Holds table.new (written s)) }
 {

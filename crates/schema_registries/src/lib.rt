@@ -7,7 +7,7 @@ pub mod error;
 pub mod numbers;
 pub mod place_pointers;
 pub mod registry;
-mod search;
+pub mod search;
 mod sharing;
 pub mod whole_numbers;
 
@@ -16,4 +16,6 @@ pub use documents::Documents;
 pub use error::DocumentError;
 pub use numbers::has_only_whole;
 pub use registry::{SchemaRegistry, SharedRegistry};
+pub use schema_steps::Path;
+pub use search::other_number;
 pub use whole_numbers::WholeNumbers;

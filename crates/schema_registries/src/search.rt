@@ -11,7 +11,11 @@ use serde_json::{Map, Value};
 use std::alloc::{AllocError, Global};
 
 /// The path of the first number that is not whole. It walks what stands before the number once for each level above it.
-pub(crate) fn other_number(alloc: Global, document: &Value) -> Result<Path, AllocError>
+///
+/// # Errors
+///
+/// Where memory was refused.
+pub fn other_number(alloc: Global, document: &Value) -> Result<Path, AllocError>
     requires { only_whole (view document.now) ≡ false }
     ensures { IfOk result (IsOtherNumber (view document.now)) }
 {

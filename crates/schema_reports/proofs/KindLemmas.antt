@@ -1,11 +1,11 @@
 -- Kinds with the faults of several schemas.
-use Rattle.std.proofs.Common.{◌≡◌, refl, sym, ap, ◌∙◌}
+use Rattle.std.proofs.Common.{◌≡◌, ◌&&◌, refl, sym, ap, ◌∙◌}
 use Rattle.std.specs.declared.alloc.Global.{Global}
 use Rattle.std.specs.declared.vec.Vec.{Vec}
 use Rattle.schema_meaning.specs.Faults as told
 use Rattle.schema_reports.specs.Instances.{value_in}
-use Rattle.schema_reports.specs.Kinds.{kind_of, row_faults, row_branches}
-use Rattle.schema_reports.specs.Told.{faults_of, branches_in}
+use Rattle.schema_reports.specs.Kinds.{kind_of, row_faults, row_branches, is_proper, row_is_proper, branches_are_proper}
+use Rattle.schema_reports.specs.Told.{faults_of, branches_in, are_proper, context_is_proper}
 use Rattle.schema_reports.specs.declared.error.ValidationError.{ValidationError}
 use Rattle.schema_reports.specs.declared.kind.ValidationErrorKind.{Row_of-ValidationError, end_of-ValidationError, more_of-ValidationError, items-the_row-ValidationError, items_shown-the_row-ValidationError-0, Row_of-ValidationErrorKind-AnyOf-0-1, end_of-ValidationErrorKind-AnyOf-0-1, more_of-ValidationErrorKind-AnyOf-0-1, items-the_row-ValidationErrorKind-AnyOf-0-1, items_hidden-the_row-ValidationErrorKind-AnyOf-0-1-1}
 use Rattle.schema_reports.specs.declared.kind.ValidationErrorKind.TheBlock.{hidden-the_row-ValidationErrorKind-AnyOf-0-1-1}
@@ -33,3 +33,28 @@ kind-OneOfMultipleValid context = ap told.OneOfMultipleValid (context-row contex
 
 pub kind-OneOfNotValid : (context : Vec (Vec ValidationError Global) Global) → kind_of (kind.OneOfNotValid context) ≡ told.OneOfNotValid (branches_in context.items)
 kind-OneOfNotValid context = ap told.OneOfNotValid (context-row context)
+
+-- ---- values such as keywords have
+
+proper-row : {n : _} (k : Row_of-ValidationError n) → row_is_proper k ≡ are_proper (items-the_row-ValidationError n k)
+proper-row end_of-ValidationError = refl
+proper-row (more_of-ValidationError q k v i s e rest) = ap (λ b. is_proper k && b) (proper-row rest)
+
+proper-branches : {n : _} (k : Row_of-ValidationErrorKind-AnyOf-0-1 n) → branches_are_proper k ≡ context_is_proper (items-the_row-ValidationErrorKind-AnyOf-0-1 n k)
+proper-branches end_of-ValidationErrorKind-AnyOf-0-1 = refl
+proper-branches (more_of-ValidationErrorKind-AnyOf-0-1 shape errors rest) =
+    let same = proper-row errors ∙ ap are_proper (sym (items_shown-the_row-ValidationError-0 shape errors)) in
+    λ j. same j && proper-branches rest j
+
+proper-context : (context : Vec (Vec ValidationError Global) Global) → branches_are_proper (hidden-the_row-ValidationErrorKind-AnyOf-0-1-1 context) ≡ context_is_proper context.items
+proper-context context =
+    proper-branches (hidden-the_row-ValidationErrorKind-AnyOf-0-1-1 context) ∙ ap context_is_proper (items_hidden-the_row-ValidationErrorKind-AnyOf-0-1-1 context)
+
+pub proper-AnyOf : (context : Vec (Vec ValidationError Global) Global) → is_proper (kind.AnyOf context) ≡ context_is_proper context.items
+proper-AnyOf context = proper-context context
+
+pub proper-OneOfMultipleValid : (context : Vec (Vec ValidationError Global) Global) → is_proper (kind.OneOfMultipleValid context) ≡ context_is_proper context.items
+proper-OneOfMultipleValid context = proper-context context
+
+pub proper-OneOfNotValid : (context : Vec (Vec ValidationError Global) Global) → is_proper (kind.OneOfNotValid context) ≡ context_is_proper context.items
+proper-OneOfNotValid context = proper-context context

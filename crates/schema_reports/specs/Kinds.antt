@@ -1,6 +1,6 @@
 -- What the kinds of the code stand for.
-use Rattle.std.specs.Prelude.{ℕ, ℤ, pos, unsigned_abs, List, map, codes, string_bytes}
-use Rattle.serde_json.specs.Data.{Data}
+use Rattle.std.specs.Prelude.{◌≡◌, ◌&&◌, ℕ, ℤ, pos, int_le, unsigned_abs, Bool, true, false, Option, Some, None, is_some, List, map, codes, string_bytes}
+use Rattle.serde_json.specs.Data.{Data, array}
 use Rattle.serde_json.specs.View.{view}
 use Rattle.json_values.specs.Numbers.{whole}
 use Rattle.schema_meaning.specs.Faults as told
@@ -11,7 +11,7 @@ use Rattle.schema_reports.specs.Instances.{value_in}
 use Rattle.schema_reports.specs.declared.kind.ValidationErrorKind.{ValidationErrorKind, Row_of-ValidationError, end_of-ValidationError, more_of-ValidationError, Row_of-ValidationErrorKind-AnyOf-0-1, end_of-ValidationErrorKind-AnyOf-0-1, more_of-ValidationErrorKind-AnyOf-0-1}
 use Rattle.schema_reports.specs.declared.kind.ValidationErrorKind.TheVariants as kind
 
--- the whole number that a kind carries; a value that is none stands for zero
+-- the whole number that a kind carries; a value that is none stands for zero, and `is_proper` tells it from zero
 abbrev pub number_of : Data → ℤ
 number_of d = or (pos 0) (whole d)
 
@@ -52,6 +52,55 @@ abbrev mutual
   pub row_branches : {n : _} → Row_of-ValidationErrorKind-AnyOf-0-1 n → told.Branches
   row_branches end_of-ValidationErrorKind-AnyOf-0-1 = told.no_branch
   row_branches (more_of-ValidationErrorKind-AnyOf-0-1 shape errors rest) = told.branch (row_faults errors) (row_branches rest)
+
+-- ---- values such as keywords have
+
+-- a limit
+abbrev pub is_whole : Data → Bool
+is_whole d = is_some (whole d)
+
+abbrev pub is_natural : Option ℤ → Bool
+is_natural None = false
+is_natural (Some z) = int_le (pos 0) z
+
+-- a factor
+abbrev pub is_factor : Data → Bool
+is_factor d = is_natural (whole d)
+
+-- options
+abbrev pub is_list : Data → Bool
+is_list (array ds) = true
+is_list d = false
+
+-- what a kind carries is such a value, and so it is in the errors that it carries
+abbrev mutual
+  pub is_proper : ValidationErrorKind → Bool
+  is_proper (kind.AnyOf' shape all) = branches_are_proper all
+  is_proper (kind.Enumeration options) = is_list (view options)
+  is_proper (kind.ExclusiveMaximum limit) = is_whole (view limit)
+  is_proper (kind.ExclusiveMinimum limit) = is_whole (view limit)
+  is_proper (kind.Maximum limit) = is_whole (view limit)
+  is_proper (kind.Minimum limit) = is_whole (view limit)
+  is_proper (kind.MultipleOf multiple_of) = is_factor (view multiple_of)
+  is_proper (kind.OneOfMultipleValid' shape all) = branches_are_proper all
+  is_proper (kind.OneOfNotValid' shape all) = branches_are_proper all
+  is_proper (kind.PropertyNames' p q k v i s e) = is_proper k
+  is_proper other = true
+
+  pub row_is_proper : {n : _} → Row_of-ValidationError n → Bool
+  row_is_proper end_of-ValidationError = true
+  row_is_proper (more_of-ValidationError q k v i s e rest) = is_proper k && row_is_proper rest
+
+  pub branches_are_proper : {n : _} → Row_of-ValidationErrorKind-AnyOf-0-1 n → Bool
+  branches_are_proper end_of-ValidationErrorKind-AnyOf-0-1 = true
+  branches_are_proper (more_of-ValidationErrorKind-AnyOf-0-1 shape errors rest) = row_is_proper errors && branches_are_proper rest
+
+-- a kind of the code is this one, value for value
+pub record StandsFor (code : ValidationErrorKind) (said : told.Kind) : Type 0 where
+  pub kind : kind_of code ≡ said
+  pub proper : is_proper code ≡ true
+
+-- ---- names
 
 -- the name that is printed
 abbrev pub kind_name : ValidationErrorKind → List ℕ

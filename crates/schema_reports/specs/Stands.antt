@@ -1,8 +1,8 @@
 -- What each observer says of the faults told so far.
 use Rattle.std.specs.Prelude.{◌≡◌, Option, Some, None, Box, box_value}
 use Rattle.std.specs.declared.alloc.Global.{Global}
-use Rattle.schema_meaning.specs.Faults.{Faults, none, is_none, Told}
-use Rattle.schema_reports.specs.Told.{fault_of, faults_of}
+use Rattle.schema_meaning.specs.Faults.{Faults, none, is_none}
+use Rattle.schema_reports.specs.Told.{IsOneOf, AreAll}
 use Rattle.schema_reports.specs.declared.error.ValidationError.{ValidationError}
 use Rattle.schema_reports.specs.declared.verdict.Verdict.{Verdict}
 use Rattle.schema_reports.specs.declared.first_fault.FirstFault.{FirstFault}
@@ -15,16 +15,16 @@ verdict_stands v fs = v.accepts ≡ is_none fs
 -- one of them, and none where there are none
 abbrev pub is_one_of : Option ValidationError → Faults → Type 0
 is_one_of None fs = fs ≡ none
-is_one_of (Some e) fs = Told (fault_of e) fs
+is_one_of (Some e) fs = IsOneOf e fs
 
 -- the same of an error in a box
 abbrev pub is_kept_of : Option (Box ValidationError Global) → Faults → Type 0
 is_kept_of None fs = fs ≡ none
-is_kept_of (Some b) fs = Told (fault_of (box_value b)) fs
+is_kept_of (Some b) fs = IsOneOf (box_value b) fs
 
 abbrev pub first_stands : FirstFault → Faults → Type 0
 first_stands f fs = is_kept_of f.error fs
 
 -- each of them, in order
 abbrev pub all_stand : AllFaults → Faults → Type 0
-all_stand a fs = faults_of a.errors.items ≡ fs
+all_stand a fs = AreAll a.errors.items fs

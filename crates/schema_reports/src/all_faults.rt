@@ -1,7 +1,7 @@
 //! Everything that is wrong.
 ghost use Rattle.std.specs.Prelude.{◌≡◌, true, OnOk};
 ghost use Rattle.serde_json.specs.View.{view};
-ghost use Rattle.schema_meaning.specs.Faults.{Faults, none, also, fault, joined};
+ghost use Rattle.schema_meaning.specs.Faults.{Kind, Faults, none, also, fault, joined};
 
 use crate::error::ValidationError;
 use crate::kind::ValidationErrorKind;
@@ -18,10 +18,10 @@ pub struct AllFaults<'i> {
 
 impl<'i> AllFaults<'i> {
     ghost use Rattle.schema_reports.specs.Stands.{all_stand};
-    ghost use Rattle.schema_reports.specs.Told.{faults_of, spot_of};
+    ghost use Rattle.schema_reports.specs.Told.{AreAll, spot_of};
     ghost use Rattle.schema_meaning.specs.Rules.{each_of_object};
     ghost use Rattle.schema_reports.specs.Locations.{location_of};
-    ghost use Rattle.schema_reports.specs.Kinds.{kind_of};
+    ghost use Rattle.schema_reports.specs.Kinds.{StandsFor};
     ghost use Rattle.schema_reports.specs.RoadPaths.{instance_in, schema_in, evaluation_in};
 
     /// No fault was told. It allocates nothing.
@@ -35,7 +35,7 @@ impl<'i> AllFaults<'i> {
 
     /// The faults that were told.
     pub fn into_errors(self) -> Vec<ValidationError<'i>>
-        ensures { (fs : Faults) → all_stand self.entry fs → faults_of result.items ≡ fs }
+        ensures { (fs : Faults) → all_stand self.entry fs → AreAll result.items fs }
     {
         self.errors
     }
@@ -54,8 +54,8 @@ impl<'i> AllFaults<'i> {
         instance: &'i Value,
         roads: Roads<'_>,
     ) -> Result<(), AllocError>
-        ensures { OnOk result ((fs : Faults) → all_stand self.old fs → all_stand self.new
-            (joined fs (also (fault (kind_of kind.entry) (view instance.now) (instance_in roads.entry) (schema_in roads.entry) (evaluation_in roads.entry)) none))) }
+        ensures { OnOk result ((said : Kind) → StandsFor kind.entry said → (fs : Faults) → all_stand self.old fs → all_stand self.new
+            (joined fs (also (fault said (view instance.now) (instance_in roads.entry) (schema_in roads.entry) (evaluation_in roads.entry)) none))) }
     {
         self.errors.push(roads.error(alloc, kind, instance)?)?;
         Ok(())
@@ -67,10 +67,10 @@ impl<'i> AllFaults<'i> {
         alloc: Global,
         heard: Vec<ValidationError<'_>>,
     ) -> Result<(), AllocError>
-        ensures { OnOk result ((fs : Faults) → all_stand self.old fs → all_stand self.new (joined fs (faults_of heard.entry.items))) }
+        ensures { OnOk result ((fs gs : Faults) → all_stand self.old fs → AreAll heard.entry.items gs → all_stand self.new (joined fs gs)) }
     {
         for error in heard {
-            self.errors.push(error.into_owned(alloc)?)?;
+            self.errors.push(error.to_owned(alloc)?)?;
         }
         Ok(())
     }
@@ -83,8 +83,8 @@ impl<'i> AllFaults<'i> {
         object: &'i Value,
         at: &LazyLocation<'_, '_>,
     ) -> Result<(), AllocError>
-        ensures { OnOk result ((fs : Faults) → all_stand self.old fs → all_stand self.new
-            (joined fs (each_of_object (spot_of (view object.now) (location_of at.now)) (faults_of heard.entry.items)))) }
+        ensures { OnOk result ((fs gs : Faults) → all_stand self.old fs → AreAll heard.entry.items gs → all_stand self.new
+            (joined fs (each_of_object (spot_of (view object.now) (location_of at.now)) gs))) }
     {
         for error in heard {
             self.errors.push(error.told_of(alloc, object, at)?)?;

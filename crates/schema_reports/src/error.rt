@@ -26,10 +26,10 @@ pub struct ValidationError<'i> {
 }
 
 impl<'i> ValidationError<'i> {
-    ghost use Rattle.schema_reports.specs.Kinds.{kind_of};
+    ghost use Rattle.schema_reports.specs.Kinds.{kind_of, is_proper};
     ghost use Rattle.schema_meaning.specs.Rules.{of_object};
     ghost use Rattle.schema_reports.specs.Locations.{location_of};
-    ghost use Rattle.schema_reports.specs.Told.{fault_of, fault_kind, fault_instance, spot_of};
+    ghost use Rattle.schema_reports.specs.Told.{fault_of, fault_kind, fault_instance, error_is_proper, spot_of};
 
     /// An error of these parts.
     ///
@@ -42,7 +42,8 @@ impl<'i> ValidationError<'i> {
         schema_path: Path,
         evaluation_path: Path,
     ) -> Result<Self, AllocError>
-        ensures { IfOk result (λ e. fault_of e ≡ told.fault (kind_of kind.entry) (view instance.now) instance_path schema_path evaluation_path) }
+        ensures told { IfOk result (λ e. fault_of e ≡ told.fault (kind_of kind.entry) (view instance.now) instance_path schema_path evaluation_path) }
+        ensures proper { IfOk result (λ e. error_is_proper e ≡ is_proper kind.entry) }
     {
         let paths = Paths {
             instance: instance_path,
@@ -54,7 +55,8 @@ impl<'i> ValidationError<'i> {
 
     // An error of these parts, which takes no memory.
     pub(crate) fn of(kind: Box<ValidationErrorKind<'i>>, instance: &'i Value, paths: Paths) -> Self
-        ensures { fault_of result ≡ told.fault (kind_of (box_value kind.entry)) (view instance.now) paths.instance paths.schema paths.evaluation }
+        ensures told { fault_of result ≡ told.fault (kind_of (box_value kind.entry)) (view instance.now) paths.instance paths.schema paths.evaluation }
+        ensures proper { error_is_proper result ≡ is_proper (box_value kind.entry) }
     {
         ValidationError {
             kind,
@@ -74,7 +76,8 @@ impl<'i> ValidationError<'i> {
         object: &'i Value,
         at: &LazyLocation<'_, '_>,
     ) -> Result<Self, AllocError>
-        ensures { IfOk result (λ e. fault_of e ≡ of_object (spot_of (view object.now) (location_of at.now)) (fault_of self.entry)) }
+        ensures told { IfOk result (λ e. fault_of e ≡ of_object (spot_of (view object.now) (location_of at.now)) (fault_of self.entry)) }
+        ensures proper { IfOk result (λ e. error_is_proper e ≡ error_is_proper self.entry) }
     {
         let paths = self.paths_at(alloc, at)?;
         let error = Box::new(alloc, self)?;
@@ -97,7 +100,8 @@ impl<'i> ValidationError<'i> {
 
     /// Why the value is refused.
     pub fn kind(&self) -> &ValidationErrorKind<'i>
-        ensures { kind_of result.now ≡ fault_kind (fault_of self.now) }
+        ensures kind { kind_of result.now ≡ fault_kind (fault_of self.now) }
+        ensures proper { is_proper result.now ≡ error_is_proper self.now }
     {
         &self.kind
     }

@@ -1,7 +1,7 @@
 //! The first thing that is wrong.
 ghost use Rattle.std.specs.Prelude.{◌≡◌, true, false, not, is_some, Some, OnOk};
 ghost use Rattle.serde_json.specs.View.{view};
-ghost use Rattle.schema_meaning.specs.Faults.{Faults, Told, none, also, fault, joined};
+ghost use Rattle.schema_meaning.specs.Faults.{Kind, Faults, none, also, fault, joined};
 
 use crate::error::ValidationError;
 use crate::kind::ValidationErrorKind;
@@ -18,10 +18,10 @@ pub struct FirstFault<'i> {
 
 impl<'i> FirstFault<'i> {
     ghost use Rattle.schema_reports.specs.Stands.{first_stands, is_kept_of, is_one_of};
-    ghost use Rattle.schema_reports.specs.Kinds.{kind_of};
+    ghost use Rattle.schema_reports.specs.Kinds.{StandsFor};
     ghost use Rattle.schema_meaning.specs.Rules.{each_of_object};
     ghost use Rattle.schema_reports.specs.Locations.{location_of};
-    ghost use Rattle.schema_reports.specs.Told.{spot_of, fault_of};
+    ghost use Rattle.schema_reports.specs.Told.{spot_of, IsOneOf};
     ghost use Rattle.schema_reports.specs.RoadPaths.{instance_in, schema_in, evaluation_in};
 
     /// No fault was told.
@@ -69,8 +69,8 @@ impl<'i> FirstFault<'i> {
         instance: &'i Value,
         roads: Roads<'_>,
     ) -> Result<(), AllocError>
-        ensures { OnOk result ((fs : Faults) → first_stands self.old fs → first_stands self.new
-            (joined fs (also (fault (kind_of kind.entry) (view instance.now) (instance_in roads.entry) (schema_in roads.entry) (evaluation_in roads.entry)) none))) }
+        ensures { OnOk result ((said : Kind) → StandsFor kind.entry said → (fs : Faults) → first_stands self.old fs → first_stands self.new
+            (joined fs (also (fault said (view instance.now) (instance_in roads.entry) (schema_in roads.entry) (evaluation_in roads.entry)) none))) }
     {
         if self.error.is_none() {
             self.keep(alloc, roads.error(alloc, kind, instance)?)?;
@@ -90,7 +90,7 @@ impl<'i> FirstFault<'i> {
             return Ok(());
         }
         if let Some(error) = heard {
-            self.keep(alloc, Box::into_inner(error).into_owned(alloc)?)?;
+            self.keep(alloc, Box::into_inner(error).to_owned(alloc)?)?;
         }
         Ok(())
     }
@@ -116,7 +116,7 @@ impl<'i> FirstFault<'i> {
     }
 
     fn keep(&mut self, alloc: Global, error: ValidationError<'i>) -> Result<(), AllocError>
-        ensures { OnOk result ((fs : Faults) → Told (fault_of error.entry) fs → first_stands self.new fs) }
+        ensures { OnOk result ((fs : Faults) → IsOneOf error.entry fs → first_stands self.new fs) }
     {
         self.error = Some(Box::new(alloc, error)?);
         Ok(())

@@ -2,7 +2,7 @@
 
 ghost use Rattle.std.specs.Prelude.{◌≡◌};
 ghost use Rattle.schema_meaning.specs.Faults.{Faults, is_none};
-ghost use Rattle.schema_reports.specs.Told.{faults_of};
+ghost use Rattle.schema_reports.specs.Told.{AreAll};
 ghost use Rattle.schema_reports.specs.Observers.{Hears};
 ghost use Rattle.schema_reports.specs.declared.observer.Observation.TheVariants as kept;
 
@@ -21,7 +21,7 @@ pub fn heard_none(observer: Observer<'_>) -> bool
 
 /// What one that keeps each fault heard, in order: the errors that the context of a branch holds.
 pub fn all_heard<'i>(alloc: Global, observer: Observer<'i>) -> Vec<ValidationError<'i>>
-    ensures { (fs : Faults) → Hears kept.All observer.entry fs → faults_of result.items ≡ fs }
+    ensures { (fs : Faults) → Hears kept.All observer.entry fs → AreAll result.items fs }
 {
     match observer {
         Observer::All(all) => all.into_errors(),

@@ -1,14 +1,14 @@
 //! Who hears of what is wrong.
 ghost use Rattle.std.specs.Prelude.{◌≡◌, true, false, OnOk};
 ghost use Rattle.serde_json.specs.View.{view};
-ghost use Rattle.schema_meaning.specs.Faults.{Fault, Faults, none, also, fault, joined, is_none};
+ghost use Rattle.schema_meaning.specs.Faults.{Kind, Fault, Faults, none, also, fault, joined, is_none};
 ghost use Rattle.schema_meaning.specs.Rules.{each_of_object};
-ghost use Rattle.schema_reports.specs.Kinds.{kind_of};
+ghost use Rattle.schema_reports.specs.Kinds.{StandsFor};
 ghost use Rattle.schema_reports.specs.Locations.{location_of};
 ghost use Rattle.schema_reports.specs.Observers.{Hears, is_for_all, wants};
 ghost use Rattle.schema_reports.specs.RoadPaths.{instance_in, schema_in, evaluation_in};
 ghost use Rattle.schema_reports.specs.Stands.{is_kept_of};
-ghost use Rattle.schema_reports.specs.Told.{faults_of, spot_of};
+ghost use Rattle.schema_reports.specs.Told.{AreAll, spot_of};
 
 use crate::all_faults::AllFaults;
 use crate::error::ValidationError;
@@ -87,8 +87,8 @@ impl<'i> Observer<'i> {
         instance: &'i Value,
         roads: Roads<'_>,
     ) -> Result<(), AllocError>
-        ensures { OnOk result ((kept : Observation) (fs : Faults) → Hears kept self.old fs → Hears kept self.new
-            (joined fs (also (fault (kind_of kind.entry) (view instance.now) (instance_in roads.entry) (schema_in roads.entry) (evaluation_in roads.entry)) none))) }
+        ensures { OnOk result ((said : Kind) → StandsFor kind.entry said → (kept : Observation) (fs : Faults) → Hears kept self.old fs → Hears kept self.new
+            (joined fs (also (fault said (view instance.now) (instance_in roads.entry) (schema_in roads.entry) (evaluation_in roads.entry)) none))) }
     {
         match self {
             Observer::Verdict(verdict) => {
@@ -180,7 +180,7 @@ impl<'i> Observer<'i> {
 
     // The errors of one that keeps each.
     fn into_all(self, alloc: Global) -> Vec<ValidationError<'i>>
-        ensures { (fs : Faults) → Hears Observation.All self.entry fs → faults_of result.items ≡ fs }
+        ensures { (fs : Faults) → Hears Observation.All self.entry fs → AreAll result.items fs }
     {
         match self {
             Observer::Verdict(_) => Vec::new(alloc),

@@ -1,7 +1,7 @@
 //! Errors with values of their own.
 ghost use Rattle.std.specs.Prelude.{◌≡◌, IfOk};
-ghost use Rattle.schema_reports.specs.Kinds.{kind_of};
-ghost use Rattle.schema_reports.specs.Told.{fault_of, faults_of, branches_in};
+ghost use Rattle.schema_reports.specs.Kinds.{kind_of, is_proper};
+ghost use Rattle.schema_reports.specs.Told.{fault_of, faults_of, branches_in, error_is_proper, are_proper, context_is_proper};
 
 use crate::error::ValidationError;
 use crate::kind::ValidationErrorKind as Kind;
@@ -11,8 +11,9 @@ impl ValidationError<'_> {
     /// The same error with values of its own, and so are those that it carries.
     ///
     /// What it has of its own is kept, and a value that was lent is copied. The error comes where memory is out.
-    pub fn into_owned<'o>(self, alloc: Global) -> Result<ValidationError<'o>, AllocError>
-        ensures { IfOk result (λ e. fault_of e ≡ fault_of self.entry) }
+    pub fn to_owned<'o>(self, alloc: Global) -> Result<ValidationError<'o>, AllocError>
+        ensures told { IfOk result (λ e. fault_of e ≡ fault_of self.entry) }
+        ensures proper { IfOk result (λ e. error_is_proper e ≡ error_is_proper self.entry) }
     {
         owned_error(alloc, self)
     }
@@ -23,7 +24,8 @@ fn owned_error<'o>(
     alloc: Global,
     error: ValidationError<'_>,
 ) -> Result<ValidationError<'o>, AllocError>
-    ensures { IfOk result (λ e. fault_of e ≡ fault_of error.entry) }
+    ensures told { IfOk result (λ e. fault_of e ≡ fault_of error.entry) }
+    ensures proper { IfOk result (λ e. error_is_proper e ≡ error_is_proper error.entry) }
 {
     let ValidationError {
         kind,
@@ -44,7 +46,8 @@ fn owned_error<'o>(
 
 #[cycle(owned)]
 fn owned_kind<'o>(alloc: Global, kind: Kind<'_>) -> Result<Kind<'o>, AllocError>
-    ensures { IfOk result (λ k. kind_of k ≡ kind_of kind.entry) }
+    ensures told { IfOk result (λ k. kind_of k ≡ kind_of kind.entry) }
+    ensures proper { IfOk result (λ k. is_proper k ≡ is_proper kind.entry) }
 {
     match kind {
         Kind::AdditionalItems => Ok(Kind::AdditionalItems),
@@ -89,7 +92,8 @@ fn owned_context<'o>(
     alloc: Global,
     context: Vec<Vec<ValidationError<'_>>>,
 ) -> Result<Vec<Vec<ValidationError<'o>>>, AllocError>
-    ensures { IfOk result (λ es. branches_in es.items ≡ branches_in context.entry.items) }
+    ensures told { IfOk result (λ es. branches_in es.items ≡ branches_in context.entry.items) }
+    ensures proper { IfOk result (λ es. context_is_proper es.items ≡ context_is_proper context.entry.items) }
 {
     let mut branches = Vec::new(alloc);
     for errors in context {
@@ -103,7 +107,8 @@ fn owned_errors<'o>(
     alloc: Global,
     errors: Vec<ValidationError<'_>>,
 ) -> Result<Vec<ValidationError<'o>>, AllocError>
-    ensures { IfOk result (λ es. faults_of es.items ≡ faults_of errors.entry.items) }
+    ensures told { IfOk result (λ es. faults_of es.items ≡ faults_of errors.entry.items) }
+    ensures proper { IfOk result (λ es. are_proper es.items ≡ are_proper errors.entry.items) }
 {
     let mut owned = Vec::new(alloc);
     for error in errors {

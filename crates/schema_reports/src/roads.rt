@@ -25,9 +25,9 @@ pub struct Roads<'a> {
 }
 
 impl Roads<'_> {
-    ghost use Rattle.schema_reports.specs.Kinds.{kind_of};
+    ghost use Rattle.schema_reports.specs.Kinds.{kind_of, is_proper};
     ghost use Rattle.schema_reports.specs.RoadPaths.{instance_in, schema_in, evaluation_in};
-    ghost use Rattle.schema_reports.specs.Told.{fault_of};
+    ghost use Rattle.schema_reports.specs.Told.{fault_of, error_is_proper};
 
     /// An error with these paths written out.
     ///
@@ -38,8 +38,9 @@ impl Roads<'_> {
         kind: ValidationErrorKind<'i>,
         instance: &'i Value,
     ) -> Result<ValidationError<'i>, AllocError>
-        ensures { IfOk result (λ error. fault_of error
+        ensures told { IfOk result (λ error. fault_of error
             ≡ fault (kind_of kind.entry) (view instance.now) (instance_in self.entry) (schema_in self.entry) (evaluation_in self.entry)) }
+        ensures proper { IfOk result (λ error. error_is_proper error ≡ is_proper kind.entry) }
     {
         let kind = Box::new(alloc, kind)?;
         let paths = self.paths(alloc)?;

@@ -1,13 +1,20 @@
 -- What `if`, `then` and `else` are, by what is read of them.
-use Rattle.std.proofs.Common.{◌≡◌, refl, sym, ap, subst, ℕ, List, Bor, Option}
+use Rattle.std.proofs.Common.{◌≡◌, refl, sym, ap, subst, ℕ, List, [], ◌∷◌, codes, Bor, Option}
 use Rattle.serde_json.specs.Data.{Data}
 use Rattle.serde_json.specs.View.{view}
 use Rattle.serde_json.specs.declared.value.Value.{Value}
-use Rattle.schema_definitions.specs.Rows.{Row, Context}
-use Rattle.applicators.specs.declared.applicator.Applicator.{Applicator}
-use Rattle.applicators.specs.declared.applicator.Applicator.TheVariants as applied
+use Rattle.schema_definitions.specs.Rows.{Row, Context, reads}
+use Rattle.applicators.specs.Applied.{Applicator}
+use Rattle.applicators.specs.Asks.{form_by, leads_by, patterns_among}
+use Rattle.applicators.specs.Forms.{shape_by}
+use Rattle.applicators.specs.Lent.{Asks}
+use Rattle.applicators.specs.Made.{AreMade, patterns_in}
+use Rattle.applicators.specs.Shapes.{shape_of, leads_of}
+use Rattle.applicators.specs.declared.asks.AsksOf.TheVariants as asked
+use Rattle.applicators.specs.declared.combining.Combining.{Combining}
+use Rattle.applicators.specs.declared.combining.Combining.TheVariants as combining
 use Rattle.applicator_reading.specs.Conditions.{IsIf, IsCondition, IsConsequent}
-use Rattle.applicator_reading.specs.Reads.{ReadsAs, AppliesAs}
+use Rattle.applicator_reading.specs.Reads.{ReadsAs, AppliesAs, site_in}
 use Rattle.applicator_reading.specs.declared.reading.Reading.{Reading}
 use Rattle.applicator_reading.specs.declared.reading.Reading.TheVariants as reading
 use Rattle.schema_sites.specs.Read.{IsRowOf, Finds}
@@ -41,19 +48,24 @@ module _ (r : Reading) where
 
 -- an `if`
 module _ (r : Reading) (value : Bor Value) (a : Applicator) (k : Keyword) (is : r ≡ reading.Applied a) (h : IsCondition value r)
-    (found : (condition : Bor Value) (t e : Option (Bor Value)) → a ≡ applied.If condition t e → k ≡ If condition t e) where
+    (found : (condition : Bor Value) (t e : Option (Bor Value)) → a.asks ≡ asked.Condition condition t e → k ≡ If condition t e) where
   its : IsIf value a
   its = subst (IsCondition value) is h
 
   same : k ≡ If value its.then_schema its.else_schema
-  same = found value its.then_schema its.else_schema its.is
+  same = found value its.then_schema its.else_schema its.asked
+
+  abbrev Made : Context → Row → List ℕ → Combining → Asks → Type 0
+  Made x row n c f = AreMade x.makes (patterns_among f) → row ≡ reads (leads_by (site_in x) n f) (shape_by n c (form_by (site_in x) n f) ∷ [])
 
   pub if-read : (x : Context) (n : List ℕ) (row : Row) → ReadsAs x n row r → IsRowOf x n row k
   if-read x n row read =
-      let as_if : AppliesAs x n row (applied.If value its.then_schema its.else_schema) =
-      subst (λ (b : Applicator). AppliesAs x n row b) its.is (subst (ReadsAs x n row) is read) in
+      let applies : AppliesAs x n row a = subst (ReadsAs x n row) is read in
+      let made : Made x row (codes "if") combining.Conditional (asked.Condition value its.then_schema its.else_schema) =
+      subst (λ (f : Asks). Made x row (codes "if") combining.Conditional f) its.asked
+      (subst (λ (c : Combining). Made x row (codes "if") c a.asks) its.combined (subst (λ (m : List ℕ). Made x row m a.combining a.asks) its.named applies.made)) in
       same-keyword x n row k (If value its.then_schema its.else_schema) same
-      (plain-row x n row (If value its.then_schema its.else_schema) refl (as_if.made (record { each = λ p i. elim i [ ] })))
+      (plain-row x n row (If value its.then_schema its.else_schema) refl (made (record { each = λ p i. elim i [ ] })))
 
   pub if-found : (c : code.Site) → Finds c (view value.now) k
   if-found c = subst (λ (w : Keyword). Finds c (view value.now) w) (sym same) refl

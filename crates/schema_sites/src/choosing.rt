@@ -4,7 +4,7 @@ ghost use Rattle.std.specs.Borrow.{Bor};
 ghost use Rattle.std.specs.Prelude.{◌≡◌, IfOk, IfErr, Option, codes};
 ghost use Rattle.serde_json.specs.View.{view};
 ghost use Rattle.serde_json.specs.declared.value.Value as json;
-ghost use Rattle.applicators.specs.declared.applicator.Applicator.TheVariants as applied;
+ghost use Rattle.applicators.specs.declared.asks.AsksOf.TheVariants as asked;
 ghost use Rattle.schema_definitions.specs.Rows as rows;
 ghost use Rattle.schema_sites.specs.Read.{ReadBeside, Finds};
 ghost use Rattle.schema_sites.specs.Refused.{RefusedBeside};
@@ -17,14 +17,15 @@ use applicator_reading::reading::{
     Reading, condition as read_condition, consequent as read_consequent,
 };
 use applicators::applicator::Applicator;
+use applicators::asks::Asks;
 use serde_json::Value;
 
 // An applicator as it is found: an `if` is a keyword of its own.
-const fn found<'r>(applicator: Applicator<'r>) -> Keyword<'r>
-    ensures { (condition : Bor json.Value) (t e : Option (Bor json.Value)) → applicator.entry ≡ applied.If condition t e → result ≡ keyword.If condition t e }
+fn found<'r>(applicator: Applicator<'r>) -> Keyword<'r>
+    ensures { (condition : Bor json.Value) (t e : Option (Bor json.Value)) → applicator.entry.asks ≡ asked.Condition condition t e → result ≡ keyword.If condition t e }
 {
-    match applicator {
-        Applicator::If {
+    match applicator.asks {
+        Asks::Condition {
             condition,
             then_schema,
             else_schema,
@@ -33,7 +34,7 @@ const fn found<'r>(applicator: Applicator<'r>) -> Keyword<'r>
             then_schema,
             else_schema,
         },
-        other => Keyword::Applicator(other),
+        _ => Keyword::Applicator(applicator),
     }
 }
 

@@ -4,6 +4,7 @@
 //! shares the steps of the one that it was made from.
 #![tactic(auto)]
 
+mod display;
 mod path;
 mod step;
 

@@ -1,5 +1,5 @@
 -- What observers say of a value from a root on.
-use Rattle.std.proofs.Common.{◌≡◌, ◌∙◌, ℕ, List, [], ◌∷◌, Bool, false, Result, Ok, Err, is_ok, IfErr, refl, sym, ap, subst}
+use Rattle.std.proofs.Common.{◌≡◌, ◌∙◌, ℕ, List, [], ◌∷◌, Bool, true, false, Result, Ok, Err, is_ok, IfErr, refl, sym, ap, subst}
 use Rattle.serde_json.specs.Data.{Data}
 use Rattle.schema_meaning.specs.Members.{In, first}
 use Rattle.schema_meaning.specs.Places.{whole}
@@ -14,7 +14,7 @@ use Rattle.plain_reader.specs.Tellings.{AreRead}
 use Rattle.plain_reader.specs.Roots.{TellsRoot}
 use Rattle.reading_laws.proofs.Roots.{plain_is_decided}
 use Rattle.meaning_laws.proofs.Verdicts.{cut_agrees}
-use Rattle.schema_reports.specs.Told.{fault_of, faults_of}
+use Rattle.schema_reports.specs.Told.{fault_of, faults_of, error_is_proper, are_proper, AreAll}
 use Rattle.schema_reports.specs.Stands.{verdict_stands, first_stands, all_stand}
 use Rattle.schema_reports.specs.Observers.{Hears}
 use Rattle.schema_reports.specs.declared.error.ValidationError.{ValidationError}
@@ -98,7 +98,7 @@ told_some f (also g fs) told = refl
 
 pub says_verdict : {T : Type 0} (x : Result T ValidationError) (fs : Faults) → SaysOne x fs → is_ok x ≡ is_none fs
 says_verdict (Ok y) fs says = sym (ap is_none says)
-says_verdict (Err e) fs says = sym (told_some (fault_of e) fs says)
+says_verdict (Err e) fs says = sym (told_some (fault_of e) fs says.told)
 
 -- ---- what is heard, of each observer
 
@@ -112,8 +112,8 @@ pub first_heard : {T : Type 0} (p : Patterns) (r : Root) (d : Data) (old new : F
 first_heard p r d old new before h x says matches target found finish = says _ (h.hears matches target found finish kept.First none before)
 
 pub all_heard : (p : Patterns) (r : Root) (d : Data) (old new : AllFaults) → all_stand old none → HearsCut p r d (observers.All old) (observers.All new)
-    → (es : List ValidationError) → ((fs : Faults) → all_stand new fs → faults_of es ≡ fs) → IsCut bags p r d (faults_of es)
-all_heard p r d old new before h es says matches target found finish = says _ (h.hears matches target found finish kept.All none before)
+    → (es : List ValidationError) → ((fs : Faults) → all_stand new fs → AreAll es fs) → IsCut bags p r d (faults_of es)
+all_heard p r d old new before h es says matches target found finish = (says _ (h.hears matches target found finish kept.All none before)).told
 
 -- what one error or none says is the verdict, and the error is a fault
 pub one_verdict : {T : Type 0} (p : Patterns) (r : Root) (d : Data) (x : Result T ValidationError)
@@ -124,9 +124,26 @@ pub one_fault : {T : Type 0} (r : Root) (d : Data) (Made : Patterns → Type 0) 
     → ((p : Patterns) → Made p → (matches : List ℕ → List ℕ → Bool) (target : Target) → Finds r target → Finish p r matches target d → SaysOne x (cut_at bags p r matches target d))
     → IfErr x (λ e. (p : Patterns) → Made p → IsFault p r d (fault_of e))
 one_fault r d Made (Ok y) h = tt
-one_fault r d Made (Err e) h = λ p made. fault_answered p r d (fault_of e) (h p made)
+one_fault r d Made (Err e) h = λ p made. fault_answered p r d (fault_of e) (λ matches target found finish. (h p made matches target found finish).told)
 
 pub fault_by : {T : Type 0} (p : Patterns) (r : Root) (Made : Patterns → Type 0) → Made p → (d : Data) (x : Result T ValidationError)
     → IfErr x (λ e. (q : Patterns) → Made q → IsFault q r d (fault_of e)) → IfErr x (λ e. IsFault p r d (fault_of e))
 fault_by p r Made made d (Ok y) h = tt
 fault_by p r Made made d (Err e) h = h p made
+
+-- ---- values such as keywords have
+
+-- what cannot be false
+surely : (b : Bool) → ((b ≡ true → ⊥) → ⊥) → b ≡ true
+surely true h = refl
+surely false h = absurd (h (λ e. cc (e)))
+
+-- so it is, since the observer heard of some faults
+pub error_proper : {T : Type 0} (old new : FirstFault) → first_stands old none → StillKeeps (observers.First old) (observers.First new)
+    → (x : Result T ValidationError) → ((fs : Faults) → first_stands new fs → SaysOne x fs) → IfErr x (λ e. error_is_proper e ≡ true)
+error_proper old new before keeps (Ok y) says = tt
+error_proper old new before keeps (Err e) says = surely (error_is_proper e) (λ no. keeps.keeps kept.First before (λ fs h. no (says fs h).proper))
+
+pub errors_proper : (old new : AllFaults) → all_stand old none → StillKeeps (observers.All old) (observers.All new)
+    → (es : List ValidationError) → ((fs : Faults) → all_stand new fs → AreAll es fs) → are_proper es ≡ true
+errors_proper old new before keeps es says = surely (are_proper es) (λ no. keeps.keeps kept.All before (λ fs h. no (says fs h).proper))

@@ -33,5 +33,5 @@ refused_beside a limit draft metas given parent e prepared h (Ok y) is = tt
 refused_beside a limit draft metas given parent e prepared h (Err y) is =
     subst (λ (z : reference.Error). IsMemory z ⊎ RefusesGiven a limit draft (Some metas) given z) (sym is) (elim h [
       | inl m ↦ inl m
-      | inr r ↦ inr (inr (record { parent = documents_shared parent; uris = retrieved_shared parent; gathered = prepared.gathered; refused = r }))
+      | inr r ↦ inr (inr (record { parent = documents_shared parent; uris = retrieved_shared parent; prepared = prepared; refused = r }))
     ])

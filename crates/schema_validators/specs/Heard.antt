@@ -1,11 +1,11 @@
 -- What an observer hears of a value.
 use Rattle.std.specs.Prelude.{◌≡◌, ℕ, List, Bool, Result, Ok, Err}
 use Rattle.serde_json.specs.Data.{Data}
-use Rattle.schema_meaning.specs.Faults.{Faults, none, joined, Told}
+use Rattle.schema_meaning.specs.Faults.{Faults, none, joined}
 use Rattle.schema_meaning.specs.Readings.{bags}
 use Rattle.schema_definitions.specs.Lookup.{Target}
 use Rattle.schema_reports.specs.Observers.{Hears}
-use Rattle.schema_reports.specs.Told.{fault_of}
+use Rattle.schema_reports.specs.Told.{IsOneOf}
 use Rattle.schema_reports.specs.declared.error.ValidationError.{ValidationError}
 use Rattle.schema_reports.specs.declared.observer.Observation.{Observation}
 use Rattle.schema_reports.specs.declared.observer.Observer.{Observer}
@@ -24,4 +24,4 @@ pub record StillKeeps (old new : Observer) : Type 0 where
 -- one of the faults is said, or there are none
 abbrev pub SaysOne : {T : Type 0} → Result T ValidationError → Faults → Type 0
 SaysOne (Ok x) fs = fs ≡ none
-SaysOne (Err e) fs = Told (fault_of e) fs
+SaysOne (Err e) fs = IsOneOf e fs

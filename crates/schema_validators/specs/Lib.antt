@@ -1,5 +1,6 @@
 pub mod Seen
 pub mod Made
+pub mod Numbers
 pub mod Heard
 pub mod Counted
 pub mod Asked

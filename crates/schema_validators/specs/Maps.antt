@@ -92,7 +92,7 @@ ArePlacesExceeded p own d limit (error.Document e) = ⊥
 ArePlacesExceeded p own d limit (error.Registry e) = ⊥
 ArePlacesExceeded p own d limit (error.Root e) = ⊥
 ArePlacesExceeded p own d limit (error.Schema e) = AreExceeded (own ∷ []) p.makes (sites_from own d.uri (map reference_to (pointers_of own d))) limit e
-ArePlacesExceeded p own d limit (error.MetaSchema i e) = ⊥
+ArePlacesExceeded p own d limit (error.MetaSchema e) = ⊥
 ArePlacesExceeded p own d limit error.Memory = Unit {0}
 
 -- the same of the document in which a root lies

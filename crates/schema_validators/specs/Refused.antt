@@ -1,11 +1,9 @@
 -- Which error comes when. Each but want of memory names a cause.
-use Rattle.std.specs.Prelude.{◌≡◌, ◌⊎◌, ℕ, List, Option, Some, None, Err, string_bytes}
+use Rattle.std.specs.Prelude.{◌≡◌, ◌⊎◌, ℕ, List, Option, Some, None, Err, true}
 use Rattle.serde_json.specs.Data.{Data}
 use Rattle.schema_drafts.specs.declared.draft.Draft.{Draft}
-use Rattle.schema_meaning.specs.Faults.{Fault, instance_path, evaluation_path}
 use Rattle.schema_definitions.specs.Bearers.{Document}
 use Rattle.schema_definitions.specs.Lookup.{Target, LookupCause, lookup}
-use Rattle.schema_definitions.specs.PathTexts.{path_text}
 use Rattle.schema_definitions.specs.Sites.{root_site}
 use Rattle.schema_definitions.specs.Rows as rows
 use Rattle.schema_definitions.specs.BuildCauses.{IsCauseOf}
@@ -15,10 +13,12 @@ use Rattle.document_sources.specs.declared.error.Error as reference
 use Rattle.reached_sites.specs.Causes.{NamesCause, IsExceeded}
 use Rattle.reached_sites.specs.declared.cause.BuildCause.{BuildCause}
 use Rattle.reached_sites.specs.declared.cause.BuildCause.TheVariants as reached
-use Rattle.schema_registries.specs.Passed.{Asking, IsGathered, Stops, HasCause}
+use Rattle.schema_reports.specs.Told.{fault_of, error_is_proper}
+use Rattle.schema_reports.specs.declared.error.ValidationError.{ValidationError}
+use Rattle.schema_registries.specs.Passed.{Asking, Stops, HasCause}
 use Rattle.schema_registries.specs.declared.registry.SharedRegistry.{SharedRegistry}
 use Rattle.schema_registries.specs.declared.registry.SchemaRegistry.{SchemaRegistry}
-use Rattle.schema_registries.specs.Retrieval.{beside}
+use Rattle.schema_registries.specs.Retrieval.{IsPrepared, beside}
 use Rattle.schema_registries.specs.Roots.{Root, Patterns, Finds, IsSound}
 use Rattle.schema_registries.specs.Answers.{IsFault}
 use Rattle.schema_validators.specs.Asked.{IsAsked, meta_root}
@@ -33,11 +33,11 @@ use Rattle.schema_validators.specs.declared.error.BuildError.TheVariants as erro
 abbrev pub RefusesDocuments : Asking → ℕ → List Document → reference.Error → Type 0
 RefusesDocuments a limit own e = Stops a limit own e ⊎ HasCause a limit own e
 
--- those of the meta-schemas were prepared, and the documents beside them are refused
+-- the meta-schemas were prepared, with all that they want, and the documents beside them are refused
 pub record RefusesBeside (a : Asking) (limit : ℕ) (draft : Draft) (metas given : List Given) (e : reference.Error) : Type 0 where
   pub parent : List Document
   pub uris : List (List ℕ)
-  pub gathered : IsGathered a limit (documents_by draft metas) parent uris
+  pub prepared : IsPrepared a limit (documents_by draft metas) parent uris
   pub refused : RefusesDocuments a limit (beside parent draft given) e
 
 abbrev pub RefusesGiven : Asking → ℕ → Draft → Option (List Given) → List Given → reference.Error → Type 0
@@ -49,7 +49,7 @@ RefusesPreparing may_answer may_refuse o given (error.Document e) = ⊥
 RefusesPreparing may_answer may_refuse o given (error.Registry e) = RefusesGiven (asking_by may_answer may_refuse o) o.limit o.draft (meta_schemas_given o) given e
 RefusesPreparing may_answer may_refuse o given (error.Root e) = ⊥
 RefusesPreparing may_answer may_refuse o given (error.Schema e) = ⊥
-RefusesPreparing may_answer may_refuse o given (error.MetaSchema i e) = ⊥
+RefusesPreparing may_answer may_refuse o given (error.MetaSchema e) = ⊥
 RefusesPreparing may_answer may_refuse o given error.Memory = Unit {0}
 
 -- the error that one of a registry becomes
@@ -66,7 +66,7 @@ RefusesBuild p limit r (error.Root e) = (cause : LookupCause) × (lookup r.docum
 RefusesBuild p limit r (error.Schema e) =
     (target : Target) × Finds r target
     × (IsExceeded r.documents p.makes (root_site target) limit e ⊎ ((cause : rows.BuildCause) × NamesCause cause e × IsCauseOf r.documents p.makes (root_site target) cause))
-RefusesBuild p limit r (error.MetaSchema i e) = ⊥
+RefusesBuild p limit r (error.MetaSchema e) = ⊥
 RefusesBuild p limit r error.Memory = Unit {0}
 
 -- the reference to the root leads nowhere
@@ -75,7 +75,7 @@ RefusesReference r (error.Document e) = ⊥
 RefusesReference r (error.Registry e) = ⊥
 RefusesReference r (error.Root e) = (cause : LookupCause) × (lookup r.documents r.base r.reference ≡ Err cause) × NamesLookup cause e
 RefusesReference r (error.Schema e) = ⊥
-RefusesReference r (error.MetaSchema i e) = ⊥
+RefusesReference r (error.MetaSchema e) = ⊥
 RefusesReference r error.Memory = Unit {0}
 
 -- the error that a refusal of several roots becomes
@@ -84,25 +84,13 @@ IsOfPlaces e b = ((e ≡ reached.Memory) × (b ≡ error.Memory)) ⊎ ((e ≡ re
 
 -- ---- meta-schemas
 
--- the paths of a fault
-pub record SpellsFault (f : Fault) (i e : List ℕ) : Type 0 where
-  pub instance : i ≡ path_text (instance_path f)
-  pub evaluation : e ≡ path_text (evaluation_path f)
-
-abbrev pub TellsFault : Fault → BuildError → Type 0
-TellsFault f (error.Document x) = ⊥
-TellsFault f (error.Registry x) = ⊥
-TellsFault f (error.Root x) = ⊥
-TellsFault f (error.Schema x) = ⊥
-TellsFault f (error.MetaSchema i e) = SpellsFault f (string_bytes i) (string_bytes e)
-TellsFault f error.Memory = ⊥
-
--- a meta-schema that may be read refuses the value, with this fault
+-- a meta-schema that may be read refuses the value, with this error of its own
 pub record RefusesValue (p : Patterns) (r : Root) (d : Data) (e : BuildError) : Type 0 where
   pub sound : IsSound p r
-  pub fault : Fault
-  pub is_fault : IsFault p r d fault
-  pub told : TellsFault fault e
+  pub fault : ValidationError
+  pub is : e ≡ error.MetaSchema fault
+  pub told : IsFault p r d (fault_of fault)
+  pub proper : error_is_proper fault ≡ true
 
 -- one may not be read, or refuses the value
 abbrev pub RefusesAt : Patterns → ℕ → Root → Data → BuildError → Type 0

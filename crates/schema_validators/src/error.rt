@@ -1,21 +1,21 @@
 //! Why there is no validator.
 
-ghost use Rattle.std.specs.Prelude.{◌≡◌, ℕ, IfOk};
+ghost use Rattle.std.specs.Prelude.{◌≡◌, ℕ};
 ghost use Rattle.schema_definitions.specs.Lookup.{Target, lookup};
 ghost use Rattle.schema_definitions.specs.Sites.{root_site};
-ghost use Rattle.schema_reports.specs.Told.{fault_of};
 ghost use Rattle.document_sources.specs.Causes.{RefusesLookup};
 ghost use Rattle.reached_sites.specs.Causes as reached;
 ghost use Rattle.schema_registries.specs.Roots.{Root, Patterns, Finds};
-ghost use Rattle.schema_validators.specs.Refused.{IsOfRegistry, RefusesBuild, TellsFault};
+ghost use Rattle.schema_validators.specs.Refused.{IsOfRegistry, RefusesBuild};
 ghost use Rattle.schema_validators.specs.New.{IsOfDocument};
 ghost use Rattle.schema_validators.specs.Refused.{RefusesReference, IsOfPlaces};
 
 use reached_sites::Error as ReferenceError;
 use reached_sites::cause::BuildCause;
-use schema_registries::DocumentError;
+use schema_registries::{DocumentError, Path};
 use schema_reports::ValidationError;
-use std::alloc::{AllocError, Global};
+use std::alloc::AllocError;
+use std::fmt;
 use thiserror::Error;
 
 /// Why no validator is built.
@@ -33,12 +33,9 @@ pub enum BuildError {
     /// Something is wrong at a schema that the root leads to, or it leads to more schemas than are allowed.
     #[error(transparent)]
     Schema(BuildCause),
-    /// The meta-schema of the root, which was handed in, refuses the root's value: the paths of one of its faults, as JSON Pointers.
-    #[error("Schema refused by its meta-schema at '{instance_path}', '{evaluation_path}'")]
-    MetaSchema {
-        instance_path: String,
-        evaluation_path: String,
-    },
+    /// The meta-schema of the root, which was handed in, refuses the root's value: one of the faults that it tells.
+    #[error("Schema refused by its meta-schema at '{}', '{}'", .0.instance_path(), .0.evaluation_path())]
+    MetaSchema(ValidationError<'static>),
     /// Memory was refused.
     #[error("No memory")]
     Memory,
@@ -53,6 +50,38 @@ impl From<AllocError> for BuildError {
         BuildError::Memory
     }
 }
+
+/// Why a value is not answered.
+#[derive(Debug, Drop)]
+pub enum NumberError {
+    /// A number that is no whole number from -2^63 to 2^64-1, at this path of the value.
+    Other { path: Path },
+    /// Memory was refused.
+    Memory,
+}
+
+impl From<AllocError> for NumberError {
+    ghost use Rattle.schema_validators.specs.declared.error.NumberError.TheVariants.{Memory};
+
+    ghost from_gives = { λ _ e. e ≡ Memory };
+
+    fn from(_error: AllocError) -> NumberError {
+        NumberError::Memory
+    }
+}
+
+impl fmt::Display for NumberError {
+    fn fmt<W: fmt::Write>(&self, f: &mut fmt::Formatter<W>) -> fmt::Result {
+        match self {
+            NumberError::Other { path } => {
+                write!(f, "Number at '{path}' is no whole number of 64 bits")
+            }
+            NumberError::Memory => f.write_str("No memory"),
+        }
+    }
+}
+
+impl std::error::Error for NumberError {}
 
 impl BuildError {
     /// The error of a schema that is no document.
@@ -113,18 +142,5 @@ impl BuildError {
             BuildCause::Memory => BuildError::Memory,
             cause => BuildError::Schema(cause),
         }
-    }
-
-    /// The error of a root whose value has this fault by its meta-schema.
-    pub(crate) fn of_fault(
-        alloc: Global,
-        error: &ValidationError<'_>,
-    ) -> Result<BuildError, AllocError>
-        ensures { IfOk result (TellsFault (fault_of error.now)) }
-    {
-        Ok(BuildError::MetaSchema {
-            instance_path: error.instance_path().to_pointer(alloc)?,
-            evaluation_path: error.evaluation_path().to_pointer(alloc)?,
-        })
     }
 }

@@ -12,7 +12,7 @@ mod options;
 mod validator;
 mod validator_map;
 
-pub use error::BuildError;
+pub use error::{BuildError, NumberError};
 pub use options::ValidationOptions;
 pub use reached_sites::cause::BuildCause;
 pub use reached_sites::place::SchemaPlace;

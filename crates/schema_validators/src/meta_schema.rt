@@ -112,9 +112,9 @@ fn ask<M: PatternMatcher>(
     ensures accepted { OnOk result ((p : Patterns) → IsMadeBy M.finds p meta_schema.now → IsAnswer verdicts p (root_in meta_schema.now) (view value.now) true) }
     ensures refused { IfErr result (λ e. (p : Patterns) → IsMadeBy M.finds p meta_schema.now → (e ≡ Memory) ⊎ RefusesValue p (root_in meta_schema.now) (view value.now) e) }
 {
-    match meta_schema.validate(value)? {
+    match meta_schema.first_fault(value)? {
         Ok(()) => Ok(()),
-        Err(error) => Err(BuildError::of_fault(alloc, &error)?),
+        Err(error) => Err(BuildError::MetaSchema(error.to_owned(alloc)?)),
     }
 }
 

@@ -1,6 +1,6 @@
 //! Validators.
 
-ghost use Rattle.std.specs.Prelude.{◌≡◌, ◌≤◌, OnOk, ◌∷◌, [], IfOk, IfErr, is_ok, codes, string_bytes, None};
+ghost use Rattle.std.specs.Prelude.{◌≡◌, ◌≤◌, OnOk, ◌∷◌, [], IfOk, IfErr, is_ok, codes, string_bytes, None, true};
 ghost use Rattle.serde_json.specs.Data.{depth};
 ghost use Rattle.serde_json.specs.View.{view};
 ghost use Rattle.schema_definitions.specs.Plain.{deepest};
@@ -11,13 +11,15 @@ ghost use Rattle.schema_meaning.specs.Readings.{verdicts, bags};
 ghost use Rattle.reached_sites.specs.Passed.{documents_in, documents_of, target_in};
 ghost use Rattle.schema_reports.specs.Left.{errors_left};
 ghost use Rattle.schema_reports.specs.Stands.{first_stands};
-ghost use Rattle.schema_reports.specs.Told.{fault_of, faults_of};
+ghost use Rattle.schema_reports.specs.Told.{fault_of, faults_of, error_is_proper, are_proper};
 ghost use Rattle.schema_validators.specs.Heard.{StillKeeps, SaysOne};
 ghost use Rattle.schema_registries.specs.Answers.{IsCut, IsAnswer, IsFault};
 ghost use Rattle.schema_registries.specs.Certified.{IsCertified, HasCertificate, HaveCertificates};
 ghost use Rattle.schema_registries.specs.Roots.{Patterns, IsSoundBySome};
+ghost use Rattle.schema_registries.specs.Whole.{only_whole};
+ghost use Rattle.schema_validators.specs.Numbers.{NamesOther};
 
-use crate::error::BuildError;
+use crate::error::{BuildError, NumberError};
 use crate::options::ValidationOptions;
 use plain_reader::Resolved;
 use plain_reader::root::tell_root;
@@ -26,7 +28,7 @@ use regex_patterns::RegexMatcher;
 use schema_drafts::draft::Draft;
 use schema_patterns::matches::Matches;
 use schema_patterns::{PatternMaker, PatternMatcher, PatternTable};
-use schema_registries::{DefaultRetriever, Documents, Retrieve};
+use schema_registries::{DefaultRetriever, Documents, Retrieve, has_only_whole, other_number};
 use schema_reports::{AllFaults, ErrorIterator, FirstFault, Observer, ValidationError, Verdict};
 use serde_json::Value;
 use std::alloc::{AllocError, Global};
@@ -112,13 +114,15 @@ impl<M: PatternMatcher> Validator<M> {
 
     /// Whether a value is valid.
     ///
-    /// It stops at the first fault, and keeps none. A value at which references come back to where they were is read as the cut
+    /// Its numbers are whole numbers of 64 bits, as `has_only_whole` tells; `check_json` tests that by itself. It stops at the first fault,
+    /// and keeps none. A value at which references come back to where they were is read as the cut
     /// reading does: the return is accepted.
     ///
     /// # Errors
     ///
     /// Where memory was refused or a count of owners is full.
     pub fn is_valid(&self, value: &Value) -> Result<bool, AllocError>
+        requires whole { only_whole (view value.now) ≡ true }
         ensures cut { IfOk result (λ b. (p : Patterns) → IsMadeBy M.finds p self.now → IsCut verdicts p (root_in self.now) (view value.now) b) }
         ensures verdict { IfOk result (λ b. (p : Patterns) → IsMadeBy M.finds p self.now → IsAnswer verdicts p (root_in self.now) (view value.now) b) }
         ensures certified { IfOk result (λ b. (p : Patterns) → IsMadeBy M.finds p self.now → IsCertified p (root_in self.now) (view value.now) b) }
@@ -133,7 +137,8 @@ impl<M: PatternMatcher> Validator<M> {
 
     /// Nothing where a value is valid, and else one of its faults: the first that is met.
     ///
-    /// It stops there. The paths are written out for that fault alone.
+    /// Its numbers are whole numbers of 64 bits, as `has_only_whole` tells. It stops at the first fault, and the paths are written out for
+    /// that one alone.
     ///
     /// # Errors
     ///
@@ -142,9 +147,25 @@ impl<M: PatternMatcher> Validator<M> {
         &self,
         value: &'i Value,
     ) -> Result<Result<(), ValidationError<'i>>, AllocError>
+        requires whole { only_whole (view value.now) ≡ true }
         ensures cut { IfOk result (λ answer. (p : Patterns) → IsMadeBy M.finds p self.now → IsCut verdicts p (root_in self.now) (view value.now) (is_ok answer)) }
         ensures verdict { IfOk result (λ answer. (p : Patterns) → IsMadeBy M.finds p self.now → IsAnswer verdicts p (root_in self.now) (view value.now) (is_ok answer)) }
         ensures fault { IfOk result (λ answer. IfErr answer (λ e. (p : Patterns) → IsMadeBy M.finds p self.now → IsFault p (root_in self.now) (view value.now) (fault_of e))) }
+        ensures proper { IfOk result (λ answer. IfErr answer (λ e. error_is_proper e ≡ true)) }
+        ensures certified { IfOk result (λ answer. IfErr answer (λ e. (p : Patterns) → IsMadeBy M.finds p self.now → HasCertificate p (root_in self.now) (view value.now) (fault_of e))) }
+    {
+        self.first_fault(value)
+    }
+
+    // The same of any value that the JSON reader gives.
+    pub(crate) fn first_fault<'i>(
+        &self,
+        value: &'i Value,
+    ) -> Result<Result<(), ValidationError<'i>>, AllocError>
+        ensures cut { IfOk result (λ answer. (p : Patterns) → IsMadeBy M.finds p self.now → IsCut verdicts p (root_in self.now) (view value.now) (is_ok answer)) }
+        ensures verdict { IfOk result (λ answer. (p : Patterns) → IsMadeBy M.finds p self.now → IsAnswer verdicts p (root_in self.now) (view value.now) (is_ok answer)) }
+        ensures fault { IfOk result (λ answer. IfErr answer (λ e. (p : Patterns) → IsMadeBy M.finds p self.now → IsFault p (root_in self.now) (view value.now) (fault_of e))) }
+        ensures proper { IfOk result (λ answer. IfErr answer (λ e. error_is_proper e ≡ true)) }
         ensures certified { IfOk result (λ answer. IfErr answer (λ e. (p : Patterns) → IsMadeBy M.finds p self.now → HasCertificate p (root_in self.now) (view value.now) (fault_of e))) }
     {
         let observer = self.told(value, Observer::First(FirstFault::new()))?;
@@ -155,16 +176,46 @@ impl<M: PatternMatcher> Validator<M> {
         }
     }
 
+    /// What `validate` says of a value that may have other numbers than whole ones of 64 bits.
+    ///
+    /// It walks the value once for its numbers before it answers.
+    ///
+    /// # Errors
+    ///
+    /// Where a number is no whole number of 64 bits: the path of the first. Where memory was refused or a count of owners is full.
+    pub fn check_json<'i>(
+        &self,
+        alloc: Global,
+        value: &'i Value,
+    ) -> Result<Result<(), ValidationError<'i>>, NumberError>
+        ensures whole { OnOk result (only_whole (view value.now) ≡ true) }
+        ensures verdict { IfOk result (λ answer. (p : Patterns) → IsMadeBy M.finds p self.now → IsAnswer verdicts p (root_in self.now) (view value.now) (is_ok answer)) }
+        ensures fault { IfOk result (λ answer. IfErr answer (λ e. (p : Patterns) → IsMadeBy M.finds p self.now → IsFault p (root_in self.now) (view value.now) (fault_of e))) }
+        ensures proper { IfOk result (λ answer. IfErr answer (λ e. error_is_proper e ≡ true)) }
+        ensures certified { IfOk result (λ answer. IfErr answer (λ e. (p : Patterns) → IsMadeBy M.finds p self.now → HasCertificate p (root_in self.now) (view value.now) (fault_of e))) }
+        ensures refused { IfErr result (NamesOther (view value.now)) }
+    {
+        if !has_only_whole(value) {
+            return Err(NumberError::Other {
+                path: other_number(alloc, value)?,
+            });
+        }
+        Ok(self.first_fault(value)?)
+    }
+
     /// The faults of a value, in the order in which they are met.
     ///
-    /// All are gathered before the first is given, each with its three paths written out.
+    /// Its numbers are whole numbers of 64 bits, as `has_only_whole` tells. All faults are gathered before the first is given, each with its
+    /// three paths written out.
     ///
     /// # Errors
     ///
     /// Where memory was refused or a count of owners is full.
     pub fn iter_errors<'i>(&self, value: &'i Value) -> Result<ErrorIterator<'i>, AllocError>
+        requires whole { only_whole (view value.now) ≡ true }
         ensures cut { IfOk result (λ errors. (p : Patterns) → IsMadeBy M.finds p self.now → IsCut bags p (root_in self.now) (view value.now) (faults_of (errors_left errors))) }
         ensures faults { IfOk result (λ errors. (p : Patterns) → IsMadeBy M.finds p self.now → IsAnswer bags p (root_in self.now) (view value.now) (faults_of (errors_left errors))) }
+        ensures proper { IfOk result (λ errors. are_proper (errors_left errors) ≡ true) }
         ensures certified { IfOk result (λ errors. (p : Patterns) → IsMadeBy M.finds p self.now → HaveCertificates p (root_in self.now) (view value.now) (faults_of (errors_left errors))) }
     {
         let observer = self.told(value, Observer::All(AllFaults::new(self.alloc)))?;

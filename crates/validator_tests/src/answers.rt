@@ -1,5 +1,9 @@
 // What validators answer, as text.
-use crate::given::{Subject, built, documents_of, options_of, setting, subject_of};
+ghost use Rattle.std.specs.Prelude.{◌≡◌, true};
+ghost use Rattle.serde_json.specs.View.{view};
+ghost use Rattle.json_schema_validator.specs.Numbers.{only_whole};
+
+use crate::given::{Subject, built, documents_of, json, options_of, setting, subject_of};
 use json_schema_validator::{
     BuildError, CheckAnswer, ErrorIterator, RegexMaker, SchemaRegistry, ValidationError, Validator,
     check_error,
@@ -47,7 +51,9 @@ fn assert_accepted(
     registry: &SchemaRegistry,
     value: &Value,
     errors: &[ValidationError<'_>],
-) {
+)
+    requires whole { only_whole (view value.now) ≡ true }
+{
     for error in errors {
         let answer = check_error(alloc, registry, "", &RegexMaker, value, error);
         match answer.expect(rt, "memory") {
@@ -57,12 +63,16 @@ fn assert_accepted(
     }
 }
 
-fn has_no_first(rt: &impl Abort, validator: &Validator, value: &Value) -> bool {
+fn has_no_first(rt: &impl Abort, validator: &Validator, value: &Value) -> bool
+    requires whole { only_whole (view value.now) ≡ true }
+{
     validator.validate(value).expect(rt, "memory").is_ok()
 }
 
 // Holds the other two observers against whether there are no errors.
-pub(crate) fn assert_agreed(rt: &impl Abort, validator: &Validator, value: &Value, is_valid: bool) {
+pub(crate) fn assert_agreed(rt: &impl Abort, validator: &Validator, value: &Value, is_valid: bool)
+    requires whole { only_whole (view value.now) ≡ true }
+{
     let found = validator.is_valid(value).expect(rt, "memory");
     assert!(rt; found == is_valid, "another verdict on {value}");
     let found = has_no_first(rt, validator, value);
@@ -70,7 +80,9 @@ pub(crate) fn assert_agreed(rt: &impl Abort, validator: &Validator, value: &Valu
 }
 
 // The faults of a value, on which the three observers have to agree, and the check to accept each.
-fn told_by(rt: &impl Abort, alloc: Global, subject: &Subject, value: &Value) -> String {
+fn told_by(rt: &impl Abort, alloc: Global, subject: &Subject, value: &Value) -> String
+    requires whole { only_whole (view value.now) ≡ true }
+{
     let errors = subject.validator.iter_errors(value).expect(rt, "memory");
     let errors = listed(rt, alloc, errors);
     assert_agreed(rt, &subject.validator, value, errors.is_empty());
@@ -79,7 +91,7 @@ fn told_by(rt: &impl Abort, alloc: Global, subject: &Subject, value: &Value) -> 
 }
 
 pub(crate) fn told(rt: &impl Abort, alloc: Global, case: &str, input: &str) -> String {
-    let value = Value::from_str(alloc, input).expect(rt, "JSON");
+    let value = json(rt, alloc, input);
     told_by(rt, alloc, &subject_of(rt, alloc, case), &value)
 }
 
@@ -94,7 +106,9 @@ fn described(rt: &impl Abort, alloc: Global, error: &ValidationError<'_>) -> Str
     format!(in alloc; "#{schema} #{evaluation} {instance} {kind}").expect(rt, "memory")
 }
 
-fn first_by(rt: &impl Abort, alloc: Global, validator: &Validator, value: &Value) -> String {
+fn first_by(rt: &impl Abort, alloc: Global, validator: &Validator, value: &Value) -> String
+    requires whole { only_whole (view value.now) ≡ true }
+{
     match &validator.validate(value).expect(rt, "memory") {
         Err(error) => described(rt, alloc, error),
         Ok(()) => panic!(rt; "no fault of {value}"),
@@ -102,7 +116,7 @@ fn first_by(rt: &impl Abort, alloc: Global, validator: &Validator, value: &Value
 }
 
 pub(crate) fn first(rt: &impl Abort, alloc: Global, case: &str, input: &str) -> String {
-    let value = Value::from_str(alloc, input).expect(rt, "JSON");
+    let value = json(rt, alloc, input);
     first_by(rt, alloc, &subject_of(rt, alloc, case).validator, &value)
 }
 
@@ -111,7 +125,7 @@ fn verdict(rt: &impl Abort, alloc: Global, validator: &Validator, input: &str) -
     if input.is_empty() {
         return "built";
     }
-    let value = Value::from_str(alloc, input).expect(rt, "JSON");
+    let value = json(rt, alloc, input);
     if validator.is_valid(&value).expect(rt, "memory") {
         "true"
     } else {
@@ -119,9 +133,13 @@ fn verdict(rt: &impl Abort, alloc: Global, validator: &Validator, input: &str) -
     }
 }
 
+// The text of a refusal, and behind it the fault that a meta-schema tells.
 pub(crate) fn why(rt: &impl Abort, alloc: Global, error: BuildError) -> String {
     let text = error.to_string(alloc).expect(rt, "memory");
-    drop(error);
+    if let BuildError::MetaSchema(fault) = &error {
+        let fault = described(rt, alloc, fault);
+        return format!(in alloc; "{text}: {fault}").expect(rt, "memory");
+    }
     text
 }
 

@@ -1,7 +1,11 @@
 // What a case gives, and what is built of it.
+ghost use Rattle.std.specs.Prelude.{◌≡◌, true};
+ghost use Rattle.serde_json.specs.View.{view};
+ghost use Rattle.json_schema_validator.specs.Numbers.{only_whole};
+
 use json_schema_validator::{
     BuildError, Documents, Draft, MapRetriever, RegexMaker, Retrieve, SchemaRegistry,
-    ValidationOptions, Validator,
+    ValidationOptions, Validator, has_only_whole,
 };
 use serde_json::Value;
 use std::alloc::Global;
@@ -13,6 +17,16 @@ use uri_references::uri::from_str;
 pub(crate) struct Subject {
     pub registry: SchemaRegistry,
     pub validator: Validator,
+}
+
+// A value of whole numbers.
+pub(crate) fn json(rt: &impl Abort, alloc: Global, text: &str) -> Value
+    ensures whole { only_whole (view result) ≡ true }
+{
+    let value = Value::from_str(alloc, text).expect(rt, "JSON");
+    let is_whole = has_only_whole(&value);
+    assert!(rt; is_whole, "{text}");
+    value
 }
 
 // What stands behind a word in the first line that begins with it.

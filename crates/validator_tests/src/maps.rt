@@ -1,9 +1,8 @@
 // Validators for each schema of a document, by their JSON Pointers.
 use crate::answers::{faults, why};
 use crate::cases::assert_cases;
-use crate::given::{documents_of, named, options_of, setting};
+use crate::given::{documents_of, json, named, options_of, setting};
 use json_schema_validator::{BuildError, ValidatorMap};
-use serde_json::Value;
 use std::alloc::Global;
 use std::process::Abort;
 
@@ -38,7 +37,7 @@ fn has(rt: &impl Abort, alloc: Global, map: &ValidatorMap, input: &str) -> Strin
 
 fn at(rt: &impl Abort, alloc: Global, map: &ValidatorMap, input: &str) -> String {
     let (pointer, text) = named(input, "<").expect(rt, "a pointer");
-    let value = Value::from_str(alloc, text).expect(rt, "JSON");
+    let value = json(rt, alloc, text);
     let validator = map.get(pointer).expect(rt, "a validator");
     let errors = validator.iter_errors(&value).expect(rt, "memory");
     faults(rt, alloc, errors)

@@ -67,7 +67,7 @@ meta <https://json-schema.org/draft/2020-12/schema> {"properties":{"minItems":{"
 
 const ASKED: &str = r##"
 document <> {"$schema":"http://a.test/m2","type":["integer"]}
-build 1 => Schema refused by its meta-schema at '/type', '/properties/type/type'
+build 1 => Schema refused by its meta-schema at '/type', '/properties/type/type': #/properties/type/type #/properties/type/type ["integer"] Types
 
 document <> {"$schema":"http://a.test/m2#","type":"integer"}
 build 1 => true
@@ -76,7 +76,7 @@ document <> {"$schema":"http://a.test/bad"}
 build 1 => Keyword value at 'http://a.test/bad#/properties/type/type': expected type name
 
 document <> {"minItems":10}
-build 1 => Schema refused by its meta-schema at '/minItems', '/properties/minItems/maximum'
+build 1 => Schema refused by its meta-schema at '/minItems', '/properties/minItems/maximum': #/properties/minItems/maximum #/properties/minItems/maximum 10 Maximum
 
 document <> {"items":{"minItems":10}}
 build 1 => true

@@ -4,7 +4,7 @@ ghost use Rattle.regex_patterns.specs.Searches.{is_regex, searched};
 
 use crate::answers::{assert_agreed, faults, why};
 use crate::cases::assert_cases;
-use crate::given::{documents_of, named, setting};
+use crate::given::{documents_of, json, named, setting};
 use json_schema_validator::{
     PatternError, PatternMaker, RegexMaker, RegexMatcher, ValidationOptions, Validator,
 };
@@ -34,7 +34,7 @@ fn told<M: PatternMatcher>(
     validator: &Validator<M>,
     input: &str,
 ) -> String {
-    let value = Value::from_str(alloc, input).expect(rt, "JSON");
+    let value = json(rt, alloc, input);
     let errors = validator.iter_errors(&value).expect(rt, "memory");
     faults(rt, alloc, errors)
 }
@@ -92,7 +92,7 @@ impl PatternMaker for CountingMaker<'_> {
 }
 
 fn assert_accepts(rt: &impl Abort, alloc: Global, validator: &Validator, input: &str) {
-    let value = Value::from_str(alloc, input).expect(rt, "JSON");
+    let value = json(rt, alloc, input);
     assert_agreed(rt, validator, &value, true);
 }
 

@@ -31,4 +31,4 @@ returns-else-has_consequent-clause-read c = λ x s. condition-alone x (codes "if
 
 pub returns-then-has_consequent-clause-condition : goal.returns-then-has_consequent-clause-condition
 returns-then-has_consequent-clause-condition c =
-    c.if_schema.ensures.condition c.args.value (record { then_schema = c.schema_beside-then_schema.result; else_schema = c.schema_beside-else_schema.result; is = refl })
+    c.if_schema.ensures.condition c.args.value (record { then_schema = c.schema_beside-then_schema.result; else_schema = c.schema_beside-else_schema.result; named = refl; asked = refl; combined = refl })

@@ -9,7 +9,7 @@ pub returns-then-is_alone-clause-shape : goal.returns-then-is_alone-clause-shape
 returns-then-is_alone-clause-shape c = λ x s.
     others-alone x (site_in x (at (codes "additionalProperties")) (view c.args.schema.now)) (alone-there c.args.neighbours x s ∙ sym c.is_alone.ensures ∙ c.if-is_alone.true)
 
-pub returns-else-is_alone-clause-shape : goal.returns-else-is_alone-clause-shape
-returns-else-is_alone-clause-shape c = λ x s.
+pub returns-clause-shape : goal.returns-clause-shape
+returns-clause-shape c = λ x s.
     others-named x (site_in x (at (codes "additionalProperties")) (view c.args.schema.now)) _ (alone-there c.args.neighbours x s ∙ sym c.is_alone.ensures ∙ c.if-is_alone.false)
     (c.declared_beside.ensures ∙ sym (declared-there c.args.neighbours x s))

@@ -1,10 +1,8 @@
-use Rattle.std.proofs.Common.{◌++◌, drop}
+use Rattle.std.proofs.Common.{drop}
 use Rattle.serde_json.specs.View.{view}
-use Rattle.schema_definitions.specs.Sites.{path_of_reference}
-use Rattle.schema_reports.specs.Locations.{location_of}
-use Rattle.schema_reports.specs.References.{text_of}
+use Rattle.fault_checks.specs.Trials.{path_in}
 use Rattle.fault_checks.proofs.AppliedQuestions.{Accepts}
 use Rattle.fault_checks.proofs.applied_refusals.some_of_refused.Given as goal
 
 abbrev pub invariant-loop-question : goal.invariant-loop-question
-invariant-loop-question l = Accepts l.site (location_of l.schema ++ path_of_reference (text_of l.reference)) (view l.value) l.asked (drop l.question-index l.asked)
+invariant-loop-question l = Accepts l.trial.site.now (path_in l.trial) (view l.trial.value.now) l.asked (drop l.question-index l.asked)

@@ -13,7 +13,7 @@ use Rattle.fault_checks.proofs.applied_steps.along.Goals as goal
 pub to_question-requires : goal.to_question-requires
 to_question-requires c =
     let m = reads c.args.walk.site.matches.now in
-    let a = c.args.applicator in
+    let a = c.args.applicator.now in
     let d = view c.args.walk.value.now in
     let qs = c.args.asked.now in
     let i = text_left c.args.walk.instance in
@@ -29,7 +29,7 @@ returns-in-None-clause-passes c =
     let i = text_left c.args.walk.instance in
     let e = text_left c.args.after in
     let nowhere = subst (λ (o : Option Ahead). MatchOption o (NoneAhead qs i e) (IsAhead qs i e)) c.in-None.is c.in_ok-question_ahead.ensures.ahead in
-    applied_nowhere c.args.walk c.args.applicator c.args.after qs c.requires.asked c.requires.values c.requires.more c.requires.obliging nowhere
+    applied_nowhere c.args.walk c.args.applicator.now c.args.after qs c.requires.asked c.requires.values c.requires.more c.requires.obliging nowhere
 
 pub returns-clause-passes : goal.returns-clause-passes
 returns-clause-passes c =
@@ -38,7 +38,7 @@ returns-clause-passes c =
     let e = text_left c.args.after in
     let found = subst (λ (o : Option Ahead). MatchOption o (NoneAhead qs i e) (IsAhead qs i e)) c.in-Some.is c.in_ok-question_ahead.ensures.ahead in
     IfOk-weaker c.to_question.result _ _
-    (λ st h. applied_to c.args.walk c.args.applicator c.args.after qs c.in-Some.ahead st c.requires.asked c.requires.applies c.requires.values c.requires.more c.requires.obliging c.requires.once found h) c.to_question.ensures
+    (λ st h. applied_to c.args.walk c.args.applicator.now c.args.after qs c.in-Some.ahead st c.requires.asked c.requires.applies c.requires.values c.requires.more c.requires.obliging c.requires.once found h) c.to_question.ensures
 
 pub returns-clause-shorter : goal.returns-clause-shorter
 returns-clause-shorter c =

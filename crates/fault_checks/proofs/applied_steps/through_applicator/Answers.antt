@@ -7,12 +7,12 @@ use Rattle.fault_checks.proofs.applied_steps.through_applicator.Goals as goal
 pub through_questions-requires : goal.through_questions-requires
 through_questions-requires c = record {
   applies = c.requires.applies;
-  values = values_or_names c.args.applicator c.requires.applies.by_answers (ap are_names (sym c.asks.ensures) ∙ asks_none c.asks.result (λ s. c.in_default.not-Names s));
+  values = values_or_names c.args.applicator.now c.requires.applies.by_answers (ap are_names (sym c.asks.ensures) ∙ asks_none c.asks.result (λ s. c.in_default.not-Names s));
   more = c.requires.more;
 }
 
 pub invariant_of-result : goal.invariant_of-result
-invariant_of-result c = record { inside = lies_inside c.args.walk.site c.args.applicator c.in-Names.schema (sym c.asks.ensures ∙ c.in-Names.is) c.requires.applies.inside }
+invariant_of-result c = record { inside = lies_inside c.args.walk.site c.args.applicator.now c.in-Names.schema (sym c.asks.ensures ∙ c.in-Names.is) c.requires.applies.inside }
 
 pub returns-in-Names-clause-passes : goal.returns-in-Names-clause-passes
-returns-in-Names-clause-passes c = at_names _ c.args.applicator (are_of_names c.args.applicator c.in-Names.schema (sym c.asks.ensures ∙ c.in-Names.is)) c.requires.more
+returns-in-Names-clause-passes c = at_names _ c.args.applicator.now (are_of_names c.args.applicator.now c.in-Names.schema (sym c.asks.ensures ∙ c.in-Names.is)) c.requires.more

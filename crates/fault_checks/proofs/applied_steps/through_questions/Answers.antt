@@ -6,5 +6,5 @@ use Rattle.fault_checks.proofs.applied_steps.through_questions.Goals as goal
 
 pub returns-clause-passes : goal.returns-clause-passes
 returns-clause-passes c =
-    let asked = ap (λ (qs : List Question). obliges c.args.applicator (length qs)) (sym c.as_slice-asked.ensures.value) in
-    applied_never c.args.walk c.args.applicator c.args.after _ c.in_ok-asked.ensures c.requires.values c.requires.more (asked ∙ sym c.obliges.ensures ∙ c.if-obliges.false)
+    let asked = ap (λ (qs : List Question). obliges c.args.applicator.now (length qs)) (sym c.as_slice-asked.ensures.value) in
+    applied_never c.args.walk c.args.applicator.now c.args.after _ c.in_ok-asked.ensures c.requires.values c.requires.more (asked ∙ sym c.obliges.ensures ∙ c.if-obliges.false)

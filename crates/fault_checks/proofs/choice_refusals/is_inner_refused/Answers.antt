@@ -9,28 +9,28 @@ use Rattle.plain_reader.proofs.ItemTelling.{Child, child_shallow}
 use Rattle.fault_checks.proofs.Chosen.{inner_verdict}
 use Rattle.fault_checks.proofs.choice_refusals.is_inner_refused.Goals as goal
 
-pub is_refused-requires : goal.is_refused-requires
-is_refused-requires c =
-    let child : Child c.args.site.now c.in_ok-inner.inner (view c.args.part.now) = record {
+pub invariant_of-below : goal.invariant_of-below
+invariant_of-below c =
+    let child : Child c.args.trial.now.site.now c.in_ok-inner.inner (view c.args.part.now) = record {
       contents = ap (λ (b : Bor Value). view b.now) c.in_ok-inner.ensures.contents;
       documents = c.in_ok-inner.ensures.documents;
       scope = c.in_ok-inner.ensures.scope;
       stands = λ s added. c.in_ok-inner.ensures.stands s added;
       matches = c.in_ok-inner.ensures.matches;
     } in
-    record { shallow = child_shallow c.args.site.now _ _ child c.requires.inside c.requires.shallow }
+    record { shallow = child_shallow c.args.trial.now.site.now _ _ child c.requires.inside c.args.trial.now.shallow }
 
 pub returns : goal.returns
 returns c =
-    let child : Child c.args.site.now c.in_ok-inner.inner (view c.args.part.now) = record {
+    let child : Child c.args.trial.now.site.now c.in_ok-inner.inner (view c.args.part.now) = record {
       contents = ap (λ (b : Bor Value). view b.now) c.in_ok-inner.ensures.contents;
       documents = c.in_ok-inner.ensures.documents;
       scope = c.in_ok-inner.ensures.scope;
       stands = λ s added. c.in_ok-inner.ensures.stands s added;
       matches = c.in_ok-inner.ensures.matches;
     } in
-    let rest = path_of_reference (text_of c.args.reference) in
+    let rest = path_of_reference (text_of c.args.trial.now.reference) in
     IfOk-weaker c.is_refused.result _ _
-    (λ b verdict. inner_verdict c.args.site.now c.in_ok-inner.inner (location_of c.args.schema.now ++ rest) _ (view c.args.value.now) c.args.name.now (view c.args.part.now) (not b) child
+    (λ b verdict. inner_verdict c.args.trial.now.site.now c.in_ok-inner.inner (location_of c.args.trial.now.schema.now ++ rest) _ (view c.args.trial.now.value.now) c.args.name.now (view c.args.part.now) (not b) child
     (ap (λ p. p ++ rest) c.push_name-road.ensures) verdict)
     c.is_refused.ensures

@@ -12,7 +12,7 @@ use Rattle.fault_checks.proofs.ChosenSteps.{other_name, no_part, to_chosen, chos
 use Rattle.fault_checks.proofs.choice_steps.through_condition.Goals as goal
 
 pub is_refused_inside-requires : goal.is_refused_inside-requires
-is_refused_inside-requires c = record { shallow = c.args.walk.shallow; inside = c.requires.lies.inside }
+is_refused_inside-requires c = record { inside = c.requires.lies.inside }
 
 pub returns-then-ne-clause-passes : goal.returns-then-ne-clause-passes
 returns-then-ne-clause-passes c =

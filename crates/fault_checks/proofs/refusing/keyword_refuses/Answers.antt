@@ -1,76 +1,74 @@
-use Rattle.std.proofs.Common.{◌++◌, not, false, ap, refl, sym, subst}
+use Rattle.std.proofs.Common.{not, false, ap, refl, sym, subst}
 use Rattle.std.proofs.lemmas.Result.{IfOk-weaker}
 use Rattle.serde_json.specs.View.{view}
 use Rattle.schema_meaning.specs.Questions as asking
-use Rattle.schema_definitions.specs.Sites.{path_of_reference}
 use Rattle.plain_reader.specs.Passed.{assertion_of, target_in}
 use Rattle.plain_reader.specs.Passed.{row_of}
 use Rattle.plain_reader.specs.Passed.{name_of}
-use Rattle.schema_reports.specs.Locations.{location_of}
-use Rattle.schema_reports.specs.References.{text_of}
 use Rattle.fault_checks.specs.Rows.{reference_row, reference_questions}
 use Rattle.fault_checks.specs.Verdicts.{rules_by, IsRefusalAt, LiesIn}
 use Rattle.fault_checks.proofs.Gathered.{by_questions, by_assertion, by_pattern, by_nothing}
 use Rattle.fault_checks.proofs.NamedRefusals.{HasOneName, under_name}
+use Rattle.fault_checks.specs.Trials.{path_in}
 use Rattle.fault_checks.proofs.refusing.keyword_refuses.Goals as goal
 
 pub returns-in-Nothing : goal.returns-in-Nothing
 returns-in-Nothing c =
-    let d = view c.args.value.now in
-    let path = location_of c.args.schema.now ++ path_of_reference (text_of c.args.reference) in
-    under_name c.args.site.now path d c.args.keyword c.args.name.now false (subst HasOneName (sym c.in-Nothing.is) tt)
-    (by_nothing c.args.site.now path d c.args.keyword (λ x s. ap (λ k. rules_by x s d k) c.in-Nothing.is))
+    let d = view c.args.trial.now.value.now in
+    let path = path_in c.args.trial.now in
+    under_name c.args.trial.now.site.now path d c.args.keyword c.args.name.now false (subst HasOneName (sym c.in-Nothing.is) tt)
+    (by_nothing c.args.trial.now.site.now path d c.args.keyword (λ x s. ap (λ k. rules_by x s d k) c.in-Nothing.is))
 
 pub returns-in_ok-accept-in-Assertion : goal.returns-in_ok-accept-in-Assertion
 returns-in_ok-accept-in-Assertion c =
     let a = assertion_of c.in-Assertion.assertion in
-    let d = view c.args.value.now in
-    let path = location_of c.args.schema.now ++ path_of_reference (text_of c.args.reference) in
-    under_name c.args.site.now path d c.args.keyword c.args.name.now (not c.in_ok-accept-in-Assertion.field-0) (subst HasOneName (sym c.in-Assertion.is) tt)
-    (by_assertion c.args.site.now path d c.args.keyword a c.in_ok-accept-in-Assertion.field-0 c.in_ok-accept-in-Assertion.ensures (λ x s. ap (λ k. rules_by x s d k) c.in-Assertion.is))
+    let d = view c.args.trial.now.value.now in
+    let path = path_in c.args.trial.now in
+    under_name c.args.trial.now.site.now path d c.args.keyword c.args.name.now (not c.in_ok-accept-in-Assertion.field-0) (subst HasOneName (sym c.in-Assertion.is) tt)
+    (by_assertion c.args.trial.now.site.now path d c.args.keyword a c.in_ok-accept-in-Assertion.field-0 c.in_ok-accept-in-Assertion.ensures (λ x s. ap (λ k. rules_by x s d k) c.in-Assertion.is))
 
 pub returns-in_ok-accepts_text-in-Pattern : goal.returns-in_ok-accepts_text-in-Pattern
 returns-in_ok-accepts_text-in-Pattern c =
-    let d = view c.args.value.now in
-    let path = location_of c.args.schema.now ++ path_of_reference (text_of c.args.reference) in
-    under_name c.args.site.now path d c.args.keyword c.args.name.now (not c.in_ok-accepts_text-in-Pattern.field-0) (subst HasOneName (sym c.in-Pattern.is) tt)
-    (by_pattern c.args.site.now path d c.args.keyword c.in-Pattern.pattern.now c.in_ok-accepts_text-in-Pattern.field-0 c.in_ok-accepts_text-in-Pattern.ensures (λ x s. ap (λ k. rules_by x s d k) c.in-Pattern.is))
+    let d = view c.args.trial.now.value.now in
+    let path = path_in c.args.trial.now in
+    under_name c.args.trial.now.site.now path d c.args.keyword c.args.name.now (not c.in_ok-accepts_text-in-Pattern.field-0) (subst HasOneName (sym c.in-Pattern.is) tt)
+    (by_pattern c.args.trial.now.site.now path d c.args.keyword c.in-Pattern.pattern.now c.in_ok-accepts_text-in-Pattern.field-0 c.in_ok-accepts_text-in-Pattern.ensures (λ x s. ap (λ k. rules_by x s d k) c.in-Pattern.is))
 
 pub applicator_refuses-requires : goal.applicator_refuses-requires
-applicator_refuses-requires c = record { shallow = c.requires.shallow; applies = subst (LiesIn c.args.site.now) c.in-Applicator.is c.requires.lies }
+applicator_refuses-requires c = record { applies = subst (LiesIn c.args.trial.now.site.now) c.in-Applicator.is c.requires.lies }
 
 pub returns-in-Applicator : goal.returns-in-Applicator
 returns-in-Applicator c =
-    let path = location_of c.args.schema.now ++ path_of_reference (text_of c.args.reference) in
-    IfOk-weaker c.applicator_refuses.result _ _ (λ b h. subst (λ k. IsRefusalAt c.args.site.now path (view c.args.value.now) k c.args.name.now b) (sym c.in-Applicator.is) h) c.applicator_refuses.ensures
+    let path = path_in c.args.trial.now in
+    IfOk-weaker c.applicator_refuses.result _ _ (λ b h. subst (λ k. IsRefusalAt c.args.trial.now.site.now path (view c.args.trial.now.value.now) k c.args.name.now b) (sym c.in-Applicator.is) h) c.applicator_refuses.ensures
 
 pub condition_refuses-requires : goal.condition_refuses-requires
-condition_refuses-requires c = record { shallow = c.requires.shallow; lies = subst (LiesIn c.args.site.now) c.in-If.is c.requires.lies }
+condition_refuses-requires c = record { lies = subst (LiesIn c.args.trial.now.site.now) c.in-If.is c.requires.lies }
 
 pub returns-in-If : goal.returns-in-If
 returns-in-If c =
-    let path = location_of c.args.schema.now ++ path_of_reference (text_of c.args.reference) in
-    IfOk-weaker c.condition_refuses.result _ _ (λ b h. subst (λ k. IsRefusalAt c.args.site.now path (view c.args.value.now) k c.args.name.now b) (sym c.in-If.is) h) c.condition_refuses.ensures
+    let path = path_in c.args.trial.now in
+    IfOk-weaker c.condition_refuses.result _ _ (λ b h. subst (λ k. IsRefusalAt c.args.trial.now.site.now path (view c.args.trial.now.value.now) k c.args.name.now b) (sym c.in-If.is) h) c.condition_refuses.ensures
 
 pub returns-in-Consequent : goal.returns-in-Consequent
 returns-in-Consequent c =
-    let d = view c.args.value.now in
-    let path = location_of c.args.schema.now ++ path_of_reference (text_of c.args.reference) in
-    under_name c.args.site.now path d c.args.keyword c.args.name.now false (subst HasOneName (sym c.in-Consequent.is) tt)
-    (by_nothing c.args.site.now path d c.args.keyword (λ x s. ap (λ k. rules_by x s d k) c.in-Consequent.is))
+    let d = view c.args.trial.now.value.now in
+    let path = path_in c.args.trial.now in
+    under_name c.args.trial.now.site.now path d c.args.keyword c.args.name.now false (subst HasOneName (sym c.in-Consequent.is) tt)
+    (by_nothing c.args.trial.now.site.now path d c.args.keyword (λ x s. ap (λ k. rules_by x s d k) c.in-Consequent.is))
 
 pub is_target_refused-requires : goal.is_target_refused-requires
-is_target_refused-requires c = record { shallow = c.requires.shallow; found = subst (LiesIn c.args.site.now) c.in-Reference.is c.requires.lies }
+is_target_refused-requires c = record { found = subst (LiesIn c.args.trial.now.site.now) c.in-Reference.is c.requires.lies }
 
 pub returns-in-Reference : goal.returns-in-Reference
 returns-in-Reference c =
-    let d = view c.args.value.now in
-    let path = location_of c.args.schema.now ++ path_of_reference (text_of c.args.reference) in
+    let d = view c.args.trial.now.value.now in
+    let path = path_in c.args.trial.now in
     let w = c.in-Reference.by in
     let text = c.in-Reference.text.now in
     let t = target_in c.in-Reference.target in
     IfOk-weaker c.is_target_refused.result _ _
-    (λ b h. under_name c.args.site.now path d c.args.keyword c.args.name.now b (subst HasOneName (sym c.in-Reference.is) tt)
-    (by_questions c.args.site.now path d c.args.keyword (reference_row w text t) (asking.at (name_of w)) (reference_questions w text t) b c.requires.shallow
+    (λ b h. under_name c.args.trial.now.site.now path d c.args.keyword c.args.name.now b (subst HasOneName (sym c.in-Reference.is) tt)
+    (by_questions c.args.trial.now.site.now path d c.args.keyword (reference_row w text t) (asking.at (name_of w)) (reference_questions w text t) b c.args.trial.now.shallow
     (λ x s. ap (λ k. row_of x.documents s k) c.in-Reference.is) (λ x s. refl) h))
     c.is_target_refused.ensures

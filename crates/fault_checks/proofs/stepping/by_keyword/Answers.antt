@@ -13,7 +13,7 @@ pub through-requires : goal.through-requires
 through-requires c = record { lies = c.requires.lies; more = more_by c.args.walk.instance c.args.after c.is_more.result c.is_more.ensures c.if-is_more.true }
 
 pub refuses-requires : goal.refuses-requires
-refuses-requires c = record { shallow = c.args.walk.shallow; lies = c.requires.lies }
+refuses-requires c = record { lies = c.requires.lies }
 
 pub returns-clause-passes : goal.returns-clause-passes
 returns-clause-passes c =

@@ -4,11 +4,11 @@ use Rattle.serde_json.specs.View.{view}
 use Rattle.line_runs.proofs.Values.{value-read, value-none}
 use Rattle.line_runs.proofs.reading.line_value.Goals as goal
 
-pub returns-then-has_only_whole : goal.returns-then-has_only_whole
-returns-then-has_only_whole c =
+pub returns-then-has_only_whole-clause-value : goal.returns-then-has_only_whole-clause-value
+returns-then-has_only_whole-clause-value c =
     let read = c.in-Ok.ensures.ok in
     sym (value-read c.args.line.now (view c.in-Ok.value) (is_utf8-from_IsUtf8 c.args.line.now read.0) read.1 (sym c.has_only_whole.ensures.tree ∙ c.if-has_only_whole.true))
 
-pub returns-in_default : goal.returns-in_default
-returns-in_default c =
+pub returns-in_default-clause-value : goal.returns-in_default-clause-value
+returns-in_default-clause-value c =
     sym (value-none c.args.line.now (λ valid. c.in-Err.ensures.err (λ m. c.in_default.not-Memory (c.classify.ensures.memory.1 m)) (IsUtf8-from_is_utf8 c.args.line.now valid)))

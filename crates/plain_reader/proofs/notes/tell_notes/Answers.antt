@@ -3,7 +3,7 @@ use Rattle.std.specs.Prelude.{OnOk}
 use Rattle.serde_json.specs.View.{view}
 use Rattle.applicators.specs.Asks.{noted_by}
 use Rattle.applicators.specs.Combined.{name_of}
-use Rattle.applicators.specs.declared.asks.Asks.TheVariants as asking
+use Rattle.applicators.specs.declared.asks.AsksOf.TheVariants as asking
 use Rattle.applied_laws.proofs.Once.{no_notes}
 use Rattle.assertion_faults.specs.Tellings.{TellsNotes}
 use Rattle.assertion_faults.proofs.TellingLemmas.{tells_none}

@@ -1,7 +1,8 @@
-use Rattle.std.proofs.Common.{◌∙◌, sym, ap, arith}
+use Rattle.std.proofs.Common.{◌∙◌, sym, ap, subst, arith}
 use Rattle.serde_json.specs.View.{view}
 use Rattle.schema_patterns.specs.Read.{reads}
 use Rattle.applicators.specs.Asks.{kind_asked}
+use Rattle.schema_reports.specs.Kinds.{StandsFor}
 use Rattle.plain_reader.proofs.RefusalLemmas.{any_refused, several_refused, none_refused, counted_refused, asked_refused}
 use Rattle.plain_reader.proofs.refusals.refusal.Goals.{in-SomeBranch, in-OneBranch, then-accepted-gt0, else-accepted-gt0, in-Counted, in_default+in_ok-asked_refusal-in_default}
 use Rattle.plain_reader.proofs.refusals.refusal.Goals as goal
@@ -9,7 +10,7 @@ use Rattle.plain_reader.proofs.refusals.refusal.Goals as goal
 pub returns : goal.returns
 returns c =
     let context = c.args.context in
-    let a = c.args.applicator in
+    let a = c.args.applicator.now in
     let n = c.args.accepted in
     let d = view c.args.value.now in
     let m = reads c.args.matches.now in
@@ -24,5 +25,5 @@ returns c =
       | in_default+in_ok-asked_refusal-in_default w ↦
           rw w.result-is
           (asked_refused m d n context a c.combining.result _ is w.in_default.not-SomeBranch w.in_default.not-OneBranch w.in_default.not-Counted
-          (w.in_ok-asked_refusal-in_default.ensures ∙ ap (λ f. kind_asked m f d) w.asks.ensures))
+          (subst (λ f. StandsFor w.in_ok-asked_refusal-in_default.field-0 (kind_asked m f d)) w.asks.ensures w.in_ok-asked_refusal-in_default.ensures))
     ]

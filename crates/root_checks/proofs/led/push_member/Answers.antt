@@ -1,4 +1,4 @@
-use Rattle.std.proofs.Common.{◌∙◌, List, ℕ, true, false, not, refl, sym, subst}
+use Rattle.std.proofs.Common.{◌∙◌, List, ℕ, refl, sym, subst}
 use Rattle.serde_json.specs.View.{view, members_view}
 use Rattle.schema_meaning.specs.Members.{In}
 use Rattle.reached_sites.specs.Patterns.{Holds, texts_of}
@@ -11,15 +11,15 @@ use Rattle.root_checks.proofs.Members.{member-wrong, put-texts, member-right, me
 use Rattle.root_checks.proofs.led.push_member.Goals as goal
 
 pub push_leads-requires : goal.push_leads-requires
-push_leads-requires g c = (view c.args.value.now, c.in-Ok.ensures.found)
+push_leads-requires g c = (view c.args.member.value.now, c.in-Ok.ensures.found)
 
 pub returns-then-not-branch-clause-led : goal.returns-then-not-branch-clause-led
 returns-then-not-branch-clause-led g c = λ filled.
     let v = c.args.visit.now in
     let makes = (g.P.PatternMaker.patterns c.args.maker.now).makes in
-    let all = members_view c.args.members.now.entries in
-    let k = c.args.name.now in
-    let d = view c.args.value.now in
+    let all = members_view c.args.member.members.now.entries in
+    let k = c.args.member.name.now in
+    let d = view c.args.member.value.now in
     let unmade = c.in_ok-are_made-in-Ok.ensures.unmade c.if-not-branch.true in
     let q = subst (λ (l : List Pattern). In unmade.0 l) c.as_slice.ensures.value unmade.1 in
     member-unmade v makes all k d c.in-Ok.keyword (c.in-Ok.ensures.read makes (site_of v) (stands-itself v) refl) c.new-patterns.result.items c.push_patterns.new.patterns.items c.new-patterns.ensures.items
@@ -32,9 +32,9 @@ returns-in-Ok-clause-led g c = λ filled.
     let finds = g.P.Matcher.PatternMatcher.finds in
     let finished = (g.P.PatternMaker.patterns maker).finished in
     let makes = (g.P.PatternMaker.patterns maker).makes in
-    let all = members_view c.args.members.now.entries in
-    let k = c.args.name.now in
-    let d = view c.args.value.now in
+    let all = members_view c.args.member.members.now.entries in
+    let k = c.args.member.name.now in
+    let d = view c.args.member.value.now in
     let larger = c.are_made.new.table in
     let patterns = c.push_patterns.new.patterns.items in
     let held = subst (λ (l : List Pattern). Holds larger (texts_of l)) c.as_slice.ensures.value (c.in_ok-are_made-in-Ok.ensures.made c.if-not-branch.false) in
@@ -46,9 +46,9 @@ pub returns-in-Ok-clause-written : goal.returns-in-Ok-clause-written
 returns-in-Ok-clause-written g c = λ t.
     let v = c.args.visit.now in
     let makes = (g.P.PatternMaker.patterns c.args.maker.now).makes in
-    let all = members_view c.args.members.now.entries in
-    let k = c.args.name.now in
-    let d = view c.args.value.now in
+    let all = members_view c.args.member.members.now.entries in
+    let k = c.args.member.name.now in
+    let d = view c.args.member.value.now in
     let w = c.in-Ok.keyword in
     let larger = c.are_made.new.table in
     let patterns = c.push_patterns.new.patterns.items in
@@ -61,9 +61,9 @@ pub returns-clause-led : goal.returns-clause-led
 returns-clause-led g c = λ filled.
     let v = c.args.visit.now in
     let makes = (g.P.PatternMaker.patterns c.args.maker.now).makes in
-    let all = members_view c.args.members.now.entries in
-    let k = c.args.name.now in
-    let d = view c.args.value.now in
+    let all = members_view c.args.member.members.now.entries in
+    let k = c.args.member.name.now in
+    let d = view c.args.member.value.now in
     member-wrong v makes all k d c.args.leads.now.items
     (refusal-cause (context_of v makes all) k d (row_here v makes all k d) c.in-Err.refusal (c.in-Err.ensures.refused makes (site_of v) (stands-itself v) refl) (sym c.refuses_memory.ensures ∙ c.if-refuses_memory.false))
 

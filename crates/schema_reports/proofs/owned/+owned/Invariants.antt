@@ -1,5 +1,5 @@
 use Rattle.std.proofs.Common.{◌≡◌, ◌+◌, ◌*◌}
-use Rattle.schema_reports.specs.Told.{faults_of, branches_in}
+use Rattle.schema_reports.specs.Told.{faults_of, branches_in, are_proper, context_is_proper}
 use Rattle.schema_reports.proofs.owned.+owned.Given as goal
 
 -- how deep the errors go, and a list's own step above those that it holds
@@ -16,7 +16,13 @@ abbrev pub decreases-owned_context : goal.decreases-owned_context
 decreases-owned_context l = 3 * goal.size-owned_context l + 2
 
 abbrev pub invariant-owned_context-loop-errors : goal.invariant-owned_context-loop-errors
-invariant-owned_context-loop-errors l = branches_in l.branches.items ≡ branches_in l.yielded
+invariant-owned_context-loop-errors l = record {
+  told : branches_in l.branches.items ≡ branches_in l.yielded;
+  proper : context_is_proper l.branches.items ≡ context_is_proper l.yielded;
+}
 
 abbrev pub invariant-owned_errors-loop-error : goal.invariant-owned_errors-loop-error
-invariant-owned_errors-loop-error l = faults_of l.owned.items ≡ faults_of l.yielded
+invariant-owned_errors-loop-error l = record {
+  told : faults_of l.owned.items ≡ faults_of l.yielded;
+  proper : are_proper l.owned.items ≡ are_proper l.yielded;
+}

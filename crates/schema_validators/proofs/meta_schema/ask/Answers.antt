@@ -1,7 +1,7 @@
-use Rattle.std.proofs.Common.{IfErr, inr, is_ok, subst}
+use Rattle.std.proofs.Common.{◌≡◌, ◌∙◌, IfErr, inr, is_ok, refl, sym, subst, true}
 use Rattle.serde_json.specs.View.{view}
 use Rattle.schema_meaning.specs.Readings.{verdicts}
-use Rattle.schema_reports.specs.Told.{fault_of}
+use Rattle.schema_reports.specs.Told.{fault_of, error_is_proper}
 use Rattle.schema_registries.specs.Answers.{IsAnswer, IsFault}
 use Rattle.schema_validators.specs.Made.{IsMadeBy}
 use Rattle.schema_validators.specs.Seen.{root_in}
@@ -10,15 +10,24 @@ use Rattle.schema_validators.proofs.meta_schema.ask.Goals as goal
 
 pub returns-in-Ok-clause-accepted : goal.returns-in-Ok-clause-accepted
 returns-in-Ok-clause-accepted g c = λ p made.
-    subst (λ x. IsAnswer verdicts p (root_in c.args.meta_schema.now) (view c.args.value.now) (is_ok x)) c.in-Ok.is (c.in_ok-validate.ensures.verdict p made)
+    subst (λ x. IsAnswer verdicts p (root_in c.args.meta_schema.now) (view c.args.value.now) (is_ok x)) c.in-Ok.is (c.in_ok-first_fault.ensures.verdict p made)
 
-pub returns-in_ok-of_fault-in-Err-clause-refused : goal.returns-in_ok-of_fault-in-Err-clause-refused
-returns-in_ok-of_fault-in-Err-clause-refused g c = λ p made.
+pub returns-in_ok-to_owned-in-Err-clause-refused : goal.returns-in_ok-to_owned-in-Err-clause-refused
+returns-in_ok-to_owned-in-Err-clause-refused g c = λ p made.
     let v = c.args.meta_schema.now in
-    let fault = subst (λ x. IfErr x (λ e. (q : _) → IsMadeBy g.M.PatternMatcher.finds q v → IsFault q (root_in v) (view c.args.value.now) (fault_of e))) c.in-Err.is c.in_ok-validate.ensures.fault in
-    inr (record { sound = made.sound; fault = fault_of c.in-Err.error; is_fault = fault p made; told = c.in_ok-of_fault-in-Err.ensures })
+    let d = view c.args.value.now in
+    let owned = c.in_ok-to_owned-in-Err.ensures in
+    let fault = subst (λ x. IfErr x (λ e. (q : _) → IsMadeBy g.M.PatternMatcher.finds q v → IsFault q (root_in v) d (fault_of e))) c.in-Err.is c.in_ok-first_fault.ensures.fault in
+    let proper = subst (λ x. IfErr x (λ e. error_is_proper e ≡ true)) c.in-Err.is c.in_ok-first_fault.ensures.proper in
+    inr (record {
+      sound = made.sound;
+      fault = c.in_ok-to_owned-in-Err.field-0;
+      is = refl;
+      told = subst (IsFault p (root_in v) d) (sym owned.told) (fault p made);
+      proper = owned.proper ∙ proper;
+    })
 
-pub returns-in_err-of_fault-in-Err-clause-refused : goal.returns-in_err-of_fault-in-Err-clause-refused
-returns-in_err-of_fault-in-Err-clause-refused g c =
+pub returns-in_err-to_owned-in-Err-clause-refused : goal.returns-in_err-to_owned-in-Err-clause-refused
+returns-in_err-to_owned-in-Err-clause-refused g c =
     let v = c.args.meta_schema.now in
-    of_memory (λ q. IsMadeBy g.M.PatternMatcher.finds q v) (root_in v) (view c.args.value.now) c.from_residual-in_err-of_fault-in-Err.result c.from_residual-in_err-of_fault-in-Err.ensures.1
+    of_memory (λ q. IsMadeBy g.M.PatternMatcher.finds q v) (root_in v) (view c.args.value.now) c.from_residual-in_err-to_owned-in-Err.result c.from_residual-in_err-to_owned-in-Err.ensures.1

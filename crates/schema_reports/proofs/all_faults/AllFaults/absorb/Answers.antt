@@ -1,12 +1,23 @@
-use Rattle.std.proofs.Common.{sym}
-use Rattle.schema_reports.specs.Told.{faults_of}
-use Rattle.schema_reports.proofs.FaultLemmas.{all_absorbed, joined-none}
+use Rattle.std.proofs.Common.{◌∙◌, refl, subst, sym}
+use Rattle.std.proofs.lemmas.List.{map-id}
+use Rattle.std.proofs.lemmas.Iterator.Adapters.{YieldsList-from_vec}
+use Rattle.std.proofs.lemmas.Iterator.Consumers.{YieldsList-end}
+use Rattle.schema_reports.specs.Told.{AreAll}
+use Rattle.schema_reports.proofs.FaultLemmas.{all_absorbed, none_absorbed}
 use Rattle.schema_reports.proofs.all_faults.AllFaults.absorb.Goals as goal
 
 pub loop-error-init : goal.loop-error-init
-loop-error-init c = sym (joined-none _)
+loop-error-init c = none_absorbed (λ hs. hs) refl c.args.self.now.errors.items
 
 pub loop-error-preserved : goal.loop-error-preserved
 loop-error-preserved c =
-    all_absorbed c.loop-error.self.errors.items c.push.new.self.items c.in-Some.error c.in_ok-into_owned.field-0 c.in_ok-push.ensures.items
-    c.in_ok-into_owned.ensures (faults_of c.args.self.now.errors.items) c.loop-error.yielded c.loop-error.invariant
+    all_absorbed c.loop-error.self.errors.items c.push.new.self.items c.in-Some.error c.in_ok-to_owned.field-0 c.in_ok-push.ensures.items
+    c.in_ok-to_owned.ensures.told c.in_ok-to_owned.ensures.proper c.args.self.now.errors.items c.loop-error.yielded c.loop-error.invariant
+
+pub returns : goal.returns
+returns c = λ fs gs told heard.
+    let gives = c.into_iter-error-iterator.ensures.into_iter_gives in
+    let list = YieldsList-from_vec c.args.heard.items gives.0 (gives.1 ∙ c.args.heard.ok.0) in
+    let end = YieldsList-end list c.loop-error.yielded _ c.loop-error.yielded_by _ c.next.new.self c.in-None.is c.next.ensures.steps in
+    let all = sym (map-id c.loop-error.yielded) ∙ end.0 in
+    c.loop-error.invariant fs gs told (subst (λ es. AreAll es gs) (sym all) heard)

@@ -1,7 +1,5 @@
-use Rattle.std.proofs.Common.{◌≡◌}
-use Rattle.schema_meaning.specs.Faults.{joined}
-use Rattle.schema_reports.specs.Told.{faults_of}
+use Rattle.schema_reports.proofs.FaultLemmas.{Absorbs}
 use Rattle.schema_reports.proofs.all_faults.AllFaults.absorb.Given as goal
 
 abbrev pub invariant-loop-error : goal.invariant-loop-error
-invariant-loop-error l = faults_of l.self.errors.items ≡ joined (faults_of l.fn.self.errors.items) (faults_of l.yielded)
+invariant-loop-error l = Absorbs (λ hs. hs) l.fn.self.errors.items l.yielded l.self.errors.items

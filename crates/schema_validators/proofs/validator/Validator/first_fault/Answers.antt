@@ -5,9 +5,9 @@ use Rattle.schema_reports.specs.declared.observer.Observation.TheVariants.{First
 use Rattle.schema_validators.specs.Made.{IsMadeBy}
 use Rattle.schema_validators.specs.Heard.{HearsCut, StillKeeps}
 use Rattle.schema_validators.specs.Seen.{root_in}
-use Rattle.schema_validators.proofs.Hearing.{first_heard, one_verdict, one_fault, answered}
+use Rattle.schema_validators.proofs.Hearing.{first_heard, one_verdict, one_fault, error_proper, answered}
 use Rattle.schema_validators.proofs.Certifying.{error_certified}
-use Rattle.schema_validators.proofs.validator.Validator.validate.Goals as goal
+use Rattle.schema_validators.proofs.validator.Validator.first_fault.Goals as goal
 
 pub unreachable-requires : goal.unreachable-requires
 unreachable-requires g c = (subst (StillKeeps _) c.in-Verdict.is c.in_ok-observer.ensures.kept).keeps First c.new.ensures (λ fs h. h)
@@ -31,6 +31,11 @@ returns-clause-fault g c =
     let d = view c.args.value.now in
     one_fault r d (λ p. IsMadeBy g.M.PatternMatcher.finds p c.args.self.now) c.refused.result
     (λ p made. first_heard p r d c.new.result c.in-First.first c.new.ensures (subst (HearsCut p r d _) c.in-First.is (c.in_ok-observer.ensures.heard p made)) c.refused.result c.refused.ensures)
+
+pub returns-clause-proper : goal.returns-clause-proper
+returns-clause-proper g c =
+    let keeps = subst (StillKeeps _) c.in-First.is c.in_ok-observer.ensures.kept in
+    error_proper c.new.result c.in-First.first c.new.ensures keeps c.refused.result c.refused.ensures
 
 pub returns-clause-certified : goal.returns-clause-certified
 returns-clause-certified g c =
