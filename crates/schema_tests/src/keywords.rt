@@ -1,6 +1,8 @@
 // Keywords that ask for matches ask for those that were read.
 
 use applicators::applicator::Applicator;
+use applicators::asks::Asks;
+use applicators::combining::Combining;
 use applicators::declared::{Declared, undeclared_names};
 use applicators::question::{Asked, Question};
 use applicators::questions::questions;
@@ -44,7 +46,11 @@ fn asks_for_members_by_patterns(rt: HostRuntime) {
     let value = json(&rt, alloc, INSTANCE);
     let matches = read(&rt, alloc, &value);
     let schemas = schemas.as_object().expect(&rt, "an object");
-    let applicator = Applicator::PatternProperties(schemas);
+    let applicator = Applicator {
+        keyword: "patternProperties",
+        asks: Asks::MatchingMembers(schemas),
+        combining: Combining::Every,
+    };
     let questions = questions(alloc, &matches, &applicator, &value).expect(&rt, "memory");
     assert_eq!(rt; questions.len(), 2);
     assert!(rt; asks(&questions[0], "^bar", "bar"));
