@@ -1,3 +1,11 @@
 pub mod OrderLemmas
-pub mod LinkedRules
-pub mod LinkedAnswers
+pub mod Alike
+pub mod NearFaults
+pub mod RelatedRules
+pub mod RelatedAnswers
+pub mod Turned
+pub mod Certified
+pub mod LinkedPairs
+pub mod CutDiffers
+pub mod Moved
+pub mod RelatedCut

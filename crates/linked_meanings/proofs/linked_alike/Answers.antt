@@ -1,4 +1,4 @@
-use Rattle.linked_meanings.proofs.LinkedAnswers.{linked_alike}
+use Rattle.linked_meanings.proofs.LinkedPairs.{linked_alike}
 use Rattle.linked_meanings.proofs.linked_alike.Goals as goal
 
 pub returns : goal.returns
