@@ -1,0 +1,247 @@
+-- The steps of the engine.
+use Rattle.std.proofs.Common.{◌≡◌, ◌<◌, ◌≤◌, ◌+◌, ℕ, zero, suc, List, [], ◌∷◌, Bool, true, false, map, drop, length, get_or, refl, sym, ap, ◌∙◌, subst, arith, add-one}
+use Rattle.std.proofs.lemmas.List.{drop_more, drop_all}
+use Rattle.std.proofs.lemmas.Option.{slice_get_read}
+use Rattle.serde_json.specs.Data.{Data}
+use Rattle.schema_meaning.specs.Members.{In, first, later, all_true}
+use Rattle.schema_meaning.specs.Places.{stay}
+use Rattle.schema_meaning.specs.Questions.{Question}
+use Rattle.schema_meaning.specs.Rules.{Rule, every, together, each_named, some_branch, one_branch, refusal, counted, conditional, asks, accepts, consequents}
+use Rattle.schema_meaning.specs.Keywords.{Shape, rule}
+use Rattle.schema_meaning.specs.Readings.{Reading, verdicts}
+use Rattle.schema_meaning.specs.Cut.{cut_asked, cut_within, cut_unless, is_in_progress}
+use Rattle.schema_engine.specs.declared.node.Node.{Node}
+use Rattle.schema_engine.specs.declared.place.Place.{Place}
+use Rattle.schema_engine.specs.declared.place.Question as code
+use Rattle.schema_engine.specs.declared.combination.Combination.{Combination}
+use Rattle.schema_engine.specs.Places.{value_at}
+use Rattle.schema_engine.specs.Progress.{is_among}
+use Rattle.schema_engine.specs.Questions.{Call, call, call_of}
+use Rattle.schema_engine.specs.Rules.{combination_of, is_right, questions_of, combined}
+use Rattle.schema_engine.specs.Leads.{leads_of}
+use Rattle.schema_engine.specs.Graphs.{keywords_at, keywords_or_none, rank_at, reading_of, IsSound}
+use Rattle.schema_engine.specs.Verdicts.{Setting, Fits, Tells, MayAsk, EachMayAsk, node_in, asked_in, rule_in, key_in, size}
+use Rattle.schema_engine.proofs.Inside.{inside}
+use Rattle.schema_engine.proofs.Left.{KeywordsLeft}
+use Rattle.schema_engine.proofs.RuleLemmas.{rule_combined}
+use Rattle.schema_engine.proofs.Settings.{stepped, entered, target_fits}
+
+-- ---- elements of lists
+
+in_map : {A B : Type 0} (f : A → B) (x : A) (xs : List A) → In x xs → In (f x) (map f xs)
+in_map f x [] i = elim i [ ]
+in_map f x (y ∷ xs) first = first
+in_map f x (y ∷ xs) (later i) = later (in_map f x xs i)
+
+in_drop : {A : Type 0} (start i : ℕ) (xs : List A) (x : A) → start ≤ i → i < length xs → x ≡ get_or xs i x → In x (drop start xs)
+in_drop start i [] x low high is = absurd (omega arith)
+in_drop zero zero (y ∷ xs) x low high is = subst (λ z. In x (z ∷ xs)) is first
+in_drop zero (suc i) (y ∷ xs) x low high is = later (in_drop zero i xs x (omega arith) (omega arith) is)
+in_drop (suc start) zero (y ∷ xs) x low high is = absurd (omega arith)
+in_drop (suc start) (suc i) (y ∷ xs) x low high is = in_drop start i xs x (omega arith) (omega arith) is
+
+in_dropped : {A : Type 0} (start : ℕ) (xs : List A) (x : A) → In x (drop (suc start) xs) → In x (drop start xs)
+in_dropped zero [] x i = i
+in_dropped zero (y ∷ xs) x i = later i
+in_dropped (suc start) [] x i = i
+in_dropped (suc start) (y ∷ xs) x i = in_dropped start xs x i
+
+in_mapped : {A B : Type 0} (f : A → B) (xs ys : List A) → ((x : A) → In x xs → In x ys) → (b : B) → In b (map f xs) → In b (map f ys)
+in_mapped f [] ys h b i = elim i [ ]
+in_mapped f (x ∷ xs) ys h b first = in_map f x ys (h x first)
+in_mapped f (x ∷ xs) ys h b (later i) = in_mapped f xs ys (λ y j. h y (later j)) b i
+
+map_map : {A B C : Type 0} (f : B → C) (g : A → B) (xs : List A) → map f (map g xs) ≡ map (λ x. f (g x)) xs
+map_map f g [] = refl
+map_map f g (x ∷ xs) = ap (λ ys. f (g x) ∷ ys) (map_map f g xs)
+
+-- ---- what may be asked
+
+module _ {K : Type 0} (nodes : List (Node K)) (rank : ℕ) (d : Data) where
+  pub may_ask_one : (start i : ℕ) (qs : List code.Question) (q : code.Question) → EachMayAsk nodes rank d (map call_of (drop start qs)) → start ≤ i → i < length qs → q ≡ get_or qs i q
+      → MayAsk nodes rank d (call_of q)
+  may_ask_one start i qs q may low high is = may.each (call_of q) (in_map call_of q (drop start qs) (in_drop start i qs q low high is))
+
+  pub may_ask_rest : (start : ℕ) (qs : List code.Question) → EachMayAsk nodes rank d (map call_of (drop start qs)) → EachMayAsk nodes rank d (map call_of (drop (start + 1) qs))
+  may_ask_rest start qs may = record { each = λ c i. may.each c (in_mapped call_of (drop (start + 1) qs) (drop start qs) (λ q j. in_dropped start qs q (rw add-one at j)) c i) }
+
+-- each is a question of the rule
+pub record IsAsked (k : Rule ℕ) (c : Call) : Type 0 where
+  pub question : Question ℕ
+  pub asked : In question (asks k)
+  pub node : c.node ≡ question.site
+  pub step : c.step ≡ question.step
+  pub follows : c.follows ≡ question.follows
+
+asked_plain : (k : Rule ℕ) (b : Bool) (qs : List (Question ℕ)) → ((q : Question ℕ) → In q qs → In q (asks k)) → (c : Call) → In c (map (call b) qs) → IsAsked k c
+asked_plain k b [] among c i = elim i [ ]
+asked_plain k b (q ∷ qs) among c first = record { question = q; asked = among q first; node = refl; step = refl; follows = refl }
+asked_plain k b (q ∷ qs) among c (later i) = asked_plain k b qs (λ p j. among p (later j)) c i
+
+asked_beside : (k : Rule ℕ) (cs : List (Bool × Question ℕ)) → ((q : Question ℕ) → In q (consequents cs) → In q (asks k)) → (c : Call) → In c (map (λ c. call c.0 c.1) cs) → IsAsked k c
+asked_beside k [] among c i = elim i [ ]
+asked_beside k (x ∷ cs) among c first = record { question = x.1; asked = among x.1 first; node = refl; step = refl; follows = refl }
+asked_beside k (x ∷ cs) among c (later i) = asked_beside k cs (λ p j. among p (later j)) c i
+
+all_asked : (k : Rule ℕ) (c : Call) → In c (questions_of k) → IsAsked k c
+all_asked (every p notes qs) c i = asked_plain (every p notes qs) true qs (λ q j. j) c i
+all_asked (together p note qs) c i = asked_plain (together p note qs) true qs (λ q j. j) c i
+all_asked (each_named p s names) c i = asked_plain (each_named p s names) true (asks (each_named p s names)) (λ q j. j) c i
+all_asked (some_branch p qs) c i = asked_plain (some_branch p qs) true qs (λ q j. j) c i
+all_asked (one_branch p qs) c i = asked_plain (one_branch p qs) true qs (λ q j. j) c i
+all_asked (refusal p schema q) c i = asked_plain (refusal p schema q) true (q ∷ []) (λ q j. j) c i
+all_asked (counted least most qs) c i = asked_plain (counted least most qs) true qs (λ q j. j) c i
+all_asked (conditional q cs) c first = record { question = q; asked = first; node = refl; step = refl; follows = refl }
+all_asked (conditional q cs) c (later i) = asked_beside (conditional q cs) cs (λ p j. later j) c i
+
+pub each_may_ask : {K : Type 0} (shape : K → Shape ℕ) (nodes : List (Node K)) (n : ℕ) (k : K) (matches : List ℕ → List ℕ → Bool) (d : Data) → IsSound shape nodes → In k (keywords_at nodes n)
+    → EachMayAsk nodes (rank_at nodes n) d (questions_of (rule matches d (shape k)))
+each_may_ask shape nodes n k matches d sound stands = record {
+  each = λ c i.
+      (let a = all_asked (rule matches d (shape k)) c i in
+      let here = inside matches d (shape k) a.question a.asked in
+      record {
+        below = rw a.node (sound.below n k a.question.follows a.question.site stands here.leads);
+        falls = λ g. rw a.node (sound.falls n k a.question.site stands (subst (λ f. In a.question.site (leads_of f (shape k))) (sym a.follows ∙ g) here.leads));
+        stays = λ g. a.step ∙ here.stays (sym a.follows ∙ g);
+        down = rw a.step here.down;
+      });
+}
+
+-- ---- the keywords of a node
+
+pub keywords_here : {K : Type 0} (nodes : List (Node K)) (n : ℕ) (x : Node K) → n < length nodes → x ≡ get_or nodes n x → keywords_at nodes n ≡ x.keywords.items
+keywords_here nodes n x there is = ap keywords_or_none (slice_get_read nodes (length nodes) n x refl there is)
+
+pub keyword_stands : {K : Type 0} (i : ℕ) (ks : List K) (k : K) → i < length ks → k ≡ get_or ks i k → In k ks
+keyword_stands i ks k high is = in_drop 0 i ks k (omega arith) high is
+
+module _ {K : Type 0} (shape : K → Shape ℕ) (matches : List ℕ → List ℕ → Bool) (nodes : List (Node K)) (n : ℕ) (p : Place) (progress : List ℕ) where
+  told_by : K → Setting → Bool
+  told_by k x = rule_in (reading_of shape matches nodes) (rule matches (value_at p) (shape k)) x
+
+  lower : Setting → ℕ → Setting
+  lower x depth = record { depth = depth; keys = x.keys; spot = x.spot }
+
+  lower_fits : (x : Setting) (depth : ℕ) → Fits p progress x → Fits p progress (record { depth = depth; keys = x.keys; spot = x.spot })
+  lower_fits x depth fits = record { value = fits.value; called = fits.called; here = fits.here; above = fits.above }
+
+  -- a node is told by its keywords, one question deeper
+  node_told : (x : Setting) (depth : ℕ) → x.depth ≡ suc depth → Fits p progress x
+      → node_in (reading_of shape matches nodes) n x
+      ≡ all_true (map (λ k. rule_in (reading_of shape matches nodes) (rule matches (value_at p) (shape k)) (record { depth = depth; keys = x.keys; spot = x.spot })) (keywords_at nodes n))
+  unfolding cut_within rule_in
+  node_told x depth deep fits =
+      rw deep
+      (ap (λ d. all_true (map (λ k. accepts k (map (cut_asked verdicts (reading_of shape matches nodes) (cut_within verdicts (reading_of shape matches nodes) depth) x.keys x.spot) (asks k)))
+      (map (rule matches d) (map shape (keywords_at nodes n))))) fits.value
+      ∙ ap all_true (map_map (λ k. accepts k (map (cut_asked verdicts (reading_of shape matches nodes) (cut_within verdicts (reading_of shape matches nodes) depth) x.keys x.spot) (asks k)))
+      (rule matches (value_at p)) (map shape (keywords_at nodes n))
+      ∙ map_map (λ s. accepts (rule matches (value_at p) s) (map (cut_asked verdicts (reading_of shape matches nodes) (cut_within verdicts (reading_of shape matches nodes) depth) x.keys x.spot) (asks (rule matches (value_at p) s)))) shape (keywords_at nodes n)))
+
+  keywords_next : (i : ℕ) (all ks : List K) (k : K) → i < length ks → k ≡ get_or ks i k → KeywordsLeft shape matches nodes n p progress all (drop i ks)
+      → KeywordsLeft shape matches nodes n p progress all (k ∷ drop (i + 1) ks)
+  keywords_next i all ks k high is left =
+      subst (KeywordsLeft shape matches nodes n p progress all) (drop_more ks i k high ∙ ap (λ y. y ∷ drop (i + 1) ks) (sym is)) left
+
+  pub keywords_yes : (i : ℕ) (all ks : List K) (k : K) → i < length ks → k ≡ get_or ks i k → KeywordsLeft shape matches nodes n p progress all (drop i ks)
+      → Tells p progress (size nodes (value_at p) progress (rank_at nodes n)) (rule_in (reading_of shape matches nodes) (rule matches (value_at p) (shape k))) true
+      → KeywordsLeft shape matches nodes n p progress all (drop (i + 1) ks)
+  keywords_yes i all ks k high is left taken = record {
+    left = λ x fits deep.
+        (let e = (keywords_next i all ks k high is left).left x fits deep in e ∙ rw (sym (taken.same x fits deep)) refl);
+  }
+
+  -- a node with a keyword that refuses
+  pub node_refuses : (i : ℕ) (ks : List K) (k : K) → i < length ks → k ≡ get_or ks i k → KeywordsLeft shape matches nodes n p progress (keywords_at nodes n) (drop i ks)
+      → Tells p progress (size nodes (value_at p) progress (rank_at nodes n)) (rule_in (reading_of shape matches nodes) (rule matches (value_at p) (shape k))) false
+      → Tells p progress (suc (size nodes (value_at p) progress (rank_at nodes n))) (node_in (reading_of shape matches nodes) n) false
+  node_refuses i ks k high is left refused = record { same = λ x fits deep. told x x.depth refl fits deep }
+    where
+      told : (x : Setting) (m : ℕ) → x.depth ≡ m → Fits p progress x → suc (size nodes (value_at p) progress (rank_at nodes n)) ≤ x.depth
+          → false ≡ node_in (reading_of shape matches nodes) n x
+      told x zero e fits deep = absurd (omega arith)
+      told x (suc m) e fits deep =
+          let y : Setting = record { depth = m; keys = x.keys; spot = x.spot } in
+          let low : size nodes (value_at p) progress (rank_at nodes n) ≤ m = omega arith in
+          let f : Fits p progress y = lower_fits x m fits in
+          let rest = (keywords_next i (keywords_at nodes n) ks k high is left).left y f low in
+          sym (node_told x m e fits ∙ rest ∙ rw (sym (refused.same y f low)) refl)
+
+  -- a node whose keywords all accept
+  pub node_accepts : (i : ℕ) (ks : List K) → length ks ≤ i → KeywordsLeft shape matches nodes n p progress (keywords_at nodes n) (drop i ks)
+      → Tells p progress (suc (size nodes (value_at p) progress (rank_at nodes n))) (node_in (reading_of shape matches nodes) n) true
+  node_accepts i ks all left = record { same = λ x fits deep. told x x.depth refl fits deep }
+    where
+      told : (x : Setting) (m : ℕ) → x.depth ≡ m → Fits p progress x → suc (size nodes (value_at p) progress (rank_at nodes n)) ≤ x.depth
+          → true ≡ node_in (reading_of shape matches nodes) n x
+      told x zero e fits deep = absurd (omega arith)
+      told x (suc m) e fits deep =
+          let y : Setting = record { depth = m; keys = x.keys; spot = x.spot } in
+          let low : size nodes (value_at p) progress (rank_at nodes n) ≤ m = omega arith in
+          let f : Fits p progress y = lower_fits x m fits in
+          let none : drop i ks ≡ [] = drop_all i ks all in
+          let rest = (subst (KeywordsLeft shape matches nodes n p progress (keywords_at nodes n)) none left).left y f low in
+          sym (node_told x m e fits ∙ rest)
+
+-- ---- a keyword
+
+module _ (r : Reading ℕ) (p : Place) (progress : List ℕ) (enough : ℕ) (k : Rule ℕ) where
+  pub keyword_wrong : (b : Bool) → b ≡ is_right k → b ≡ false → Tells p progress enough (rule_in r k) false
+  keyword_wrong b is wrong = record { same = λ x fits deep. sym (rule_combined r x k ∙ rw (sym is ∙ wrong) refl) }
+
+  pub keyword_told : (b right : Bool) (combination : Combination) (calls : List Call) → right ≡ is_right k → right ≡ true → combination ≡ combination_of k → calls ≡ questions_of k
+      → Tells p progress enough (λ x. combined combination (asked_in r x) calls) b → Tells p progress enough (rule_in r k) b
+  keyword_told b right combination calls is good c q tells = record {
+    same = λ x fits deep.
+        tells.same x fits deep ∙ rw (c, q) (sym (rule_combined r x k ∙ rw (sym is ∙ good) refl));
+  }
+
+-- ---- a question
+
+module _ (r : Reading ℕ) where
+  -- where no reference is followed
+  step_told : (x : Setting) (c : Call) → c.follows ≡ false → asked_in r x c ≡ node_in r c.node (stepped x c.step)
+  unfolding asked_in
+  step_told x c plain = rw plain refl
+
+  pub question_told : (p to : Place) (progress inner : List ℕ) (enough less : ℕ) (c : Call) (b : Bool) → less < enough → c.follows ≡ false
+      → ((x : Setting) → Fits p progress x → Fits to inner (stepped x c.step)) → Tells to inner (suc less) (node_in r c.node) b
+      → Tells p progress enough (λ x. asked_in r x c) b
+  question_told p to progress inner enough less c b falls plain fit tells = record {
+    same = λ x fits deep.
+        tells.same (stepped x c.step) (fit x fits) (omega arith) ∙ sym (step_told x c plain);
+  }
+
+  -- at the target of a reference
+  target_at : ℕ → Call
+  target_at t = record { node = t; step = stay; follows = true; beside = true }
+
+  -- beside which answer it counts decides nothing
+  asked_target : (x : Setting) (c : Call) → c.follows ≡ true → c.step ≡ stay → asked_in r x c ≡ asked_in r x (record { node = c.node; step = stay; follows = true; beside = true })
+  unfolding asked_in
+  asked_target x c g s = rw (g, s) refl
+
+  pub follows_told : (p : Place) (progress : List ℕ) (enough : ℕ) (c : Call) (b : Bool) → c.follows ≡ true → c.step ≡ stay
+      → Tells p progress enough (λ x. asked_in r x (record { node = c.node; step = stay; follows = true; beside = true })) b
+      → Tells p progress enough (λ x. asked_in r x c) b
+  follows_told p progress enough c b g s tells = record { same = λ x fits deep. tells.same x fits deep ∙ sym (asked_target x c g s) }
+
+module _ {K : Type 0} (shape : K → Shape ℕ) (matches : List ℕ → List ℕ → Bool) (nodes : List (Node K)) (t : ℕ) where
+  target_told : (x : Setting) → asked_in (reading_of shape matches nodes) x (record { node = t; step = stay; follows = true; beside = true })
+      ≡ cut_unless (is_in_progress (key_in x.spot t) x.keys) true (node_in (reading_of shape matches nodes) t (entered x t))
+  unfolding asked_in
+  target_told x = refl
+
+  -- a return is accepted
+  pub back_told : (p : Place) (progress : List ℕ) (enough : ℕ) → is_among t progress ≡ true
+      → Tells p progress enough (λ x. asked_in (reading_of shape matches nodes) x (record { node = t; step = stay; follows = true; beside = true })) true
+  back_told p progress enough back = record { same = λ x fits deep. sym (target_told x ∙ rw (fits.here t ∙ back) refl) }
+
+  pub entered_told : (p : Place) (progress : List ℕ) (enough less : ℕ) (b : Bool) → less < enough → is_among t progress ≡ false
+      → Tells p (t ∷ progress) (suc less) (node_in (reading_of shape matches nodes) t) b
+      → Tells p progress enough (λ x. asked_in (reading_of shape matches nodes) x (record { node = t; step = stay; follows = true; beside = true })) b
+  entered_told p progress enough less b falls new tells = record {
+    same = λ x fits deep.
+        tells.same (entered x t) (target_fits p progress x fits t) (omega arith) ∙ sym (target_told x ∙ rw (fits.here t ∙ new) refl);
+  }

@@ -1,0 +1,329 @@
+use Rattle.std.proofs.Common.{rules, ◌≡◌, ◌<◌, ◌+◌, ◌∙◌, Bool, true, false, map, drop, length, [], refl, sym, ap, subst, arith}
+use Rattle.std.proofs.lemmas.Result.{IfOk-weaker}
+use Rattle.serde_json.specs.View.{view}
+use Rattle.schema_meaning.specs.Members.{In}
+use Rattle.schema_meaning.specs.Places.{Step, stay}
+use Rattle.schema_meaning.specs.Keywords.{rule}
+use Rattle.schema_engine.specs.declared.place.Asked.{Asked}
+use Rattle.schema_engine.specs.declared.place.Place.TheVariants as place
+use Rattle.schema_engine.specs.Matches.{Matches}
+use Rattle.schema_engine.specs.Places.{value_at, step_of}
+use Rattle.schema_engine.specs.Progress.{numbers_in, is_among}
+use Rattle.schema_engine.specs.Questions.{Call, call_of}
+use Rattle.schema_engine.specs.Rules.{combined, questions_of}
+use Rattle.schema_engine.specs.Graphs.{keywords_at, rank_at, reading_of, AreKnown}
+use Rattle.schema_engine.specs.Verdicts.{Setting, Fits, asked_in, rule_in, size, Tells, EachMayAsk, GoesDown}
+use Rattle.schema_engine.proofs.Left.{KeywordsLeft}
+use Rattle.schema_engine.proofs.Sizes.{size_inside, size_down, size_target}
+use Rattle.schema_engine.proofs.Settings.{stepped, stay_fits, item_fits, member_fits, name_fits}
+use Rattle.schema_engine.proofs.Steps.{may_ask_one, may_ask_rest, each_may_ask, keywords_here, keyword_stands, keywords_yes, node_refuses, node_accepts, keyword_wrong, keyword_told, question_told, follows_told, back_told, entered_told}
+use Rattle.schema_engine.proofs.verdict.+verdict.Goals as goal
+
+-- ---- the target of a reference
+
+pub accepts_target-returns-then-is_in_progress-clause-verdict :
+    goal.accepts_target-returns-then-is_in_progress-clause-verdict
+accepts_target-returns-then-is_in_progress-clause-verdict g t c =
+    back_told g.K.Validate.shape _ c.args.here.now.graph.now.nodes.items c.args.target c.args.here.now.place _ _ (sym c.is_in_progress.ensures ∙ c.if-is_in_progress.true)
+
+pub accepts_target-accepts_node-requires : goal.accepts_target-accepts_node-requires
+accepts_target-accepts_node-requires g t c κs within =
+    let new : is_among c.args.target (numbers_in c.args.here.now.progress.now) ≡ false = sym c.is_in_progress.ensures ∙ c.if-is_in_progress.false in
+    let nodes = c.args.here.now.graph.now.nodes.items in
+    let falls = size_target nodes (value_at c.args.here.now.place) (numbers_in c.args.here.now.progress.now) (rank_at nodes c.args.here.now.node) c.args.target c.requires.there new in
+    (omega arith, (within.0, (within.1, (c.requires.known, c.requires.there))))
+
+pub accepts_target-returns-clause-verdict : goal.accepts_target-returns-clause-verdict
+accepts_target-returns-clause-verdict g t c =
+    let new : is_among c.args.target (numbers_in c.args.here.now.progress.now) ≡ false = sym c.is_in_progress.ensures ∙ c.if-is_in_progress.false in
+    let nodes = c.args.here.now.graph.now.nodes.items in
+    let falls = size_target nodes (value_at c.args.here.now.place) (numbers_in c.args.here.now.progress.now) (rank_at nodes c.args.here.now.node) c.args.target c.requires.there new in
+    IfOk-weaker c.accepts_node.result _ _ (λ b. entered_told g.K.Validate.shape _ nodes c.args.target c.args.here.now.place _ _ _ b falls new) c.accepts_node.ensures.verdict
+
+-- ---- a question
+
+pub accepts_question-returns-then-question-clause-verdict :
+    goal.accepts_question-returns-then-question-clause-verdict
+accepts_question-returns-then-question-clause-verdict g t c =
+    IfOk-weaker c.accepts_target.result _ _ (λ b. follows_told _ c.args.here.now.place _ _ (call_of c.args.question) b c.if-question.true (ap step_of c.in-Here.is)) c.accepts_target.ensures.verdict
+
+pub accepts_question-returns-else-question-clause-verdict :
+    goal.accepts_question-returns-else-question-clause-verdict
+accepts_question-returns-else-question-clause-verdict g t c =
+    let nodes = c.args.here.now.graph.now.nodes.items in
+    let here : step_of c.args.question.asked ≡ stay = ap step_of c.in-Here.is in
+    let P : Step → Type 0 = λ s. (x : Setting) → Fits c.args.here.now.place (numbers_in c.args.here.now.progress.now) x → Fits c.args.here.now.place (numbers_in c.args.here.now.progress.now) (stepped x s) in
+    IfOk-weaker c.accepts_node.result _ _
+    (λ b. question_told _ c.args.here.now.place c.args.here.now.place _ _ _ _ (call_of c.args.question) b
+    (size_inside nodes (value_at c.args.here.now.place) (numbers_in c.args.here.now.progress.now) (rank_at nodes c.args.here.now.node) (rank_at nodes c.args.question.node) (c.requires.asked.falls c.if-question.false))
+    c.if-question.false
+    (subst P (sym here) (λ x fits. stay_fits c.args.here.now.place _ x fits)))
+    c.accepts_node.ensures.verdict
+
+pub accepts_question-accepts_node-requires-in-Item :
+    goal.accepts_question-accepts_node-requires-in-Item
+accepts_question-accepts_node-requires-in-Item g t c κs within =
+    let nodes = c.args.here.now.graph.now.nodes.items in
+    let P : Asked → Type 0 = λ a. GoesDown (value_at c.args.here.now.place) (step_of a) in
+    let falls = size_down nodes (value_at c.args.here.now.place) (view c.in-Item.item.now) (numbers_in c.args.here.now.progress.now) [] (rank_at nodes c.args.here.now.node) c.args.question.node (subst P c.in-Item.is c.requires.asked.down) in
+    (omega arith, (within.0, (within.1, (c.requires.known, c.requires.asked.below))))
+
+pub accepts_question-accepts_node-requires-in-Member :
+    goal.accepts_question-accepts_node-requires-in-Member
+accepts_question-accepts_node-requires-in-Member g t c κs within =
+    let nodes = c.args.here.now.graph.now.nodes.items in
+    let P : Asked → Type 0 = λ a. GoesDown (value_at c.args.here.now.place) (step_of a) in
+    let falls = size_down nodes (value_at c.args.here.now.place) (view c.in-Member.member.now) (numbers_in c.args.here.now.progress.now) [] (rank_at nodes c.args.here.now.node) c.args.question.node (subst P c.in-Member.is c.requires.asked.down) in
+    (omega arith, (within.0, (within.1, (c.requires.known, c.requires.asked.below))))
+
+pub accepts_question-accepts_node-requires-in-Name :
+    goal.accepts_question-accepts_node-requires-in-Name
+accepts_question-accepts_node-requires-in-Name g t c κs within =
+    let nodes = c.args.here.now.graph.now.nodes.items in
+    let P : Asked → Type 0 = λ a. GoesDown (value_at c.args.here.now.place) (step_of a) in
+    let falls = size_down nodes (value_at c.args.here.now.place) (value_at (place.Name c.in-Name.name)) (numbers_in c.args.here.now.progress.now) [] (rank_at nodes c.args.here.now.node) c.args.question.node (subst P c.in-Name.is c.requires.asked.down) in
+    (omega arith, (within.0, (within.1, (c.requires.known, c.requires.asked.below))))
+
+-- what is asked a step down follows no reference
+no_reference : (c : Call) → (c.follows ≡ true → c.step ≡ stay) → (c.step ≡ stay → ⊥) → c.follows ≡ false
+no_reference c stays down = by_test c.follows refl
+  where
+    by_test : (b : Bool) → c.follows ≡ b → b ≡ false
+    by_test true e = absurd (down (stays e))
+    by_test false e = refl
+
+pub accepts_question-returns-in-Item-clause-verdict :
+    goal.accepts_question-returns-in-Item-clause-verdict
+accepts_question-returns-in-Item-clause-verdict g t c =
+    let nodes = c.args.here.now.graph.now.nodes.items in
+    let progress = numbers_in c.args.here.now.progress.now in
+    let to = place.Value c.in-Item.item in
+    let P : Asked → Type 0 = λ a. GoesDown (value_at c.args.here.now.place) (step_of a) in
+    let down = subst P c.in-Item.is c.requires.asked.down in
+    let Q : Asked → Type 0 = λ a. (x : Setting) → Fits c.args.here.now.place progress x → Fits to [] (stepped x (step_of a)) in
+    IfOk-weaker c.accepts_node-in-Item.result _ _
+    (λ b. question_told _ c.args.here.now.place to _ _ _ _ (call_of c.args.question) b
+    (size_down nodes (value_at c.args.here.now.place) (value_at to) progress [] (rank_at nodes c.args.here.now.node) c.args.question.node down)
+    (no_reference (call_of c.args.question) c.requires.asked.stays (λ e. (let f = sym (ap step_of c.in-Item.is) ∙ e in cc)))
+    (subst Q (sym c.in-Item.is) (λ x fits. item_fits c.args.here.now.place progress x fits c.in-Item.item c.in-Item.index)))
+    c.accepts_node-in-Item.ensures.verdict
+
+pub accepts_question-returns-in-Member-clause-verdict :
+    goal.accepts_question-returns-in-Member-clause-verdict
+accepts_question-returns-in-Member-clause-verdict g t c =
+    let nodes = c.args.here.now.graph.now.nodes.items in
+    let progress = numbers_in c.args.here.now.progress.now in
+    let to = place.Value c.in-Member.member in
+    let P : Asked → Type 0 = λ a. GoesDown (value_at c.args.here.now.place) (step_of a) in
+    let down = subst P c.in-Member.is c.requires.asked.down in
+    let Q : Asked → Type 0 = λ a. (x : Setting) → Fits c.args.here.now.place progress x → Fits to [] (stepped x (step_of a)) in
+    IfOk-weaker c.accepts_node-in-Member.result _ _
+    (λ b. question_told _ c.args.here.now.place to _ _ _ _ (call_of c.args.question) b
+    (size_down nodes (value_at c.args.here.now.place) (value_at to) progress [] (rank_at nodes c.args.here.now.node) c.args.question.node down)
+    (no_reference (call_of c.args.question) c.requires.asked.stays (λ e. (let f = sym (ap step_of c.in-Member.is) ∙ e in cc)))
+    (subst Q (sym c.in-Member.is) (λ x fits. member_fits c.args.here.now.place progress x fits c.in-Member.member c.in-Member.name.now)))
+    c.accepts_node-in-Member.ensures.verdict
+
+pub accepts_question-returns-in-Name-clause-verdict :
+    goal.accepts_question-returns-in-Name-clause-verdict
+accepts_question-returns-in-Name-clause-verdict g t c =
+    let nodes = c.args.here.now.graph.now.nodes.items in
+    let progress = numbers_in c.args.here.now.progress.now in
+    let to = place.Name c.in-Name.name in
+    let P : Asked → Type 0 = λ a. GoesDown (value_at c.args.here.now.place) (step_of a) in
+    let down = subst P c.in-Name.is c.requires.asked.down in
+    let Q : Asked → Type 0 = λ a. (x : Setting) → Fits c.args.here.now.place progress x → Fits to [] (stepped x (step_of a)) in
+    IfOk-weaker c.accepts_node-in-Name.result _ _
+    (λ b. question_told _ c.args.here.now.place to _ _ _ _ (call_of c.args.question) b
+    (size_down nodes (value_at c.args.here.now.place) (value_at to) progress [] (rank_at nodes c.args.here.now.node) c.args.question.node down)
+    (no_reference (call_of c.args.question) c.requires.asked.stays (λ e. (let f = sym (ap step_of c.in-Name.is) ∙ e in cc)))
+    (subst Q (sym c.in-Name.is) (λ x fits. name_fits c.args.here.now.place progress x fits c.in-Name.name down)))
+    c.accepts_node-in-Name.ensures.verdict
+
+-- ---- a condition
+
+pub accepts_conditional-accepts_question-requires :
+    goal.accepts_conditional-accepts_question-requires
+accepts_conditional-accepts_question-requires g t c κs within = (
+  omega arith,
+  (
+    within.0,
+    (
+      within.1,
+      (
+        c.requires.known,
+        may_ask_one c.args.here.now.graph.now.nodes.items _ _ c.args.start c.args.start c.args.questions.now.items c.index-condition.result.now c.requires.asked (omega arith) (omega arith) c.index-condition.ensures,
+      ),
+    ),
+  ),
+)
+
+pub accepts_conditional-accepts_each-requires : goal.accepts_conditional-accepts_each-requires
+accepts_conditional-accepts_each-requires g t c κs within =
+    let same : c.accepts_question.new.questions.items ≡ c.args.questions.now.items = c.in_ok-answer.ensures.questions in
+    let matches : g.T.Matching.matches c.accepts_question.new.matching ≡ g.T.Matching.matches c.args.matching.now = c.in_ok-answer.ensures.matches in
+    let nodes = c.args.here.now.graph.now.nodes.items in (
+      omega arith,
+      (
+        within.0,
+        (
+          within.1,
+          (
+            subst (λ m. AreKnown g.K.Validate.knows m.pattern nodes) (sym matches) c.requires.known,
+            subst (λ qs. EachMayAsk nodes (rank_at nodes c.args.here.now.node) (value_at c.args.here.now.place) (map call_of (drop (c.args.start + 1) qs))) (sym same)
+                (may_ask_rest nodes (rank_at nodes c.args.here.now.node) (value_at c.args.here.now.place) c.args.start c.args.questions.now.items c.requires.asked),
+          ),
+        ),
+      ),
+    )
+
+-- ---- the loops over questions
+
+pub accepts_counted-accepts_question-requires : goal.accepts_counted-accepts_question-requires
+accepts_counted-accepts_question-requires g t c κs within =
+    let nodes = c.args.here.now.graph.now.nodes.items in
+    let l = c.loop-index in
+    let asked = subst (λ qs. EachMayAsk nodes (rank_at nodes c.args.here.now.node) (value_at c.args.here.now.place) (map call_of (drop c.args.start qs))) (sym l.invariant.questions) c.requires.asked in
+    let short : l.index < length l.questions.items = (let e = ap length l.invariant.questions in omega arith) in (
+      omega arith,
+      (
+        within.0,
+        (
+          within.1,
+          (
+            subst (λ m. AreKnown g.K.Validate.knows m.pattern nodes) (sym l.invariant.matches) c.requires.known,
+            may_ask_one nodes _ _ c.args.start l.index l.questions.items c.index-question.result.now asked (omega arith) short c.index-question.ensures,
+          ),
+        ),
+      ),
+    )
+
+pub accepts_each-accepts_question-requires : goal.accepts_each-accepts_question-requires
+accepts_each-accepts_question-requires g t c κs within =
+    let nodes = c.args.here.now.graph.now.nodes.items in
+    let l = c.loop-index in
+    let asked = subst (λ qs. EachMayAsk nodes (rank_at nodes c.args.here.now.node) (value_at c.args.here.now.place) (map call_of (drop c.args.start qs))) (sym l.invariant.questions) c.requires.asked in
+    let short : l.index < length l.questions.items = (let e = ap length l.invariant.questions in omega arith) in (
+      omega arith,
+      (
+        within.0,
+        (
+          within.1,
+          (
+            subst (λ m. AreKnown g.K.Validate.knows m.pattern nodes) (sym l.invariant.matches) c.requires.known,
+            may_ask_one nodes _ _ c.args.start l.index l.questions.items c.index-question.result.now asked (omega arith) short c.index-question.ensures,
+          ),
+        ),
+      ),
+    )
+
+-- ---- a keyword
+
+pub accepts_keyword-returns-then-not-branch-clause-verdict :
+    goal.accepts_keyword-returns-then-not-branch-clause-verdict
+accepts_keyword-returns-then-not-branch-clause-verdict g t c =
+    keyword_wrong _ c.args.here.now.place _ _ _ c.in_ok-accepts_itself.field-0 c.in_ok-accepts_itself.ensures.right (search rules)
+
+pub accepts_keyword-accepts_combined-requires : goal.accepts_keyword-accepts_combined-requires
+accepts_keyword-accepts_combined-requires g t c κs within =
+    let nodes = c.args.here.now.graph.now.nodes.items in
+    let same = c.in_ok-questions.ensures.same ∙ c.in_ok-accepts_itself.ensures.same in
+    let pushed = c.in_ok-questions.ensures.pushed in
+    let start : c.len-start.result ≡ length c.args.questions.now.items = omega arith in
+    let asked = ap (λ n. map call_of (drop n c.questions.new.into.items)) start ∙ pushed.pushed in (
+      omega arith,
+      (
+        within.0,
+        (
+          within.1,
+          (
+            subst (λ m. AreKnown g.K.Validate.knows m.pattern nodes) (sym same) c.requires.known,
+            subst (EachMayAsk nodes (rank_at nodes c.args.here.now.node) (value_at c.args.here.now.place)) (sym asked)
+                (each_may_ask g.K.Validate.shape nodes c.args.here.now.node c.args.keyword.now _ (value_at c.args.here.now.place) c.args.here.now.graph.now.sound c.requires.stands),
+          ),
+        ),
+      ),
+    )
+
+pub accepts_keyword-returns-clause-verdict : goal.accepts_keyword-returns-clause-verdict
+accepts_keyword-returns-clause-verdict g t c =
+    let nodes = c.args.here.now.graph.now.nodes.items in
+    let place = c.args.here.now.place in
+    let itself = c.in_ok-accepts_itself.ensures.same in
+    let same = c.in_ok-questions.ensures.same ∙ itself in
+    let start : c.len-start.result ≡ length c.args.questions.now.items = omega arith in
+    let k = λ (m : Matches). rule m.reads (value_at place) (g.K.Validate.shape c.args.keyword.now) in
+    let asked = ap (λ n. map call_of (drop n c.questions.new.into.items)) start ∙ c.in_ok-questions.ensures.pushed.pushed ∙ ap (λ m. questions_of (k m)) itself in
+    let told = subst (λ m. Tells place (numbers_in c.args.here.now.progress.now)
+    (size nodes (value_at place) (numbers_in c.args.here.now.progress.now) (rank_at nodes c.args.here.now.node))
+    (λ x. combined c.combination-combination.result (asked_in (reading_of g.K.Validate.shape m.reads nodes) x) (map call_of (drop c.len-start.result c.questions.new.into.items)))
+    c.in_ok-accepts.accepts) same c.in_ok-accepts.ensures.verdict in
+    keyword_told _ place _ _ _ c.in_ok-accepts.accepts c.in_ok-accepts_itself.field-0 c.combination-combination.result (map call_of (drop c.len-start.result c.questions.new.into.items))
+    c.in_ok-accepts_itself.ensures.right (search rules) (c.combination-combination.ensures _) asked told
+
+-- ---- a node
+
+pub accepts_node-accepts_keyword-requires : goal.accepts_node-accepts_keyword-requires
+accepts_node-accepts_keyword-requires g t c κs within =
+    let nodes = c.args.graph.now.nodes.items in
+    let l = c.loop-keyword in
+    let items : c.deref-keyword-items.result.now ≡ c.index.result.now.keywords.items = c.deref-keyword-items.ensures.value in
+    let here : keywords_at nodes c.args.node ≡ c.deref-keyword-items.result.now = keywords_here nodes c.args.node c.index.result.now c.requires.there c.index.ensures ∙ sym items in (
+      omega arith,
+      (
+        within.0,
+        (
+          within.1,
+          (
+            subst (λ m. AreKnown g.K.Validate.knows m.pattern nodes) (sym l.invariant.matches) c.requires.known,
+            subst (In c.keyword-item.result) (sym here) (keyword_stands l.keyword-index c.deref-keyword-items.result.now c.keyword-item.result c.loop-keyword-test.true c.keyword-item.is),
+          ),
+        ),
+      ),
+    )
+
+pub accepts_node-returns-then-not-branch-clause-verdict :
+    goal.accepts_node-returns-then-not-branch-clause-verdict
+accepts_node-returns-then-not-branch-clause-verdict g t c =
+    let nodes = c.args.graph.now.nodes.items in
+    let l = c.loop-keyword in
+    let items : c.deref-keyword-items.result.now ≡ c.index.result.now.keywords.items = c.deref-keyword-items.ensures.value in
+    let here : keywords_at nodes c.args.node ≡ c.deref-keyword-items.result.now = keywords_here nodes c.args.node c.index.result.now c.requires.there c.index.ensures ∙ sym items in
+    let refused : c.in_ok-accepts_keyword.field-0 ≡ false = search rules in
+    let place = c.args.place in
+    let progress = numbers_in c.args.progress.now in
+    let verdict = subst (λ m. Tells place progress (size nodes (value_at place) progress (rank_at nodes c.args.node))
+    (rule_in (reading_of g.K.Validate.shape m.reads nodes) (rule m.reads (value_at place) (g.K.Validate.shape c.keyword-item.result))) c.in_ok-accepts_keyword.field-0) l.invariant.matches c.in_ok-accepts_keyword.ensures.verdict in
+    node_refuses g.K.Validate.shape _ nodes c.args.node place progress l.keyword-index c.deref-keyword-items.result.now c.keyword-item.result c.loop-keyword-test.true c.keyword-item.is
+    (subst (λ ks. KeywordsLeft g.K.Validate.shape (g.T.Matching.matches c.args.matching.now).reads nodes c.args.node place progress (keywords_at nodes c.args.node) (drop l.keyword-index ks)) here l.invariant.left)
+    (subst (Tells place progress _ _) refused verdict)
+
+pub accepts_node-loop-keyword-preserved : goal.accepts_node-loop-keyword-preserved
+accepts_node-loop-keyword-preserved g t c =
+    let nodes = c.args.graph.now.nodes.items in
+    let l = c.loop-keyword in
+    let items : c.deref-keyword-items.result.now ≡ c.index.result.now.keywords.items = c.deref-keyword-items.ensures.value in
+    let here : keywords_at nodes c.args.node ≡ c.deref-keyword-items.result.now = keywords_here nodes c.args.node c.index.result.now c.requires.there c.index.ensures ∙ sym items in
+    let taken : c.in_ok-accepts_keyword.field-0 ≡ true = search rules in
+    let place = c.args.place in
+    let progress = numbers_in c.args.progress.now in
+    let verdict = subst (λ m. Tells place progress (size nodes (value_at place) progress (rank_at nodes c.args.node))
+    (rule_in (reading_of g.K.Validate.shape m.reads nodes) (rule m.reads (value_at place) (g.K.Validate.shape c.keyword-item.result))) c.in_ok-accepts_keyword.field-0) l.invariant.matches c.in_ok-accepts_keyword.ensures.verdict in
+    let left = subst (λ ks. KeywordsLeft g.K.Validate.shape (g.T.Matching.matches c.args.matching.now).reads nodes c.args.node place progress (keywords_at nodes c.args.node) (drop l.keyword-index ks)) here l.invariant.left in
+    record {
+      matches = c.in_ok-accepts_keyword.ensures.matches ∙ l.invariant.matches;
+      questions = c.in_ok-accepts_keyword.ensures.questions ∙ l.invariant.questions;
+      left = subst (λ ks. KeywordsLeft g.K.Validate.shape (g.T.Matching.matches c.args.matching.now).reads nodes c.args.node place progress (keywords_at nodes c.args.node) (drop (l.keyword-index + 1) ks)) (sym here)
+          (keywords_yes g.K.Validate.shape _ nodes c.args.node place progress l.keyword-index _ c.deref-keyword-items.result.now c.keyword-item.result c.loop-keyword-test.true c.keyword-item.is left (subst (Tells place progress _ _) taken verdict));
+    }
+
+pub accepts_node-returns-clause-verdict : goal.accepts_node-returns-clause-verdict
+accepts_node-returns-clause-verdict g t c =
+    let nodes = c.args.graph.now.nodes.items in
+    let l = c.loop-keyword in
+    let items : c.deref-keyword-items.result.now ≡ c.index.result.now.keywords.items = c.deref-keyword-items.ensures.value in
+    let here : keywords_at nodes c.args.node ≡ c.deref-keyword-items.result.now = keywords_here nodes c.args.node c.index.result.now c.requires.there c.index.ensures ∙ sym items in
+    let place = c.args.place in
+    let progress = numbers_in c.args.progress.now in
+    node_accepts g.K.Validate.shape _ nodes c.args.node place progress l.keyword-index c.deref-keyword-items.result.now (omega arith)
+    (subst (λ ks. KeywordsLeft g.K.Validate.shape (g.T.Matching.matches c.args.matching.now).reads nodes c.args.node place progress (keywords_at nodes c.args.node) (drop l.keyword-index ks)) here l.invariant.left)

@@ -1,0 +1,283 @@
+//! The verdict of a compiled schema.
+ghost use Rattle.std.specs.Prelude.{◌≡◌, ◌<◌, ◌≤◌, ◌+◌, ℕ, suc, true, map, drop, length, OnOk, IfOk};
+ghost use Rattle.schema_meaning.specs.Members.{In, count_true};
+ghost use Rattle.schema_meaning.specs.Places.{stay};
+ghost use Rattle.schema_meaning.specs.Keywords.{rule};
+ghost use Rattle.schema_engine.specs.Places.{value_at};
+ghost use Rattle.schema_engine.specs.Progress.{numbers_in};
+ghost use Rattle.schema_engine.specs.Questions.{call_of};
+ghost use Rattle.schema_engine.specs.Rules.{is_counted, all_beside, chosen_by_first, combined};
+ghost use Rattle.schema_engine.specs.Graphs.{keywords_at, rank_at, reading_of, AreKnown};
+ghost use Rattle.schema_engine.specs.Verdicts.{node_in, asked_in, rule_in, size, Tells, TellsFrom, MayAsk, EachMayAsk};
+
+use crate::combination::{Combination, is_within, settled};
+use crate::graph::Graph;
+use crate::matching::Matching;
+use crate::place::{Asked, Place, Question};
+use crate::here::Here;
+use crate::progress::{Progress, is_in_progress};
+use crate::validate::Validate;
+use std::alloc::AllocError;
+
+/// Whether a node accepts what is at a place.
+///
+/// # Errors
+///
+/// Where memory was refused.
+#[cycle(verdict)]
+pub fn accepts_node<'i, K: Validate, T: Matching>(
+    graph: &'i Graph<K>,
+    node: usize,
+    place: Place<'i>,
+    progress: &Progress<'_>,
+    matching: &mut T,
+    questions: &mut Vec<Question<'i>>,
+) -> Result<bool, AllocError>
+    requires known { AreKnown K.knows (T.matches matching.old).pattern graph.now.nodes.items }
+    requires there { node < length graph.now.nodes.items }
+    ensures matches { OnOk result (T.matches matching.new ≡ T.matches matching.old) }
+    ensures questions { OnOk result (questions.new.items ≡ questions.old.items) }
+    ensures verdict { let nodes = graph.now.nodes.items in let r = reading_of K.shape (T.matches matching.old).reads nodes in
+        IfOk result (Tells place.entry (numbers_in progress.now)
+        (suc (size nodes (value_at place.entry) (numbers_in progress.now) (rank_at nodes node))) (node_in r node)) }
+{
+    let here = Here {
+        graph,
+        node,
+        place,
+        progress,
+    };
+    for keyword in &graph.nodes[node].keywords {
+        if !accepts_keyword(&here, keyword, matching, questions)? {
+            return Ok(false);
+        }
+    }
+    Ok(true)
+}
+
+// Whether a keyword of a node accepts what is at a place.
+#[cycle(verdict)]
+fn accepts_keyword<'i, K: Validate, T: Matching>(
+    here: &Here<'i, '_, K>,
+    keyword: &'i K,
+    matching: &mut T,
+    questions: &mut Vec<Question<'i>>,
+) -> Result<bool, AllocError>
+    requires known { AreKnown K.knows (T.matches matching.old).pattern here.now.graph.now.nodes.items }
+    requires stands { In keyword.now (keywords_at here.now.graph.now.nodes.items here.now.node) }
+    ensures matches { OnOk result (T.matches matching.new ≡ T.matches matching.old) }
+    ensures questions { OnOk result (questions.new.items ≡ questions.old.items) }
+    ensures verdict { let nodes = here.now.graph.now.nodes.items in let m = (T.matches matching.old).reads in
+        IfOk result (TellsFrom nodes here.now.node here.now.place (numbers_in here.now.progress.now)
+        (rule_in (reading_of K.shape m nodes) (rule m (value_at here.now.place) (K.shape keyword.now)))) }
+{
+    if !keyword.accepts_itself(here.place, matching)? {
+        return Ok(false);
+    }
+    let start = questions.len();
+    keyword.questions(here.place, matching, questions)?;
+    let combination = keyword.combination(here.place);
+    let accepts = accepts_combined(here, combination, start, matching, questions)?;
+    questions.truncate(start);
+    Ok(accepts)
+}
+
+// The verdict by the answers to the questions from `start` on.
+#[cycle(verdict)]
+fn accepts_combined<'i, K: Validate, T: Matching>(
+    here: &Here<'i, '_, K>,
+    combination: Combination,
+    start: usize,
+    matching: &mut T,
+    questions: &mut Vec<Question<'i>>,
+) -> Result<bool, AllocError>
+    requires known { AreKnown K.knows (T.matches matching.old).pattern here.now.graph.now.nodes.items }
+    requires asked { EachMayAsk here.now.graph.now.nodes.items (rank_at here.now.graph.now.nodes.items here.now.node) (value_at here.now.place) (map call_of (drop start questions.old.items)) }
+    ensures matches { OnOk result (T.matches matching.new ≡ T.matches matching.old) }
+    ensures questions { OnOk result (questions.new.items ≡ questions.old.items) }
+    ensures verdict { let nodes = here.now.graph.now.nodes.items in let r = reading_of K.shape (T.matches matching.old).reads nodes in
+        IfOk result (TellsFrom nodes here.now.node here.now.place (numbers_in here.now.progress.now)
+        (λ x. combined combination (asked_in r x) (map call_of (drop start questions.old.items)))) }
+{
+    match combination {
+        Combination::Every => accepts_each(here, true, start, matching, questions),
+        Combination::Together => accepts_each(here, true, start, matching, questions),
+        Combination::EachNamed => accepts_each(here, true, start, matching, questions),
+        Combination::SomeBranch => accepts_counted(here, 1, None, start, matching, questions),
+        Combination::OneBranch => accepts_counted(here, 1, Some(1), start, matching, questions),
+        Combination::Refusal => accepts_counted(here, 0, Some(0), start, matching, questions),
+        Combination::Counted { least, most } => accepts_counted(
+            here, least, most, start, matching, questions,
+        ),
+        Combination::Conditional => accepts_conditional(here, start, matching, questions),
+    }
+}
+
+// Whether each of the questions from `start` on is answered yes that stands beside this answer to a condition.
+#[cycle(verdict)]
+fn accepts_each<'i, K: Validate, T: Matching>(
+    here: &Here<'i, '_, K>,
+    beside: bool,
+    start: usize,
+    matching: &mut T,
+    questions: &mut Vec<Question<'i>>,
+) -> Result<bool, AllocError>
+    requires known { AreKnown K.knows (T.matches matching.old).pattern here.now.graph.now.nodes.items }
+    requires asked { EachMayAsk here.now.graph.now.nodes.items (rank_at here.now.graph.now.nodes.items here.now.node) (value_at here.now.place) (map call_of (drop start questions.old.items)) }
+    ensures matches { OnOk result (T.matches matching.new ≡ T.matches matching.old) }
+    ensures questions { OnOk result (questions.new.items ≡ questions.old.items) }
+    ensures verdict { let nodes = here.now.graph.now.nodes.items in let r = reading_of K.shape (T.matches matching.old).reads nodes in
+        IfOk result (TellsFrom nodes here.now.node here.now.place (numbers_in here.now.progress.now)
+        (λ x. all_beside (asked_in r x) beside (map call_of (drop start questions.old.items)))) }
+{
+    let end = questions.len();
+    for index in start..end {
+        let question = questions[index];
+        if question.beside == beside {
+            if !accepts_question(here, question, matching, questions)? {
+                return Ok(false);
+            }
+        }
+    }
+    Ok(true)
+}
+
+// Whether the number of the questions from `start` on that are answered yes is within bounds.
+#[cycle(verdict)]
+fn accepts_counted<'i, K: Validate, T: Matching>(
+    here: &Here<'i, '_, K>,
+    least: usize,
+    most: Option<usize>,
+    start: usize,
+    matching: &mut T,
+    questions: &mut Vec<Question<'i>>,
+) -> Result<bool, AllocError>
+    requires known { AreKnown K.knows (T.matches matching.old).pattern here.now.graph.now.nodes.items }
+    requires asked { EachMayAsk here.now.graph.now.nodes.items (rank_at here.now.graph.now.nodes.items here.now.node) (value_at here.now.place) (map call_of (drop start questions.old.items)) }
+    ensures matches { OnOk result (T.matches matching.new ≡ T.matches matching.old) }
+    ensures questions { OnOk result (questions.new.items ≡ questions.old.items) }
+    ensures verdict { let nodes = here.now.graph.now.nodes.items in let r = reading_of K.shape (T.matches matching.old).reads nodes in
+        IfOk result (TellsFrom nodes here.now.node here.now.place (numbers_in here.now.progress.now)
+        (λ x. is_counted least most (count_true (map (asked_in r x) (map call_of (drop start questions.old.items)))))) }
+{
+    let mut count = 0;
+    let end = questions.len();
+    for index in start..end {
+        if let Some(verdict) = settled(count, least, most) {
+            return Ok(verdict);
+        }
+        let question = questions[index];
+        if accepts_question(here, question, matching, questions)? {
+            count += 1;
+        }
+    }
+    Ok(is_within(count, least, most))
+}
+
+// The verdict where the first of the questions from `start` on is a condition.
+#[cycle(verdict)]
+fn accepts_conditional<'i, K: Validate, T: Matching>(
+    here: &Here<'i, '_, K>,
+    start: usize,
+    matching: &mut T,
+    questions: &mut Vec<Question<'i>>,
+) -> Result<bool, AllocError>
+    requires known { AreKnown K.knows (T.matches matching.old).pattern here.now.graph.now.nodes.items }
+    requires asked { EachMayAsk here.now.graph.now.nodes.items (rank_at here.now.graph.now.nodes.items here.now.node) (value_at here.now.place) (map call_of (drop start questions.old.items)) }
+    ensures matches { OnOk result (T.matches matching.new ≡ T.matches matching.old) }
+    ensures questions { OnOk result (questions.new.items ≡ questions.old.items) }
+    ensures verdict { let nodes = here.now.graph.now.nodes.items in let r = reading_of K.shape (T.matches matching.old).reads nodes in
+        IfOk result (TellsFrom nodes here.now.node here.now.place (numbers_in here.now.progress.now)
+        (λ x. chosen_by_first (asked_in r x) (map call_of (drop start questions.old.items)))) }
+{
+    if start >= questions.len() {
+        return Ok(true);
+    }
+    let condition = questions[start];
+    let answer = accepts_question(here, condition, matching, questions)?;
+    accepts_each(here, answer, start + 1, matching, questions)
+}
+
+// The answer to a question.
+#[cycle(verdict)]
+fn accepts_question<'i, K: Validate, T: Matching>(
+    here: &Here<'i, '_, K>,
+    question: Question<'i>,
+    matching: &mut T,
+    questions: &mut Vec<Question<'i>>,
+) -> Result<bool, AllocError>
+    requires known { AreKnown K.knows (T.matches matching.old).pattern here.now.graph.now.nodes.items }
+    requires asked { MayAsk here.now.graph.now.nodes.items (rank_at here.now.graph.now.nodes.items here.now.node) (value_at here.now.place) (call_of question) }
+    ensures matches { OnOk result (T.matches matching.new ≡ T.matches matching.old) }
+    ensures questions { OnOk result (questions.new.items ≡ questions.old.items) }
+    ensures verdict { let nodes = here.now.graph.now.nodes.items in let r = reading_of K.shape (T.matches matching.old).reads nodes in
+        IfOk result (TellsFrom nodes here.now.node here.now.place (numbers_in here.now.progress.now)
+        (λ x. asked_in r x (call_of question.entry))) }
+{
+    match question.asked {
+        Asked::Here => {
+            if question.follows {
+                accepts_target(here, question.node, matching, questions)
+            } else {
+                accepts_node(
+                    here.graph,
+                    question.node,
+                    here.place,
+                    here.progress,
+                    matching,
+                    questions,
+                )
+            }
+        }
+        Asked::Item { item, .. } => accepts_node(
+            here.graph,
+            question.node,
+            Place::Value(item),
+            &Progress::Nothing,
+            matching,
+            questions,
+        ),
+        Asked::Member { member, .. } => accepts_node(
+            here.graph,
+            question.node,
+            Place::Value(member),
+            &Progress::Nothing,
+            matching,
+            questions,
+        ),
+        Asked::Name(name) => accepts_node(
+            here.graph,
+            question.node,
+            Place::Name(name),
+            &Progress::Nothing,
+            matching,
+            questions,
+        ),
+    }
+}
+
+// Whether the target of a reference accepts. Where it is in progress at this place, it does.
+#[cycle(verdict)]
+fn accepts_target<'i, K: Validate, T: Matching>(
+    here: &Here<'i, '_, K>,
+    target: usize,
+    matching: &mut T,
+    questions: &mut Vec<Question<'i>>,
+) -> Result<bool, AllocError>
+    requires known { AreKnown K.knows (T.matches matching.old).pattern here.now.graph.now.nodes.items }
+    requires there { target < length here.now.graph.now.nodes.items }
+    ensures matches { OnOk result (T.matches matching.new ≡ T.matches matching.old) }
+    ensures questions { OnOk result (questions.new.items ≡ questions.old.items) }
+    ensures verdict { let nodes = here.now.graph.now.nodes.items in let r = reading_of K.shape (T.matches matching.old).reads nodes in
+        IfOk result (TellsFrom nodes here.now.node here.now.place (numbers_in here.now.progress.now)
+        (λ x. asked_in r x (record { node = target; step = stay; follows = true; beside = true }))) }
+{
+    if is_in_progress(here.progress, target) {
+        return Ok(true);
+    }
+    let entered = Progress::Target {
+        node: target,
+        before: here.progress,
+    };
+    accepts_node(here.graph, target, here.place, &entered, matching, questions)
+}
