@@ -49,7 +49,7 @@ further whole d e path part h g =
 pub record Among (ms all : Members) : Type 0 where
   pub found : (k : List ℕ) (e : Data) → get_member k ms ≡ Some e → get_member k all ≡ Some e
 
-among_itself : (ms : Members) → Among ms ms
+pub among_itself : (ms : Members) → Among ms ms
 among_itself ms = record { found = λ k e h. h }
 
 apart : (k l : List ℕ) (ms : Members) (e : Data) → rises_from l ms ≡ true → get_member k ms ≡ Some e → k ≡ l → ⊥
@@ -57,10 +57,10 @@ apart k l ms e r h same =
     let none : get_member k ms ≡ None = ap (λ (n : List ℕ). get_member n ms) same ∙ behind_none l ms r in
     let no : None ≡ Some e = sym none ∙ h in cc
 
-among_rest : (k : List ℕ) (d : Data) (ms all : Members) → rises_from k ms ≡ true → Among (member k d ms) all → Among ms all
+pub among_rest : (k : List ℕ) (d : Data) (ms all : Members) → rises_from k ms ≡ true → Among (member k d ms) all → Among ms all
 among_rest k d ms all r a = record { found = λ l e h. a.found l e (get_other l k d ms (apart l k ms e r h) ∙ h) }
 
-rising_rest : (k : List ℕ) (ms : Members) → rises_from k ms ≡ true → are_rising ms ≡ true
+pub rising_rest : (k : List ℕ) (ms : Members) → rises_from k ms ≡ true → are_rising ms ≡ true
 rising_rest k no_members h = refl
 rising_rest k (member l e ms) h = (first_rise k l e ms h).1
 
@@ -68,17 +68,17 @@ rising_rest k (member l e ms) h = (first_rise k l e ms h).1
 pub record From (i : ℕ) (ds all : Items) : Type 0 where
   pub found : (n : ℕ) (e : Data) → get_item n ds ≡ Some e → get_item (n + i) all ≡ Some e
 
-from_first : (ds : Items) → From 0 ds ds
+pub from_first : (ds : Items) → From 0 ds ds
 from_first ds = record {
   found = λ n e h. (let same : n + 0 ≡ n = omega arith in ap (λ (k : ℕ). get_item k ds) same ∙ h);
 }
 
-from_rest : (i : ℕ) (d : Data) (ds all : Items) → From i (item d ds) all → From (suc i) ds all
+pub from_rest : (i : ℕ) (d : Data) (ds all : Items) → From i (item d ds) all → From (suc i) ds all
 from_rest i d ds all f = record {
   found = λ n e h. (let same : n + suc i ≡ suc n + i = omega arith in ap (λ (k : ℕ). get_item k all) same ∙ f.found (suc n) e h);
 }
 
-from_here : (i : ℕ) (d : Data) (ds all : Items) → From i (item d ds) all → get_item i all ≡ Some d
+pub from_here : (i : ℕ) (d : Data) (ds all : Items) → From i (item d ds) all → get_item i all ≡ Some d
 from_here i d ds all f = (let same : i ≡ 0 + i = omega arith in ap (λ (k : ℕ). get_item k all) same ∙ f.found 0 d refl)
 
 -- ---- places

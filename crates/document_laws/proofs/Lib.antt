@@ -4,6 +4,7 @@ pub mod Unmoved
 pub mod Alone
 pub mod Depths
 pub mod Lasting
+pub mod Passing
 pub mod Walks
 pub mod Looked
 pub mod Contents
@@ -19,9 +20,17 @@ pub mod Anchored
 pub mod Listed
 pub mod Results
 pub mod Inside
+pub mod Reaching
+pub mod Arriving
+pub mod Levels
+pub mod Pointed
+pub mod LookedUp
 pub mod TargetPlaces
 pub mod Origins
 pub mod TargetWalks
 pub mod TargetsLooked
 pub mod One
+pub mod Placing
+pub mod Finding
+pub mod TargetsListed
 pub mod Texts

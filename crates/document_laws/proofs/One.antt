@@ -28,7 +28,7 @@ not_among d e ds h i same =
     let lacks : not (list_any (λ x. bytes_eq d.uri x.uri) ds) ≡ true = first_so (not (list_any (λ x. bytes_eq d.uri x.uri) ds)) (are_apart ds) h in
     let no : false ≡ true = subst (λ b. not b ≡ true) (uri_among d e ds i same) lacks in cc
 
-same_document : (own : List Document) → are_apart own ≡ true → (d e : Document) → In d own → In e own → d.uri ≡ e.uri → d ≡ e
+pub same_document : (own : List Document) → are_apart own ≡ true → (d e : Document) → In d own → In e own → d.uri ≡ e.uri → d ≡ e
 same_document [] h d e i j same = elim i [ ]
 same_document (x ∷ own) h d e first first same = refl
 same_document (x ∷ own) h d e first (later j) same = absurd (not_among d e own h j same)
@@ -36,12 +36,12 @@ same_document (x ∷ own) h d e (later i) first same = absurd (not_among e d own
 same_document (x ∷ own) h d e (later i) (later j) same =
     same_document own (second_so (not (list_any (λ y. bytes_eq x.uri y.uri) own)) (are_apart own) h) d e i j same
 
-each_rises : (own : List Document) → list_all contents_rise own ≡ true → (d : Document) → In d own → rises d.contents ≡ true
+pub each_rises : (own : List Document) → list_all contents_rise own ≡ true → (d : Document) → In d own → rises d.contents ≡ true
 each_rises [] h d i = elim i [ ]
 each_rises (x ∷ own) h d first = first_so (contents_rise d) (list_all contents_rise own) h
 each_rises (x ∷ own) h d (later i) = each_rises own (second_so (contents_rise x) (list_all contents_rise own) h) d i
 
-only_list : (own other : List Document) → In other (own ∷ []) → other ≡ own
+pub only_list : (own other : List Document) → In other (own ∷ []) → other ≡ own
 only_list own other first = refl
 only_list own other (later i) = elim i [ ]
 

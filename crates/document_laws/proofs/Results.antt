@@ -29,3 +29,10 @@ some_next S (Some x) f h = h x
 
 pub of_ok : {X E : Type 0} (S : X → Type 0) (r : Result X E) (x : X) → IfOk r S → r ≡ Ok x → S x
 of_ok S r x h e = subst (λ s. IfOk s S) e h
+
+pub ok_each : {X E : Type 0} (S T : X → Type 0) (r : Result X E) → IfOk r S → ((x : X) → S x → T x) → IfOk r T
+ok_each S T (Ok x) h g = g x h
+ok_each S T (Err e) h g = tt
+
+pub of_some : {X : Type 0} (S : X → Type 0) (o : Option X) (x : X) → IfSome o S → o ≡ Some x → S x
+of_some S o x h e = subst (λ p. IfSome p S) e h

@@ -12,11 +12,11 @@ use Rattle.document_laws.specs.Stages.{unless_alike, anew_at, AtRest, OnlyRestTe
 use Rattle.document_laws.proofs.Same.{told_alike_is_same}
 use Rattle.document_laws.proofs.Resting.{rest_stays, rest_is_fixed}
 
-first_empty : {X : Type 0} (xs ys : List X) → xs ++ ys ≡ [] → xs ≡ []
+pub first_empty : {X : Type 0} (xs ys : List X) → xs ++ ys ≡ [] → xs ≡ []
 first_empty [] ys h = refl
 first_empty (x ∷ xs) ys h = (let no : x ∷ (xs ++ ys) ≡ [] = h in cc)
 
-second_empty : {X : Type 0} (xs ys : List X) → xs ++ ys ≡ [] → ys ≡ []
+pub second_empty : {X : Type 0} (xs ys : List X) → xs ++ ys ≡ [] → ys ≡ []
 second_empty [] ys h = h
 second_empty (x ∷ xs) ys h = (let no : x ∷ (xs ++ ys) ≡ [] = h in cc)
 

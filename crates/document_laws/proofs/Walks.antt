@@ -1,109 +1,32 @@
 -- A walk along a pointer passes places that await nothing, so it is the same whatever is told of meta-schemas.
-use Rattle.std.proofs.Common.{◌≡◌, ◌+◌, ℕ, zero, suc, List, [], ◌∷◌, Bool, false, inl, inr, Option, Some, None, Result, Ok, Err, IfOk, refl, sym, ap, ◌∙◌, subst, arith}
+use Rattle.std.proofs.Common.{◌≡◌, ℕ, List, [], ◌∷◌, Bool, false, Option, Some, None, Result, Ok, Err, IfOk, refl, sym, ap, ◌∙◌, subst}
 use Rattle.std.specs.List.{AllByRecursion}
 use Rattle.std.specs.Prelude.{is_some, if◌then◌else◌}
-use Rattle.serde_json.specs.Data.{Data, null, boolean, number, string, array, object, Items, no_items, item, Members, no_members, member}
+use Rattle.serde_json.specs.Data.{Data, null, boolean, number, string, array, object, Items}
 use Rattle.serde_json.specs.Find.{get_member, get_item, unescape}
 use Rattle.json_values.specs.Parts.{Part, name, index}
 use Rattle.json_values.specs.Pointers.{index_of}
-use Rattle.json_values.proofs.Names.{found_at}
-use Rattle.schema_drafts.specs.Subschemas.{Holds, nothing, one, several, one_or_several, by_name, held_by}
+use Rattle.schema_drafts.specs.Subschemas.{Holds, nothing, one, several, one_or_several, by_name}
 use Rattle.schema_definitions.specs.Words.{result_map, ok_or, and_then}
-use Rattle.schema_definitions.specs.Identifiers.{is_hidden}
-use Rattle.schema_definitions.specs.Places.{Dialect, SchemaPlace, by_schema, schema_in_force, entered, if_schema, each_item, each_member, held, children_of, children_in}
+use Rattle.schema_definitions.specs.Places.{Dialect, SchemaPlace, by_schema, schema_in_force, entered, held, children_in}
 use Rattle.schema_definitions.specs.Lookup.{LookupCause, pointer_to_nowhere, Within, at_place, part_of, Walk, in_element, in_member, arrived, item_at, step_to, walk}
 use Rattle.schema_dialects.specs.Unknown.{no_meta}
-use Rattle.document_laws.proofs.Lists.{first_part, second_part}
 use Rattle.document_laws.proofs.Depths.{placed_contents, placed_path}
 use Rattle.document_laws.proofs.Unmoved.{same_entered}
 use Rattle.document_laws.proofs.Lasting.{KnownBelow, known_itself, known_children}
+use Rattle.document_laws.proofs.Passing.{stops_at, at_item, at_member}
+use Rattle.document_laws.proofs.Passing as passing
 
--- ---- one of the places below a place
+children_within : (p : SchemaPlace) → KnownBelow p → is_some p.awaits ≡ false → AllByRecursion KnownBelow (children_in no_meta p p.contents)
+children_within p k goes = subst (λ (b : Bool). AllByRecursion KnownBelow (if b then [] else children_in no_meta p p.contents)) goes (known_children p k)
 
-one_member : (p : SchemaPlace) (path : List Part) (ms : Members) (k : List ℕ) (e : Data) → get_member k ms ≡ Some e
-    → AllByRecursion KnownBelow (each_member no_meta p path ms) → AllByRecursion KnownBelow (if_schema no_meta p (name k ∷ path) e)
-one_member p path no_members k e g h = (let no : None ≡ Some e = g in cc)
-one_member p path (member l d ms) k e g h =
-    elim (found_at k l d ms e g) [
-      | inl s ↦ subst (λ n. AllByRecursion KnownBelow (if_schema no_meta p (name n ∷ path) e)) (sym s.0)
-          (subst (λ x. AllByRecursion KnownBelow (if_schema no_meta p (name l ∷ path) x)) s.1
-          (first_part KnownBelow (if_schema no_meta p (name l ∷ path) d) (each_member no_meta p path ms) h))
-      | inr s ↦ one_member p path ms k e s (second_part KnownBelow (if_schema no_meta p (name l ∷ path) d) (each_member no_meta p path ms) h)
-    ]
+-- at a place that awaits its meta-schema it does not stand
+goes_on : (p : SchemaPlace) (w : Within) → KnownBelow p → stops_at p w ≡ false
+goes_on p at_place k = ap is_some (known_itself p k).nothing_awaited
+goes_on p (part_of h) k = refl
 
-one_child : (p : SchemaPlace) (hidden : Bool) (ms : Members) (k : List ℕ) (e : Data) → get_member k ms ≡ Some e
-    → AllByRecursion KnownBelow (children_of no_meta p hidden ms) → AllByRecursion KnownBelow (held no_meta p (name k ∷ p.path) (held_by p.dialect.draft hidden k) e)
-one_child p hidden no_members k e g h = (let no : None ≡ Some e = g in cc)
-one_child p hidden (member l d ms) k e g h =
-    let here : List ℕ → Data → List SchemaPlace = λ n x. held no_meta p (name n ∷ p.path) (held_by p.dialect.draft hidden n) x in
-    elim (found_at k l d ms e g) [
-      | inl s ↦ subst (λ n. AllByRecursion KnownBelow (here n e)) (sym s.0)
-          (subst (λ x. AllByRecursion KnownBelow (here l x)) s.1
-          (first_part KnownBelow (here l d) (children_of no_meta p hidden ms) h))
-      | inr s ↦ one_child p hidden ms k e s (second_part KnownBelow (here l d) (children_of no_meta p hidden ms) h)
-    ]
-
-one_item : (p : SchemaPlace) (path : List Part) (i : ℕ) (ds : Items) (n : ℕ) (e : Data) → get_item n ds ≡ Some e
-    → AllByRecursion KnownBelow (each_item no_meta p path i ds) → AllByRecursion KnownBelow (if_schema no_meta p (index (n + i) ∷ path) e)
-one_item p path i no_items n e g h = (let no : None ≡ Some e = g in cc)
-one_item p path i (item d ds) zero e g h =
-    let same : i ≡ 0 + i = omega arith in
-    let value : d ≡ e = cc in
-    subst (λ (k : ℕ). AllByRecursion KnownBelow (if_schema no_meta p (index k ∷ path) e)) same
-    (subst (λ x. AllByRecursion KnownBelow (if_schema no_meta p (index i ∷ path) x)) value
-    (first_part KnownBelow (if_schema no_meta p (index i ∷ path) d) (each_item no_meta p path (suc i) ds) h))
-one_item p path i (item d ds) (suc n) e g h =
-    let same : n + suc i ≡ suc n + i = omega arith in
-    subst (λ (k : ℕ). AllByRecursion KnownBelow (if_schema no_meta p (index k ∷ path) e)) same
-    (one_item p path (suc i) ds n e g (second_part KnownBelow (if_schema no_meta p (index i ∷ path) d) (each_item no_meta p path (suc i) ds) h))
-
-children_within : (p : SchemaPlace) → KnownBelow p → AllByRecursion KnownBelow (children_in no_meta p p.contents)
-children_within p k =
-    subst (λ (o : Option (List ℕ)). AllByRecursion KnownBelow (if is_some o then [] else children_in no_meta p p.contents))
-    (known_itself p k).nothing_awaited (known_children p k)
-
--- ---- where a walk stands
-
--- at a place itself, or where each place that the value holds awaits nothing
-abbrev pub Here : SchemaPlace → List Part → Data → Within → Type 0
-Here p path d at_place = (path ≡ p.path) × (d ≡ p.contents)
-Here p path d (part_of h) = AllByRecursion KnownBelow (held no_meta p path h d)
-
-pub record Stands (w : Walk) : Type 0 where
-  pub last : KnownBelow w.last
-  pub here : Here w.last w.path w.contents w.within
-
-at_member : (p : SchemaPlace) (path : List Part) (d : Data) (within : Within) (ms : Members) (k : List ℕ) (e : Data) → KnownBelow p → Here p path d within
-    → d ≡ object ms → get_member k ms ≡ Some e → AllByRecursion KnownBelow (held no_meta p (name k ∷ path) (in_member p within k) e)
-at_member p path d at_place ms k e b here is g =
-    let contents : p.contents ≡ object ms = sym here.1 ∙ is in
-    let below : AllByRecursion KnownBelow (children_in no_meta p (object ms)) = subst (λ x. AllByRecursion KnownBelow (children_in no_meta p x)) contents (children_within p b) in
-    let there = one_child p (is_hidden p.dialect.draft (object ms)) ms k e g below in
-    subst (λ x. AllByRecursion KnownBelow (held no_meta p (name k ∷ path) (held_by p.dialect.draft (is_hidden p.dialect.draft x) k) e)) (sym contents)
-    (subst (λ q. AllByRecursion KnownBelow (held no_meta p (name k ∷ q) (held_by p.dialect.draft (is_hidden p.dialect.draft (object ms)) k) e)) (sym here.0) there)
-at_member p path d (part_of nothing) ms k e b here is g = tt
-at_member p path d (part_of one) ms k e b here is g = tt
-at_member p path d (part_of several) ms k e b here is g = tt
-at_member p path d (part_of one_or_several) ms k e b here is g = tt
-at_member p path d (part_of by_name) ms k e b here is g =
-    one_member p path ms k e g (subst (λ x. AllByRecursion KnownBelow (held no_meta p path by_name x)) is here)
-
-at_first : (p : SchemaPlace) (path : List Part) (ds : Items) (i : ℕ) (e : Data) → get_item i ds ≡ Some e
-    → AllByRecursion KnownBelow (each_item no_meta p path 0 ds) → AllByRecursion KnownBelow (if_schema no_meta p (index i ∷ path) e)
-at_first p path ds i e g h =
-    let same : i + 0 ≡ i = omega arith in
-    subst (λ (k : ℕ). AllByRecursion KnownBelow (if_schema no_meta p (index k ∷ path) e)) same (one_item p path 0 ds i e g h)
-
-at_item : (p : SchemaPlace) (path : List Part) (d : Data) (within : Within) (ds : Items) (i : ℕ) (e : Data) → Here p path d within
-    → d ≡ array ds → get_item i ds ≡ Some e → AllByRecursion KnownBelow (held no_meta p (index i ∷ path) (in_element within) e)
-at_item p path d at_place ds i e here is g = tt
-at_item p path d (part_of nothing) ds i e here is g = tt
-at_item p path d (part_of one) ds i e here is g = tt
-at_item p path d (part_of several) ds i e here is g =
-    at_first p path ds i e g (subst (λ x. AllByRecursion KnownBelow (held no_meta p path several x)) is here)
-at_item p path d (part_of one_or_several) ds i e here is g =
-    at_first p path ds i e g (subst (λ x. AllByRecursion KnownBelow (held no_meta p path one_or_several x)) is here)
-at_item p path d (part_of by_name) ds i e here is g = tt
+abbrev Stands : Walk → Type 0
+Stands w = passing.Stands no_meta KnownBelow w
 
 -- ---- one step
 
@@ -168,7 +91,7 @@ module _ (meta : List ℕ → Option Dialect) where
   same_item written token w ds None s is = record { same = refl; stands = tt }
   same_item written token w ds (Some i) s is =
       if_found (pointer_to_nowhere written) (get_item i ds) (arrived meta w (in_element w.within) (index i)) (arrived no_meta w (in_element w.within) (index i))
-      (λ e g. same_arrived w (in_element w.within) (index i) e s.last (at_item w.last w.path w.contents w.within ds i e s.here is g))
+      (λ e g. same_arrived w (in_element w.within) (index i) e s.last (at_item no_meta KnownBelow w.last w.path w.contents w.within ds i e s.here is g))
 
   same_step : (written token : List ℕ) (w : Walk) (d : Data) → Stands w → w.contents ≡ d → SameStep (step_to meta written token w d) (step_to no_meta written token w d)
   same_step written token w null s is = refused (pointer_to_nowhere written)
@@ -180,7 +103,7 @@ module _ (meta : List ℕ → Option Dialect) where
       let k = unescape token in
       let h = in_member w.last w.within k in
       if_found (pointer_to_nowhere written) (get_member k ms) (arrived meta w h (name k)) (arrived no_meta w h (name k))
-      (λ e g. same_arrived w h (name k) e s.last (at_member w.last w.path w.contents w.within ms k e s.last s.here is g))
+      (λ e g. same_arrived w h (name k) e s.last (at_member no_meta KnownBelow children_within w.last w.path w.contents w.within ms k e s.last (goes_on w.last w.within s.last) s.here is g))
 
   same_rest : (r s : Result Walk LookupCause) → SameStep r s → (f g : Walk → Result Walk LookupCause) → ((w : Walk) → Stands w → f w ≡ g w) → and_then r f ≡ and_then s g
   same_rest r (Ok w) h f g each = ap (λ x. and_then x f) h.same ∙ each w h.stands

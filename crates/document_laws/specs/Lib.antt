@@ -5,3 +5,5 @@ pub mod Alternating
 pub mod Stages
 pub mod ScopeLaws
 pub mod TargetLaws
+pub mod ListedLaws
+pub mod Awaiting

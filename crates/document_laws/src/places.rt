@@ -1,5 +1,6 @@
 //! Where the schema places of a document lie.
 ghost use Rattle.serde_json.specs.View.{view};
+ghost use Rattle.document_laws.specs.ListedLaws.{PlacesAreOne};
 ghost use Rattle.document_laws.specs.PlaceLaws.{PlacesLead};
 
 use serde_json::Value;
@@ -11,3 +12,9 @@ pub fn places_lead(contents: &Value)
 {
     names_rise(contents);
 }
+
+/// Among documents whose URIs are apart and whose names rise, a place of a document is one schema place at most, so it determines base and
+/// dialect there; and no schema place stands below one that awaits its meta-schema. It costs nothing to call.
+pub fn places_are_one()
+    ensures { PlacesAreOne }
+{}
