@@ -4,4 +4,5 @@ pub mod ToldLemmas
 pub mod Extending
 pub mod DynamicLemmas
 pub mod KeyLemmas
+pub mod ListedLemmas
 pub mod Passed

@@ -4,6 +4,7 @@ ghost use Rattle.std.specs.Prelude.{◌≡◌, ◌∷◌, [], map, true, IfOk, I
 ghost use Rattle.std.specs.List.{list_all};
 ghost use Rattle.schema_definitions.specs.DocumentCauses.{document_causes};
 ghost use Rattle.document_index.specs.Seen.{document_of};
+ghost use Rattle.document_laws.specs.ListedLaws.{AreAsListed, AreOne, ListOnce};
 ghost use Rattle.document_index.specs.Named.{NamesOne};
 ghost use Rattle.referencing.specs.Stands.{contents_rise};
 ghost use Rattle.referencing.specs.Seen.{documents_of, retrieved_by};
@@ -70,6 +71,15 @@ impl<'a> Registry<'a> {
     /// In each object of each document the names stand in the order of their bytes, each once. It does nothing.
     pub fn names_rise(&self)
         ensures { list_all contents_rise (documents_of self.now) ≡ true }
+    {}
+
+    /// What a reference leads to, from whatever base and scope, counts as a schema place only where the list of the schema places of its
+    /// document has one there, with the same contents, base and dialect. Where the documents' URIs are apart, it does wherever the list has
+    /// one, and a path in a document determines all that a reference leads to, and the schema place. It does nothing.
+    pub fn targets_are_listed(&self)
+        ensures listed { AreAsListed (documents_of self.now) }
+        ensures one { AreOne (documents_of self.now) }
+        ensures once { ListOnce (documents_of self.now) }
     {}
 
     /// The documents in their order, those that were retrieved among them.
