@@ -10,4 +10,5 @@ pub mod Stages
 pub mod Rows
 pub mod Sites
 pub mod Readings
+pub mod Levelled
 pub mod Computed

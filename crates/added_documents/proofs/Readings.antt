@@ -95,18 +95,18 @@ module _ (old more new : Documents) (makes : List ℕ → Bool) (base reference 
     module _ {A : Type 0} (t : Telling Site A) where
       same_cut : cut t after (keys_of new d) [] (root_site root) (whole d) ≡ cut t before (keys_of old d) [] (root_site root) (whole d)
       same_cut =
-          let there = (sites_stay old more new makes base reference root a).found in
+          let there = (sites_stay old more new makes base reference root a).builds.found in
           let x = suc (left [] (keys_of old d)) * suc (deepest old) in
           let y = suc (left [] (keys_of new d)) * suc (deepest new) in
           sym (plain_is_deep_enough A t new makes matches base reference root d there (x + y) (omega arith))
           ∙ sym (cut_alike Site A t before after (x + y) [] (root_site root) (whole d) refl alike)
-          ∙ plain_is_deep_enough A t old makes matches base reference root d a.found (x + y) (omega arith)
+          ∙ plain_is_deep_enough A t old makes matches base reference root d a.builds.found (x + y) (omega arith)
 
       same_told : (IsCircular before (root_site root) (whole d) → ⊥) → (x : A) → IsTold t before (root_site root) (whole d) x → IsTold t after (root_site root) (whole d) x
       same_told straight x h =
-          let there = (sites_stay old more new makes base reference root a).found in
+          let there = (sites_stay old more new makes base reference root a).builds.found in
           let now = plain_is_decided A t new makes matches base reference root d there (λ c. straight (circular c)) in
-          let then = plain_is_decided A t old makes matches base reference root d a.found straight in
+          let then = plain_is_decided A t old makes matches base reference root d a.builds.found straight in
           let one = one_answer t before then.unfoldings h.unfoldings (root_site root) (whole d) _ x then.is h.is in
           subst (λ (v : A). IsTold t after (root_site root) (whole d) v) (same_cut ∙ one) now
 

@@ -78,7 +78,7 @@ module _ (old more new : Documents) (makes : List ℕ → Bool) (base reference 
 
   reached_fits : (s : Site) → IsReached s → Fits s
   unfolding rows_at
-  reached_fits _ at_root = record { known = (static_same old more new a.alone base reference root a.found).known; frees = (a.free (root_site root) at_root, tt) }
+  reached_fits _ at_root = record { known = (static_same old more new a.alone base reference root a.builds.found).known; frees = (a.free (root_site root) at_root, tt) }
   reached_fits _ (by_keyword {s = s} row t r i j) =
       let f = reached_fits s r in
       let k =
@@ -96,7 +96,7 @@ module _ (old more new : Documents) (makes : List ℕ → Bool) (base reference 
     where
       by : (cs : List BuildCause) → row.causes ≡ cs → cs ≡ []
       by [] is = refl
-      by (c ∷ cs) is = absurd (a.right c (record { site = s; reached = r; row = row; stands = i; wrong = subst (λ xs. In c xs) (sym is) first }))
+      by (c ∷ cs) is = absurd (a.builds.right c (record { site = s; reached = r; row = row; stands = i; wrong = subst (λ xs. In c xs) (sym is) first }))
 
   all_right : (s : Site) → IsReached s → (rows : List Row) → ((row : Row) → In row rows → In row (rows_at old makes s)) → AllByRecursion (λ w. w.causes ≡ []) rows
   all_right s r [] h = tt
@@ -117,17 +117,19 @@ module _ (old more new : Documents) (makes : List ℕ → Bool) (base reference 
 
 pub sites_stay : SitesStay
 sites_stay old more new makes base reference root a = record {
-  found = (static_same old more new a.alone base reference root a.found).same;
+  builds = record {
+    found = (static_same old more new a.alone base reference root a.builds.found).same;
+    right = λ cause w.
+        let r = back old more new makes base reference root a w.site w.reached in
+        a.builds.right cause (record {
+          site = w.site;
+          reached = r;
+          row = w.row;
+          stands = subst (λ rows. In w.row rows) (rows_stay old more new makes base reference root a w.site r) w.stands;
+          wrong = w.wrong;
+        });
+  };
   reached = forth old more new makes base reference root a;
   no_more = back old more new makes base reference root a;
   rows = rows_stay old more new makes base reference root a;
-  right = λ cause w.
-      let r = back old more new makes base reference root a w.site w.reached in
-      a.right cause (record {
-        site = w.site;
-        reached = r;
-        row = w.row;
-        stands = subst (λ rows. In w.row rows) (rows_stay old more new makes base reference root a w.site r) w.stands;
-        wrong = w.wrong;
-      });
 }

@@ -14,20 +14,23 @@ use Rattle.schema_definitions.specs.Plain.{plain}
 use Rattle.schema_definitions.specs.AllKeys.{keys_of}
 use Rattle.added_documents.specs.Added.{IsFree, LeftAlone}
 
--- nothing is wrong at what is reached from it, and no added document bears the base of a site there
+-- a root builds: the reference leads to it, and nothing is wrong at the schemas reached from there
+pub record Builds (docs : Documents) (makes : List ℕ → Bool) (base reference : List ℕ) (root : Target) : Type 0 where
+  pub found : lookup docs base reference ≡ Ok root
+  pub right : (cause : BuildCause) → IsCauseOf docs makes (root_site root) cause → ⊥
+
+-- it builds in the old documents, and no added document bears the base of a site that is reached
 pub record StandsAlone (old more new : Documents) (makes : List ℕ → Bool) (base reference : List ℕ) (root : Target) : Type 0 where
   pub alone : LeftAlone old more new
-  pub found : lookup old base reference ≡ Ok root
-  pub right : (cause : BuildCause) → IsCauseOf old makes (root_site root) cause → ⊥
+  pub builds : Builds old makes base reference root
   pub free : (s : Site) → Reached old makes (root_site root) s → IsFree more new s.base
 
--- the same root, the same sites reached, and the same at each of them
+-- the same root builds, with the same sites reached, and the same at each of them
 pub record SameSites (old new : Documents) (makes : List ℕ → Bool) (base reference : List ℕ) (root : Target) : Type 0 where
-  pub found : lookup new base reference ≡ Ok root
+  pub builds : Builds new makes base reference root
   pub reached : (s : Site) → Reached old makes (root_site root) s → Reached new makes (root_site root) s
   pub no_more : (s : Site) → Reached new makes (root_site root) s → Reached old makes (root_site root) s
   pub rows : (s : Site) → Reached old makes (root_site root) s → rows_at new makes s ≡ rows_at old makes s
-  pub right : (cause : BuildCause) → IsCauseOf new makes (root_site root) cause → ⊥
 
 abbrev pub SitesStay : Type 0
 SitesStay = (old more new : Documents) (makes : List ℕ → Bool) (base reference : List ℕ) (root : Target)
