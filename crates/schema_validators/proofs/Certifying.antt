@@ -27,7 +27,7 @@ faults_certified p r d fs answer f told matches target found finish straight = r
   evaluation_text = refl;
 }
 
-fault_certified : (p : Patterns) (r : Root) (d : Data) (f : Fault) → IsFault p r d f → HasCertificate p r d f
+pub fault_certified : (p : Patterns) (r : Root) (d : Data) (f : Fault) → IsFault p r d f → HasCertificate p r d f
 fault_certified p r d f is matches target found finish straight =
     let told = is.told matches target found finish straight in record {
       instance_path = instance_path f;

@@ -1,5 +1,6 @@
 mod Hearing
 mod Certifying
+mod Agreeing
 mod Asking
 mod BuiltLemmas
 pub mod Preparing

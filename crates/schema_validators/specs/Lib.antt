@@ -12,3 +12,4 @@ pub mod Passed
 pub mod Hashes
 pub mod Maps
 pub mod Mapped
+pub mod Agreed

@@ -4,14 +4,21 @@
 //! each at a root that a reference leads to.
 #![tactic(auto)]
 
+mod agreement;
 mod building;
 mod error;
 mod mapping;
 mod meta_schema;
 mod options;
+mod printing;
 mod validator;
 mod validator_map;
 
+pub use agreement::{
+    BothAnswers, BothValidators, answers_on_both, build_on_both, is_valid_by_both, is_valid_twice,
+    iter_errors_by_both, iter_errors_twice,
+};
+pub use document_sources::error::RetrieveError;
 pub use error::{BuildError, NumberError};
 pub use options::ValidationOptions;
 pub use reached_sites::cause::BuildCause;

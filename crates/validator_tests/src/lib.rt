@@ -2,6 +2,8 @@
 #![tactic(auto)]
 
 #[cfg(test)]
+mod agreeing;
+#[cfg(test)]
 mod answers;
 #[cfg(test)]
 mod applying;
@@ -27,3 +29,5 @@ mod options;
 mod patterns;
 #[cfg(test)]
 mod references;
+#[cfg(test)]
+mod retrieving;

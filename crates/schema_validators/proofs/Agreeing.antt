@@ -1,0 +1,177 @@
+-- Roots of registries of equal documents are built alike, and validators at one root answer alike.
+use Rattle.std.proofs.Common.{◌≡◌, ◌∙◌, ◌⊎◌, inl, inr, ℕ, List, [], ◌∷◌, Bool, true, false, true≢false, Option, Some, None, option_map, Result, Ok, Err, IfOk, IfErr, refl, sym, ap, ap₂, subst, arith}
+use Rattle.serde_json.specs.Data.{Data}
+use Rattle.schema_meaning.specs.Faults.{Fault, fault, Faults, none, also, instance_path, evaluation_path}
+use Rattle.schema_meaning.specs.Order.{SameFault, same_fault, same_kind, SameFaults, same_none, same_also}
+use Rattle.schema_meaning.specs.Readings.{Telling, verdicts, bags}
+use Rattle.schema_definitions.specs.Lookup.{Target}
+use Rattle.schema_definitions.specs.PathTexts.{path_text}
+use Rattle.schema_definitions.specs.Sites.{Site}
+use Rattle.schema_definitions.specs.Words.{has_text}
+use Rattle.schema_reports.specs.Told.{fault_of}
+use Rattle.schema_registries.specs.declared.registry.SharedRegistry.{SharedRegistry}
+use Rattle.schema_registries.specs.declared.registry.SchemaRegistry.{SchemaRegistry}
+use Rattle.schema_registries.specs.Seen.{documents_shared, retrieved_shared}
+use Rattle.schema_registries.specs.Roots.{Root, Patterns, Finds, IsSound, root_on}
+use Rattle.schema_registries.specs.Answers.{IsCut, IsAnswer}
+use Rattle.schema_registries.proofs.Found.{leads_somewhere}
+use Rattle.schema_validators.specs.Asked.{IsAsked, IsHandedIn, IsMet, IsMetIn, Accepts, meta_root}
+use Rattle.schema_validators.specs.Counted.{IsWithin}
+use Rattle.schema_validators.specs.Made.{IsMadeBy}
+use Rattle.schema_validators.specs.Refused.{RefusesBuild, RefusesValue, RefusesAt, RefusesByMeta, RefusesMeta, RefusesRoot}
+use Rattle.schema_validators.specs.Seen.{root_in, root_of}
+use Rattle.schema_validators.proofs.Certifying.{verdict_certified, fault_certified}
+use Rattle.schema_validators.specs.declared.error.BuildError.{BuildError}
+use Rattle.schema_validators.specs.declared.error.BuildError.TheVariants as error
+use Rattle.schema_validators.specs.declared.validator.Validator.{Validator}
+use Rattle.schema_validators.specs.Agreed.{AreAlike, AreBuiltAlike, IsMetaStraight, IsStraight, WhereFinished}
+
+-- ---- answers
+
+pub cut_equal : {A : Type 0} (t : Telling Site A) (p : Patterns) (r s : Root) (d : Data) (x y : A) → r ≡ s → IsCut t p r d x → IsCut t p s d y → WhereFinished p r d (x ≡ y)
+cut_equal {A} t p r s d x y same h k matches target found finish =
+    h matches target found finish ∙ sym (subst (λ (q : Root). IsCut t p q d y) (sym same) k matches target found finish)
+
+fault_itself : (f : Fault) → SameFault f f
+fault_itself (fault k d i s e) = same_fault same_kind
+
+faults_itself : (fs : Faults) → SameFaults fs fs
+faults_itself none = same_none
+faults_itself (also f fs) = same_also (fault_itself f) (faults_itself fs)
+
+pub cut_same : (p : Patterns) (r s : Root) (d : Data) (fs gs : Faults) → r ≡ s → IsCut bags p r d fs → IsCut bags p s d gs → WhereFinished p r d (SameFaults fs gs)
+cut_same p r s d fs gs same h k matches target found finish = subst (SameFaults fs) (cut_equal bags p r s d fs gs same h k matches target found finish) (faults_itself fs)
+
+-- ---- refusals of what may be built
+
+module _ (p : Patterns) (limit : ℕ) where
+  -- a root that may be read within the limit is refused for want of memory alone
+  not_refused : (r : Root) (e : BuildError) → IsSound p r → IsWithin p limit r → RefusesBuild p limit r e → e ≡ error.Memory
+  not_refused r (error.Document e) sound within h = absurd h
+  not_refused r (error.Registry e) sound within h = absurd h
+  not_refused r (error.Root e) sound within h = absurd (leads_somewhere p r sound h.0 h.1)
+  not_refused r (error.Schema e) sound within h =
+      elim h.2 [
+        | inl exceeded ↦ (let most = within h.0 h.1 exceeded.exceeds.keys exceeded.exceeds.are in let more = exceeded.exceeds.more in absurd (omega arith))
+        | inr cause ↦ absurd (sound.right h.0 h.1 cause.0 cause.2)
+      ]
+  not_refused r (error.MetaSchema e) sound within h = absurd h
+  not_refused r error.Memory sound within h = refl
+
+  -- what accepts a value does not tell a fault of it, where the matches finish and no references come back
+  not_told : (r : Root) (d : Data) (e : BuildError) → IsAnswer verdicts p r d true → RefusesValue p r d e → IsStraight p r d → ⊥
+  not_told r d e answer h s =
+      let f = fault_of h.fault in
+      true≢false (verdict_certified p r d true answer s.matches s.target s.found s.finish s.straight (path_text (instance_path f)) (path_text (evaluation_path f))
+      (fault_certified p r d f h.told s.matches s.target s.found s.finish s.straight))
+
+  not_refused_at : (r : Root) (d : Data) (e : BuildError) → Accepts p limit r d → IsStraight p r d → RefusesAt p limit r d e → e ≡ error.Memory
+  not_refused_at r d e a s (inl h) = not_refused r e a.0 a.1 h
+  not_refused_at r d e a s (inr h) = absurd (not_told r d e a.2 h s)
+
+-- ---- registries of equal documents
+
+pub alike_back : (r s : SchemaRegistry) → AreAlike r s → AreAlike s r
+alike_back r s h = record { documents = sym h.documents; base = sym h.base; meta_schemas = sym h.meta_schemas; retrieved = sym h.retrieved }
+
+pub root_alike : (r s : SchemaRegistry) (reference : List ℕ) → AreAlike r s → root_on r reference ≡ root_on s reference
+root_alike r s reference h = ap₂ (λ ds b. root_of ds b reference) h.documents h.base
+
+-- registries of meta-schemas with equal documents, of which the same were retrieved
+record AreParents (q o : SharedRegistry) : Type 0 where
+  documents : documents_shared q ≡ documents_shared o
+  retrieved : retrieved_shared q ≡ retrieved_shared o
+
+some_mapped : {A B : Type 0} (f : A → B) (o : Option A) (y : B) → option_map f o ≡ Some y → (x : A) × (o ≡ Some x) × (f x ≡ y)
+some_mapped f None y e = cc
+some_mapped f (Some x) y e = (x, refl, cc)
+
+parent_there : (r s : SchemaRegistry) → AreAlike r s → (o : SharedRegistry) → s.parent ≡ Some o → (q : SharedRegistry) × (r.parent ≡ Some q) × AreParents q o
+parent_there r s h o is =
+    let found = some_mapped documents_shared r.parent (documents_shared o) (h.meta_schemas ∙ ap (option_map documents_shared) is) in
+    let same : Some (retrieved_shared found.0) ≡ Some (retrieved_shared o) =
+    sym (ap (option_map retrieved_shared) found.1) ∙ h.retrieved ∙ ap (option_map retrieved_shared) is in
+    (found.0, found.1, record { documents = found.2; retrieved = cc same })
+
+meta_alike : (q o : SharedRegistry) (uri : List ℕ) → AreParents q o → meta_root q uri ≡ meta_root o uri
+meta_alike q o uri h = ap (λ ds. root_of ds (meta_root o uri).base uri) h.documents
+
+asked_alike : (q o : SharedRegistry) (t : Target) (uri : List ℕ) → AreParents q o → IsAsked o t uri → IsAsked q t uri
+asked_alike q o t uri h a = record {
+  named = a.named;
+  handed_in = record {
+    target = a.handed_in.target;
+    found = subst (λ (r : Root). Finds r a.handed_in.target) (sym (meta_alike q o uri h)) a.handed_in.found;
+    not_retrieved = ap (has_text a.handed_in.target.document) h.retrieved ∙ a.handed_in.not_retrieved;
+  };
+}
+
+parents_back : (q o : SharedRegistry) → AreParents q o → AreParents o q
+parents_back q o h = record { documents = sym h.documents; retrieved = sym h.retrieved }
+
+module _ (p : Patterns) (limit : ℕ) (r s : SchemaRegistry) (reference : List ℕ) (alike : AreAlike r s) where
+  abbrev here : Root
+  here = root_on r reference
+
+  abbrev there : Root
+  there = root_on s reference
+
+  found_here : (t : Target) → Finds there t → Finds here t
+  found_here t found = subst (λ (x : Root). Finds x t) (sym (root_alike r s reference alike)) found
+
+  pub meta_straight : IsMetaStraight p r here → IsMetaStraight p s there
+  meta_straight h o t uri is found asked =
+      let q = parent_there r s alike o is in
+      subst (λ (x : Root). IsStraight p x t.contents) (meta_alike q.0 o uri q.2) (h q.0 t uri q.1 (found_here t found) (asked_alike q.0 o t uri q.2 asked))
+
+  -- what is built on one is refused on the other for want of memory alone
+  pub refused_there : IsSound p here → IsWithin p limit here → ((t : Target) → Finds here t → IsMet p limit r.parent t) → IsMetaStraight p r here
+      → (e : BuildError) → RefusesRoot p limit s there e → e ≡ error.Memory
+  refused_there sound within met straight e (inl h) =
+      not_refused p limit here e sound within (subst (λ (x : Root). RefusesBuild p limit x e) (sym (root_alike r s reference alike)) h)
+  refused_there sound within met straight e (inr h) =
+      let q = parent_there r s alike h.parent h.is_parent in
+      let found : Finds here h.target = found_here h.target h.found in
+      elim h.refused [
+        | inl memory ↦ memory
+        | inr a ↦ (
+            let asked : IsAsked q.0 h.target a.uri = asked_alike q.0 h.parent h.target a.uri q.2 a.asked in
+            let accepts = subst (λ (o : Option SharedRegistry). IsMet p limit o h.target) q.1 (met h.target found) a.uri asked in
+            let why : RefusesAt p limit (meta_root q.0 a.uri) h.target.contents e =
+            subst (λ (x : Root). RefusesAt p limit x h.target.contents e) (sym (meta_alike q.0 h.parent a.uri q.2)) a.why in
+            not_refused_at p limit (meta_root q.0 a.uri) h.target.contents e accepts (straight q.0 h.target a.uri q.1 found asked) why
+            )
+      ]
+
+-- ---- what is built on each of two
+
+-- what is known of what is built at a root on a registry
+pub record IsBuiltOn {M : Type 0} (finds : M → List ℕ → Option Bool) (p : Patterns) (limit : ℕ) (r : SchemaRegistry) (start : Root) (x : Result (Validator M) BuildError) : Type 0 where
+  pub root : IfOk x (λ v. root_in v ≡ start)
+  pub made : IfOk x (IsMadeBy finds p)
+  pub within : IfOk x (λ v. IsWithin p limit (root_in v))
+  pub met : IfOk x (λ v. (t : Target) → Finds (root_in v) t → IsMet p limit r.parent t)
+  pub refused : IfErr x (RefusesRoot p limit r start)
+
+module _ {M : Type 0} (finds : M → List ℕ → Option Bool) (p : Patterns) (limit : ℕ) where
+  one_built : (r s : SchemaRegistry) (reference : List ℕ) → AreAlike r s → IsMetaStraight p r (root_on r reference) → (v : Validator M) (e : BuildError)
+      → IsBuiltOn finds p limit r (root_on r reference) (Ok v) → RefusesRoot p limit s (root_on s reference) e → e ≡ error.Memory
+  one_built r s reference alike straight v e b h =
+      refused_there p limit r s reference alike (subst (IsSound p) b.root b.made.sound) (subst (IsWithin p limit) b.root b.within)
+      (subst (λ (x : Root). (t : Target) → Finds x t → IsMet p limit r.parent t) b.root b.met) straight e h
+
+  pub built_alike : (r s : SchemaRegistry) (reference : List ℕ) (x y : Result (Validator M) BuildError)
+      → IsBuiltOn finds p limit r (root_on r reference) x → IsBuiltOn finds p limit s (root_on s reference) y
+      → AreAlike r s → IsMetaStraight p r (root_on r reference) → AreBuiltAlike x y
+  built_alike r s reference (Ok v) (Ok w) a b alike straight = tt
+  built_alike r s reference (Ok v) (Err e) a b alike straight = one_built r s reference alike straight v e a b.refused
+  built_alike r s reference (Err e) (Ok w) a b alike straight =
+      one_built s r reference (alike_back r s alike) (meta_straight p limit r s reference alike straight) w e b a.refused
+  built_alike r s reference (Err d) (Err e) a b alike straight = tt
+
+-- two that are built begin at one root
+pub one_root : {M : Type 0} (r s : SchemaRegistry) (reference : List ℕ) (x y : Result (Validator M) BuildError)
+    → IfOk x (λ v. root_in v ≡ root_on r reference) → IfOk y (λ w. root_in w ≡ root_on s reference) → AreAlike r s → IfOk x (λ v. IfOk y (λ w. root_in v ≡ root_in w))
+one_root r s reference (Ok v) (Ok w) a b alike = a ∙ root_alike r s reference alike ∙ sym b
+one_root r s reference (Ok v) (Err e) a b alike = tt
+one_root r s reference (Err e) y a b alike = tt

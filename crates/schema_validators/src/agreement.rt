@@ -1,0 +1,197 @@
+//! Validators that begin at one root answer alike: those built on registries of equal documents, and one that is asked again.
+
+ghost use Rattle.std.specs.Prelude.{◌≡◌, true, IfOk, IfErr};
+ghost use Rattle.serde_json.specs.View.{view};
+ghost use Rattle.schema_meaning.specs.Order.{SameFaults};
+ghost use Rattle.schema_meaning.specs.Readings.{verdicts, bags};
+ghost use Rattle.schema_reports.specs.Left.{errors_left};
+ghost use Rattle.schema_reports.specs.Told.{faults_of};
+ghost use Rattle.schema_registries.specs.Roots.{root_on};
+ghost use Rattle.schema_registries.specs.Whole.{only_whole};
+ghost use Rattle.schema_validators.specs.Made.{IsMadeBy};
+ghost use Rattle.schema_validators.specs.Refused.{RefusesRoot};
+ghost use Rattle.schema_validators.specs.Seen.{root_in, maker_in, node_limit_in};
+ghost use Rattle.schema_validators.specs.Agreed.{Answers, AreAlike, AreBuiltAlike, IsCutBy, IsMetaStraight, WhereAlike, WhereFinished, WhereFinishedBy};
+
+use crate::error::BuildError;
+use crate::options::ValidationOptions;
+use crate::validator::Validator;
+use regex_patterns::RegexMatcher;
+use schema_patterns::{PatternMaker, PatternMatcher};
+use schema_registries::SchemaRegistry;
+use schema_reports::ErrorIterator;
+use serde_json::Value;
+use std::alloc::AllocError;
+
+/// What is built at one root on each of two registries.
+#[derive(Drop)]
+pub struct BothValidators<M = RegexMatcher> {
+    pub left: Result<Validator<M>, BuildError>,
+    pub right: Result<Validator<M>, BuildError>,
+}
+
+/// Builds a validator on each of two registries, by the schema that one reference leads to.
+///
+/// Where the registries have equal documents under the same URIs, with the same drafts and in the same order, one base, and such
+/// meta-schemas of which the same were retrieved, both validators begin at one root; and, want of memory aside, the one is built where
+/// the other is, if the root's meta-schema, where it is asked, finishes its matches in the root's value and no references come back.
+///
+/// It costs what `build_on` costs on both.
+pub fn build_on_both<P: PatternMaker + Drop, R: Drop>(
+    options: &ValidationOptions<P, R>,
+    left: &SchemaRegistry,
+    right: &SchemaRegistry,
+    root: &str,
+) -> BothValidators<P::Matcher>
+    ensures left_root { IfOk result.left (λ v. root_in v ≡ root_on left.now root.now) }
+    ensures right_root { IfOk result.right (λ v. root_in v ≡ root_on right.now root.now) }
+    ensures left_made { let p = P.patterns (maker_in options.now) in
+        IfOk result.left (IsMadeBy P.Matcher.finds p) }
+    ensures right_made { let p = P.patterns (maker_in options.now) in
+        IfOk result.right (IsMadeBy P.Matcher.finds p) }
+    ensures left_refused { let p = P.patterns (maker_in options.now) in IfErr result.left
+        (RefusesRoot p (node_limit_in options.now) left.now (root_on left.now root.now)) }
+    ensures right_refused { let p = P.patterns (maker_in options.now) in IfErr result.right
+        (RefusesRoot p (node_limit_in options.now) right.now (root_on right.now root.now)) }
+
+    ensures one_root { AreAlike left.now right.now
+        → IfOk result.left (λ v. IfOk result.right (λ w. root_in v ≡ root_in w)) }
+
+    // The one is built where the other is.
+    ensures alike { let p = P.patterns (maker_in options.now) in AreAlike left.now right.now
+        → IsMetaStraight p left.now (root_on left.now root.now)
+        → AreBuiltAlike result.left result.right }
+{
+    BothValidators {
+        left: options.build_on(left, root),
+        right: options.build_on(right, root),
+    }
+}
+
+/// Whether a value is valid by each of two validators: where both begin at one root, by the patterns of one maker, and every match that
+/// the value asks for finishes, both say the same. It costs what `is_valid` costs of both.
+///
+/// # Errors
+///
+/// Where memory was refused or a count of owners is full.
+pub fn is_valid_by_both<M: PatternMatcher>(
+    left: &Validator<M>,
+    right: &Validator<M>,
+    value: &Value,
+) -> Result<(bool, bool), AllocError>
+    requires whole { only_whole (view value.now) ≡ true }
+    ensures left { IfOk result (λ both.
+        IsCutBy M.finds verdicts left.now (view value.now) both.0) }
+    ensures right { IfOk result (λ both.
+        IsCutBy M.finds verdicts right.now (view value.now) both.1) }
+    ensures equal { IfOk result (λ both.
+        WhereAlike M.finds left.now right.now (view value.now) (both.0 ≡ both.1)) }
+{
+    let first = left.is_valid(value)?;
+    let second = right.is_valid(value)?;
+    Ok((first, second))
+}
+
+/// The faults of a value by each of two validators: where both begin at one root, by the patterns of one maker, and every match that the
+/// value asks for finishes, both give the same faults, each as often, if in another order. It costs what `iter_errors` costs of both.
+///
+/// # Errors
+///
+/// Where memory was refused or a count of owners is full.
+pub fn iter_errors_by_both<'i, M: PatternMatcher>(
+    left: &Validator<M>,
+    right: &Validator<M>,
+    value: &'i Value,
+) -> Result<(ErrorIterator<'i>, ErrorIterator<'i>), AllocError>
+    requires whole { only_whole (view value.now) ≡ true }
+    ensures left { IfOk result (λ both.
+        IsCutBy M.finds bags left.now (view value.now) (faults_of (errors_left both.0))) }
+    ensures right { IfOk result (λ both.
+        IsCutBy M.finds bags right.now (view value.now) (faults_of (errors_left both.1))) }
+    ensures equal { IfOk result (λ both. WhereAlike M.finds left.now right.now (view value.now)
+        (SameFaults (faults_of (errors_left both.0)) (faults_of (errors_left both.1)))) }
+{
+    let first = left.iter_errors(value)?;
+    let second = right.iter_errors(value)?;
+    Ok((first, second))
+}
+
+/// The verdicts on a value, and its faults, by validators on each of two registries.
+#[derive(Drop)]
+pub struct BothAnswers<'i> {
+    pub verdicts: (bool, bool),
+    pub errors: (ErrorIterator<'i>, ErrorIterator<'i>),
+}
+
+/// What a value is told by validators that are built on two registries, at the schema that one reference leads to.
+///
+/// Where the registries have equal documents, as `build_on_both` has it, and every match that the value asks for finishes, the verdicts
+/// are equal, and so are the faults, each as often, if in another order. It costs what `build_on`, `is_valid` and `iter_errors` cost on both.
+///
+/// # Errors
+///
+/// Those of `build_on`, on the first registry and then on the second, and want of memory.
+pub fn answers_on_both<'i, P: PatternMaker + Drop, R: Drop>(
+    options: &ValidationOptions<P, R>,
+    left: &SchemaRegistry,
+    right: &SchemaRegistry,
+    root: &str,
+    value: &'i Value,
+) -> Result<BothAnswers<'i>, BuildError>
+    requires whole { only_whole (view value.now) ≡ true }
+    ensures left { let p = P.patterns (maker_in options.now) in IfOk result (λ both.
+        Answers p (root_on left.now root.now) (view value.now)
+        both.verdicts.0 (faults_of (errors_left both.errors.0))) }
+    ensures right { let p = P.patterns (maker_in options.now) in IfOk result (λ both.
+        Answers p (root_on right.now root.now) (view value.now)
+        both.verdicts.1 (faults_of (errors_left both.errors.1))) }
+    ensures equal { let p = P.patterns (maker_in options.now) in
+        AreAlike left.now right.now → IfOk result (λ both.
+        WhereFinished p (root_on left.now root.now) (view value.now)
+        ((both.verdicts.0 ≡ both.verdicts.1) × SameFaults
+        (faults_of (errors_left both.errors.0)) (faults_of (errors_left both.errors.1)))) }
+{
+    let first = options.build_on(left, root)?;
+    let second = options.build_on(right, root)?;
+    let verdicts = is_valid_by_both(&first, &second, value)?;
+    let errors = iter_errors_by_both(&first, &second, value)?;
+    Ok(BothAnswers { verdicts, errors })
+}
+
+/// What `is_valid` says of a value when it is asked twice: the same, where every match that the value asks for finishes. It costs twice
+/// what `is_valid` costs.
+///
+/// # Errors
+///
+/// Where memory was refused or a count of owners is full.
+pub fn is_valid_twice<M: PatternMatcher>(
+    validator: &Validator<M>,
+    value: &Value,
+) -> Result<(bool, bool), AllocError>
+    requires whole { only_whole (view value.now) ≡ true }
+    ensures first { IfOk result (λ both.
+        IsCutBy M.finds verdicts validator.now (view value.now) both.0) }
+    ensures equal { IfOk result (λ both.
+        WhereFinishedBy M.finds validator.now (view value.now) (both.0 ≡ both.1)) }
+{
+    is_valid_by_both(validator, validator, value)
+}
+
+/// What `iter_errors` gives of a value when it is asked twice: the same faults, each as often, if in another order, where every match that
+/// the value asks for finishes. It costs twice what `iter_errors` costs.
+///
+/// # Errors
+///
+/// Where memory was refused or a count of owners is full.
+pub fn iter_errors_twice<'i, M: PatternMatcher>(
+    validator: &Validator<M>,
+    value: &'i Value,
+) -> Result<(ErrorIterator<'i>, ErrorIterator<'i>), AllocError>
+    requires whole { only_whole (view value.now) ≡ true }
+    ensures first { IfOk result (λ both.
+        IsCutBy M.finds bags validator.now (view value.now) (faults_of (errors_left both.0))) }
+    ensures equal { IfOk result (λ both. WhereFinishedBy M.finds validator.now (view value.now)
+        (SameFaults (faults_of (errors_left both.0)) (faults_of (errors_left both.1)))) }
+{
+    iter_errors_by_both(validator, validator, value)
+}
