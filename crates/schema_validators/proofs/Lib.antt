@@ -1,5 +1,6 @@
 mod Hearing
 mod Certifying
+mod MissingLemmas
 mod Agreeing
 mod Asking
 mod BuiltLemmas

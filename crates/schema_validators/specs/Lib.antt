@@ -2,6 +2,7 @@ pub mod Seen
 pub mod Made
 pub mod Numbers
 pub mod Heard
+pub mod Missing
 pub mod Counted
 pub mod Asked
 pub mod Prepared

@@ -17,6 +17,7 @@ ghost use Rattle.schema_registries.specs.Answers.{IsCut, IsAnswer, IsFault};
 ghost use Rattle.schema_registries.specs.Certified.{IsCertified, HasCertificate, HaveCertificates};
 ghost use Rattle.schema_registries.specs.Roots.{Patterns, IsSoundBySome};
 ghost use Rattle.schema_registries.specs.Whole.{only_whole};
+ghost use Rattle.schema_validators.specs.Missing.{TellsEachMissing};
 ghost use Rattle.schema_validators.specs.Numbers.{NamesOther};
 
 use crate::error::{BuildError, NumberError};
@@ -206,7 +207,7 @@ impl<M: PatternMatcher> Validator<M> {
     /// The faults of a value, in the order in which they are met.
     ///
     /// Its numbers are whole numbers of 64 bits, as `has_only_whole` tells. All faults are gathered before the first is given, each with its
-    /// three paths written out.
+    /// three paths written out. Each application of `required` tells each name that is missing once, and no name that is there.
     ///
     /// # Errors
     ///
@@ -217,6 +218,8 @@ impl<M: PatternMatcher> Validator<M> {
         ensures faults { IfOk result (λ errors. (p : Patterns) → IsMadeBy M.finds p self.now → IsAnswer bags p (root_in self.now) (view value.now) (faults_of (errors_left errors))) }
         ensures proper { IfOk result (λ errors. are_proper (errors_left errors) ≡ true) }
         ensures certified { IfOk result (λ errors. (p : Patterns) → IsMadeBy M.finds p self.now → HaveCertificates p (root_in self.now) (view value.now) (faults_of (errors_left errors))) }
+        ensures missing { IfOk result (λ errors. (p : Patterns) → IsMadeBy M.finds p self.now
+            → TellsEachMissing p (root_in self.now) (view value.now) (faults_of (errors_left errors))) }
     {
         let observer = self.told(value, Observer::All(AllFaults::new(self.alloc)))?;
         match observer {

@@ -9,6 +9,7 @@ use Rattle.schema_validators.specs.Heard.{HearsCut, StillKeeps}
 use Rattle.schema_validators.specs.Seen.{root_in}
 use Rattle.schema_validators.proofs.Hearing.{all_heard, answered, errors_proper}
 use Rattle.schema_validators.proofs.Certifying.{faults_certified}
+use Rattle.schema_validators.proofs.MissingLemmas.{each_missing}
 use Rattle.schema_validators.proofs.validator.Validator.iter_errors.Goals as goal
 
 pub unreachable-requires : goal.unreachable-requires
@@ -35,3 +36,6 @@ returns-clause-proper g c =
 
 pub returns-clause-certified : goal.returns-clause-certified
 returns-clause-certified g c = λ p made. faults_certified p (root_in c.args.self.now) (view c.args.value.now) (faults_of (errors_left c.of.result)) (returns-clause-faults g c p made)
+
+pub returns-clause-missing : goal.returns-clause-missing
+returns-clause-missing g c = λ p made. each_missing p (root_in c.args.self.now) (view c.args.value.now) (faults_of (errors_left c.of.result)) (returns-clause-faults g c p made)
