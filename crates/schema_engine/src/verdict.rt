@@ -12,9 +12,9 @@ ghost use Rattle.schema_engine.specs.Verdicts.{node_in, asked_in, rule_in, size,
 
 use crate::combination::{Combination, is_within, settled};
 use crate::graph::Graph;
+use crate::here::Here;
 use crate::matching::Matching;
 use crate::place::{Asked, Place, Question};
-use crate::here::Here;
 use crate::progress::{Progress, is_in_progress};
 use crate::validate::Validate;
 use std::alloc::AllocError;
@@ -279,5 +279,7 @@ fn accepts_target<'i, K: Validate, T: Matching>(
         node: target,
         before: here.progress,
     };
-    accepts_node(here.graph, target, here.place, &entered, matching, questions)
+    accepts_node(
+        here.graph, target, here.place, &entered, matching, questions,
+    )
 }
