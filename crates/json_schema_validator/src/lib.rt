@@ -11,9 +11,10 @@ pub use checking::{check_error, check_errors, check_first, check_path};
 pub use fault_checks::checking::{CheckAnswer, FaultPath, check_fault};
 pub use schema_validators::{
     BothAnswers, BothValidators, BuildCause, BuildError, DefaultRetriever, DocumentError,
-    Documents, Draft, Error, ErrorIterator, MapRetriever, MatchAnswer, NumberError, PatternError,
-    PatternMaker, PatternMatcher, RegexMaker, RegexMatcher, Retrieve, RetrieveError, SchemaPlace,
-    SchemaRegistry, SharedRegistry, Uri, ValidationError, ValidationErrorKind, ValidationOptions,
-    Validator, ValidatorMap, WholeNumbers, answers_on_both, build_on_both, has_only_whole,
-    is_valid_by_both, is_valid_twice, iter_errors_by_both, iter_errors_twice, uri,
+    Documents, Draft, Error, ErrorContext, ErrorIterator, Location, MapRetriever, MatchAnswer,
+    NumberError, PatternError, PatternMaker, PatternMatcher, RegexMaker, RegexMatcher, Retrieve,
+    RetrieveError, SchemaPlace, SchemaRegistry, SharedRegistry, Uri, ValidationError,
+    ValidationErrorKind, ValidationOptions, Validator, ValidatorMap, WholeNumbers, answers_on_both,
+    build_on_both, has_only_whole, is_valid_by_both, is_valid_twice, iter_errors_by_both,
+    iter_errors_twice, uri,
 };

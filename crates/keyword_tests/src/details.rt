@@ -40,7 +40,7 @@ fn write_kind(rt: &impl Abort, alloc: Global, text: &mut String, kind: &Validati
         ValidationErrorKind::AnyOf { context }
         | ValidationErrorKind::OneOfNotValid { context }
         | ValidationErrorKind::OneOfMultipleValid { context } => {
-            write_branches(rt, alloc, text, context.as_slice());
+            write_branches(rt, alloc, text, context.branches());
         }
         ValidationErrorKind::PropertyNames { error } => write_fault(rt, alloc, text, error),
         ValidationErrorKind::Not { schema } => write!(text, "{schema} ").expect(rt, "memory"),

@@ -21,12 +21,14 @@ use Rattle.applicators.specs.declared.combining.Combining.{Combining}
 use Rattle.applicators.specs.declared.combining.Combining.TheVariants as combining
 use Rattle.assertion_faults.specs.Tellings.{fault_at}
 use Rattle.schema_reports.specs.Kinds.{StandsFor}
-use Rattle.schema_reports.specs.Told.{branches_in}
+use Rattle.schema_reports.specs.Told.{branches_in, context_is_proper}
+use Rattle.schema_reports.specs.Contexts.{branches_of}
 use Rattle.schema_reports.specs.Observers.{Hears}
 use Rattle.schema_reports.specs.RoadPaths.{instance_in, schema_in, evaluation_in}
 use Rattle.schema_reports.specs.declared.roads.Roads.{Roads}
 use Rattle.schema_reports.specs.declared.observer.Observation.{Observation}
 use Rattle.schema_reports.specs.declared.observer.Observer.{Observer}
+use Rattle.schema_reports.specs.declared.context.ErrorContext.{ErrorContext}
 use Rattle.schema_reports.specs.declared.error.ValidationError.{ValidationError}
 use Rattle.schema_reports.specs.declared.kind.ValidationErrorKind.{ValidationErrorKind}
 use Rattle.schema_reports.specs.declared.kind.ValidationErrorKind.TheVariants as kind
@@ -53,47 +55,48 @@ several : (m : ℕ) → 0 < m → (bs : Branches) → told.OneOfMultipleValid bs
 several zero h bs = absurd (omega arith)
 several (suc m) h bs = refl
 
-module _ (matches : List ℕ → List ℕ → Bool) (d : Data) (n : ℕ) (context : Vec (Vec ValidationError Global) Global) (a : Applicator) where
+-- the context has these errors
+module _ (matches : List ℕ → List ℕ → Bool) (d : Data) (n : ℕ) (es : List (Vec ValidationError Global)) (context : ErrorContext) (same : branches_of context ≡ es) (a : Applicator) where
   abbrev kind_at : Combining → List Faults → told.Kind
   kind_at c answers = kind_combined c (kind_asked matches (asks_of a) d) answers
 
-  pub any_refused : combining_of a ≡ combining.SomeBranch → IsRefusal matches d a n context.items (kind.AnyOf context)
+  pub any_refused : combining_of a ≡ combining.SomeBranch → IsRefusal matches d a n es (kind.AnyOf context)
   any_refused is = record {
     is = λ answers are.
         let branches = are.told (ap carries is) in
         record {
-          kind = kind-AnyOf context ∙ ap told.AnyOf branches.told ∙ ap (λ c. kind_at c answers) (sym is);
-          proper = proper-AnyOf context ∙ branches.proper;
+          kind = kind-AnyOf context ∙ ap told.AnyOf (ap branches_in same ∙ branches.told) ∙ ap (λ c. kind_at c answers) (sym is);
+          proper = proper-AnyOf context ∙ ap context_is_proper same ∙ branches.proper;
         };
   }
 
-  pub several_refused : combining_of a ≡ combining.OneBranch → 0 < n → IsRefusal matches d a n context.items (kind.OneOfMultipleValid context)
+  pub several_refused : combining_of a ≡ combining.OneBranch → 0 < n → IsRefusal matches d a n es (kind.OneOfMultipleValid context)
   several_refused is some = record {
     is = λ answers are.
         let branches = are.told (ap carries is) in
         record {
-          kind = kind-OneOfMultipleValid context ∙ several n some (branches_in context.items) ∙ ap (λ m. one_of_kind m (branches_in context.items)) (sym are.counted)
+          kind = kind-OneOfMultipleValid context ∙ ap (λ l. told.OneOfMultipleValid (branches_in l)) same ∙ several n some (branches_in es) ∙ ap (λ m. one_of_kind m (branches_in es)) (sym are.counted)
               ∙ ap (one_of_kind (count_true (verdicts_of answers))) branches.told ∙ ap (λ c. kind_at c answers) (sym is);
-          proper = proper-OneOfMultipleValid context ∙ branches.proper;
+          proper = proper-OneOfMultipleValid context ∙ ap context_is_proper same ∙ branches.proper;
         };
   }
 
-  pub none_refused : combining_of a ≡ combining.OneBranch → n ≡ 0 → IsRefusal matches d a n context.items (kind.OneOfNotValid context)
+  pub none_refused : combining_of a ≡ combining.OneBranch → n ≡ 0 → IsRefusal matches d a n es (kind.OneOfNotValid context)
   none_refused is zeros = record {
     is = λ answers are.
         let branches = are.told (ap carries is) in
         record {
-          kind = kind-OneOfNotValid context ∙ ap (λ m. one_of_kind m (branches_in context.items)) (sym (are.counted ∙ zeros))
+          kind = kind-OneOfNotValid context ∙ ap (λ l. told.OneOfNotValid (branches_in l)) same ∙ ap (λ m. one_of_kind m (branches_in es)) (sym (are.counted ∙ zeros))
               ∙ ap (one_of_kind (count_true (verdicts_of answers))) branches.told ∙ ap (λ c. kind_at c answers) (sym is);
-          proper = proper-OneOfNotValid context ∙ branches.proper;
+          proper = proper-OneOfNotValid context ∙ ap context_is_proper same ∙ branches.proper;
         };
   }
 
-  pub counted_refused : (least most : Option ℕ) → combining_of a ≡ combining.Counted least most → IsRefusal matches d a n context.items kind.Contains
+  pub counted_refused : (least most : Option ℕ) → combining_of a ≡ combining.Counted least most → IsRefusal matches d a n es kind.Contains
   counted_refused least most is = record { is = λ answers are. record { kind = ap (λ c. kind_at c answers) (sym is); proper = refl } }
 
   pub asked_refused : (c : Combining) (k : ValidationErrorKind) → c ≡ combining_of a → (c ≡ combining.SomeBranch → ⊥) → (c ≡ combining.OneBranch → ⊥) → ((least most : Option ℕ) → c ≡ combining.Counted least most → ⊥)
-      → StandsFor k (kind_asked matches (asks_of a) d) → IsRefusal matches d a n context.items k
+      → StandsFor k (kind_asked matches (asks_of a) d) → IsRefusal matches d a n es k
   asked_refused c k is not_some not_one not_counted asked = record {
     is = λ answers are. record {
       kind = asked.kind ∙ own_kind c (kind_asked matches (asks_of a) d) answers not_some not_one not_counted ∙ ap (λ b. kind_at b answers) is;

@@ -16,7 +16,7 @@ use applicators::asks::Asks;
 use applicators::combining::Combining;
 use applicators::declared::undeclared_names;
 use schema_patterns::matches::Matches;
-use schema_reports::{Observer, Roads, ValidationError, ValidationErrorKind};
+use schema_reports::{ErrorContext, Observer, Roads, ValidationError, ValidationErrorKind};
 use serde_json::Value;
 use std::alloc::{AllocError, Global};
 
@@ -57,11 +57,12 @@ fn refusal<'i>(
     matches: &Matches,
     applicator: &Applicator<'_>,
     accepted: usize,
-    context: Vec<Vec<ValidationError<'i>>>,
+    branches: Vec<Vec<ValidationError<'i>>>,
     value: &Value,
 ) -> Result<ValidationErrorKind<'i>, AllocError>
-    ensures { IfOk result (λ kind. IsRefusal (reads matches.now) (view value.now) applicator.now accepted context.entry.items kind) }
+    ensures { IfOk result (λ kind. IsRefusal (reads matches.now) (view value.now) applicator.now accepted branches.entry.items kind) }
 {
+    let context = ErrorContext::new(branches);
     Ok(match applicator.combining() {
         Combining::SomeBranch => ValidationErrorKind::AnyOf { context },
         Combining::OneBranch => {

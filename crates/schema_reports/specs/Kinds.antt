@@ -8,7 +8,8 @@ use Rattle.schema_meaning.specs.Questions.{items_of}
 use Rattle.schema_definitions.specs.Words.{or}
 use Rattle.assertions.specs.Named.{names_in}
 use Rattle.schema_reports.specs.Instances.{value_in}
-use Rattle.schema_reports.specs.declared.kind.ValidationErrorKind.{ValidationErrorKind, Row_of-ValidationError, end_of-ValidationError, more_of-ValidationError, Row_of-ValidationErrorKind-AnyOf-0-1, end_of-ValidationErrorKind-AnyOf-0-1, more_of-ValidationErrorKind-AnyOf-0-1}
+use Rattle.schema_reports.specs.declared.context.ErrorContext.{ErrorContext, ErrorContext', Row_of-ValidationError, end_of-ValidationError, more_of-ValidationError, Row_of-ErrorContext-branches-1, end_of-ErrorContext-branches-1, more_of-ErrorContext-branches-1}
+use Rattle.schema_reports.specs.declared.kind.ValidationErrorKind.{ValidationErrorKind}
 use Rattle.schema_reports.specs.declared.kind.ValidationErrorKind.TheVariants as kind
 
 -- the whole number that a kind carries; a value that is none stands for zero, and `is_proper` tells it from zero
@@ -20,7 +21,7 @@ abbrev mutual
   pub kind_of : ValidationErrorKind → told.Kind
   kind_of kind.AdditionalItems = told.AdditionalItems
   kind_of (kind.AdditionalProperties unexpected) = told.AdditionalProperties (map string_bytes unexpected.items)
-  kind_of (kind.AnyOf' shape all) = told.AnyOf (row_branches all)
+  kind_of (kind.AnyOf context) = told.AnyOf (context_branches context)
   kind_of (kind.Constant expected_value) = told.Constant (view expected_value)
   kind_of kind.Contains = told.Contains
   kind_of (kind.Enumeration options) = told.Enumeration (items_of (view options))
@@ -37,21 +38,24 @@ abbrev mutual
   kind_of (kind.MinProperties limit) = told.MinProperties limit
   kind_of (kind.MultipleOf multiple_of) = told.MultipleOf (unsigned_abs (number_of (view multiple_of)))
   kind_of (kind.Not schema) = told.Not (view schema)
-  kind_of (kind.OneOfMultipleValid' shape all) = told.OneOfMultipleValid (row_branches all)
-  kind_of (kind.OneOfNotValid' shape all) = told.OneOfNotValid (row_branches all)
+  kind_of (kind.OneOfMultipleValid context) = told.OneOfMultipleValid (context_branches context)
+  kind_of (kind.OneOfNotValid context) = told.OneOfNotValid (context_branches context)
   kind_of (kind.Pattern pattern) = told.Pattern (string_bytes pattern)
   kind_of (kind.PropertyNames' p q k v i s e) = told.PropertyNames (told.fault (kind_of k) (value_in v) i s e)
   kind_of (kind.Required property) = told.Required (string_bytes property)
   kind_of (kind.Types names) = told.Types (names_in names)
   kind_of kind.UniqueItems = told.UniqueItems
 
+  pub context_branches : ErrorContext → told.Branches
+  context_branches (ErrorContext' shape all) = row_branches all
+
   pub row_faults : {n : _} → Row_of-ValidationError n → told.Faults
   row_faults end_of-ValidationError = told.none
   row_faults (more_of-ValidationError q k v i s e rest) = told.also (told.fault (kind_of k) (value_in v) i s e) (row_faults rest)
 
-  pub row_branches : {n : _} → Row_of-ValidationErrorKind-AnyOf-0-1 n → told.Branches
-  row_branches end_of-ValidationErrorKind-AnyOf-0-1 = told.no_branch
-  row_branches (more_of-ValidationErrorKind-AnyOf-0-1 shape errors rest) = told.branch (row_faults errors) (row_branches rest)
+  pub row_branches : {n : _} → Row_of-ErrorContext-branches-1 n → told.Branches
+  row_branches end_of-ErrorContext-branches-1 = told.no_branch
+  row_branches (more_of-ErrorContext-branches-1 shape errors rest) = told.branch (row_faults errors) (row_branches rest)
 
 -- ---- values such as keywords have
 
@@ -75,25 +79,28 @@ is_list d = false
 -- what a kind carries is such a value, and so it is in the errors that it carries
 abbrev mutual
   pub is_proper : ValidationErrorKind → Bool
-  is_proper (kind.AnyOf' shape all) = branches_are_proper all
+  is_proper (kind.AnyOf context) = has_proper_branches context
   is_proper (kind.Enumeration options) = is_list (view options)
   is_proper (kind.ExclusiveMaximum limit) = is_whole (view limit)
   is_proper (kind.ExclusiveMinimum limit) = is_whole (view limit)
   is_proper (kind.Maximum limit) = is_whole (view limit)
   is_proper (kind.Minimum limit) = is_whole (view limit)
   is_proper (kind.MultipleOf multiple_of) = is_factor (view multiple_of)
-  is_proper (kind.OneOfMultipleValid' shape all) = branches_are_proper all
-  is_proper (kind.OneOfNotValid' shape all) = branches_are_proper all
+  is_proper (kind.OneOfMultipleValid context) = has_proper_branches context
+  is_proper (kind.OneOfNotValid context) = has_proper_branches context
   is_proper (kind.PropertyNames' p q k v i s e) = is_proper k
   is_proper other = true
+
+  pub has_proper_branches : ErrorContext → Bool
+  has_proper_branches (ErrorContext' shape all) = branches_are_proper all
 
   pub row_is_proper : {n : _} → Row_of-ValidationError n → Bool
   row_is_proper end_of-ValidationError = true
   row_is_proper (more_of-ValidationError q k v i s e rest) = is_proper k && row_is_proper rest
 
-  pub branches_are_proper : {n : _} → Row_of-ValidationErrorKind-AnyOf-0-1 n → Bool
-  branches_are_proper end_of-ValidationErrorKind-AnyOf-0-1 = true
-  branches_are_proper (more_of-ValidationErrorKind-AnyOf-0-1 shape errors rest) = row_is_proper errors && branches_are_proper rest
+  pub branches_are_proper : {n : _} → Row_of-ErrorContext-branches-1 n → Bool
+  branches_are_proper end_of-ErrorContext-branches-1 = true
+  branches_are_proper (more_of-ErrorContext-branches-1 shape errors rest) = row_is_proper errors && branches_are_proper rest
 
 -- a kind of the code is this one, value for value
 pub record StandsFor (code : ValidationErrorKind) (said : told.Kind) : Type 0 where
@@ -106,7 +113,7 @@ pub record StandsFor (code : ValidationErrorKind) (said : told.Kind) : Type 0 wh
 abbrev pub kind_name : ValidationErrorKind → List ℕ
 kind_name kind.AdditionalItems = codes "AdditionalItems"
 kind_name (kind.AdditionalProperties unexpected) = codes "AdditionalProperties"
-kind_name (kind.AnyOf' shape all) = codes "AnyOf"
+kind_name (kind.AnyOf context) = codes "AnyOf"
 kind_name (kind.Constant expected_value) = codes "Constant"
 kind_name kind.Contains = codes "Contains"
 kind_name (kind.Enumeration options) = codes "Enumeration"
@@ -123,8 +130,8 @@ kind_name (kind.MinLength limit) = codes "MinLength"
 kind_name (kind.MinProperties limit) = codes "MinProperties"
 kind_name (kind.MultipleOf multiple_of) = codes "MultipleOf"
 kind_name (kind.Not schema) = codes "Not"
-kind_name (kind.OneOfMultipleValid' shape all) = codes "OneOfMultipleValid"
-kind_name (kind.OneOfNotValid' shape all) = codes "OneOfNotValid"
+kind_name (kind.OneOfMultipleValid context) = codes "OneOfMultipleValid"
+kind_name (kind.OneOfNotValid context) = codes "OneOfNotValid"
 kind_name (kind.Pattern pattern) = codes "Pattern"
 kind_name (kind.PropertyNames' p q k v i s e) = codes "PropertyNames"
 kind_name (kind.Required property) = codes "Required"

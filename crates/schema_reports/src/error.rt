@@ -2,12 +2,13 @@
 ghost use Rattle.std.specs.Prelude.{◌≡◌, Some, IfOk, box_value};
 ghost use Rattle.serde_json.specs.View.{view};
 ghost use Rattle.schema_meaning.specs.Faults as told;
+ghost use Rattle.schema_reports.specs.LastNames.{last_name as name_at_end};
 
 use crate::instance::Instance;
 use crate::kind::ValidationErrorKind;
 use crate::location::LazyLocation;
 use crate::paths::Paths;
-use schema_steps::Path;
+use schema_steps::{Path, Step};
 use serde_json::Value;
 use std::alloc::{AllocError, Global};
 use std::error::Error;
@@ -30,6 +31,7 @@ impl<'i> ValidationError<'i> {
     ghost use Rattle.schema_meaning.specs.Rules.{of_object};
     ghost use Rattle.schema_reports.specs.Locations.{location_of};
     ghost use Rattle.schema_reports.specs.Told.{fault_of, fault_kind, fault_instance, error_is_proper, spot_of};
+    ghost use Rattle.schema_reports.specs.Described.{keyword_of, message_of};
 
     /// An error of these parts.
     ///
@@ -106,6 +108,25 @@ impl<'i> ValidationError<'i> {
         &self.kind
     }
 
+    /// The name of the keyword that refuses the value: `falseSchema` for a schema `false`, `propertyNames` for the name of a
+    /// member, and else the name at the end of the evaluation path, which is empty where no name stands there.
+    pub fn keyword(&self) -> &str
+        ensures { result.now ≡ keyword_of (fault_of self.now) }
+    {
+        match self.kind() {
+            ValidationErrorKind::FalseSchema => "falseSchema",
+            ValidationErrorKind::PropertyNames { .. } => "propertyNames",
+            _ => last_name(&self.evaluation_path),
+        }
+    }
+
+    /// What is wrong in words: the name of the kind, as it is printed.
+    pub fn message(&self) -> &'static str
+        ensures { result.now ≡ message_of self.now }
+    {
+        self.kind.as_str()
+    }
+
     /// The value that is refused.
     pub const fn instance(&self) -> &Value
         ensures { view result.now ≡ fault_instance (fault_of self.now) }
@@ -132,6 +153,16 @@ impl<'i> ValidationError<'i> {
         ensures { result.now ≡ told.evaluation_path (fault_of self.now) }
     {
         &self.evaluation_path
+    }
+}
+
+// The name at the end of a path.
+fn last_name(path: &Path) -> &str
+    ensures { result.now ≡ name_at_end path.now }
+{
+    match path.steps().next() {
+        Some(Step::Name(name)) => name.as_str(),
+        _ => "",
     }
 }
 

@@ -1,6 +1,7 @@
 //! Why a value is refused.
 ghost use Rattle.std.specs.Prelude.{◌≡◌, Some};
 
+use crate::context::ErrorContext;
 use crate::error::ValidationError;
 use assertions::TypeNames;
 use serde_json::Value;
@@ -13,97 +14,53 @@ pub enum ValidationErrorKind<'i> {
     /// The list has an item that is none of those that are named.
     AdditionalItems,
     /// The object has members of these names, which are none of those that are named.
-    AdditionalProperties {
-        unexpected: Vec<String>,
-    },
+    AdditionalProperties { unexpected: Vec<String> },
     /// The value is refused by each of the schemas: the errors of each in turn.
-    AnyOf {
-        context: Vec<Vec<ValidationError<'i>>>,
-    },
+    AnyOf { context: ErrorContext<'i> },
     /// The value differs from the one that is expected.
-    Constant {
-        expected_value: Value,
-    },
+    Constant { expected_value: Value },
     /// No item of the list, or not as many as are asked for, is accepted.
     Contains,
     /// The value equals none of the list.
-    Enumeration {
-        options: Value,
-    },
+    Enumeration { options: Value },
     /// The number is not below the limit.
-    ExclusiveMaximum {
-        limit: Value,
-    },
+    ExclusiveMaximum { limit: Value },
     /// The number is not above the limit.
-    ExclusiveMinimum {
-        limit: Value,
-    },
+    ExclusiveMinimum { limit: Value },
     /// The schema is `false`.
     FalseSchema,
     /// The list has more items than the limit.
-    MaxItems {
-        limit: u64,
-    },
+    MaxItems { limit: u64 },
     /// The number is above the limit.
-    Maximum {
-        limit: Value,
-    },
+    Maximum { limit: Value },
     /// The text has more code points than the limit.
-    MaxLength {
-        limit: u64,
-    },
+    MaxLength { limit: u64 },
     /// The object has more members than the limit.
-    MaxProperties {
-        limit: u64,
-    },
+    MaxProperties { limit: u64 },
     /// The list has fewer items than the limit.
-    MinItems {
-        limit: u64,
-    },
+    MinItems { limit: u64 },
     /// The number is below the limit.
-    Minimum {
-        limit: Value,
-    },
+    Minimum { limit: Value },
     /// The text has fewer code points than the limit.
-    MinLength {
-        limit: u64,
-    },
+    MinLength { limit: u64 },
     /// The object has fewer members than the limit.
-    MinProperties {
-        limit: u64,
-    },
+    MinProperties { limit: u64 },
     /// The number is no multiple of that one.
-    MultipleOf {
-        multiple_of: Value,
-    },
+    MultipleOf { multiple_of: Value },
     /// The value is accepted by the schema.
-    Not {
-        schema: Value,
-    },
+    Not { schema: Value },
     /// The value is accepted by several of the schemas: the errors of each in turn.
-    OneOfMultipleValid {
-        context: Vec<Vec<ValidationError<'i>>>,
-    },
+    OneOfMultipleValid { context: ErrorContext<'i> },
     /// The value is refused by each of the schemas: the errors of each in turn.
-    OneOfNotValid {
-        context: Vec<Vec<ValidationError<'i>>>,
-    },
+    OneOfNotValid { context: ErrorContext<'i> },
     /// The text matches the pattern nowhere.
-    Pattern {
-        pattern: String,
-    },
+    Pattern { pattern: String },
     /// The name of a member is refused: its first error.
-    PropertyNames {
-        error: Box<ValidationError<'i>>,
-    },
+    PropertyNames { error: Box<ValidationError<'i>> },
     /// The object has no member of the name.
-    Required {
-        property: String,
-    },
+    Required { property: String },
     /// The value is of none of the types.
-    Types {
-        names: TypeNames,
-    },
+    Types { names: TypeNames },
     /// Two items of the list are equal.
     UniqueItems,
 }

@@ -2,6 +2,7 @@
 #![tactic(auto)]
 
 mod all_faults;
+mod context;
 mod error;
 mod first_fault;
 pub mod heard;
@@ -9,6 +10,7 @@ mod instance;
 mod iter;
 mod kind;
 mod location;
+mod location_text;
 mod observer;
 mod owned;
 mod paths;
@@ -18,11 +20,13 @@ mod roads;
 mod verdict;
 
 pub use all_faults::AllFaults;
+pub use context::ErrorContext;
 pub use error::ValidationError;
 pub use first_fault::FirstFault;
 pub use iter::ErrorIterator;
 pub use kind::ValidationErrorKind;
 pub use location::LazyLocation;
+pub use location_text::Location;
 pub use observer::{Observation, Observer};
 pub use reference::Reference;
 pub use roads::Roads;

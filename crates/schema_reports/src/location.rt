@@ -1,9 +1,11 @@
 //! Paths as linked, borrowed parts.
-ghost use Rattle.std.specs.Prelude.{◌≡◌, ◌++◌, ◌∷◌, [], IfOk};
+ghost use Rattle.std.specs.Prelude.{◌≡◌, ◌++◌, ◌∷◌, [], IfOk, OnOk, reverse, string_bytes};
 ghost use Rattle.json_values.specs.Parts.{name, index};
+ghost use Rattle.json_values.specs.Pointers.{pointer_text};
 ghost use Rattle.schema_meaning.specs.Cut.{same_part, same_path};
 ghost use Rattle.schema_reports.specs.Locations.{part_of};
 
+use json_pointers::{write_escaped_str, write_index};
 use schema_steps::Path;
 use std::alloc::{AllocError, Global};
 
@@ -78,6 +80,25 @@ impl<'a, 'b> LazyLocation<'a, 'b> {
         ensures { IfOk result (λ path. path ≡ location_of self.now) }
     {
         self.write_onto(alloc, Path::root())
+    }
+
+    /// Appends this path as a pointer's text, from the root on: a `/` and the part for each step (RFC 6901, section 3).
+    ///
+    /// It is linear in the text, takes a stack frame for each part, and allocates only where the buffer has to grow. What it
+    /// has appended stays where it fails.
+    pub(crate) fn write_to(&self, buffer: &mut String) -> Result<(), AllocError>
+        ensures { OnOk result (string_bytes buffer.new
+            ≡ string_bytes buffer.old ++ pointer_text (reverse (location_of self.now))) }
+    {
+        let Some(above) = self.above else {
+            return Ok(());
+        };
+        above.write_to(buffer)?;
+        buffer.push('/')?;
+        match self.part {
+            LazyPart::Name(text) => write_escaped_str(buffer, text),
+            LazyPart::Index(position) => write_index(buffer, position),
+        }
     }
 
     /// Whether two paths have the same parts. It compares pair by pair, the last parts first.

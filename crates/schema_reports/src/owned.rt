@@ -1,8 +1,10 @@
 //! Errors with values of their own.
 ghost use Rattle.std.specs.Prelude.{◌≡◌, IfOk};
+ghost use Rattle.schema_reports.specs.Contexts.{branches_of};
 ghost use Rattle.schema_reports.specs.Kinds.{kind_of, is_proper};
 ghost use Rattle.schema_reports.specs.Told.{fault_of, faults_of, branches_in, error_is_proper, are_proper, context_is_proper};
 
+use crate::context::ErrorContext;
 use crate::error::ValidationError;
 use crate::kind::ValidationErrorKind as Kind;
 use std::alloc::{AllocError, Global};
@@ -90,16 +92,28 @@ fn owned_kind<'o>(alloc: Global, kind: Kind<'_>) -> Result<Kind<'o>, AllocError>
 #[cycle(owned)]
 fn owned_context<'o>(
     alloc: Global,
-    context: Vec<Vec<ValidationError<'_>>>,
-) -> Result<Vec<Vec<ValidationError<'o>>>, AllocError>
-    ensures told { IfOk result (λ es. branches_in es.items ≡ branches_in context.entry.items) }
-    ensures proper { IfOk result (λ es. context_is_proper es.items ≡ context_is_proper context.entry.items) }
+    context: ErrorContext<'_>,
+) -> Result<ErrorContext<'o>, AllocError>
+    ensures told { IfOk result (λ c. branches_in (branches_of c) ≡ branches_in (branches_of context.entry)) }
+    ensures proper { IfOk result (λ c. context_is_proper (branches_of c) ≡ context_is_proper (branches_of context.entry)) }
 {
-    let mut branches = Vec::new(alloc);
-    for errors in context {
-        branches.push(owned_errors(alloc, errors)?)?;
+    let ErrorContext { branches } = context;
+    Ok(ErrorContext::new(owned_branches(alloc, branches)?))
+}
+
+#[cycle(owned)]
+fn owned_branches<'o>(
+    alloc: Global,
+    branches: Vec<Vec<ValidationError<'_>>>,
+) -> Result<Vec<Vec<ValidationError<'o>>>, AllocError>
+    ensures told { IfOk result (λ es. branches_in es.items ≡ branches_in branches.entry.items) }
+    ensures proper { IfOk result (λ es. context_is_proper es.items ≡ context_is_proper branches.entry.items) }
+{
+    let mut owned = Vec::new(alloc);
+    for errors in branches {
+        owned.push(owned_errors(alloc, errors)?)?;
     }
-    Ok(branches)
+    Ok(owned)
 }
 
 #[cycle(owned)]

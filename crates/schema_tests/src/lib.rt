@@ -2,9 +2,13 @@
 #![tactic(auto)]
 
 #[cfg(test)]
+mod described;
+#[cfg(test)]
 mod drafts;
 #[cfg(test)]
 mod keywords;
+#[cfg(test)]
+mod locations;
 #[cfg(test)]
 mod makers;
 #[cfg(test)]

@@ -30,7 +30,9 @@ pub use schema_registries::{
     DefaultRetriever, DocumentError, Documents, MapRetriever, Retrieve, SchemaRegistry,
     SharedRegistry, WholeNumbers, has_only_whole,
 };
-pub use schema_reports::{ErrorIterator, ValidationError, ValidationErrorKind};
+pub use schema_reports::{
+    ErrorContext, ErrorIterator, Location, ValidationError, ValidationErrorKind,
+};
 pub use uri_references::uri::Uri;
 pub use validator::Validator;
 pub use validator_map::ValidatorMap;

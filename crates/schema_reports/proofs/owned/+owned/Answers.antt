@@ -32,13 +32,13 @@ pub owned_kind-returns-in_ok-owned_context-in-OneOfNotValid-clause-proper : goal
 owned_kind-returns-in_ok-owned_context-in-OneOfNotValid-clause-proper t c =
     proper-OneOfNotValid c.in_ok-owned_context-in-OneOfNotValid.field-0 ∙ c.in_ok-owned_context-in-OneOfNotValid.ensures.proper ∙ sym (proper-OneOfNotValid c.in-OneOfNotValid.context) ∙ ap is_proper (sym c.in-OneOfNotValid.is)
 
-pub owned_context-loop-errors-preserved : goal.owned_context-loop-errors-preserved
-owned_context-loop-errors-preserved t c =
+pub owned_branches-loop-errors-preserved : goal.owned_branches-loop-errors-preserved
+owned_branches-loop-errors-preserved t c =
     let push = c.in_ok-push.ensures.items in
     let one = c.in_ok-owned_errors.ensures in
     record {
-      told = branches_pushed c.loop-errors.branches.items c.push.new.self.items c.in-Some.errors c.in_ok-owned_errors.field-0 push one.told c.loop-errors.yielded c.loop-errors.invariant.told;
-      proper = context_pushed c.loop-errors.branches.items c.push.new.self.items c.in-Some.errors c.in_ok-owned_errors.field-0 push one.proper c.loop-errors.yielded c.loop-errors.invariant.proper;
+      told = branches_pushed c.loop-errors.owned.items c.push.new.self.items c.in-Some.errors c.in_ok-owned_errors.field-0 push one.told c.loop-errors.yielded c.loop-errors.invariant.told;
+      proper = context_pushed c.loop-errors.owned.items c.push.new.self.items c.in-Some.errors c.in_ok-owned_errors.field-0 push one.proper c.loop-errors.yielded c.loop-errors.invariant.proper;
     }
 
 pub owned_errors-loop-error-preserved : goal.owned_errors-loop-error-preserved
