@@ -2,8 +2,7 @@
 
 ghost use Rattle.std.specs.Prelude.{◌≡◌};
 
-use schema_steps::{Path, Step};
-use shared_lists::Iter;
+use schema_steps::Path;
 use std::alloc::AllocError;
 use std::error::Error;
 use std::fmt;
@@ -37,38 +36,13 @@ impl fmt::Display for DocumentError {
         match self {
             DocumentError::InvalidUri(error) => write!(f, "{error}"),
             DocumentError::JsonText { uri } => write!(f, "Document '{uri}' is no JSON text"),
-            DocumentError::OtherNumber { document, path } => {
-                write!(f, "Number at '{document}#")?;
-                write_steps(path.steps(), f)?;
-                f.write_str("' is no whole number of 64 bits")
-            }
+            DocumentError::OtherNumber { document, path } => write!(
+                f,
+                "Number at '{document}#{path}' is no whole number of 64 bits"
+            ),
             DocumentError::Memory => f.write_str("No memory"),
         }
     }
 }
 
 impl Error for DocumentError {}
-
-// Writes the steps, of which the last comes first, from the root on as a pointer (RFC 6901, section 3).
-fn write_steps<W: fmt::Write>(mut steps: Iter<'_, Step>, f: &mut fmt::Formatter<W>) -> fmt::Result {
-    let Some(step) = steps.next() else {
-        return Ok(());
-    };
-    write_steps(steps, f)?;
-    f.write_char('/')?;
-    match step {
-        Step::Name(name) => write_name(name.as_str(), f),
-        Step::Item(index) => write!(f, "{index}"),
-    }
-}
-
-fn write_name<W: fmt::Write>(name: &str, f: &mut fmt::Formatter<W>) -> fmt::Result {
-    for character in name.chars() {
-        match character {
-            '~' => f.write_str("~0")?,
-            '/' => f.write_str("~1")?,
-            other => f.write_char(other)?,
-        }
-    }
-    Ok(())
-}
