@@ -4,6 +4,8 @@ use crate::subject::assert_detailed;
 const CARRIED: &str = r##"
 - {"enum":[1,"a"],"required":["k"],"minProperties":2}
     {} :: Enumeration of {} # #/enum #/enum; Enumeration { options: Array [Number(1), String("a")] } MinProperties of {} # #/minProperties #/minProperties; MinProperties { limit: 2 } Required of {} # #/required #/required; Required { property: "k" }
+- {"required":["a","b"]}
+    {} :: Required of {} # #/required #/required; Required { property: "a" } Required of {} # #/required #/required; Required { property: "b" }
 - {"type":["null","array"],"maximum":-1,"const":0}
     7 :: Constant of 7 # #/const #/const; Constant { expected_value: Number(0) } Maximum of 7 # #/maximum #/maximum; Maximum { limit: Number(-1) } Types of 7 # #/type #/type; Types { names: Several([Null, Array]) }
 - {"enum":[],"exclusiveMinimum":0}

@@ -51,6 +51,7 @@ const VALUES: &str = r##"
 {"minProperties":null} :: Keyword value at 'http://a.test/r#/minProperties': expected count
 {"maxProperties":-1} :: Keyword value at 'http://a.test/r#/maxProperties': expected count
 {"uniqueItems":1} :: Keyword value at 'http://a.test/r#/uniqueItems': expected boolean
+{"required":["a","a"]} :: Keyword value at 'http://a.test/r#/required': expected unique names
 {"required":["a","b","a"]} :: Keyword value at 'http://a.test/r#/required': expected unique names
 {"required":["a",1]} :: Keyword value at 'http://a.test/r#/required': expected unique names
 {"required":"a"} :: Keyword value at 'http://a.test/r#/required': expected unique names
