@@ -14,8 +14,8 @@ use Rattle.line_runs.specs.Passed.{root_in, IsMadeBy}
 use Rattle.line_runs.specs.Passed.{Root, Patterns}
 use Rattle.program_inputs.specs.Held.{Held}
 use Rattle.line_runs.specs.Passed.{Validator}
-use Rattle.validator_program.specs.Given.{IsBuiltOf}
-use Rattle.validator_program.specs.Answered.{patterns_of_regex, IsNamed, AnswersAll, StopsEarly}
+use Rattle.validator_program.specs.Built.{patterns_of_regex, IsBuiltOf}
+use Rattle.validator_program.specs.Answered.{IsNamed, AnswersAll, StopsEarly}
 
 -- what is built of the words that were read is named by them
 pub named_by : (rows : List Row) (held : List ℕ → Held) (w : ProgramWords) (root : Root) → HasWordsOf rows w

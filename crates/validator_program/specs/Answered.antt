@@ -5,14 +5,9 @@ use Rattle.line_cuts.specs.Runs.{RunsThrough, Stops}
 use Rattle.line_cuts.specs.declared.report.RunReport.{RunReport}
 use Rattle.line_cuts.specs.declared.report.RunError.{RunError}
 use Rattle.line_runs.specs.Runs.{IsLineText}
-use Rattle.regex_patterns.specs.Searches.{is_regex, searched}
-use Rattle.line_runs.specs.Passed.{Root, Patterns}
+use Rattle.line_runs.specs.Passed.{Root}
 use Rattle.program_inputs.specs.Held.{Held}
-use Rattle.validator_program.specs.Given.{IsBuiltOf}
-
--- the patterns of schemas are those that `regex` reads
-abbrev pub patterns_of_regex : Patterns
-patterns_of_regex = record { makes = is_regex; finished = searched }
+use Rattle.validator_program.specs.Built.{patterns_of_regex, IsBuiltOf}
 
 -- the root is built of the files that the words name
 pub record IsNamed (rows : List Row) (held : List ℕ → Held) (root : Root) : Type 0 where

@@ -1,4 +1,4 @@
--- The documents that the program is given, and the root that it builds.
+-- The documents that the program is given.
 use Rattle.std.specs.Prelude.{◌≡◌, ℕ, List, [], ◌∷◌, true, ⊤, Option, Some, None, option_and_then, codes, unwrap_or}
 use Rattle.std.specs.List.{AllZip}
 use Rattle.serde_json.specs.Data.{Data, array}
@@ -14,9 +14,6 @@ use Rattle.document_sources.specs.Given.{Given, with_given}
 use Rattle.schema_registries.specs.Refused.{text_value}
 use Rattle.schema_registries.specs.Seen.{AddsText, given_under}
 use Rattle.schema_registries.specs.Whole.{only_whole}
-use Rattle.line_runs.specs.Passed.{Root}
-use Rattle.line_runs.specs.Passed.{root_of}
-use Rattle.line_runs.specs.Passed.{documents_alone}
 use Rattle.program_inputs.specs.Held.{Held, Unknown, Missing, Holds}
 use Rattle.validator_program.specs.declared.documents.Further.{Further}
 
@@ -102,18 +99,3 @@ MayBeMetaSchemas held draft None None = Unit {0}
 MayBeMetaSchemas held draft None (Some given) = ⊥
 MayBeMetaSchemas held draft (Some file) None = ⊥
 MayBeMetaSchemas held draft (Some file) (Some given) = AreMetaSchemas held draft file given
-
--- ---- all together
-
--- The schema is added under the base and each further document under its URI, and meta-schemas, where some are given, are prepared first
--- and by themselves; nothing is retrieved. The root is what the base leads to, and documents that name no draft have the one that is given.
-pub record IsBuiltOf (held : List ℕ → Held) (schema : List ℕ) (words : List (List ℕ)) (base draft meta : Option (List ℕ)) (root : Root) : Type 0 where
-  pub pairs : List Pair
-  pub given : List Given
-  pub else_draft : Draft
-  pub meta_schemas : Option (List Given)
-  pub cut : AreCut words pairs
-  pub is_draft : draft_of draft ≡ Some else_draft
-  pub added : AddsFiles held ((base_of base, schema) ∷ pairs) [] given
-  pub are_meta_schemas : MayBeMetaSchemas held else_draft meta meta_schemas
-  pub is_root : root ≡ root_of (documents_alone meta_schemas else_draft given) (base_of base) []

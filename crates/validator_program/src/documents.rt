@@ -21,7 +21,8 @@ pub(crate) struct Further<'a> {
 
 // Cuts a word at its last `=`.
 fn cut<'a>(word: &'a str) -> Option<Further<'a>>
-    ensures { MatchOption result ((cut_at_last 61 word.entry.now).1 ≡ None) (λ f. cut_at_last 61 word.entry.now ≡ (f.uri.now, Some f.file.now)) }
+    ensures { MatchOption result ((cut_at_last 61 word.entry.now).1 ≡ None)
+        (λ f. cut_at_last 61 word.entry.now ≡ (f.uri.now, Some f.file.now)) }
 {
     let (uri, file) = word.rsplit_once('=')?;
     Some(Further { uri, file })
@@ -79,7 +80,8 @@ fn add_file<'a, F: SchemaFiles>(
     uri: &str,
     name: &'a str,
 ) -> Result<(), ProgramFault<'a>>
-    ensures { OnOk result (AddsFile (F.held files.now) (uri.now, name.entry.now) (documents_given documents.old) (documents_given documents.new)) }
+    ensures { OnOk result (AddsFile (F.held files.now) (uri.now, name.entry.now)
+        (documents_given documents.old) (documents_given documents.new)) }
 {
     let bytes = read_file(alloc, files, name)?;
     documents.add_text(uri, bytes.as_slice())?;
@@ -98,7 +100,8 @@ pub(crate) fn read_documents<'a, F: SchemaFiles>(
     schema: &'a str,
     further: &[Further<'a>],
 ) -> Result<Documents, ProgramFault<'a>>
-    ensures { IfOk result (λ d. AddsFiles (F.held files.now) ((base.now, schema.entry.now) ∷ map pair_of further.now) [] (documents_given d)) }
+    ensures { IfOk result (λ d. AddsFiles (F.held files.now)
+        ((base.now, schema.entry.now) ∷ map pair_of further.now) [] (documents_given d)) }
 {
     let mut documents = Documents::new(alloc);
     add_file(alloc, files, &mut documents, base, schema)?;

@@ -34,9 +34,14 @@ pub fn program<'a, F: SchemaFiles, S: ByteSource, K: ByteSink, T: ByteSink>(
     faults: &mut T,
 ) -> u8
     ensures range { result ≤ 3 }
-    ensures answered { result ≤ 1 → AnswersAll (matches_of program_app (texts words.entry.now)) (F.held files.now) (S.remaining reader.old) (S.remaining reader.new) (K.contents writer.old) (K.contents writer.new) result }
+    ensures answered { result ≤ 1 → AnswersAll (matches_of program_app (texts words.entry.now))
+        (F.held files.now) (S.remaining reader.old) (S.remaining reader.new)
+        (K.contents writer.old) (K.contents writer.new) result }
     ensures refused { result ≡ 2 → (reader.new ≡ reader.old) × (writer.new ≡ writer.old) }
-    ensures stopped { result ≡ 3 → ((reader.new ≡ reader.old) × (writer.new ≡ writer.old)) ⊎ StopsEarly (matches_of program_app (texts words.entry.now)) (F.held files.now) (S.remaining reader.old) (S.remaining reader.new) (K.contents writer.old) (K.contents writer.new) }
+    ensures stopped { result ≡ 3 → ((reader.new ≡ reader.old) × (writer.new ≡ writer.old))
+        ⊎ StopsEarly (matches_of program_app (texts words.entry.now))
+        (F.held files.now) (S.remaining reader.old) (S.remaining reader.new)
+        (K.contents writer.old) (K.contents writer.new) }
 {
     match answer(alloc, words, files, reader, writer) {
         Ok(report) => report.status(),
@@ -88,8 +93,13 @@ fn answer<'a, F: SchemaFiles, S: ByteSource, K: ByteSink>(
     reader: &mut S,
     writer: &mut K,
 ) -> Result<RunReport, ProgramFault<'a>>
-    ensures ok { IfOk result (λ report. AnswersAll (matches_of program_app (texts words.entry.now)) (F.held files.now) (S.remaining reader.old) (S.remaining reader.new) (K.contents writer.old) (K.contents writer.new) (if report.any_refused then 1 else 0)) }
-    ensures err { IfErr result (λ e. ((reader.new ≡ reader.old) × (writer.new ≡ writer.old)) ⊎ ((status_of e ≡ 3) × StopsEarly (matches_of program_app (texts words.entry.now)) (F.held files.now) (S.remaining reader.old) (S.remaining reader.new) (K.contents writer.old) (K.contents writer.new))) }
+    ensures ok { IfOk result (λ report. AnswersAll (matches_of program_app (texts words.entry.now))
+        (F.held files.now) (S.remaining reader.old) (S.remaining reader.new)
+        (K.contents writer.old) (K.contents writer.new) (if report.any_refused then 1 else 0)) }
+    ensures err { IfErr result (λ e. ((reader.new ≡ reader.old) × (writer.new ≡ writer.old))
+        ⊎ ((status_of e ≡ 3) × StopsEarly (matches_of program_app (texts words.entry.now))
+        (F.held files.now) (S.remaining reader.old) (S.remaining reader.new)
+        (K.contents writer.old) (K.contents writer.new))) }
 {
     let words = ProgramWords::read(alloc, words)?;
     let validator = prepare(alloc, &words, files)?;

@@ -46,7 +46,8 @@ fn add_own<'a>(
     name: &'a str,
     value: Value,
 ) -> Result<(), ProgramFault<'a>>
-    ensures { OnOk result (AddsOwn draft (view value) (documents_given documents.old) (documents_given documents.new)) }
+    ensures { OnOk result (AddsOwn draft (view value)
+        (documents_given documents.old) (documents_given documents.new)) }
 {
     let uri = match draft.create_resource_ref(&value).id() {
         Some(id) => String::from_str(alloc, id)?,
@@ -68,7 +69,8 @@ pub(crate) fn read_meta_schemas<'a, F: SchemaFiles>(
     draft: Draft,
     name: &'a str,
 ) -> Result<Documents, ProgramFault<'a>>
-    ensures { IfOk result (λ d. AreMetaSchemas (F.held files.now) draft name.entry.now (documents_given d)) }
+    ensures { IfOk result (λ d. AreMetaSchemas (F.held files.now) draft
+        name.entry.now (documents_given d)) }
 {
     let bytes = read_file(alloc, files, name)?;
     let items = read_list(alloc, name, bytes.as_slice())?;

@@ -2,13 +2,12 @@
 
 ghost use Rattle.std.specs.Prelude.{◌≡◌, IfOk, Some, option_map};
 ghost use Rattle.clap.specs.Walk.{texts};
-ghost use Rattle.line_runs.specs.Passed.{meta_schemas_given};
-ghost use Rattle.line_runs.specs.Passed.{root_in, IsMadeBy};
+ghost use Rattle.line_runs.specs.Passed.{meta_schemas_given, root_in, IsMadeBy};
 ghost use Rattle.regex_patterns.specs.Matchers.{finds_by_regex};
-ghost use Rattle.validator_program.specs.Answered.{patterns_of_regex};
 ghost use Rattle.schema_drafts.specs.Drafts.{draft_among};
 ghost use Rattle.schema_registries.specs.Seen.{documents_given};
-ghost use Rattle.validator_program.specs.Given.{IsBuiltOf, MayBeMetaSchemas, base_of, draft_of, draft_words};
+ghost use Rattle.validator_program.specs.Given.{MayBeMetaSchemas, base_of, draft_of, draft_words};
+ghost use Rattle.validator_program.specs.Built.{patterns_of_regex, default_node_limit, IsBuiltOf};
 
 use crate::documents::{cut_words, read_documents};
 use crate::fault::ProgramFault;
@@ -61,7 +60,8 @@ fn read_meta<'a, F: SchemaFiles>(
     draft: Draft,
     meta: Option<&'a str>,
 ) -> Result<Option<Documents>, ProgramFault<'a>>
-    ensures { IfOk result (λ d. MayBeMetaSchemas (F.held files.now) draft (option_map (λ s. s.now) meta.entry) (option_map documents_given d)) }
+    ensures { IfOk result (λ d. MayBeMetaSchemas (F.held files.now) draft
+        (option_map (λ s. s.now) meta.entry) (option_map documents_given d)) }
 {
     match meta {
         Some(name) => Ok(Some(read_meta_schemas(alloc, files, draft, name)?)),
@@ -78,7 +78,9 @@ fn options_of(
 ) -> Result<ValidationOptions, AllocError>
     ensures draft { IfOk result (λ o. o.draft ≡ draft) }
     ensures base { IfOk result (λ o. o.base ≡ base) }
-    ensures meta_schemas { IfOk result (λ o. meta_schemas_given o ≡ option_map documents_given meta_schemas) }
+    ensures node_limit { IfOk result (λ o. o.node_limit ≡ default_node_limit) }
+    ensures meta_schemas { IfOk result (λ o. meta_schemas_given o
+        ≡ option_map documents_given meta_schemas) }
 {
     let options = Validator::options(alloc)?.with_draft(draft).with_base(base);
     match meta_schemas {
@@ -99,7 +101,10 @@ pub(crate) fn prepare<'a, F: SchemaFiles>(
     files: &F,
 ) -> Result<Validator, ProgramFault<'a>>
     ensures made { IfOk result (IsMadeBy finds_by_regex patterns_of_regex) }
-    ensures built { IfOk result (λ v. IsBuiltOf (F.held files.now) words.now.schema.now (texts words.now.files.items) (option_map (λ s. s.now) words.now.base) (option_map (λ s. s.now) words.now.draft) (option_map (λ s. s.now) words.now.meta) (root_in v)) }
+    ensures built { IfOk result (λ v. IsBuiltOf (F.held files.now) words.now.schema.now
+        (texts words.now.files.items) (option_map (λ s. s.now) words.now.base)
+        (option_map (λ s. s.now) words.now.draft)
+        (option_map (λ s. s.now) words.now.meta) (root_in v)) }
 {
     let further = cut_words(alloc, words.files.as_slice())?;
     let draft = read_draft(words.draft)?;
@@ -113,5 +118,6 @@ pub(crate) fn prepare<'a, F: SchemaFiles>(
     )?;
     let meta_schemas = read_meta(alloc, files, draft, words.meta)?;
     let options = options_of(alloc, draft, base, meta_schemas)?;
-    Ok(options.build(&documents, "")?)
+    let registry = options.prepare(&documents)?;
+    Ok(options.build_on(&registry, "")?)
 }
