@@ -8,6 +8,8 @@ mod devices;
 #[cfg(test)]
 mod files;
 #[cfg(test)]
+mod forms;
+#[cfg(test)]
 mod lines;
 #[cfg(test)]
 mod texts;

@@ -48,7 +48,7 @@ stays_alone may_answer may_refuse o given registry never is metas draft are_meta
     let a = asking_by may_answer may_refuse o in
     let nothing : AnswersNothing a = λ uri d answered. never o.retriever.retriever uri d answered.0 in
     let are : AreDocuments a o.limit draft metas given registry = subst (λ (d : Draft). AreDocuments a o.limit d metas given registry) is_draft
-        (subst (λ (ms : Option (List Given)). AreDocuments a o.limit o.draft ms given registry) are_metas is.documents) in
+    (subst (λ (ms : Option (List Given)). AreDocuments a o.limit o.draft ms given registry) are_metas is.documents) in
     record {
       parent = are_alone a o.limit draft metas registry.parent nothing are.parent;
       own = documents_stay_alone a o.limit draft metas given registry nothing are;
