@@ -18,7 +18,7 @@ pub struct AllFaults<'i> {
 
 impl<'i> AllFaults<'i> {
     ghost use Rattle.schema_reports.specs.Stands.{all_stand};
-    ghost use Rattle.schema_reports.specs.Told.{AreAll, spot_of};
+    ghost use Rattle.schema_reports.specs.Told.{AreAll, spot_of, fault_of, error_is_proper};
     ghost use Rattle.schema_meaning.specs.Rules.{each_of_object};
     ghost use Rattle.schema_reports.specs.Locations.{location_of};
     ghost use Rattle.schema_reports.specs.Kinds.{StandsFor};
@@ -58,6 +58,14 @@ impl<'i> AllFaults<'i> {
             (joined fs (also (fault said (view instance.now) (instance_in roads.entry) (schema_in roads.entry) (evaluation_in roads.entry)) none))) }
     {
         self.errors.push(roads.error(alloc, kind, instance)?)?;
+        Ok(())
+    }
+
+    /// Keeps an error, after what was told before.
+    pub(crate) fn add(&mut self, error: ValidationError<'i>) -> Result<(), AllocError>
+        ensures { OnOk result (error_is_proper error.entry ≡ true → (fs : Faults) → all_stand self.old fs → all_stand self.new (joined fs (also (fault_of error.entry) none))) }
+    {
+        self.errors.push(error)?;
         Ok(())
     }
 

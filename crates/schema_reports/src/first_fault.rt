@@ -21,7 +21,7 @@ impl<'i> FirstFault<'i> {
     ghost use Rattle.schema_reports.specs.Kinds.{StandsFor};
     ghost use Rattle.schema_meaning.specs.Rules.{each_of_object};
     ghost use Rattle.schema_reports.specs.Locations.{location_of};
-    ghost use Rattle.schema_reports.specs.Told.{spot_of, IsOneOf};
+    ghost use Rattle.schema_reports.specs.Told.{spot_of, fault_of, error_is_proper, IsOneOf};
     ghost use Rattle.schema_reports.specs.RoadPaths.{instance_in, schema_in, evaluation_in};
 
     /// No fault was told.
@@ -111,6 +111,20 @@ impl<'i> FirstFault<'i> {
         }
         if let Some(error) = heard {
             self.keep(alloc, Box::into_inner(error).told_of(alloc, object, at)?)?;
+        }
+        Ok(())
+    }
+
+    /// Keeps an error, where none was told before.
+    pub(crate) fn add(
+        &mut self,
+        alloc: Global,
+        error: ValidationError<'i>,
+    ) -> Result<(), AllocError>
+        ensures { OnOk result (error_is_proper error.entry ≡ true → (fs : Faults) → first_stands self.old fs → first_stands self.new (joined fs (also (fault_of error.entry) none))) }
+    {
+        if self.error.is_none() {
+            self.keep(alloc, error)?;
         }
         Ok(())
     }

@@ -8,7 +8,7 @@ ghost use Rattle.schema_reports.specs.Locations.{location_of};
 ghost use Rattle.schema_reports.specs.Observers.{Hears, is_for_all, wants};
 ghost use Rattle.schema_reports.specs.RoadPaths.{instance_in, schema_in, evaluation_in};
 ghost use Rattle.schema_reports.specs.Stands.{is_kept_of};
-ghost use Rattle.schema_reports.specs.Told.{AreAll, spot_of};
+ghost use Rattle.schema_reports.specs.Told.{AreAll, spot_of, fault_of, error_is_proper};
 
 use crate::all_faults::AllFaults;
 use crate::error::ValidationError;
@@ -97,6 +97,25 @@ impl<'i> Observer<'i> {
             }
             Observer::First(first) => first.tell(alloc, kind, instance, roads),
             Observer::All(all) => all.tell(alloc, kind, instance, roads),
+        }
+    }
+
+    /// Tells it of an error that is made already, whose kind carries such values as its keyword has.
+    ///
+    /// # Errors
+    ///
+    /// Where memory was refused.
+    pub fn keep(&mut self, alloc: Global, error: ValidationError<'i>) -> Result<(), AllocError>
+        ensures { OnOk result (error_is_proper error.entry ≡ true → (kept : Observation) (fs : Faults) → Hears kept self.old fs
+            → Hears kept self.new (joined fs (also (fault_of error.entry) none))) }
+    {
+        match self {
+            Observer::Verdict(verdict) => {
+                verdict.refuse();
+                Ok(())
+            }
+            Observer::First(first) => first.add(alloc, error),
+            Observer::All(all) => all.add(error),
         }
     }
 
