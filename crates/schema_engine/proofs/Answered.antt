@@ -1,5 +1,5 @@
 -- What an answer of the engine says of a whole value.
-use Rattle.std.proofs.Common.{◌≡◌, ◌≤◌, ◌+◌, ◌*◌, ℕ, zero, suc, List, [], Bool, Some, option_map, refl, sym, ap, ap₂, ◌∙◌, subst, arith, map, ◌∷◌, Bor}
+use Rattle.std.proofs.Common.{◌≡◌, ◌≤◌, ◌+◌, ◌*◌, ℕ, zero, suc, List, [], Bool, Option, None, Some, option_map, refl, sym, ap, ap₂, ◌∙◌, subst, arith, map, ◌∷◌, Bor}
 use Rattle.serde_json.specs.View.{view}
 use Rattle.serde_json.specs.declared.value.Value.{Value}
 use Rattle.schema_meaning.specs.Members.{In, first, later, all_true, all_known}
@@ -7,7 +7,7 @@ use Rattle.schema_meaning.specs.Places.{Key, Spot, whole}
 use Rattle.schema_meaning.specs.Questions.{Question, asked_at}
 use Rattle.schema_meaning.specs.Rules.{asks, accepts}
 use Rattle.schema_meaning.specs.Keywords.{Shape, rule}
-use Rattle.schema_meaning.specs.Readings.{Reading, verdicts, tell_one, told, unfolded, Asks, IsNested}
+use Rattle.schema_meaning.specs.Readings.{Reading, Telling, verdicts, tell_one, told, unfolded, Asks, IsNested}
 use Rattle.schema_meaning.specs.Cut.{cut_within, cut, left, AreAll}
 use Rattle.meaning_laws.proofs.Enough.{cut_is_enough}
 use Rattle.schema_engine.specs.declared.node.Node.{Node}
@@ -32,6 +32,10 @@ unfolded_alike r u matches keywords (suc n) s w =
     (map_same (λ q. unfolded verdicts r n q.site (asked_at w q)) (λ q. unfolded verdicts u n q.site (asked_at w q)) (λ q. unfolded_alike r u matches keywords n q.site (asked_at w q)) (asks k)))
     (map (rule u.matches w.value) (u.keywords s)))
 
+option_itself : {A : Type 0} (o : Option A) → option_map (λ a. a) o ≡ o
+option_itself None = refl
+option_itself (Some a) = refl
+
 -- where an element of a mapped list comes from
 from_map : {A B : Type 0} (f : A → B) (xs : List A) (b : B) → In b (map f xs) → (a : A) × In a xs × (b ≡ f a)
 from_map f [] b i = elim i [ ]
@@ -52,7 +56,7 @@ module _ {K : Type 0} (shape : K → Shape ℕ) (matches : List ℕ → List ℕ
       record { keyword = k.0; stands = k.1; asked = subst (λ h. In q (asks h)) (s.2 ∙ ap (rule matches w.value) k.2) a.asked }
 
   -- schemas nest in the graph's reading
-  pub nested : IsSound shape nodes → IsNested (reading_of shape matches nodes)
+  nested : IsSound shape nodes → IsNested (reading_of shape matches nodes)
   nested sound = record {
     rank = rank_at nodes;
     shallow = λ s w q a g. rank_fits nodes q.site;
@@ -61,19 +65,23 @@ module _ {K : Type 0} (shape : K → Shape ℕ) (matches : List ℕ → List ℕ
         sound.falls s k.keyword q.site k.stands (subst (λ f. In q.site (leads_of f (shape k.keyword))) g here.leads));
   }
 
+  -- deeper than `cut` goes nothing changes
+  pub cut_enough : (A : Type 0) (t : Telling ℕ A) (node : ℕ) (w : Spot) (all : List Key) → IsSound shape nodes → AreAll (reading_of shape matches nodes) node w all
+      → (n : ℕ) → suc (left [] all) * suc (highest nodes) ≤ n → cut_within t (reading_of shape matches nodes) n [] node w ≡ cut t (reading_of shape matches nodes) all [] node w
+  unfolding nested
+  cut_enough A t node w all sound among n deep = cut_is_enough ℕ A t (reading_of shape matches nodes) node w all (nested sound) (rank_fits nodes node) among n deep
+
   module _ (v : Bor Value) (node enough : ℕ) (b : Bool) (tells : Tells (place.Value v) [] enough (node_in (reading_of shape matches nodes) node) b) where
     as_deep : (n : ℕ) → enough ≤ n → b ≡ cut_within verdicts (reading_of shape matches nodes) n [] node (whole (view v.now))
     as_deep n deep = tells.same (record { depth = n; keys = []; spot = whole (view v.now) }) (record { value = refl; called = refl; here = λ n. refl; above = λ k i. elim i [ ] }) deep
 
     pub is_cut : IsSound shape nodes → (all : List Key) → AreAll (reading_of shape matches nodes) node (whole (view v.now)) all → b ≡ cut verdicts (reading_of shape matches nodes) all [] node (whole (view v.now))
-    unfolding nested
     is_cut sound all among =
         as_deep (enough + suc (left [] all) * suc (highest nodes)) (omega arith)
-        ∙ cut_is_enough ℕ Bool verdicts (reading_of shape matches nodes) node (whole (view v.now)) all (nested sound) (rank_fits nodes node) among
-        (enough + suc (left [] all) * suc (highest nodes)) (omega arith)
+        ∙ cut_enough Bool verdicts node (whole (view v.now)) all sound among (enough + suc (left [] all) * suc (highest nodes)) (omega arith)
 
     pub is_decided : (r : Reading ℕ) (n : ℕ) (answer : Bool) → IsReadingOf shape matches nodes r → unfolded verdicts r n node (whole (view v.now)) ≡ Some answer → b ≡ answer
     is_decided r n answer same e =
         as_deep (enough + n) (omega arith)
-        ∙ cut_where_decided shape matches nodes n (enough + n) node (view v.now) answer (omega arith)
+        ∙ cut_where_decided shape matches nodes verdicts (λ b. b) (λ n s w. option_itself (unfolded verdicts (reading_of shape matches nodes) n s w)) n (enough + n) node (view v.now) answer (omega arith)
         (unfolded_alike (reading_of shape matches nodes) r (sym same.matches) (λ m. sym (same.keywords m)) n node (whole (view v.now)) ∙ e)

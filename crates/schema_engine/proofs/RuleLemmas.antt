@@ -53,7 +53,7 @@ module _ (r : Reading ℕ) where
 
   module _ (x : Setting) where
     -- the parts that a question adds to the road decide nothing
-    asked_call : (b : Bool) (q : Question ℕ) → cut_asked verdicts r (cut_within verdicts r x.depth) x.keys x.spot q ≡ asked_in r x (call b q)
+    pub asked_call : (b : Bool) (q : Question ℕ) → cut_asked verdicts r (cut_within verdicts r x.depth) x.keys x.spot q ≡ asked_in r x (call b q)
     unfolding asked_in
     asked_call b q = one q.follows
       where

@@ -1,5 +1,6 @@
 -- What a graph means, as a reading whose sites are the numbers of its nodes.
 use Rattle.std.specs.Prelude.{◌≡◌, ◌<◌, ℕ, max, List, [], ◌∷◌, map, Bool, length, Option, Some, None, slice_get}
+use Rattle.json_values.specs.Parts.{Part}
 use Rattle.schema_meaning.specs.Members.{In}
 use Rattle.schema_meaning.specs.Places.{SchemaPlace}
 use Rattle.schema_meaning.specs.Keywords.{Shape}
@@ -15,11 +16,18 @@ abbrev pub rank_or_zero : {K : Type 0} → Option (Node K) → ℕ
 rank_or_zero None = 0
 rank_or_zero (Some n) = n.rank
 
+abbrev pub path_or_root : {K : Type 0} → Option (Node K) → List Part
+path_or_root None = []
+path_or_root (Some n) = n.schema_path
+
 abbrev pub keywords_at : {K : Type 0} → List (Node K) → ℕ → List K
 keywords_at nodes n = keywords_or_none (slice_get nodes n)
 
 abbrev pub rank_at : {K : Type 0} → List (Node K) → ℕ → ℕ
 rank_at nodes n = rank_or_zero (slice_get nodes n)
+
+abbrev pub path_at : {K : Type 0} → List (Node K) → ℕ → List Part
+path_at nodes n = path_or_root (slice_get nodes n)
 
 abbrev pub highest : {K : Type 0} → List (Node K) → ℕ
 highest [] = 0
@@ -32,7 +40,7 @@ place_of n = record { document = n ∷ []; path = [] }
 abbrev pub reading_of : {K : Type 0} → (K → Shape ℕ) → (List ℕ → List ℕ → Bool) → List (Node K) → Reading ℕ
 reading_of shape matches nodes = record {
   keywords = λ n. map shape (keywords_at nodes n);
-  schema_path = λ n. [];
+  schema_path = path_at nodes;
   place = place_of;
   matches = matches;
   nesting = highest nodes;
@@ -51,3 +59,7 @@ pub record AreKnown {K : Type 0} (knows : K → (ℕ → List ℕ) → Type 0) (
 pub record IsReadingOf {K : Type 0} (shape : K → Shape ℕ) (reads : List ℕ → List ℕ → Bool) (nodes : List (Node K)) (r : Reading ℕ) : Type 0 where
   pub matches : r.matches ≡ reads
   pub keywords : (n : ℕ) → r.keywords n ≡ map shape (keywords_at nodes n)
+
+-- and whose paths of schemas are theirs
+pub record HasPathsOf {K : Type 0} (nodes : List (Node K)) (r : Reading ℕ) : Type 0 where
+  pub paths : (n : ℕ) → r.schema_path n ≡ path_at nodes n

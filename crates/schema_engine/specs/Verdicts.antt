@@ -61,6 +61,10 @@ size nodes d progress rank = (depth d * suc (length nodes) + left_below (length 
 pub record Tells (p : Place) (progress : List ℕ) (enough : ℕ) (told : Setting → Bool) (b : Bool) : Type 0 where
   pub same : (x : Setting) → Fits p progress x → enough ≤ x.depth → b ≡ told x
 
+-- the number is what is counted in each such setting
+pub record Counts (p : Place) (progress : List ℕ) (enough : ℕ) (counted : Setting → ℕ) (n : ℕ) : Type 0 where
+  pub same : (x : Setting) → Fits p progress x → enough ≤ x.depth → n ≡ counted x
+
 -- the same, as deep as is enough from a keyword of a node on
 abbrev pub TellsFrom : {K : Type 0} → List (Node K) → ℕ → Place → List ℕ → (Setting → Bool) → Bool → Type 0
 TellsFrom nodes node p progress told b = Tells p progress (size nodes (value_at p) progress (rank_at nodes node)) told b

@@ -3,11 +3,19 @@
 
 pub mod accepts;
 pub mod combination;
+mod counting;
+pub mod entry;
 pub mod graph;
 mod here;
 pub mod matching;
 pub mod node;
 pub mod place;
 pub mod progress;
+pub mod reason;
+mod refusals;
+pub mod situation;
+pub mod tell;
+mod telling;
+mod there;
 pub mod validate;
 pub mod verdict;

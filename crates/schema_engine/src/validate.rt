@@ -1,14 +1,24 @@
 //! What the engine asks of a keyword.
 ghost use Rattle.std.specs.Prelude.{◌≡◌, ℕ, List, Bool, OnOk, IfOk};
 ghost use Rattle.serde_json.specs.Data.{Data};
+ghost use Rattle.serde_json.specs.View.{view};
+ghost use Rattle.json_values.specs.Parts.{Part};
 ghost use Rattle.schema_meaning.specs.Keywords.{Shape, rule};
+ghost use Rattle.schema_meaning.specs.Rules.{asks};
+ghost use Rattle.schema_engine.specs.Entries.{parts_of};
 ghost use Rattle.schema_engine.specs.Places.{value_at};
-ghost use Rattle.schema_engine.specs.Questions.{Pushes};
+ghost use Rattle.schema_engine.specs.Questions.{Pushes, PushesAsked};
+ghost use Rattle.schema_engine.specs.Refusals.{IsReason, IsRefusedUnder};
 ghost use Rattle.schema_engine.specs.Rules.{combination_of, is_right, questions_of};
+ghost use Rattle.schema_engine.specs.Situations.{TellsNotes};
 
 use crate::combination::Combination;
+use crate::entry::Entry;
 use crate::matching::Matching;
 use crate::place::{Place, Question};
+use crate::reason::Reason;
+use crate::situation::Situation;
+use schema_reports::Observer;
 use std::alloc::AllocError;
 
 /// A keyword that owns what it needs, its subschemas by their numbers in a graph.
@@ -19,6 +29,9 @@ pub trait Validate: Drop {
 
     // Its numbers of patterns name the patterns of its shape.
     ghost knows: { Self → (ℕ → List ℕ) → Type 0 };
+
+    // The parts that a question of an entry adds to the road.
+    ghost added: { Self → ℕ → List Part };
 
     /// How the answers to its questions make its verdict.
     fn combination(&self, place: Place<'_>) -> Combination
@@ -51,5 +64,43 @@ pub trait Validate: Drop {
     ) -> Result<(), AllocError>
         requires { knows self.now (T.matches matching.old).pattern }
         ensures same { OnOk result (T.matches matching.new ≡ T.matches matching.old) }
-        ensures pushed { OnOk result (Pushes into.old.items into.new.items (questions_of (rule (T.matches matching.old).reads (value_at place.entry) (shape self.now)))) };
+        ensures pushed { OnOk result (Pushes into.old.items into.new.items (questions_of (rule (T.matches matching.old).reads (value_at place.entry) (shape self.now)))) }
+        ensures asked { OnOk result (PushesAsked (added self.now) into.old.items into.new.items (asks (rule (T.matches matching.old).reads (value_at place.entry) (shape self.now)))) };
+
+    /// Where in it the schema of a question of this entry stands.
+    fn entry(&self, entry: usize) -> Entry<'_>
+        ensures { parts_of result ≡ added self.now entry };
+
+    /// The name under which it refuses where so many of its questions are answered yes, if one fault speaks for all of them.
+    fn refused_name(&self, accepted: usize) -> &str
+        ensures { (matches : List ℕ → List ℕ → Bool) (d : Data) → IsRefusedUnder (rule matches d (shape self.now)) accepted result.now };
+
+    /// Tells an observer of what is wrong with the value itself.
+    ///
+    /// # Errors
+    ///
+    /// Where memory was refused or a count of owners is full.
+    fn tell_notes<'o, T: Matching>(
+        &self,
+        situation: &Situation<'_, 'o>,
+        matching: &mut T,
+        observer: &mut Observer<'o>,
+    ) -> Result<(), AllocError>
+        requires { knows self.now (T.matches matching.old).pattern }
+        ensures same { OnOk result (T.matches matching.new ≡ T.matches matching.old) }
+        ensures told { OnOk result (TellsNotes situation.now (rule (T.matches matching.old).reads (view situation.now.value.now) (shape self.now)) observer.old observer.new) };
+
+    /// Why it refuses the value, if one fault speaks for all of its questions and says nothing of their answers.
+    ///
+    /// # Errors
+    ///
+    /// Where memory was refused or a count of owners is full.
+    fn reason<'o, T: Matching>(
+        &self,
+        situation: &Situation<'_, 'o>,
+        matching: &mut T,
+    ) -> Result<Reason<'o>, AllocError>
+        requires { knows self.now (T.matches matching.old).pattern }
+        ensures same { OnOk result (T.matches matching.new ≡ T.matches matching.old) }
+        ensures stated { IfOk result (IsReason (rule (T.matches matching.old).reads (view situation.now.value.now) (shape self.now)) (view situation.now.value.now)) };
 }

@@ -84,7 +84,7 @@ fn accepts_keyword<'i, K: Validate, T: Matching>(
 
 // The verdict by the answers to the questions from `start` on.
 #[cycle(verdict)]
-fn accepts_combined<'i, K: Validate, T: Matching>(
+pub(crate) fn accepts_combined<'i, K: Validate, T: Matching>(
     here: &Here<'i, '_, K>,
     combination: Combination,
     start: usize,
@@ -200,7 +200,7 @@ fn accepts_conditional<'i, K: Validate, T: Matching>(
 
 // The answer to a question.
 #[cycle(verdict)]
-fn accepts_question<'i, K: Validate, T: Matching>(
+pub(crate) fn accepts_question<'i, K: Validate, T: Matching>(
     here: &Here<'i, '_, K>,
     question: Question<'i>,
     matching: &mut T,

@@ -1,0 +1,905 @@
+use Rattle.std.proofs.Common.{rules, ◌≡◌, ◌<◌, ◌+◌, ◌∙◌, ◌++◌, ◌∷◌, ℕ, List, Bool, true, false, map, drop, length, get_or, [], refl, sym, ap, subst, arith, string_bytes}
+use Rattle.std.proofs.lemmas.Result.{IfOk-weaker, on_ok_weaker}
+use Rattle.serde_json.specs.Data.{string}
+use Rattle.serde_json.specs.View.{view}
+use Rattle.serde_json.specs.declared.value.Value.{the_lemmas}
+use Rattle.serde_json.specs.declared.value.Value.TheVariants as json
+use Rattle.json_values.specs.Parts.{Part, name, index}
+use Rattle.schema_meaning.specs.Members.{In}
+use Rattle.schema_meaning.specs.Places.{Step, stay}
+use Rattle.schema_meaning.specs.Keywords.{rule}
+use Rattle.schema_reports.specs.Kinds.{StandsFor}
+use Rattle.schema_reports.specs.Locations.{location_of}
+use Rattle.schema_reports.specs.declared.kind.ValidationErrorKind.TheVariants as kind
+use Rattle.schema_reports.specs.declared.observer.Observer.TheVariants as observer
+use Rattle.schema_engine.specs.declared.place.Asked.{Asked}
+use Rattle.schema_engine.specs.declared.place.Asked.TheVariants as asked
+use Rattle.schema_engine.specs.declared.place.Question.{Question}
+use Rattle.schema_engine.specs.declared.place.Place.TheVariants as place
+use Rattle.schema_engine.specs.Matches.{Matches}
+use Rattle.schema_engine.specs.Places.{value_at, step_of}
+use Rattle.schema_engine.specs.Progress.{numbers_in, is_among}
+use Rattle.schema_engine.specs.Entries.{parts_of}
+use Rattle.schema_engine.specs.Hearing.{HearsMore}
+use Rattle.schema_engine.specs.Questions.{call_of, question_by}
+use Rattle.schema_engine.specs.Refusals.{own_notes, has_one_fault, IsReason}
+use Rattle.schema_engine.specs.Situations.{spot_in}
+use Rattle.schema_engine.specs.Rules.{combination_of}
+use Rattle.schema_engine.specs.Graphs.{keywords_at, path_at, rank_at, reading_of, AreKnown}
+use Rattle.schema_engine.specs.Verdicts.{MayAsk, EachMayAsk, GoesDown, size}
+use Rattle.schema_engine.specs.Faults.{AreAsked, AreErrorsOf, Hearing, node_faults, rule_faults, one_told, question_faults, faults_beside, faults_by_first, faults_of_object}
+use Rattle.schema_engine.specs.Standing.{nodes_of, size_at, size_of, stand_in, stand_of, stand_of_name, HearsAt, HearsOf, IsThere}
+use Rattle.schema_engine.proofs.KeywordFaults.{one_of_others, every_told, named_told, conditional_told, no_condition, condition_told, combined_accepted, combined_unwanted, combined_told}
+use Rattle.schema_engine.proofs.HearsLemmas.{hears_absorbed}
+use Rattle.schema_engine.proofs.NodeFaults.{path_here, keywords_faults, node_heard, keyword_next, keywords_done}
+use Rattle.schema_engine.proofs.QuestionFaults.{BranchesLeft, beside_next, beside_skipped, beside_done, named_next, named_done, branches_next, branches_done}
+use Rattle.schema_engine.proofs.RefusalFaults.{some_told, one_branch_told, counted_told, reason_told}
+use Rattle.schema_engine.proofs.RuleFaults.{one_is_right}
+use Rattle.schema_engine.proofs.Sizes.{size_inside, size_down, size_target}
+use Rattle.schema_engine.proofs.StepFaults.{leads_inside, leads_to_item, leads_to_member, leads_to_name, follows_none, hears_as, step_heard, back_heard, target_heard}
+use Rattle.schema_engine.proofs.Steps.{may_ask_one, may_ask_rest, each_may_ask, keywords_here, keyword_stands, keyword_told}
+use Rattle.schema_engine.proofs.ToTell.{ToTell, all_to_tell, settled_to_tell}
+use Rattle.schema_engine.proofs.telling.+telling.Goals as goal
+
+-- ---- a value
+
+pub tell_value-tell_node-requires : goal.tell_value-tell_node-requires
+tell_value-tell_node-requires g t c κs within =
+    (omega arith, (within.0, (within.1, (c.requires.known, (record { value = refl; path = c.requires.path }, c.requires.there)))))
+
+-- ---- a node
+
+pub tell_node-loop-keyword-init : goal.tell_node-loop-keyword-init
+tell_node-loop-keyword-init g t c = record { matches = refl; questions = refl; left = all_to_tell _ _ _ c.args.observer.now }
+
+pub tell_node-tell_keyword-requires : goal.tell_node-tell_keyword-requires
+tell_node-tell_keyword-requires g t c κs within =
+    let h = c.args.there.now.here in
+    let nodes = h.graph.now.nodes.items in
+    let l = c.loop-keyword in
+    let items : c.deref-keyword-items.result.now ≡ c.index.result.now.keywords.items = c.deref-keyword-items.ensures.value in
+    let here : keywords_at nodes h.node ≡ c.deref-keyword-items.result.now = keywords_here nodes h.node c.index.result.now c.requires.there c.index.ensures ∙ sym items in (
+      omega arith,
+      (
+        within.0,
+        (
+          within.1,
+          (
+            subst (λ m. AreKnown g.K.Validate.knows m.pattern nodes) (sym l.invariant.matches) c.requires.known,
+            (
+              c.requires.right,
+              subst (In c.keyword-item.result) (sym here) (keyword_stands l.keyword-index c.deref-keyword-items.result.now c.keyword-item.result c.loop-keyword-test.true c.keyword-item.is),
+            ),
+          ),
+        ),
+      ),
+    )
+
+pub tell_node-returns-then-is_settled-clause-heard : goal.tell_node-returns-then-is_settled-clause-heard
+tell_node-returns-then-is_settled-clause-heard g t c =
+    let h = c.args.there.now.here in
+    let nodes = h.graph.now.nodes.items in
+    let l = c.loop-keyword in
+    let s = stand_of c.args.there.now in
+    let told = keywords_faults g.K.Validate.shape (g.T.Matching.matches c.args.matching.now).reads nodes h.node s in
+    node_heard g.K.Validate.shape _ nodes h.node s (size_of h) c.args.observer.now l.observer
+    (settled_to_tell s (size_of h) (told (keywords_at nodes h.node)) (told (drop l.keyword-index (keywords_at nodes h.node))) c.args.observer.now l.observer
+    (λ kept fs gs. c.is_settled.ensures c.if-is_settled.true kept fs gs) l.invariant.left)
+
+pub tell_node-loop-keyword-preserved : goal.tell_node-loop-keyword-preserved
+tell_node-loop-keyword-preserved g t c =
+    let h = c.args.there.now.here in
+    let nodes = h.graph.now.nodes.items in
+    let l = c.loop-keyword in
+    let i = l.keyword-index in
+    let k = c.keyword-item.result in
+    let s = stand_of c.args.there.now in
+    let items : c.deref-keyword-items.result.now ≡ c.index.result.now.keywords.items = c.deref-keyword-items.ensures.value in
+    let here : keywords_at nodes h.node ≡ c.deref-keyword-items.result.now = keywords_here nodes h.node c.index.result.now c.requires.there c.index.ensures ∙ sym items in
+    let high : i < length (keywords_at nodes h.node) = subst (λ ks. i < length ks) (sym here) c.loop-keyword-test.true in
+    let heard = subst (λ m. Hearing s (size_of h) (rule_faults (reading_of g.K.Validate.shape m.reads nodes) h.node (rule m.reads (value_at h.place) (g.K.Validate.shape k))) l.observer c.tell_keyword.new.observer)
+    l.invariant.matches c.in_ok-tell_keyword.ensures.heard in
+    record {
+      matches = c.in_ok-tell_keyword.ensures.matches ∙ l.invariant.matches;
+      questions = c.in_ok-tell_keyword.ensures.questions ∙ l.invariant.questions;
+      left = keyword_next g.K.Validate.shape _ nodes h.node s (size_of h) i (keywords_at nodes h.node) k c.args.observer.now l.observer c.tell_keyword.new.observer high
+          (subst (λ ks. k ≡ get_or ks i k) (sym here) c.keyword-item.is) heard l.invariant.left;
+    }
+
+pub tell_node-returns-clause-heard : goal.tell_node-returns-clause-heard
+tell_node-returns-clause-heard g t c =
+    let h = c.args.there.now.here in
+    let nodes = h.graph.now.nodes.items in
+    let l = c.loop-keyword in
+    let items : c.deref-keyword-items.result.now ≡ c.index.result.now.keywords.items = c.deref-keyword-items.ensures.value in
+    let here : keywords_at nodes h.node ≡ c.deref-keyword-items.result.now = keywords_here nodes h.node c.index.result.now c.requires.there c.index.ensures ∙ sym items in
+    keywords_done g.K.Validate.shape _ nodes h.node (stand_of c.args.there.now) (size_of h) l.keyword-index (keywords_at nodes h.node) c.args.observer.now l.observer
+    (let e = ap length here in omega arith) l.invariant.left
+
+-- ---- a keyword
+
+pub tell_keyword-tell_by_rule-requires : goal.tell_keyword-tell_by_rule-requires
+tell_keyword-tell_by_rule-requires g t c κs within =
+    let h = c.args.there.now.here in
+    let nodes = h.graph.now.nodes.items in
+    let k = c.args.keyword.now in
+    let same = c.in_ok-questions.ensures.same in
+    let start : c.len-start.result ≡ length c.args.questions.now.items = omega arith in
+    let now = c.questions.new.into.items in
+    let asked : AreAsked (g.K.Validate.added k) (rule (g.T.Matching.matches c.args.matching.now).reads (value_at h.place) (g.K.Validate.shape k)) (drop c.len-start.result now) = record {
+      calls = ap (λ n. map call_of (drop n now)) start ∙ c.in_ok-questions.ensures.pushed.pushed;
+      asked = ap (λ n. map (question_by (g.K.Validate.added k)) (drop n now)) start ∙ c.in_ok-questions.ensures.asked.pushed;
+    } in (
+      omega arith,
+      (
+        within.0,
+        (
+          within.1,
+          (
+            subst (λ m. AreKnown g.K.Validate.knows m.pattern nodes) (sym same) c.requires.known,
+            (
+              c.requires.right,
+              (
+                c.requires.stands,
+                subst (λ m. AreAsked (g.K.Validate.added k) (rule m.reads (value_at h.place) (g.K.Validate.shape k)) (drop c.len-start.result now)) (sym same) asked,
+              ),
+            ),
+          ),
+        ),
+      ),
+    )
+
+pub tell_keyword-returns-clause-heard : goal.tell_keyword-returns-clause-heard
+tell_keyword-returns-clause-heard g t c =
+    let h = c.args.there.now.here in
+    let nodes = h.graph.now.nodes.items in
+    let k = c.args.keyword.now in
+    subst
+    (λ m. HearsAt c.args.there.now (rule_faults (reading_of g.K.Validate.shape m.reads nodes) h.node (rule m.reads (value_at h.place) (g.K.Validate.shape k))) c.args.observer.now c.tell_by_rule.new.observer)
+    c.in_ok-questions.ensures.same c.in_ok-tell_by_rule.ensures.heard
+
+-- ---- by its rule
+
+pub tell_by_rule-tell_each-requires : goal.tell_by_rule-tell_each-requires
+tell_by_rule-tell_each-requires g t c κs within =
+    let h = c.args.there.now.here in
+    let nodes = h.graph.now.nodes.items in
+    let k = c.args.keyword.now in
+    let same = c.in_ok-tell_notes-in-Every.ensures.same in (
+      omega arith,
+      (
+        within.0,
+        (
+          within.1,
+          (
+            subst (λ m. AreKnown g.K.Validate.knows m.pattern nodes) (sym same) c.requires.known,
+            (
+              c.requires.right,
+              subst (EachMayAsk nodes (rank_at nodes h.node) (value_at h.place)) (sym c.requires.asked.calls)
+                  (each_may_ask g.K.Validate.shape nodes h.node k _ (value_at h.place) h.graph.now.sound c.requires.stands),
+            ),
+          ),
+        ),
+      ),
+    )
+
+pub tell_by_rule-tell_named-requires : goal.tell_by_rule-tell_named-requires
+tell_by_rule-tell_named-requires g t c κs within =
+    let h = c.args.there.now.here in
+    let nodes = h.graph.now.nodes.items in
+    let k = c.args.keyword.now in (
+      omega arith,
+      (
+        within.0,
+        (
+          within.1,
+          (
+            c.requires.known,
+            (
+              c.requires.right,
+              subst (EachMayAsk nodes (rank_at nodes h.node) (value_at h.place)) (sym c.requires.asked.calls)
+                  (each_may_ask g.K.Validate.shape nodes h.node k _ (value_at h.place) h.graph.now.sound c.requires.stands),
+            ),
+          ),
+        ),
+      ),
+    )
+
+pub tell_by_rule-tell_conditional-requires : goal.tell_by_rule-tell_conditional-requires
+tell_by_rule-tell_conditional-requires g t c κs within =
+    let h = c.args.there.now.here in
+    let nodes = h.graph.now.nodes.items in
+    let k = c.args.keyword.now in (
+      omega arith,
+      (
+        within.0,
+        (
+          within.1,
+          (
+            c.requires.known,
+            (
+              c.requires.right,
+              subst (EachMayAsk nodes (rank_at nodes h.node) (value_at h.place)) (sym c.requires.asked.calls)
+                  (each_may_ask g.K.Validate.shape nodes h.node k _ (value_at h.place) h.graph.now.sound c.requires.stands),
+            ),
+          ),
+        ),
+      ),
+    )
+
+pub tell_by_rule-tell_combined-requires : goal.tell_by_rule-tell_combined-requires
+tell_by_rule-tell_combined-requires g t c κs within = (
+  omega arith,
+  (
+    within.0,
+    (
+      within.1,
+      (
+        c.requires.known,
+        (
+          c.requires.right,
+          (
+            c.requires.stands,
+            (
+              c.combination-combination.ensures _,
+              (one_of_others c.combination-combination.result c.in_default.not-Every c.in_default.not-EachNamed c.in_default.not-Conditional, c.requires.asked),
+            ),
+          ),
+        ),
+      ),
+    ),
+  ),
+)
+
+pub tell_by_rule-returns-in_ok-tell_notes-in-Every-clause-heard : goal.tell_by_rule-returns-in_ok-tell_notes-in-Every-clause-heard
+tell_by_rule-returns-in_ok-tell_notes-in-Every-clause-heard g t c =
+    let t = c.args.there.now in
+    let h = t.here in
+    let nodes = h.graph.now.nodes.items in
+    let k = c.args.keyword.now in
+    let m = g.T.Matching.matches c.args.matching.now in
+    let same = c.in_ok-tell_notes-in-Every.ensures.same in
+    on_ok_weaker c.tell_each.result
+    (λ told. every_told (reading_of g.K.Validate.shape m.reads nodes) h.node (rule m.reads (value_at h.place) (g.K.Validate.shape k)) (stand_of t) (size_of h) (g.K.Validate.added k) (drop c.args.start c.args.questions.now.items)
+    c.requires.asked t.situation c.args.observer.now c.tell_notes.new.observer c.tell_each.new.observer (sym (c.combination-combination.ensures _) ∙ c.in-Every.is) refl refl c.requires.right.path
+    (subst (λ d. HearsMore (own_notes (rule m.reads d (g.K.Validate.shape k)) (spot_in t.situation) t.situation.schema.now) c.args.observer.now c.tell_notes.new.observer)
+    c.requires.right.value c.in_ok-tell_notes-in-Every.ensures.told)
+    (subst (λ (m : Matches). Hearing (stand_of t) (size_of h) (λ x. faults_beside (question_faults (reading_of g.K.Validate.shape m.reads nodes) (g.K.Validate.added k) x) true (drop c.args.start c.args.questions.now.items)) c.tell_notes.new.observer c.tell_each.new.observer)
+    same told))
+    c.tell_each.ensures.heard
+
+pub tell_by_rule-returns-in-EachNamed-clause-heard : goal.tell_by_rule-returns-in-EachNamed-clause-heard
+tell_by_rule-returns-in-EachNamed-clause-heard g t c =
+    let t = c.args.there.now in
+    let h = t.here in
+    let nodes = h.graph.now.nodes.items in
+    let k = c.args.keyword.now in
+    let m = g.T.Matching.matches c.args.matching.now in
+    on_ok_weaker c.tell_named.result
+    (named_told (reading_of g.K.Validate.shape m.reads nodes) h.node (rule m.reads (value_at h.place) (g.K.Validate.shape k)) (stand_of t) (size_of h) (g.K.Validate.added k) (drop c.args.start c.args.questions.now.items)
+    c.requires.asked c.args.observer.now c.tell_named.new.observer (sym (c.combination-combination.ensures _) ∙ c.in-EachNamed.is))
+    c.tell_named.ensures.heard
+
+pub tell_by_rule-returns-in-Conditional-clause-heard : goal.tell_by_rule-returns-in-Conditional-clause-heard
+tell_by_rule-returns-in-Conditional-clause-heard g t c =
+    let t = c.args.there.now in
+    let h = t.here in
+    let nodes = h.graph.now.nodes.items in
+    let k = c.args.keyword.now in
+    let m = g.T.Matching.matches c.args.matching.now in
+    on_ok_weaker c.tell_conditional.result
+    (conditional_told (reading_of g.K.Validate.shape m.reads nodes) h.node (rule m.reads (value_at h.place) (g.K.Validate.shape k)) (stand_of t) (size_of h) (g.K.Validate.added k) (drop c.args.start c.args.questions.now.items)
+    c.requires.asked c.args.observer.now c.tell_conditional.new.observer (sym (c.combination-combination.ensures _) ∙ c.in-Conditional.is))
+    c.tell_conditional.ensures.heard
+
+-- ---- questions beside an answer
+
+pub tell_each-loop-index-init : goal.tell_each-loop-index-init
+tell_each-loop-index-init g t c = record { matches = refl; questions = refl; left = all_to_tell _ _ _ c.args.observer.now }
+
+pub tell_each-returns-then-is_settled-clause-heard : goal.tell_each-returns-then-is_settled-clause-heard
+tell_each-returns-then-is_settled-clause-heard g t c =
+    let l = c.loop-index in
+    settled_to_tell _ _ _ _ c.args.observer.now l.observer (λ kept fs gs. c.is_settled.ensures c.if-is_settled.true kept fs gs) l.invariant.left
+
+pub tell_each-tell_question-requires : goal.tell_each-tell_question-requires
+tell_each-tell_question-requires g t c κs within =
+    let h = c.args.there.now.here in
+    let nodes = h.graph.now.nodes.items in
+    let l = c.loop-index in
+    let asked = subst (λ qs. EachMayAsk nodes (rank_at nodes h.node) (value_at h.place) (map call_of (drop c.args.start qs))) (sym l.invariant.questions) c.requires.asked in
+    let short : l.index < length l.questions.items = (let e = ap length l.invariant.questions in omega arith) in (
+      omega arith,
+      (
+        within.0,
+        (
+          within.1,
+          (
+            subst (λ m. AreKnown g.K.Validate.knows m.pattern nodes) (sym l.invariant.matches) c.requires.known,
+            (c.requires.right, may_ask_one nodes _ _ c.args.start l.index l.questions.items c.index-question.result.now asked (omega arith) short c.index-question.ensures),
+          ),
+        ),
+      ),
+    )
+
+pub tell_each-returns-clause-heard : goal.tell_each-returns-clause-heard
+tell_each-returns-clause-heard g t c =
+    let h = c.args.there.now.here in
+    let l = c.loop-index in
+    let m = g.T.Matching.matches c.args.matching.now in
+    beside_done (stand_of c.args.there.now) (size_of h) (question_faults (reading_of g.K.Validate.shape m.reads h.graph.now.nodes.items) (g.K.Validate.added c.args.keyword.now))
+    (drop c.args.start c.args.questions.now.items) c.args.questions.now.items l.index c.args.beside c.args.observer.now l.observer (omega arith) l.invariant.left
+
+-- ---- a condition
+
+pub tell_conditional-returns-then-start-len-clause-heard : goal.tell_conditional-returns-then-start-len-clause-heard
+tell_conditional-returns-then-start-len-clause-heard g t c =
+    no_condition _ (stand_of c.args.there.now) (size_of c.args.there.now.here) _ c.args.questions.now.items c.args.start c.args.observer.now (omega arith)
+
+pub tell_conditional-accepts_question-requires : goal.tell_conditional-accepts_question-requires
+tell_conditional-accepts_question-requires g t c =
+    let h = c.args.there.now.here in
+    record {
+      known = c.requires.known;
+      asked = may_ask_one h.graph.now.nodes.items _ _ c.args.start c.args.start c.args.questions.now.items c.index-condition.result.now c.requires.asked (omega arith) (omega arith) c.index-condition.ensures;
+    }
+
+pub tell_conditional-tell_each-requires : goal.tell_conditional-tell_each-requires
+tell_conditional-tell_each-requires g t c κs within =
+    let same : c.accepts_question.new.questions.items ≡ c.args.questions.now.items = c.in_ok-answer.ensures.questions in
+    let h = c.args.there.now.here in
+    let nodes = h.graph.now.nodes.items in (
+      omega arith,
+      (
+        within.0,
+        (
+          within.1,
+          (
+            subst (λ m. AreKnown g.K.Validate.knows m.pattern nodes) (sym c.in_ok-answer.ensures.matches) c.requires.known,
+            (
+              c.requires.right,
+              subst (λ qs. EachMayAsk nodes (rank_at nodes h.node) (value_at h.place) (map call_of (drop (c.args.start + 1) qs))) (sym same)
+                  (may_ask_rest nodes (rank_at nodes h.node) (value_at h.place) c.args.start c.args.questions.now.items c.requires.asked),
+            ),
+          ),
+        ),
+      ),
+    )
+
+pub tell_conditional-returns-clause-heard : goal.tell_conditional-returns-clause-heard
+tell_conditional-returns-clause-heard g t c =
+    let h = c.args.there.now.here in
+    let nodes = h.graph.now.nodes.items in
+    let s = stand_of c.args.there.now in
+    let added = g.K.Validate.added c.args.keyword.now in
+    let m = g.T.Matching.matches c.args.matching.now in
+    let b = c.in_ok-answer.answer in
+    on_ok_weaker c.tell_each.result
+    (λ told. condition_told (reading_of g.K.Validate.shape m.reads nodes) s (size_of h) added c.args.questions.now.items c.args.start c.index-condition.result.now b c.args.observer.now c.tell_each.new.observer
+    (omega arith) c.index-condition.ensures c.in_ok-answer.ensures.verdict
+    (subst (λ (n : Matches). Hearing s (size_of h) (λ x. faults_beside (question_faults (reading_of g.K.Validate.shape n.reads nodes) added x) b (drop (c.args.start + 1) c.args.questions.now.items)) c.args.observer.now c.tell_each.new.observer)
+    c.in_ok-answer.ensures.matches
+    (subst (λ qs. Hearing s (size_of h) (λ x. faults_beside (question_faults (reading_of g.K.Validate.shape (g.T.Matching.matches c.accepts_question.new.matching).reads nodes) added x) b (drop (c.args.start + 1) qs)) c.args.observer.now c.tell_each.new.observer)
+    c.in_ok-answer.ensures.questions told)))
+    c.tell_each.ensures.heard
+
+-- ---- names
+
+pub tell_named-loop-index-init : goal.tell_named-loop-index-init
+tell_named-loop-index-init g t c = record { matches = refl; questions = refl; left = all_to_tell _ _ _ c.args.observer.now }
+
+pub tell_named-returns-then-is_settled-clause-heard : goal.tell_named-returns-then-is_settled-clause-heard
+tell_named-returns-then-is_settled-clause-heard g t c =
+    let l = c.loop-index in
+    settled_to_tell _ _ _ _ c.args.observer.now l.observer (λ kept fs gs. c.is_settled.ensures c.if-is_settled.true kept fs gs) l.invariant.left
+
+pub tell_named-tell_question-requires : goal.tell_named-tell_question-requires
+tell_named-tell_question-requires g t c κs within =
+    let h = c.args.there.now.here in
+    let nodes = h.graph.now.nodes.items in
+    let l = c.loop-index in
+    let asked = subst (λ qs. EachMayAsk nodes (rank_at nodes h.node) (value_at h.place) (map call_of (drop c.args.start qs))) (sym l.invariant.questions) c.requires.asked in
+    let short : l.index < length l.questions.items = (let e = ap length l.invariant.questions in omega arith) in (
+      omega arith,
+      (
+        within.0,
+        (
+          within.1,
+          (
+            subst (λ m. AreKnown g.K.Validate.knows m.pattern nodes) (sym l.invariant.matches) c.requires.known,
+            (c.requires.right, may_ask_one nodes _ _ c.args.start l.index l.questions.items c.index-question.result.now asked (omega arith) short c.index-question.ensures),
+          ),
+        ),
+      ),
+    )
+
+pub tell_named-loop-index-preserved : goal.tell_named-loop-index-preserved
+tell_named-loop-index-preserved g t c =
+    let there = c.args.there.now in
+    let h = there.here in
+    let nodes = h.graph.now.nodes.items in
+    let s = stand_of there in
+    let l = c.loop-index in
+    let m = g.T.Matching.matches c.args.matching.now in
+    let added = g.K.Validate.added c.args.keyword.now in
+    let q = c.index-question.result.now in
+    let qs = c.args.questions.now.items in
+    let short : l.index < length qs = (let e = ap length l.invariant.questions in omega arith) in
+    let is : q ≡ get_or qs l.index q = subst (λ (xs : List Question). q ≡ get_or xs l.index q) l.invariant.questions c.index-question.ensures in
+    let heard = subst (λ (m : Matches). Hearing s (size_of h) (λ x. question_faults (reading_of g.K.Validate.shape m.reads nodes) added x q) c.fresh-heard.result c.tell_question.new.observer) l.invariant.matches c.in_ok-tell_question.ensures.heard in
+    record {
+      matches = c.in_ok-tell_question.ensures.matches ∙ l.invariant.matches;
+      questions = c.in_ok-tell_question.ensures.questions ∙ l.invariant.questions;
+      left = named_next s (size_of h) (question_faults (reading_of g.K.Validate.shape m.reads nodes) added) (drop c.args.start qs) qs l.index q (view there.situation.value.now) (location_of there.situation.instance.now)
+          c.args.observer.now l.observer c.fresh-heard.result c.tell_question.new.observer c.absorb_names.new.self c.requires.right.value refl short is c.fresh-heard.ensures heard c.in_ok-absorb_names.ensures l.invariant.left;
+    }
+
+pub tell_named-returns-clause-heard : goal.tell_named-returns-clause-heard
+tell_named-returns-clause-heard g t c =
+    let h = c.args.there.now.here in
+    let l = c.loop-index in
+    let m = g.T.Matching.matches c.args.matching.now in
+    named_done (stand_of c.args.there.now) (size_of h) (question_faults (reading_of g.K.Validate.shape m.reads h.graph.now.nodes.items) (g.K.Validate.added c.args.keyword.now))
+    (drop c.args.start c.args.questions.now.items) c.args.questions.now.items l.index c.args.observer.now l.observer (omega arith) l.invariant.left
+
+-- ---- one fault for all questions
+
+pub tell_combined-accepts_combined-requires : goal.tell_combined-accepts_combined-requires
+tell_combined-accepts_combined-requires g t c =
+    let h = c.args.there.now.here in
+    let nodes = h.graph.now.nodes.items in
+    let k = c.args.keyword.now in
+    record {
+      known = c.requires.known;
+      asked = subst (EachMayAsk nodes (rank_at nodes h.node) (value_at h.place)) (sym c.requires.asked.calls)
+          (each_may_ask g.K.Validate.shape nodes h.node k _ (value_at h.place) h.graph.now.sound c.requires.stands);
+    }
+
+pub tell_combined-tell_refusal-requires : goal.tell_combined-tell_refusal-requires
+tell_combined-tell_refusal-requires g t c κs within =
+    let h = c.args.there.now.here in
+    let nodes = h.graph.now.nodes.items in
+    let k = c.args.keyword.now in
+    let same = c.in_ok-accepts_combined.ensures.matches in (
+      omega arith,
+      (
+        within.0,
+        (
+          within.1,
+          (
+            subst (λ m. AreKnown g.K.Validate.knows m.pattern nodes) (sym same) c.requires.known,
+            (
+              c.requires.right,
+              (
+                c.requires.stands,
+                (
+                  subst (λ m. c.args.combination ≡ combination_of (rule m.reads (value_at h.place) (g.K.Validate.shape k))) (sym same) c.requires.combination,
+                  (
+                    c.requires.once,
+                    subst (λ qs. AreAsked (g.K.Validate.added k) (rule (g.T.Matching.matches c.accepts_combined.new.matching).reads (value_at h.place) (g.K.Validate.shape k)) (drop c.args.start qs)) (sym c.in_ok-accepts_combined.ensures.questions)
+                        (subst (λ m. AreAsked (g.K.Validate.added k) (rule m.reads (value_at h.place) (g.K.Validate.shape k)) (drop c.args.start c.args.questions.now.items)) (sym same) c.requires.asked),
+                  ),
+                ),
+              ),
+            ),
+          ),
+        ),
+      ),
+    )
+
+pub tell_combined-returns-then-branch-clause-heard : goal.tell_combined-returns-then-branch-clause-heard
+tell_combined-returns-then-branch-clause-heard g t c =
+    let h = c.args.there.now.here in
+    let k = rule (g.T.Matching.matches c.args.matching.now).reads (value_at h.place) (g.K.Validate.shape c.args.keyword.now) in
+    let once = ap has_one_fault (sym c.requires.combination) ∙ c.requires.once in
+    combined_accepted (reading_of g.K.Validate.shape (g.T.Matching.matches c.args.matching.now).reads h.graph.now.nodes.items) h.node k (stand_of c.args.there.now) (size_of h) c.in_ok-accepts_combined.field-0 once
+    (keyword_told _ h.place _ _ k c.in_ok-accepts_combined.field-0 true c.args.combination (map call_of (drop c.args.start c.args.questions.now.items)) (one_is_right k once) refl c.requires.combination c.requires.asked.calls
+    c.in_ok-accepts_combined.ensures.verdict) c.args.observer.now (search rules)
+
+pub tell_combined-returns-then-not-hear-clause-heard : goal.tell_combined-returns-then-not-hear-clause-heard
+tell_combined-returns-then-not-hear-clause-heard g t c =
+    let h = c.args.there.now.here in
+    let k = rule (g.T.Matching.matches c.args.matching.now).reads (value_at h.place) (g.K.Validate.shape c.args.keyword.now) in
+    let once = ap has_one_fault (sym c.requires.combination) ∙ c.requires.once in
+    combined_unwanted (reading_of g.K.Validate.shape (g.T.Matching.matches c.args.matching.now).reads h.graph.now.nodes.items) h.node k (stand_of c.args.there.now) (size_of h) c.in_ok-accepts_combined.field-0 once
+    (keyword_told _ h.place _ _ k c.in_ok-accepts_combined.field-0 true c.args.combination (map call_of (drop c.args.start c.args.questions.now.items)) (one_is_right k once) refl c.requires.combination c.requires.asked.calls
+    c.in_ok-accepts_combined.ensures.verdict) c.args.observer.now c.hear.new.self (search rules) (c.hear.ensures.heard (search rules))
+
+pub tell_combined-returns-clause-heard : goal.tell_combined-returns-clause-heard
+tell_combined-returns-clause-heard g t c =
+    let there = c.args.there.now in
+    let h = there.here in
+    let nodes = h.graph.now.nodes.items in
+    let m = g.T.Matching.matches c.args.matching.now in
+    let k = rule m.reads (value_at h.place) (g.K.Validate.shape c.args.keyword.now) in
+    let once = ap has_one_fault (sym c.requires.combination) ∙ c.requires.once in
+    on_ok_weaker c.tell_refusal.result
+    (λ told. combined_told (reading_of g.K.Validate.shape m.reads nodes) h.node k (stand_of there) (size_of h) c.in_ok-accepts_combined.field-0 once
+    (keyword_told _ h.place _ _ k c.in_ok-accepts_combined.field-0 true c.args.combination (map call_of (drop c.args.start c.args.questions.now.items)) (one_is_right k once) refl c.requires.combination c.requires.asked.calls
+    c.in_ok-accepts_combined.ensures.verdict) c.args.observer.now c.hear.new.self c.tell_refusal.new.observer (search rules) (c.hear.ensures.unheard (search rules))
+    (subst (λ (n : Matches). Hearing (stand_of there) (size_of h) (one_told (reading_of g.K.Validate.shape n.reads nodes) h.node (rule n.reads (value_at h.place) (g.K.Validate.shape c.args.keyword.now))) c.hear.new.self c.tell_refusal.new.observer)
+    c.in_ok-accepts_combined.ensures.matches told))
+    c.tell_refusal.ensures.heard
+
+-- ---- the one fault
+
+pub tell_refusal-tell_branches-requires : goal.tell_refusal-tell_branches-requires
+tell_refusal-tell_branches-requires g t c κs within =
+    let h = c.args.there.now.here in
+    let nodes = h.graph.now.nodes.items in
+    let k = c.args.keyword.now in (
+      omega arith,
+      (
+        within.0,
+        (
+          within.1,
+          (
+            c.requires.known,
+            (
+              c.requires.right,
+              subst (EachMayAsk nodes (rank_at nodes h.node) (value_at h.place)) (sym c.requires.asked.calls)
+                  (each_may_ask g.K.Validate.shape nodes h.node k _ (value_at h.place) h.graph.now.sound c.requires.stands),
+            ),
+          ),
+        ),
+      ),
+    )
+
+pub tell_refusal-tell_branches-requires-in-OneBranch : goal.tell_refusal-tell_branches-requires-in-OneBranch
+tell_refusal-tell_branches-requires-in-OneBranch g t c κs within =
+    let h = c.args.there.now.here in
+    let nodes = h.graph.now.nodes.items in
+    let k = c.args.keyword.now in (
+      omega arith,
+      (
+        within.0,
+        (
+          within.1,
+          (
+            subst (λ m. AreKnown g.K.Validate.knows m.pattern nodes) (sym c.in_ok-accepted-in-OneBranch.ensures.matches) c.requires.known,
+            (
+              c.requires.right,
+              subst (λ qs. EachMayAsk nodes (rank_at nodes h.node) (value_at h.place) (map call_of (drop c.args.start qs))) (sym c.in_ok-accepted-in-OneBranch.ensures.questions)
+                  (subst (EachMayAsk nodes (rank_at nodes h.node) (value_at h.place)) (sym c.requires.asked.calls)
+                  (each_may_ask g.K.Validate.shape nodes h.node k _ (value_at h.place) h.graph.now.sound c.requires.stands)),
+            ),
+          ),
+        ),
+      ),
+    )
+
+pub tell_refusal-count_accepted-requires-clause-asked : goal.tell_refusal-count_accepted-requires-clause-asked
+tell_refusal-count_accepted-requires-clause-asked g t c =
+    let h = c.args.there.now.here in
+    let nodes = h.graph.now.nodes.items in
+    let k = c.args.keyword.now in
+    subst (EachMayAsk nodes (rank_at nodes h.node) (value_at h.place)) (sym c.requires.asked.calls)
+    (each_may_ask g.K.Validate.shape nodes h.node k _ (value_at h.place) h.graph.now.sound c.requires.stands)
+
+pub tell_refusal-count_accepted-requires-in-Counted-clause-asked : goal.tell_refusal-count_accepted-requires-in-Counted-clause-asked
+tell_refusal-count_accepted-requires-in-Counted-clause-asked g t c =
+    let h = c.args.there.now.here in
+    let nodes = h.graph.now.nodes.items in
+    let k = c.args.keyword.now in
+    subst (EachMayAsk nodes (rank_at nodes h.node) (value_at h.place)) (sym c.requires.asked.calls)
+    (each_may_ask g.K.Validate.shape nodes h.node k _ (value_at h.place) h.graph.now.sound c.requires.stands)
+
+pub tell_refusal-returns-in_ok-context-in-SomeBranch-clause-heard : goal.tell_refusal-returns-in_ok-context-in-SomeBranch-clause-heard
+tell_refusal-returns-in_ok-context-in-SomeBranch-clause-heard g t c =
+    let there = c.args.there.now in
+    let h = there.here in
+    let nodes = h.graph.now.nodes.items in
+    let m = g.T.Matching.matches c.args.matching.now in
+    let added = g.K.Validate.added c.args.keyword.now in
+    let xs = drop c.args.start c.args.questions.now.items in
+    on_ok_weaker c.tell.result
+    (some_told (reading_of g.K.Validate.shape m.reads nodes) h.node (rule m.reads (value_at h.place) (g.K.Validate.shape c.args.keyword.now)) there.situation (stand_of there) (size_of h) refl refl c.requires.right.path c.requires.right.value
+    added xs c.requires.asked c.refused_name.result.now c.args.observer.now c.tell.new.observer c.in_ok-context-in-SomeBranch.context.items c.any_of-kind.result
+    (sym c.requires.combination ∙ c.in-SomeBranch.is) (c.refused_name.ensures m.reads (value_at h.place)) c.any_of-kind.ensures c.in_ok-context-in-SomeBranch.ensures.branches)
+    c.tell.ensures
+
+pub tell_refusal-returns-in_ok-context-in-OneBranch-clause-heard : goal.tell_refusal-returns-in_ok-context-in-OneBranch-clause-heard
+tell_refusal-returns-in_ok-context-in-OneBranch-clause-heard g t c =
+    let there = c.args.there.now in
+    let h = there.here in
+    let nodes = h.graph.now.nodes.items in
+    let m = g.T.Matching.matches c.args.matching.now in
+    let added = g.K.Validate.added c.args.keyword.now in
+    let xs = drop c.args.start c.args.questions.now.items in
+    let errors = subst (λ (n : Matches). AreErrorsOf (stand_of there) (size_of h) (question_faults (reading_of g.K.Validate.shape n.reads nodes) added) xs c.in_ok-context-in-OneBranch.context.items) c.in_ok-accepted-in-OneBranch.ensures.matches
+    (subst (λ qs. AreErrorsOf (stand_of there) (size_of h) (question_faults (reading_of g.K.Validate.shape (g.T.Matching.matches c.count_accepted.new.matching).reads nodes) added) (drop c.args.start qs) c.in_ok-context-in-OneBranch.context.items)
+    c.in_ok-accepted-in-OneBranch.ensures.questions c.in_ok-context-in-OneBranch.ensures.branches) in
+    on_ok_weaker c.tell-in-OneBranch.result
+    (one_branch_told (reading_of g.K.Validate.shape m.reads nodes) h.node (rule m.reads (value_at h.place) (g.K.Validate.shape c.args.keyword.now)) there.situation (stand_of there) (size_of h) refl refl c.requires.right.path c.requires.right.value
+    added xs c.requires.asked c.refused_name-in-OneBranch.result.now c.args.observer.now c.tell-in-OneBranch.new.observer c.in_ok-accepted-in-OneBranch.accepted c.in_ok-context-in-OneBranch.context.items c.one_of-kind.result
+    (sym c.requires.combination ∙ c.in-OneBranch.is) (c.refused_name-in-OneBranch.ensures m.reads (value_at h.place)) c.in_ok-accepted-in-OneBranch.ensures.counted c.one_of-kind.ensures errors)
+    c.tell-in-OneBranch.ensures
+
+pub tell_refusal-returns-in_ok-accepted-in-Counted-clause-heard : goal.tell_refusal-returns-in_ok-accepted-in-Counted-clause-heard
+tell_refusal-returns-in_ok-accepted-in-Counted-clause-heard g t c =
+    let there = c.args.there.now in
+    let h = there.here in
+    let nodes = h.graph.now.nodes.items in
+    let m = g.T.Matching.matches c.args.matching.now in
+    let added = g.K.Validate.added c.args.keyword.now in
+    let xs = drop c.args.start c.args.questions.now.items in
+    on_ok_weaker c.tell-in-Counted.result
+    (counted_told (reading_of g.K.Validate.shape m.reads nodes) h.node (rule m.reads (value_at h.place) (g.K.Validate.shape c.args.keyword.now)) there.situation (stand_of there) (size_of h) refl refl c.requires.right.path c.requires.right.value
+    added xs c.requires.asked c.refused_name-name.result.now c.args.observer.now c.tell-in-Counted.new.observer c.in_ok-accepted-in-Counted.accepted _ _ kind.Contains
+    (sym c.requires.combination ∙ c.in-Counted.is) (c.refused_name-name.ensures m.reads (value_at h.place)) c.in_ok-accepted-in-Counted.ensures.counted (record { kind = refl; proper = refl }))
+    c.tell-in-Counted.ensures
+
+pub tell_refusal-returns-in_ok-reason-in_default-clause-heard : goal.tell_refusal-returns-in_ok-reason-in_default-clause-heard
+tell_refusal-returns-in_ok-reason-in_default-clause-heard g t c =
+    let there = c.args.there.now in
+    let h = there.here in
+    let nodes = h.graph.now.nodes.items in
+    let m = g.T.Matching.matches c.args.matching.now in
+    let shape = g.K.Validate.shape c.args.keyword.now in
+    let xs = drop c.args.start c.args.questions.now.items in
+    let says = subst (λ d. IsReason (rule m.reads d shape) (view there.situation.value.now) c.in_ok-reason-in_default.reason) c.requires.right.value c.in_ok-reason-in_default.ensures.stated in
+    on_ok_weaker c.tell-in_default.result
+    (reason_told (reading_of g.K.Validate.shape m.reads nodes) h.node (rule m.reads (value_at h.place) shape) there.situation (stand_of there) (size_of h) refl refl c.requires.right.path c.requires.right.value
+    (g.K.Validate.added c.args.keyword.now) xs c.requires.asked c.refused_name-in_default.result.now c.args.observer.now c.tell-in_default.new.observer c.args.combination c.in_ok-reason-in_default.reason
+    c.requires.combination c.requires.once c.in_default.not-SomeBranch c.in_default.not-OneBranch c.in_default.not-Counted (c.refused_name-in_default.ensures m.reads (value_at h.place)) says)
+    c.tell-in_default.ensures
+
+-- ---- the errors of branches
+
+pub tell_branches-tell_question-requires : goal.tell_branches-tell_question-requires
+tell_branches-tell_question-requires g t c κs within =
+    let h = c.args.there.now.here in
+    let nodes = h.graph.now.nodes.items in
+    let l = c.loop-index in
+    let asked = subst (λ qs. EachMayAsk nodes (rank_at nodes h.node) (value_at h.place) (map call_of (drop c.args.start qs))) (sym l.invariant.questions) c.requires.asked in
+    let short : l.index < length l.questions.items = (let e = ap length l.invariant.questions in omega arith) in (
+      omega arith,
+      (
+        within.0,
+        (
+          within.1,
+          (
+            subst (λ m. AreKnown g.K.Validate.knows m.pattern nodes) (sym l.invariant.matches) c.requires.known,
+            (c.requires.right, may_ask_one nodes _ _ c.args.start l.index l.questions.items c.index-question.result.now asked (omega arith) short c.index-question.ensures),
+          ),
+        ),
+      ),
+    )
+
+pub tell_branches-loop-index-preserved : goal.tell_branches-loop-index-preserved
+tell_branches-loop-index-preserved g t c =
+    let there = c.args.there.now in
+    let h = there.here in
+    let nodes = h.graph.now.nodes.items in
+    let s = stand_of there in
+    let l = c.loop-index in
+    let m = g.T.Matching.matches c.args.matching.now in
+    let added = g.K.Validate.added c.args.keyword.now in
+    let q = c.index-question.result.now in
+    let qs = c.args.questions.now.items in
+    let short : l.index < length qs = (let e = ap length l.invariant.questions in omega arith) in
+    let is : q ≡ get_or qs l.index q = subst (λ (xs : List Question). q ≡ get_or xs l.index q) l.invariant.questions c.index-question.ensures in
+    let heard = subst (λ (m : Matches). Hearing s (size_of h) (λ x. question_faults (reading_of g.K.Validate.shape m.reads nodes) added x q) (observer.All c.new.result) c.tell_question.new.observer) l.invariant.matches c.in_ok-tell_question.ensures.heard in
+    record {
+      matches = c.in_ok-tell_question.ensures.matches ∙ l.invariant.matches;
+      questions = c.in_ok-tell_question.ensures.questions ∙ l.invariant.questions;
+      left = branches_next s (size_of h) (question_faults (reading_of g.K.Validate.shape m.reads nodes) added) (drop c.args.start qs) qs l.index q l.context.items c.push.new.self.items c.all_heard.result
+          (observer.All c.new.result) c.tell_question.new.observer short is c.new.ensures heard c.all_heard.ensures c.in_ok-push.ensures.items l.invariant.left;
+    }
+
+pub tell_branches-returns-clause-branches : goal.tell_branches-returns-clause-branches
+tell_branches-returns-clause-branches g t c =
+    let h = c.args.there.now.here in
+    let l = c.loop-index in
+    let m = g.T.Matching.matches c.args.matching.now in
+    branches_done (stand_of c.args.there.now) (size_of h) (question_faults (reading_of g.K.Validate.shape m.reads h.graph.now.nodes.items) (g.K.Validate.added c.args.keyword.now))
+    (drop c.args.start c.args.questions.now.items) c.args.questions.now.items l.index l.context.items (omega arith) l.invariant.left
+
+-- ---- a question
+
+pub tell_question-returns-in-Whole-clause-heard : goal.tell_question-returns-in-Whole-clause-heard
+tell_question-returns-in-Whole-clause-heard g t c =
+    on_ok_weaker c.tell_step.result
+    (λ told. told.hears _ (c.push_name-evaluation.ensures ∙ ap (λ p. p ++ location_of c.args.there.now.situation.evaluation.now) (sym (ap parts_of c.in-Whole.is) ∙ c.entry.ensures)))
+    c.tell_step.ensures.heard
+
+pub tell_question-returns-in-Name-clause-heard : goal.tell_question-returns-in-Name-clause-heard
+tell_question-returns-in-Name-clause-heard g t c =
+    on_ok_weaker c.tell_step-in-Name.result
+    (λ told. told.hears _ (c.push_name-evaluation-in-Name.ensures ∙ ap (λ p. name c.in-Name.name.now ∷ p) c.push_name-whole.ensures
+    ∙ ap (λ p. p ++ location_of c.args.there.now.situation.evaluation.now) (sym (ap parts_of c.in-Name.is) ∙ c.entry.ensures)))
+    c.tell_step-in-Name.ensures.heard
+
+pub tell_question-returns-in-Index-clause-heard : goal.tell_question-returns-in-Index-clause-heard
+tell_question-returns-in-Index-clause-heard g t c =
+    on_ok_weaker c.tell_step-in-Index.result
+    (λ told. told.hears _ (c.push_index-evaluation.ensures ∙ ap (λ p. index c.in-Index.index ∷ p) c.push_name-whole-in-Index.ensures
+    ∙ ap (λ p. p ++ location_of c.args.there.now.situation.evaluation.now) (sym (ap parts_of c.in-Index.is) ∙ c.entry.ensures)))
+    c.tell_step-in-Index.ensures.heard
+
+-- ---- a step
+
+pub tell_step-tell_value-requires : goal.tell_step-tell_value-requires
+tell_step-tell_value-requires g t c κs within =
+    let h = c.args.there.now.here in
+    let nodes = h.graph.now.nodes.items in
+    let P : Asked → Type 0 = λ a. GoesDown (value_at h.place) (step_of a) in
+    let falls = size_down nodes (value_at h.place) (view c.in-Item.item.now) (numbers_in h.progress.now) [] (rank_at nodes h.node) c.args.question.node (subst P c.in-Item.is c.requires.asked.down) in
+    (omega arith, (within.0, (within.1, (c.requires.known, (c.requires.asked.below, path_here nodes c.args.question.node _ c.requires.asked.below c.index.ensures)))))
+
+pub tell_step-tell_value-requires-in-Member : goal.tell_step-tell_value-requires-in-Member
+tell_step-tell_value-requires-in-Member g t c κs within =
+    let h = c.args.there.now.here in
+    let nodes = h.graph.now.nodes.items in
+    let P : Asked → Type 0 = λ a. GoesDown (value_at h.place) (step_of a) in
+    let falls = size_down nodes (value_at h.place) (view c.in-Member.member.now) (numbers_in h.progress.now) [] (rank_at nodes h.node) c.args.question.node (subst P c.in-Member.is c.requires.asked.down) in
+    (omega arith, (within.0, (within.1, (c.requires.known, (c.requires.asked.below, path_here nodes c.args.question.node _ c.requires.asked.below c.index.ensures)))))
+
+pub tell_step-tell_name-requires : goal.tell_step-tell_name-requires
+tell_step-tell_name-requires g t c κs within =
+    let h = c.args.there.now.here in
+    let nodes = h.graph.now.nodes.items in
+    let P : Asked → Type 0 = λ a. GoesDown (value_at h.place) (step_of a) in
+    let falls = size_down nodes (value_at h.place) (value_at (place.Name c.in-Name.name)) (numbers_in h.progress.now) [] (rank_at nodes h.node) c.args.question.node (subst P c.in-Name.is c.requires.asked.down) in
+    (omega arith, (within.0, (within.1, (c.requires.known, (c.requires.asked.below, path_here nodes c.args.question.node _ c.requires.asked.below c.index.ensures)))))
+
+pub tell_step-returns-then-question-clause-heard : goal.tell_step-returns-then-question-clause-heard
+tell_step-returns-then-question-clause-heard g t c =
+    on_ok_weaker c.tell_target.result
+    (hears_as _ c.args.there.now _ c.args.question.node stay (step_of c.args.question.asked) true c.args.question.follows _ _ (sym (ap step_of c.in-Here.is)) (sym c.if-question.true))
+    c.tell_target.ensures.heard
+
+pub tell_step-returns-else-question-clause-heard : goal.tell_step-returns-else-question-clause-heard
+tell_step-returns-else-question-clause-heard g t c =
+    on_ok_weaker c.tell_inside.result
+    (hears_as _ c.args.there.now _ c.args.question.node stay (step_of c.args.question.asked) false c.args.question.follows _ _ (sym (ap step_of c.in-Here.is)) (sym c.if-question.false))
+    c.tell_inside.ensures.heard
+
+pub tell_step-returns-in-Item-clause-heard : goal.tell_step-returns-in-Item-clause-heard
+tell_step-returns-in-Item-clause-heard g t c =
+    let there = c.args.there.now in
+    let h = there.here in
+    let nodes = h.graph.now.nodes.items in
+    let q = c.args.question in
+    let P : Asked → Type 0 = λ a. GoesDown (value_at h.place) (step_of a) in
+    let falls = size_down nodes (value_at h.place) (view c.in-Item.item.now) (numbers_in h.progress.now) [] (rank_at nodes h.node) q.node (subst P c.in-Item.is c.requires.asked.down) in
+    let plain : q.follows ≡ false = follows_none (step_of q.asked) q.follows c.requires.asked.stays (λ e. (let f = sym (ap step_of c.in-Item.is) ∙ e in cc)) in
+    on_ok_weaker c.tell_value.result
+    (λ told. hears_as _ there _ q.node (step_of (asked.Item c.in-Item.index c.in-Item.item)) (step_of q.asked) false q.follows _ _ (sym (ap step_of c.in-Item.is)) (sym plain)
+    (step_heard _ there (location_of c.args.evaluation.now) q.node (step_of (asked.Item c.in-Item.index c.in-Item.item)) _ _ _ _ (leads_to_item (stand_of there) (location_of c.args.evaluation.now) c.in-Item.index c.in-Item.item _ c.push_index-instance.ensures) falls told))
+    c.tell_value.ensures.heard
+
+pub tell_step-returns-in-Member-clause-heard : goal.tell_step-returns-in-Member-clause-heard
+tell_step-returns-in-Member-clause-heard g t c =
+    let there = c.args.there.now in
+    let h = there.here in
+    let nodes = h.graph.now.nodes.items in
+    let q = c.args.question in
+    let P : Asked → Type 0 = λ a. GoesDown (value_at h.place) (step_of a) in
+    let falls = size_down nodes (value_at h.place) (view c.in-Member.member.now) (numbers_in h.progress.now) [] (rank_at nodes h.node) q.node (subst P c.in-Member.is c.requires.asked.down) in
+    let plain : q.follows ≡ false = follows_none (step_of q.asked) q.follows c.requires.asked.stays (λ e. (let f = sym (ap step_of c.in-Member.is) ∙ e in cc)) in
+    on_ok_weaker c.tell_value-in-Member.result
+    (λ told. hears_as _ there _ q.node (step_of (asked.Member c.in-Member.name c.in-Member.member)) (step_of q.asked) false q.follows _ _ (sym (ap step_of c.in-Member.is)) (sym plain)
+    (step_heard _ there (location_of c.args.evaluation.now) q.node (step_of (asked.Member c.in-Member.name c.in-Member.member)) _ _ _ _ (leads_to_member (stand_of there) (location_of c.args.evaluation.now) c.in-Member.name.now c.in-Member.member _ c.push_name-instance.ensures) falls told))
+    c.tell_value-in-Member.ensures.heard
+
+pub tell_step-returns-in-Name-clause-heard : goal.tell_step-returns-in-Name-clause-heard
+tell_step-returns-in-Name-clause-heard g t c =
+    let there = c.args.there.now in
+    let h = there.here in
+    let nodes = h.graph.now.nodes.items in
+    let q = c.args.question in
+    let P : Asked → Type 0 = λ a. GoesDown (value_at h.place) (step_of a) in
+    let down = subst P c.in-Name.is c.requires.asked.down in
+    let falls = size_down nodes (value_at h.place) (value_at (place.Name c.in-Name.name)) (numbers_in h.progress.now) [] (rank_at nodes h.node) q.node down in
+    let plain : q.follows ≡ false = follows_none (step_of q.asked) q.follows c.requires.asked.stays (λ e. (let f = sym (ap step_of c.in-Name.is) ∙ e in cc)) in
+    on_ok_weaker c.tell_name.result
+    (λ told. hears_as _ there _ q.node (step_of (asked.Name c.in-Name.name)) (step_of q.asked) false q.follows _ _ (sym (ap step_of c.in-Name.is)) (sym plain)
+    (step_heard _ there (location_of c.args.evaluation.now) q.node (step_of (asked.Name c.in-Name.name)) _ _ _ _ (leads_to_name (stand_of there) (location_of c.args.evaluation.now) c.in-Name.name down) falls told))
+    c.tell_name.ensures.heard
+
+-- ---- another schema of the keyword
+
+pub tell_inside-tell_node-requires : goal.tell_inside-tell_node-requires
+tell_inside-tell_node-requires g t c κs within =
+    let h = c.args.there.now.here in
+    let nodes = h.graph.now.nodes.items in
+    let falls = size_inside nodes (value_at h.place) (numbers_in h.progress.now) (rank_at nodes h.node) (rank_at nodes c.args.node) c.requires.falls in
+    (omega arith, (within.0, (within.1, (c.requires.known, (record { value = c.requires.right.value; path = path_here nodes c.args.node _ c.requires.there c.index.ensures }, c.requires.there)))))
+
+pub tell_inside-returns-clause-heard : goal.tell_inside-returns-clause-heard
+tell_inside-returns-clause-heard g t c =
+    let there = c.args.there.now in
+    let h = there.here in
+    let nodes = h.graph.now.nodes.items in
+    let falls = size_inside nodes (value_at h.place) (numbers_in h.progress.now) (rank_at nodes h.node) (rank_at nodes c.args.node) c.requires.falls in
+    on_ok_weaker c.tell_node.result
+    (step_heard _ there (location_of c.args.evaluation.now) c.args.node stay _ _ _ _ (leads_inside (stand_of there) (location_of c.args.evaluation.now)) falls)
+    c.tell_node.ensures.heard
+
+-- ---- the target of a reference
+
+pub tell_target-returns-then-is_in_progress-clause-heard : goal.tell_target-returns-then-is_in_progress-clause-heard
+tell_target-returns-then-is_in_progress-clause-heard g t c =
+    back_heard g.K.Validate.shape _ c.args.there.now.here.graph.now.nodes.items c.args.there.now _ c.args.target c.args.observer.now (sym c.is_in_progress.ensures ∙ c.if-is_in_progress.true)
+
+pub tell_target-tell_node-requires : goal.tell_target-tell_node-requires
+tell_target-tell_node-requires g t c κs within =
+    let h = c.args.there.now.here in
+    let nodes = h.graph.now.nodes.items in
+    let fresh : is_among c.args.target (numbers_in h.progress.now) ≡ false = sym c.is_in_progress.ensures ∙ c.if-is_in_progress.false in
+    let falls = size_target nodes (value_at h.place) (numbers_in h.progress.now) (rank_at nodes h.node) c.args.target c.requires.there fresh in
+    (omega arith, (within.0, (within.1, (c.requires.known, (record { value = c.requires.right.value; path = path_here nodes c.args.target _ c.requires.there c.index.ensures }, c.requires.there)))))
+
+pub tell_target-returns-clause-heard : goal.tell_target-returns-clause-heard
+tell_target-returns-clause-heard g t c =
+    let there = c.args.there.now in
+    let h = there.here in
+    let nodes = h.graph.now.nodes.items in
+    let fresh : is_among c.args.target (numbers_in h.progress.now) ≡ false = sym c.is_in_progress.ensures ∙ c.if-is_in_progress.false in
+    let falls = size_target nodes (value_at h.place) (numbers_in h.progress.now) (rank_at nodes h.node) c.args.target c.requires.there fresh in
+    on_ok_weaker c.tell_node.result (target_heard g.K.Validate.shape _ nodes there (location_of c.args.evaluation.now) c.args.target _ _ _ fresh falls) c.tell_node.ensures.heard
+
+-- ---- a name
+
+pub tell_name-tell_node-requires : goal.tell_name-tell_node-requires
+tell_name-tell_node-requires g t c κs within =
+    let nodes = c.args.graph.now.nodes.items in
+    let known : AreKnown g.K.Validate.knows (g.T.Matching.matches c.args.matching.now).pattern nodes = first_of (assumption, search rules) in
+    let there : c.args.node < length nodes = first_of (assumption, search rules) in
+    let path : c.args.object.schema.now ≡ path_at nodes c.args.node = first_of (assumption, search rules) in
+    let text = json.String c.in_ok-from_str.field-0 in
+    let viewed : view text ≡ string (string_bytes c.in_ok-from_str.field-0) = search (rules, the_lemmas) in
+    let is : view text ≡ string c.args.name.now = viewed ∙ ap string c.in_ok-from_str.ensures.ok in
+    (omega (arith, c.requires.1.0), (within.0, (within.1, (known, (record { value = is; path = path }, there)))))
+
+pub tell_name-returns-clause-heard : goal.tell_name-returns-clause-heard
+tell_name-returns-clause-heard g t c =
+    on_ok_weaker c.absorb.result
+    (λ absorbs. record {
+      hears = λ x at deep.
+          hears_absorbed (λ fs. fs) _ c.args.observer.now c.fresh-heard.result c.tell_node.new.observer c.absorb.new.self c.fresh-heard.ensures (c.in_ok-tell_node.ensures.heard.hears x at deep) absorbs;
+    })
+    c.absorb.ensures
+
+pub tell_each-loop-index-preserved : goal.tell_each-loop-index-preserved
+tell_each-loop-index-preserved g t c =
+    let there = c.args.there.now in
+    let h = there.here in
+    let nodes = h.graph.now.nodes.items in
+    let s = stand_of there in
+    let l = c.loop-index in
+    let m = g.T.Matching.matches c.args.matching.now in
+    let added = g.K.Validate.added c.args.keyword.now in
+    let q = c.index-question.result.now in
+    let qs = c.args.questions.now.items in
+    let short : l.index < length qs = (let e = ap length l.invariant.questions in omega arith) in
+    let is : q ≡ get_or qs l.index q = subst (λ (xs : List Question). q ≡ get_or xs l.index q) l.invariant.questions c.index-question.ensures in
+    let same : q.beside ≡ c.args.beside = search rules in
+    let heard = subst (λ (m : Matches). Hearing s (size_of h) (λ x. question_faults (reading_of g.K.Validate.shape m.reads nodes) added x q) l.observer c.tell_question.new.observer) l.invariant.matches c.in_ok-tell_question.ensures.heard in
+    record {
+      matches = c.in_ok-tell_question.ensures.matches ∙ l.invariant.matches;
+      questions = c.in_ok-tell_question.ensures.questions ∙ l.invariant.questions;
+      left = beside_next s (size_of h) (question_faults (reading_of g.K.Validate.shape m.reads nodes) added) (drop c.args.start qs) qs l.index c.args.beside q c.args.observer.now l.observer c.tell_question.new.observer
+          short is same heard l.invariant.left;
+    }
+
+pub tell_each-loop-index-preserved-then-question-beside : goal.tell_each-loop-index-preserved-then-question-beside
+tell_each-loop-index-preserved-then-question-beside g t c =
+    let there = c.args.there.now in
+    let h = there.here in
+    let nodes = h.graph.now.nodes.items in
+    let s = stand_of there in
+    let l = c.loop-index in
+    let m = g.T.Matching.matches c.args.matching.now in
+    let added = g.K.Validate.added c.args.keyword.now in
+    let q = c.index-question.result.now in
+    let qs = c.args.questions.now.items in
+    let short : l.index < length qs = (let e = ap length l.invariant.questions in omega arith) in
+    let is : q ≡ get_or qs l.index q = subst (λ (xs : List Question). q ≡ get_or xs l.index q) l.invariant.questions c.index-question.ensures in
+    let other : q.beside ≡ c.args.beside → ⊥ = search rules in
+    record {
+      matches = l.invariant.matches;
+      questions = l.invariant.questions;
+      left = beside_skipped s (size_of h) (question_faults (reading_of g.K.Validate.shape m.reads nodes) added) (drop c.args.start qs) qs l.index c.args.beside q c.args.observer.now l.observer short is other l.invariant.left;
+    }

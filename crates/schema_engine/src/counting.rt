@@ -1,0 +1,42 @@
+//! How many questions are answered yes.
+ghost use Rattle.std.specs.Prelude.{◌≡◌, ◌<◌, ◌≤◌, ◌+◌, ℕ, map, drop, OnOk, IfOk};
+ghost use Rattle.schema_meaning.specs.Members.{count_true};
+ghost use Rattle.schema_engine.specs.Places.{value_at};
+ghost use Rattle.schema_engine.specs.Progress.{numbers_in};
+ghost use Rattle.schema_engine.specs.Questions.{call_of};
+ghost use Rattle.schema_engine.specs.Graphs.{rank_at, reading_of, AreKnown};
+ghost use Rattle.schema_engine.specs.Standing.{nodes_of, size_of};
+ghost use Rattle.schema_engine.specs.Verdicts.{asked_in, Counts, EachMayAsk};
+
+use crate::here::Here;
+use crate::matching::Matching;
+use crate::place::Question;
+use crate::validate::Validate;
+use crate::verdict::accepts_question;
+use std::alloc::AllocError;
+
+// How many of the questions from `start` on are answered yes.
+pub(crate) fn count_accepted<'i, K: Validate, T: Matching>(
+    here: &Here<'i, '_, K>,
+    start: usize,
+    matching: &mut T,
+    questions: &mut Vec<Question<'i>>,
+) -> Result<usize, AllocError>
+    requires known { AreKnown K.knows (T.matches matching.old).pattern here.now.graph.now.nodes.items }
+    requires asked { EachMayAsk here.now.graph.now.nodes.items (rank_at here.now.graph.now.nodes.items here.now.node) (value_at here.now.place) (map call_of (drop start questions.old.items)) }
+    ensures matches { OnOk result (T.matches matching.new ≡ T.matches matching.old) }
+    ensures questions { OnOk result (questions.new.items ≡ questions.old.items) }
+    ensures counted { let r = reading_of K.shape (T.matches matching.old).reads here.now.graph.now.nodes.items in
+        IfOk result (Counts here.now.place (numbers_in here.now.progress.now) (size_of here.now)
+        (λ x. count_true (map (asked_in r x) (map call_of (drop start questions.old.items))))) }
+{
+    let mut count = 0;
+    let end = questions.len();
+    for index in start..end {
+        let question = questions[index];
+        if accepts_question(here, question, matching, questions)? {
+            count += 1;
+        }
+    }
+    Ok(count)
+}

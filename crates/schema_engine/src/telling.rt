@@ -1,0 +1,589 @@
+//! The faults of a compiled schema.
+ghost use Rattle.std.specs.Prelude.{◌≡◌, ◌<◌, ◌≤◌, ◌++◌, ℕ, suc, true, false, map, drop, length, OnOk, IfOk};
+ghost use Rattle.serde_json.specs.View.{view};
+ghost use Rattle.schema_meaning.specs.Members.{In};
+ghost use Rattle.schema_meaning.specs.Places.{stay, to_name};
+ghost use Rattle.schema_meaning.specs.Keywords.{rule};
+ghost use Rattle.schema_reports.specs.Locations.{location_of};
+ghost use Rattle.schema_engine.specs.Places.{value_at, step_of};
+ghost use Rattle.schema_engine.specs.Questions.{call_of};
+ghost use Rattle.schema_engine.specs.Refusals.{has_one_fault};
+ghost use Rattle.schema_engine.specs.Rules.{combination_of};
+ghost use Rattle.schema_engine.specs.Graphs.{keywords_at, path_at, rank_at, reading_of, AreKnown};
+ghost use Rattle.schema_engine.specs.Verdicts.{GoesDown, MayAsk, EachMayAsk};
+ghost use Rattle.schema_engine.specs.Faults.{node_faults, rule_faults, one_told, question_faults, faults_beside, faults_by_first, faults_of_object, AreAsked, AreErrorsOf, Hearing};
+ghost use Rattle.schema_engine.specs.Standing.{nodes_of, size_at, size_of, stand_in, stand_of, stand_of_name, HearsAt, HearsOf, IsThere};
+
+use crate::combination::Combination;
+use crate::counting::count_accepted;
+use crate::entry::Entry;
+use crate::graph::Graph;
+use crate::here::Here;
+use crate::matching::Matching;
+use crate::place::{Asked, Place, Question};
+use crate::progress::{Progress, is_in_progress};
+use crate::refusals::{any_of, one_of};
+use crate::situation::Situation;
+use crate::there::There;
+use crate::validate::Validate;
+use crate::verdict::{accepts_combined, accepts_question};
+use schema_reports::heard::all_heard;
+use schema_reports::{AllFaults, LazyLocation, Observer, ValidationError, ValidationErrorKind};
+use serde_json::Value;
+use std::alloc::AllocError;
+
+// What a node tells of a value in its situation, where no reference is in progress.
+#[cycle(telling)]
+pub(crate) fn tell_value<'i, K: Validate, T: Matching>(
+    graph: &'i Graph<K>,
+    node: usize,
+    situation: Situation<'_, 'i>,
+    matching: &mut T,
+    questions: &mut Vec<Question<'i>>,
+    observer: &mut Observer<'i>,
+) -> Result<(), AllocError>
+    requires known { AreKnown K.knows (T.matches matching.old).pattern graph.now.nodes.items }
+    requires there { node < length graph.now.nodes.items }
+    requires path { situation.schema.now ≡ path_at graph.now.nodes.items node }
+    ensures matches { OnOk result (T.matches matching.new ≡ T.matches matching.old) }
+    ensures questions { OnOk result (questions.new.items ≡ questions.old.items) }
+    ensures heard { let nodes = graph.now.nodes.items in let r = reading_of K.shape (T.matches matching.old).reads nodes in
+        OnOk result (Hearing (stand_in situation.entry) (suc (size_at nodes (stand_in situation.entry) node)) (node_faults r node) observer.old observer.new) }
+{
+    let there = There {
+        here: Here {
+            graph,
+            node,
+            place: Place::Value(situation.value),
+            progress: &Progress::Nothing,
+        },
+        situation,
+    };
+    tell_node(&there, matching, questions, observer)
+}
+
+// What a node tells there.
+#[cycle(telling)]
+fn tell_node<'i, K: Validate, T: Matching>(
+    there: &There<'i, '_, K>,
+    matching: &mut T,
+    questions: &mut Vec<Question<'i>>,
+    observer: &mut Observer<'i>,
+) -> Result<(), AllocError>
+    requires known { AreKnown K.knows (T.matches matching.old).pattern (nodes_of there.now.here) }
+    requires right { IsThere there.now }
+    requires there { there.now.here.node < length (nodes_of there.now.here) }
+    ensures matches { OnOk result (T.matches matching.new ≡ T.matches matching.old) }
+    ensures questions { OnOk result (questions.new.items ≡ questions.old.items) }
+    ensures heard { let r = reading_of K.shape (T.matches matching.old).reads (nodes_of there.now.here) in
+        OnOk result (Hearing (stand_of there.now) (suc (size_of there.now.here)) (node_faults r there.now.here.node) observer.old observer.new) }
+{
+    for keyword in &there.here.graph.nodes[there.here.node].keywords {
+        if observer.is_settled() {
+            return Ok(());
+        }
+        tell_keyword(there, keyword, matching, questions, observer)?;
+    }
+    Ok(())
+}
+
+// What a keyword of the node tells.
+#[cycle(telling)]
+fn tell_keyword<'i, K: Validate, T: Matching>(
+    there: &There<'i, '_, K>,
+    keyword: &'i K,
+    matching: &mut T,
+    questions: &mut Vec<Question<'i>>,
+    observer: &mut Observer<'i>,
+) -> Result<(), AllocError>
+    requires known { AreKnown K.knows (T.matches matching.old).pattern (nodes_of there.now.here) }
+    requires right { IsThere there.now }
+    requires stands { In keyword.now (keywords_at (nodes_of there.now.here) there.now.here.node) }
+    ensures matches { OnOk result (T.matches matching.new ≡ T.matches matching.old) }
+    ensures questions { OnOk result (questions.new.items ≡ questions.old.items) }
+    ensures heard { let m = (T.matches matching.old).reads in let r = reading_of K.shape m (nodes_of there.now.here) in
+        OnOk result (HearsAt there.now (rule_faults r there.now.here.node (rule m (value_at there.now.here.place) (K.shape keyword.now))) observer.old observer.new) }
+{
+    let start = questions.len();
+    keyword.questions(there.here.place, matching, questions)?;
+    tell_by_rule(there, keyword, start, matching, questions, observer)?;
+    questions.truncate(start);
+    Ok(())
+}
+
+// What a keyword tells whose questions are those from `start` on.
+#[cycle(telling)]
+fn tell_by_rule<'i, K: Validate, T: Matching>(
+    there: &There<'i, '_, K>,
+    keyword: &'i K,
+    start: usize,
+    matching: &mut T,
+    questions: &mut Vec<Question<'i>>,
+    observer: &mut Observer<'i>,
+) -> Result<(), AllocError>
+    requires known { AreKnown K.knows (T.matches matching.old).pattern (nodes_of there.now.here) }
+    requires right { IsThere there.now }
+    requires stands { In keyword.now (keywords_at (nodes_of there.now.here) there.now.here.node) }
+    requires asked { AreAsked (K.added keyword.now) (rule (T.matches matching.old).reads (value_at there.now.here.place) (K.shape keyword.now)) (drop start questions.old.items) }
+    ensures matches { OnOk result (T.matches matching.new ≡ T.matches matching.old) }
+    ensures questions { OnOk result (questions.new.items ≡ questions.old.items) }
+    ensures heard { let m = (T.matches matching.old).reads in let r = reading_of K.shape m (nodes_of there.now.here) in
+        OnOk result (HearsAt there.now (rule_faults r there.now.here.node (rule m (value_at there.now.here.place) (K.shape keyword.now))) observer.old observer.new) }
+{
+    let combination = keyword.combination(there.here.place);
+    match combination {
+        Combination::Every => {
+            keyword.tell_notes(&there.situation, matching, observer)?;
+            tell_each(there, keyword, true, start, matching, questions, observer)
+        }
+        Combination::EachNamed => {
+            tell_named(there, keyword, start, matching, questions, observer)
+        }
+        Combination::Conditional => {
+            tell_conditional(there, keyword, start, matching, questions, observer)
+        }
+        _ => tell_combined(
+            there,
+            keyword,
+            combination,
+            start,
+            matching,
+            questions,
+            observer,
+        ),
+    }
+}
+
+// What the questions from `start` on tell that stand beside this answer to a condition.
+#[cycle(telling)]
+fn tell_each<'i, K: Validate, T: Matching>(
+    there: &There<'i, '_, K>,
+    keyword: &'i K,
+    beside: bool,
+    start: usize,
+    matching: &mut T,
+    questions: &mut Vec<Question<'i>>,
+    observer: &mut Observer<'i>,
+) -> Result<(), AllocError>
+    requires known { AreKnown K.knows (T.matches matching.old).pattern (nodes_of there.now.here) }
+    requires right { IsThere there.now }
+    requires asked { EachMayAsk (nodes_of there.now.here) (rank_at (nodes_of there.now.here) there.now.here.node) (value_at there.now.here.place) (map call_of (drop start questions.old.items)) }
+    ensures matches { OnOk result (T.matches matching.new ≡ T.matches matching.old) }
+    ensures questions { OnOk result (questions.new.items ≡ questions.old.items) }
+    ensures heard { let r = reading_of K.shape (T.matches matching.old).reads (nodes_of there.now.here) in
+        OnOk result (HearsAt there.now (λ x. faults_beside (question_faults r (K.added keyword.now) x) beside (drop start questions.old.items)) observer.old observer.new) }
+{
+    let end = questions.len();
+    for index in start..end {
+        if observer.is_settled() {
+            return Ok(());
+        }
+        let question = questions[index];
+        if question.beside != beside {
+            continue;
+        }
+        tell_question(there, keyword, question, matching, questions, observer)?;
+    }
+    Ok(())
+}
+
+// What is told where the first of the questions from `start` on is a condition.
+#[cycle(telling)]
+fn tell_conditional<'i, K: Validate, T: Matching>(
+    there: &There<'i, '_, K>,
+    keyword: &'i K,
+    start: usize,
+    matching: &mut T,
+    questions: &mut Vec<Question<'i>>,
+    observer: &mut Observer<'i>,
+) -> Result<(), AllocError>
+    requires known { AreKnown K.knows (T.matches matching.old).pattern (nodes_of there.now.here) }
+    requires right { IsThere there.now }
+    requires asked { EachMayAsk (nodes_of there.now.here) (rank_at (nodes_of there.now.here) there.now.here.node) (value_at there.now.here.place) (map call_of (drop start questions.old.items)) }
+    ensures matches { OnOk result (T.matches matching.new ≡ T.matches matching.old) }
+    ensures questions { OnOk result (questions.new.items ≡ questions.old.items) }
+    ensures heard { let r = reading_of K.shape (T.matches matching.old).reads (nodes_of there.now.here) in
+        OnOk result (HearsAt there.now (λ x. faults_by_first (question_faults r (K.added keyword.now) x) (drop start questions.old.items)) observer.old observer.new) }
+{
+    if start >= questions.len() {
+        return Ok(());
+    }
+    let condition = questions[start];
+    let answer = accepts_question(&there.here, condition, matching, questions)?;
+    tell_each(
+        there,
+        keyword,
+        answer,
+        start + 1,
+        matching,
+        questions,
+        observer,
+    )
+}
+
+// What is told of the object, for each fault that the questions from `start` on tell of a name.
+#[cycle(telling)]
+fn tell_named<'i, K: Validate, T: Matching>(
+    there: &There<'i, '_, K>,
+    keyword: &'i K,
+    start: usize,
+    matching: &mut T,
+    questions: &mut Vec<Question<'i>>,
+    observer: &mut Observer<'i>,
+) -> Result<(), AllocError>
+    requires known { AreKnown K.knows (T.matches matching.old).pattern (nodes_of there.now.here) }
+    requires right { IsThere there.now }
+    requires asked { EachMayAsk (nodes_of there.now.here) (rank_at (nodes_of there.now.here) there.now.here.node) (value_at there.now.here.place) (map call_of (drop start questions.old.items)) }
+    ensures matches { OnOk result (T.matches matching.new ≡ T.matches matching.old) }
+    ensures questions { OnOk result (questions.new.items ≡ questions.old.items) }
+    ensures heard { let r = reading_of K.shape (T.matches matching.old).reads (nodes_of there.now.here) in
+        OnOk result (HearsAt there.now (λ x. faults_of_object (question_faults r (K.added keyword.now) x) x (drop start questions.old.items)) observer.old observer.new) }
+{
+    let situation = &there.situation;
+    let end = questions.len();
+    for index in start..end {
+        if observer.is_settled() {
+            return Ok(());
+        }
+        let question = questions[index];
+        let mut heard = observer.fresh(situation.alloc);
+        tell_question(there, keyword, question, matching, questions, &mut heard)?;
+        observer.absorb_names(situation.alloc, heard, situation.value, situation.instance)?;
+    }
+    Ok(())
+}
+
+// What a keyword tells that has one fault for all of its questions, those from `start` on.
+#[cycle(telling)]
+fn tell_combined<'i, K: Validate, T: Matching>(
+    there: &There<'i, '_, K>,
+    keyword: &'i K,
+    combination: Combination,
+    start: usize,
+    matching: &mut T,
+    questions: &mut Vec<Question<'i>>,
+    observer: &mut Observer<'i>,
+) -> Result<(), AllocError>
+    requires known { AreKnown K.knows (T.matches matching.old).pattern (nodes_of there.now.here) }
+    requires right { IsThere there.now }
+    requires stands { In keyword.now (keywords_at (nodes_of there.now.here) there.now.here.node) }
+    requires combination { combination ≡ combination_of (rule (T.matches matching.old).reads (value_at there.now.here.place) (K.shape keyword.now)) }
+    requires once { has_one_fault combination ≡ true }
+    requires asked { AreAsked (K.added keyword.now) (rule (T.matches matching.old).reads (value_at there.now.here.place) (K.shape keyword.now)) (drop start questions.old.items) }
+    ensures matches { OnOk result (T.matches matching.new ≡ T.matches matching.old) }
+    ensures questions { OnOk result (questions.new.items ≡ questions.old.items) }
+    ensures heard { let m = (T.matches matching.old).reads in let r = reading_of K.shape m (nodes_of there.now.here) in
+        OnOk result (HearsAt there.now (rule_faults r there.now.here.node (rule m (value_at there.now.here.place) (K.shape keyword.now))) observer.old observer.new) }
+{
+    if accepts_combined(&there.here, combination, start, matching, questions)? {
+        return Ok(());
+    }
+    if !observer.hear() {
+        return Ok(());
+    }
+    tell_refusal(
+        there,
+        keyword,
+        combination,
+        start,
+        matching,
+        questions,
+        observer,
+    )
+}
+
+// Tells of the one fault.
+#[cycle(telling)]
+fn tell_refusal<'i, K: Validate, T: Matching>(
+    there: &There<'i, '_, K>,
+    keyword: &'i K,
+    combination: Combination,
+    start: usize,
+    matching: &mut T,
+    questions: &mut Vec<Question<'i>>,
+    observer: &mut Observer<'i>,
+) -> Result<(), AllocError>
+    requires known { AreKnown K.knows (T.matches matching.old).pattern (nodes_of there.now.here) }
+    requires right { IsThere there.now }
+    requires stands { In keyword.now (keywords_at (nodes_of there.now.here) there.now.here.node) }
+    requires combination { combination ≡ combination_of (rule (T.matches matching.old).reads (value_at there.now.here.place) (K.shape keyword.now)) }
+    requires once { has_one_fault combination ≡ true }
+    requires asked { AreAsked (K.added keyword.now) (rule (T.matches matching.old).reads (value_at there.now.here.place) (K.shape keyword.now)) (drop start questions.old.items) }
+    ensures matches { OnOk result (T.matches matching.new ≡ T.matches matching.old) }
+    ensures questions { OnOk result (questions.new.items ≡ questions.old.items) }
+    ensures heard { let m = (T.matches matching.old).reads in let r = reading_of K.shape m (nodes_of there.now.here) in
+        OnOk result (HearsAt there.now (one_told r there.now.here.node (rule m (value_at there.now.here.place) (K.shape keyword.now))) observer.old observer.new) }
+{
+    let situation = &there.situation;
+    match combination {
+        Combination::SomeBranch => {
+            let context = tell_branches(there, keyword, start, matching, questions)?;
+            let kind = any_of(context);
+            situation.tell(keyword.refused_name(0), kind, situation.value, observer)
+        }
+        Combination::OneBranch => {
+            let accepted = count_accepted(&there.here, start, matching, questions)?;
+            let context = tell_branches(there, keyword, start, matching, questions)?;
+            let kind = one_of(accepted, context);
+            situation.tell(
+                keyword.refused_name(accepted),
+                kind,
+                situation.value,
+                observer,
+            )
+        }
+        Combination::Counted { .. } => {
+            let accepted = count_accepted(&there.here, start, matching, questions)?;
+            let name = keyword.refused_name(accepted);
+            situation.tell(
+                name,
+                ValidationErrorKind::Contains,
+                situation.value,
+                observer,
+            )
+        }
+        _ => {
+            let reason = keyword.reason(situation, matching)?;
+            situation.tell(keyword.refused_name(0), reason.kind, reason.value, observer)
+        }
+    }
+}
+
+// The errors of each of the questions from `start` on.
+#[cycle(telling)]
+fn tell_branches<'i, K: Validate, T: Matching>(
+    there: &There<'i, '_, K>,
+    keyword: &'i K,
+    start: usize,
+    matching: &mut T,
+    questions: &mut Vec<Question<'i>>,
+) -> Result<Vec<Vec<ValidationError<'i>>>, AllocError>
+    requires known { AreKnown K.knows (T.matches matching.old).pattern (nodes_of there.now.here) }
+    requires right { IsThere there.now }
+    requires asked { EachMayAsk (nodes_of there.now.here) (rank_at (nodes_of there.now.here) there.now.here.node) (value_at there.now.here.place) (map call_of (drop start questions.old.items)) }
+    ensures matches { OnOk result (T.matches matching.new ≡ T.matches matching.old) }
+    ensures questions { OnOk result (questions.new.items ≡ questions.old.items) }
+    ensures branches { let r = reading_of K.shape (T.matches matching.old).reads (nodes_of there.now.here) in
+        IfOk result (λ context. AreErrorsOf (stand_of there.now) (size_of there.now.here) (question_faults r (K.added keyword.now)) (drop start questions.old.items) context.items) }
+{
+    let alloc = there.situation.alloc;
+    let mut context = Vec::new(alloc);
+    let end = questions.len();
+    for index in start..end {
+        let question = questions[index];
+        let mut heard = Observer::All(AllFaults::new(alloc));
+        tell_question(there, keyword, question, matching, questions, &mut heard)?;
+        context.push(all_heard(alloc, heard))?;
+    }
+    Ok(context)
+}
+
+// What a question of a keyword tells.
+#[cycle(telling)]
+fn tell_question<'i, K: Validate, T: Matching>(
+    there: &There<'i, '_, K>,
+    keyword: &'i K,
+    question: Question<'i>,
+    matching: &mut T,
+    questions: &mut Vec<Question<'i>>,
+    observer: &mut Observer<'i>,
+) -> Result<(), AllocError>
+    requires known { AreKnown K.knows (T.matches matching.old).pattern (nodes_of there.now.here) }
+    requires right { IsThere there.now }
+    requires asked { MayAsk (nodes_of there.now.here) (rank_at (nodes_of there.now.here) there.now.here.node) (value_at there.now.here.place) (call_of question) }
+    ensures matches { OnOk result (T.matches matching.new ≡ T.matches matching.old) }
+    ensures questions { OnOk result (questions.new.items ≡ questions.old.items) }
+    ensures heard { let r = reading_of K.shape (T.matches matching.old).reads (nodes_of there.now.here) in
+        OnOk result (HearsAt there.now (λ x. question_faults r (K.added keyword.now) x question.entry) observer.old observer.new) }
+{
+    let road = there.situation.evaluation;
+    match keyword.entry(question.entry) {
+        Entry::Whole { keyword } => {
+            let evaluation = road.push_name(keyword);
+            tell_step(there, &evaluation, question, matching, questions, observer)
+        }
+        Entry::Name { keyword, name } => {
+            let whole = road.push_name(keyword);
+            let evaluation = whole.push_name(name);
+            tell_step(there, &evaluation, question, matching, questions, observer)
+        }
+        Entry::Index { keyword, index } => {
+            let whole = road.push_name(keyword);
+            let evaluation = whole.push_index(index);
+            tell_step(there, &evaluation, question, matching, questions, observer)
+        }
+    }
+}
+
+// What a question tells whose entry is reached by this road.
+#[cycle(telling)]
+fn tell_step<'i, 'e, K: Validate, T: Matching>(
+    there: &There<'i, '_, K>,
+    evaluation: &'e LazyLocation<'e, 'e>,
+    question: Question<'i>,
+    matching: &mut T,
+    questions: &mut Vec<Question<'i>>,
+    observer: &mut Observer<'i>,
+) -> Result<(), AllocError>
+    requires known { AreKnown K.knows (T.matches matching.old).pattern (nodes_of there.now.here) }
+    requires right { IsThere there.now }
+    requires asked { MayAsk (nodes_of there.now.here) (rank_at (nodes_of there.now.here) there.now.here.node) (value_at there.now.here.place) (call_of question) }
+    ensures matches { OnOk result (T.matches matching.new ≡ T.matches matching.old) }
+    ensures questions { OnOk result (questions.new.items ≡ questions.old.items) }
+    ensures heard { let r = reading_of K.shape (T.matches matching.old).reads (nodes_of there.now.here) in
+        OnOk result (HearsOf r there.now (location_of evaluation.now) question.entry.node (step_of question.entry.asked) question.entry.follows observer.old observer.new) }
+{
+    let node = question.node;
+    let graph = there.here.graph;
+    let below = Situation {
+        evaluation: &*evaluation,
+        schema: &graph.nodes[node].schema_path,
+        ..there.situation
+    };
+    match question.asked {
+        Asked::Here => {
+            if question.follows {
+                tell_target(there, evaluation, node, matching, questions, observer)
+            } else {
+                tell_inside(there, evaluation, node, matching, questions, observer)
+            }
+        }
+        Asked::Item { index, item } => {
+            let instance = there.situation.instance.push_index(index);
+            let below = Situation {
+                value: item,
+                instance: &instance,
+                ..below
+            };
+            tell_value(graph, node, below, matching, questions, observer)
+        }
+        Asked::Member { name, member } => {
+            let instance = there.situation.instance.push_name(name);
+            let below = Situation {
+                value: member,
+                instance: &instance,
+                ..below
+            };
+            tell_value(graph, node, below, matching, questions, observer)
+        }
+        Asked::Name(name) => tell_name(graph, node, name, below, matching, observer),
+    }
+}
+
+// What another schema of the keyword tells there.
+#[cycle(telling)]
+fn tell_inside<'i, 'e, K: Validate, T: Matching>(
+    there: &There<'i, '_, K>,
+    evaluation: &'e LazyLocation<'e, 'e>,
+    node: usize,
+    matching: &mut T,
+    questions: &mut Vec<Question<'i>>,
+    observer: &mut Observer<'i>,
+) -> Result<(), AllocError>
+    requires known { AreKnown K.knows (T.matches matching.old).pattern (nodes_of there.now.here) }
+    requires right { IsThere there.now }
+    requires there { node < length (nodes_of there.now.here) }
+    requires falls { rank_at (nodes_of there.now.here) node < rank_at (nodes_of there.now.here) there.now.here.node }
+    ensures matches { OnOk result (T.matches matching.new ≡ T.matches matching.old) }
+    ensures questions { OnOk result (questions.new.items ≡ questions.old.items) }
+    ensures heard { let r = reading_of K.shape (T.matches matching.old).reads (nodes_of there.now.here) in
+        OnOk result (HearsOf r there.now (location_of evaluation.now) node stay false observer.old observer.new) }
+{
+    let graph = there.here.graph;
+    let inside = There {
+        here: Here {
+            graph,
+            node,
+            place: there.here.place,
+            progress: there.here.progress,
+        },
+        situation: Situation {
+            evaluation: &*evaluation,
+            schema: &graph.nodes[node].schema_path,
+            ..there.situation
+        },
+    };
+    tell_node(&inside, matching, questions, observer)
+}
+
+// What the target of a reference tells, unless it is in progress at this place.
+#[cycle(telling)]
+fn tell_target<'i, 'e, K: Validate, T: Matching>(
+    there: &There<'i, '_, K>,
+    evaluation: &'e LazyLocation<'e, 'e>,
+    target: usize,
+    matching: &mut T,
+    questions: &mut Vec<Question<'i>>,
+    observer: &mut Observer<'i>,
+) -> Result<(), AllocError>
+    requires known { AreKnown K.knows (T.matches matching.old).pattern (nodes_of there.now.here) }
+    requires right { IsThere there.now }
+    requires there { target < length (nodes_of there.now.here) }
+    ensures matches { OnOk result (T.matches matching.new ≡ T.matches matching.old) }
+    ensures questions { OnOk result (questions.new.items ≡ questions.old.items) }
+    ensures heard { let r = reading_of K.shape (T.matches matching.old).reads (nodes_of there.now.here) in
+        OnOk result (HearsOf r there.now (location_of evaluation.now) target stay true observer.old observer.new) }
+{
+    if is_in_progress(there.here.progress, target) {
+        return Ok(());
+    }
+    let graph = there.here.graph;
+    let entered = Progress::Target {
+        node: target,
+        before: there.here.progress,
+    };
+    let inside = There {
+        here: Here {
+            graph,
+            node: target,
+            place: there.here.place,
+            progress: &entered,
+        },
+        situation: Situation {
+            evaluation: &*evaluation,
+            schema: &graph.nodes[target].schema_path,
+            ..there.situation
+        },
+    };
+    tell_node(&inside, matching, questions, observer)
+}
+
+// What a node tells of a name, as a text of its own in the situation of its object. No reference is in progress there.
+#[cycle(telling)]
+fn tell_name<'i, K: Validate, T: Matching>(
+    graph: &'i Graph<K>,
+    node: usize,
+    name: &'i str,
+    object: Situation<'_, 'i>,
+    matching: &mut T,
+    observer: &mut Observer<'i>,
+) -> Result<(), AllocError>
+    requires known { AreKnown K.knows (T.matches matching.old).pattern graph.now.nodes.items }
+    requires there { node < length graph.now.nodes.items }
+    requires path { object.schema.now ≡ path_at graph.now.nodes.items node }
+    ensures matches { OnOk result (T.matches matching.new ≡ T.matches matching.old) }
+    ensures heard { let nodes = graph.now.nodes.items in let r = reading_of K.shape (T.matches matching.old).reads nodes in
+        OnOk result (Hearing (stand_of_name name.entry object.entry) (suc (size_at nodes (stand_of_name name.entry object.entry) node)) (node_faults r node) observer.old observer.new) }
+{
+    let alloc = object.alloc;
+    let text = Value::String(String::from_str(alloc, name)?);
+    let mut questions = Vec::new(alloc);
+    let mut heard = observer.fresh(alloc);
+    let there = There {
+        here: Here {
+            graph,
+            node,
+            place: Place::Name(name),
+            progress: &Progress::Nothing,
+        },
+        situation: Situation {
+            alloc,
+            value: &text,
+            instance: object.instance,
+            evaluation: object.evaluation,
+            schema: object.schema,
+        },
+    };
+    tell_node(&there, matching, &mut questions, &mut heard)?;
+    observer.absorb(alloc, heard)
+}
