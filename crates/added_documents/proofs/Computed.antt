@@ -21,14 +21,14 @@ pub premises_are_needed : PremisesAreNeeded
 unfolding digits serde_json_on_literals lib.Utf8.encode is_utf8 chars percent_decode split is_reference resolve normal remove_dots resolved places standings dialects lookup_under rows_at told through
 premises_are_needed = record {
   by_dialect = record {
-    right = record { accepted = refl; builds = built_by_levels (reading ∷ []) 4 refl };
+    right = record { accepted = refl; builds = built_by_levels reading 4 refl };
     right_still = record { accepted = refl; builds = built_by_levels ((dialect ∷ reading) ∷ []) 4 refl };
     apart = refl;
     refused = refl;
     accepted = refl;
   };
   by_base = record {
-    right = record { accepted = refl; builds = built_by_levels (entering ∷ []) 5 refl };
+    right = record { accepted = refl; builds = built_by_levels entering 5 refl };
     right_still = record { accepted = refl; builds = built_by_levels ((resource ∷ entering) ∷ []) 5 refl };
     apart = refl;
     refused = refl;
@@ -40,7 +40,7 @@ pub root_is_mended : IsMended
 unfolding digits serde_json_on_literals lib.Utf8.encode is_utf8 chars percent_decode split is_reference resolve normal remove_dots resolved places standings dialects lookup_under rows_at
 root_is_mended = record {
   accepted = refl;
-  wrong = wrong_by_levels (referring ∷ []) 4 not_there refl;
+  wrong = wrong_by_levels referring 4 not_there refl;
   apart = refl;
   right = record { accepted = refl; builds = built_by_levels ((referred ∷ referring) ∷ []) 5 refl };
 }

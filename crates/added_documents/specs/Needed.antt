@@ -40,10 +40,10 @@ pub record AreRight (docs : Documents) : Type 0 where
 
 -- they are so before and after a document is added, whose URI none of the others bears, and yet the verdict is another
 pub record IsChanged (old : List Document) (more : Document) : Type 0 where
-  pub right : AreRight (old ∷ [])
+  pub right : AreRight old
   pub right_still : AreRight ((more ∷ old) ∷ [])
-  pub apart : bearer (old ∷ []) more.uri ≡ None
-  pub refused : verdict (old ∷ []) ≡ Ok (Some false)
+  pub apart : bearer old more.uri ≡ None
+  pub refused : verdict old ≡ Ok (Some false)
   pub accepted : verdict ((more ∷ old) ∷ []) ≡ Ok (Some true)
 
 -- a schema at no schema place names a meta-schema that the added document is: it is read by another draft, which has no `const`
@@ -83,7 +83,7 @@ not_there =
 
 -- the documents have no cause to be refused, and the root has one until the document is added
 pub record IsMended : Type 0 where
-  pub accepted : document_causes (referring ∷ []) ≡ []
-  pub wrong : (t : Target) → lookup (referring ∷ []) root [] ≡ Ok t → IsCauseOf (referring ∷ []) all_made (root_site t) not_there
-  pub apart : bearer (referring ∷ []) referred.uri ≡ None
+  pub accepted : document_causes referring ≡ []
+  pub wrong : (t : Target) → lookup referring root [] ≡ Ok t → IsCauseOf referring all_made (root_site t) not_there
+  pub apart : bearer referring referred.uri ≡ None
   pub right : AreRight ((referred ∷ referring) ∷ [])

@@ -67,7 +67,7 @@ alone : {X : Type 0} (o : Option X) → or_else o None ≡ o
 alone None = refl
 alone (Some x) = refl
 
-pub last-of-own : (meta : List ℕ → Option Dialect) (test : Standing → Bool) (documents : List Document) → last_standing test meta (documents ∷ []) ≡ option_map (λ (l : Located). l.standing) (last_located test (located_standings meta documents))
+pub last-of-own : (meta : List ℕ → Option Dialect) (test : Standing → Bool) (documents : List Document) → last_standing test meta documents ≡ option_map (λ (l : Located). l.standing) (last_located test (located_standings meta documents))
 last-of-own meta test documents =
     alone (last_that test (standings meta documents))
     ∙ ap (last_that test) (sym (standings-located meta documents))
@@ -85,9 +85,9 @@ by_last meta test documents knows (Some l) is =
     record { path = refl; base = refl; dialect = refl; awaits = knows l.standing holds.1; stands = holds.0 }
 
 pub answers : (meta : List ℕ → Option Dialect) (test : Standing → Bool) (documents : List Document) → ((s : Standing) → test s ≡ true → s.place.awaits ≡ None)
-    → (o : Option Kept) → o ≡ option_map kept_of (last_located test (located_standings meta documents)) → IsAnswer meta documents o (last_standing test meta (documents ∷ []))
+    → (o : Option Kept) → o ≡ option_map kept_of (last_located test (located_standings meta documents)) → IsAnswer meta documents o (last_standing test meta documents)
 answers meta test documents knows o e =
-    subst (λ p. IsAnswer meta documents p (last_standing test meta (documents ∷ []))) (sym e)
+    subst (λ p. IsAnswer meta documents p (last_standing test meta documents)) (sym e)
     (subst (λ p. IsAnswer meta documents (option_map kept_of (last_located test (located_standings meta documents))) p) (sym (last-of-own meta test documents))
     (by_last meta test documents knows (last_located test (located_standings meta documents)) refl))
 

@@ -33,21 +33,21 @@ or_else-none (Some s) = refl
 -- ---- under all that documents tell
 
 module _ (own : List Document) (ss : List Standing) (there : AwaitedIn own ss) where
-  pub next-among : (uri : List ℕ) → next_awaited (own ∷ []) uri ≡ awaited_among ss uri
+  pub next-among : (uri : List ℕ) → next_awaited own uri ≡ awaited_among ss uri
   next-among uri =
-      ap (option_and_then (λ s. s.place.awaits)) (or_else-none (last_that (would_bear uri) (standings (meta (own ∷ [])) own)) ∙ ap (last_that (would_bear uri)) (sym there))
+      ap (option_and_then (λ s. s.place.awaits)) (or_else-none (last_that (would_bear uri) (standings (meta own) own)) ∙ ap (last_that (would_bear uri)) (sym there))
 
-  pub counted : how_many_await (own ∷ []) (own ∷ []) ≡ length (filter (λ s. is_some s.place.awaits) ss)
+  pub counted : how_many_await own ≡ length (filter (λ s. is_some s.place.awaits) ss)
   counted =
-      add-zero (length (filter (λ s. is_some s.place.awaits) (standings (meta (own ∷ [])) own)))
+      add-zero (length (filter (λ s. is_some s.place.awaits) (standings (meta own) own)))
       ∙ sym (ap (λ l. length (filter (λ s. is_some s.place.awaits) l)) there)
 
   by_next : (n : ℕ) (uri : List ℕ) (o : Option (List ℕ)) → awaited_among ss uri ≡ o
-      → awaited_cause (own ∷ []) (suc n) uri ≡ elim o [ None ↦ unknown_specification uri | Some next ↦ awaited_cause (own ∷ []) n next ]
-  by_next n uri o e = ap (λ p. elim p [ None ↦ unknown_specification uri | Some next ↦ awaited_cause (own ∷ []) n next ]) (next-among uri ∙ e)
+      → awaited_cause own (suc n) uri ≡ elim o [ None ↦ unknown_specification uri | Some next ↦ awaited_cause own n next ]
+  by_next n uri o e = ap (λ p. elim p [ None ↦ unknown_specification uri | Some next ↦ awaited_cause own n next ]) (next-among uri ∙ e)
 
-  pub at_end : (n : ℕ) (uri : List ℕ) → awaited_among ss uri ≡ None → awaited_cause (own ∷ []) (suc n) uri ≡ unknown_specification uri
+  pub at_end : (n : ℕ) (uri : List ℕ) → awaited_among ss uri ≡ None → awaited_cause own (suc n) uri ≡ unknown_specification uri
   at_end n uri e = by_next n uri None e
 
-  pub one_up : (n : ℕ) (uri next : List ℕ) → awaited_among ss uri ≡ Some next → awaited_cause (own ∷ []) (suc n) uri ≡ awaited_cause (own ∷ []) n next
+  pub one_up : (n : ℕ) (uri next : List ℕ) → awaited_among ss uri ≡ Some next → awaited_cause own (suc n) uri ≡ awaited_cause own n next
   one_up n uri next e = by_next n uri (Some next) e

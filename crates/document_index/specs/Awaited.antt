@@ -16,4 +16,4 @@ awaited_among ss uri = option_and_then (λ s. s.place.awaits) (last_that (would_
 
 -- these are the schema places of documents under all of which they tell
 abbrev pub AwaitedIn : List Document → List Standing → Type 0
-AwaitedIn own ss = ss ≡ standings (meta (own ∷ [])) own
+AwaitedIn own ss = ss ≡ standings (meta own) own

@@ -18,7 +18,7 @@ borne_by docs uri = is_some (bearer docs uri)
 
 -- why a meta-schema that is awaited is not known, by documents
 abbrev pub unknown_by : List Document → List ℕ → DocumentCause
-unknown_by own uri = awaited_cause (own ∷ []) (suc (how_many_await (own ∷ []) (own ∷ []))) uri
+unknown_by own uri = awaited_cause own (suc (how_many_await own)) uri
 
 -- the causes of a reference by the part before its `#`
 abbrev pub unless_borne : (List ℕ → Bool) → List ℕ → List DocumentCause
@@ -42,7 +42,7 @@ of_text causes (Some t) = causes t
 -- the causes of a place that awaits no meta-schema: its identifier, and what its `$ref` wants
 abbrev pub settled_causes : (List ℕ → Bool) → Standing → List DocumentCause
 settled_causes borne s =
-    of_text unless_reference (identifier_text s.place.dialect.draft s.place.contents)
+    of_text unless_reference (identifier_text s.place.dialect s.place.contents)
     ++ of_text (wanted_at borne s.place.base) (text_at (codes "$ref") s.place.contents)
 
 -- those, or why the meta-schema that a place awaits is not known
@@ -56,5 +56,5 @@ awaited_causes borne unknown s = awaited_from borne unknown s s.place.awaits
 -- the causes of a place: its `$schema` where it counts, and then these
 abbrev pub causes_at : (List ℕ → Bool) → (List ℕ → DocumentCause) → Standing → List DocumentCause
 causes_at borne unknown s =
-    of_text unless_reference (schema_in_force (is_root s.place.path) s.place.contents)
+    of_text unless_reference (schema_in_force s.place.dialect.siblings (is_root s.place.path) s.place.contents)
     ++ awaited_causes borne unknown s

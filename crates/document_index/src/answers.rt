@@ -47,7 +47,7 @@ pub fn bearer<'i, 'd>(
     uri: &str,
 ) -> Option<(&'i Document<'d>, &'i Bearer)>
     requires { IsIndexed (map document_of documents.now) index.now }
-    ensures answer { (meta : List ℕ → Option Dialect) → Indexes index.now (located_standings meta (map document_of documents.now)) → IsAnswer meta (map document_of documents.now) (option_map (λ r. bearer_of r.1.now) result) (bearers.bearer_under meta (map document_of documents.now ∷ []) uri.now) }
+    ensures answer { (meta : List ℕ → Option Dialect) → Indexes index.now (located_standings meta (map document_of documents.now)) → IsAnswer meta (map document_of documents.now) (option_map (λ r. bearer_of r.1.now) result) (bearers.bearer_under meta (map document_of documents.now) uri.now) }
     ensures document { IfSome result (λ r. slice_get documents.now r.1.now.document ≡ Some r.0.now) }
 {
     let bearer = index.bearer(uri)?;
@@ -62,7 +62,7 @@ pub fn anchored<'i, 'd>(
     name: &str,
 ) -> Option<(&'i Document<'d>, &'i Bearer)>
     requires { IsIndexed (map document_of documents.now) index.now }
-    ensures answer { (meta : List ℕ → Option Dialect) → Indexes index.now (located_standings meta (map document_of documents.now)) → IsAnswer meta (map document_of documents.now) (option_map (λ r. bearer_of r.1.now) result) (bearers.anchored_under meta (map document_of documents.now ∷ []) base.now name.now) }
+    ensures answer { (meta : List ℕ → Option Dialect) → Indexes index.now (located_standings meta (map document_of documents.now)) → IsAnswer meta (map document_of documents.now) (option_map (λ r. bearer_of r.1.now) result) (bearers.anchored_under meta (map document_of documents.now) base.now name.now) }
     ensures document { IfSome result (λ r. slice_get documents.now r.1.now.document ≡ Some r.0.now) }
 {
     let bearer = index.anchored(base, name)?;
@@ -77,7 +77,7 @@ pub fn dynamically_anchored<'i, 'd>(
     name: &str,
 ) -> Option<(&'i Document<'d>, &'i Bearer)>
     requires { IsIndexed (map document_of documents.now) index.now }
-    ensures answer { (meta : List ℕ → Option Dialect) → Indexes index.now (located_standings meta (map document_of documents.now)) → IsAnswer meta (map document_of documents.now) (option_map (λ r. bearer_of r.1.now) result) (dynamically_anchored_under meta (map document_of documents.now ∷ []) base.now name.now) }
+    ensures answer { (meta : List ℕ → Option Dialect) → Indexes index.now (located_standings meta (map document_of documents.now)) → IsAnswer meta (map document_of documents.now) (option_map (λ r. bearer_of r.1.now) result) (dynamically_anchored_under meta (map document_of documents.now) base.now name.now) }
     ensures document { IfSome result (λ r. slice_get documents.now r.1.now.document ≡ Some r.0.now) }
 {
     let bearer = index.dynamically_anchored(base, name)?;

@@ -30,9 +30,10 @@ pub enum Unsettled {
 
 // The URI that a schema bears once its meta-schema is known, whatever that is.
 fn own_uri(alloc: Global, standing: &Standing<'_>) -> Result<Option<Uri>, AllocError>
-    ensures { IfOk result (λ u. u ≡ option_and_then (identifiers.resolved standing.now.place.base.value) (identifiers.identifier drafts.Unknown (view standing.now.place.contents.now))) }
+    ensures { IfOk result (λ u. u ≡ option_and_then (identifiers.resolved standing.now.place.base.value) (identifiers.identifier (standard standing.now.place.dialect.siblings drafts.Unknown) (view standing.now.place.contents.now))) }
 {
-    match identifier(Draft::Unknown, standing.place.contents) {
+    let unknown = Dialect::standard(standing.place.dialect.siblings, Draft::Unknown);
+    match identifier(unknown, standing.place.contents) {
         Some(text) => resolved(alloc, &standing.place.base, text),
         None => Ok(None),
     }
@@ -44,7 +45,7 @@ fn would_be(alloc: Global, uri: &str, standing: &Standing<'_>) -> Result<bool, A
     if standing.place.awaits.is_none() {
         return Ok(false);
     }
-    if standing.place.path.is_root() && standing.uri.as_str() == uri {
+    if standing.place.path.is_root() && standing.name.uri.as_str() == uri {
         return Ok(true);
     }
     match own_uri(alloc, standing)? {
@@ -98,7 +99,7 @@ pub fn awaited_cause(
     standings: &[Standing<'_>],
     uri: Uri,
 ) -> Result<Unsettled, AllocError>
-    ensures { IfOk result (λ c. (own : List bearers.Document) → AwaitedIn own (map standing_of standings.now) → cause_of c ≡ causes.awaited_cause (own ∷ []) (suc (causes.how_many_await (own ∷ []) (own ∷ []))) uri) }
+    ensures { IfOk result (λ c. (own : List bearers.Document) → AwaitedIn own (map standing_of standings.now) → cause_of c ≡ causes.awaited_cause own (suc (causes.how_many_await own)) uri) }
 {
     let mut awaited = uri;
     let mut left = how_many_await(standings);

@@ -83,8 +83,7 @@ fn check_settled(alloc: Global, index: &Index, standing: &Standing<'_>) -> Resul
     ensures refused { IfErr result (NamesOne (spec.settled_causes (borne_in index.now) (standing_of standing.now))) }
 {
     let place = &standing.place;
-    let draft = place.dialect.draft;
-    check_text(alloc, identifier_text(draft, place.contents))?;
+    check_text(alloc, identifier_text(place.dialect, place.contents))?;
     check_reference(alloc, index, &place.base, text_at(place.contents, "$ref"))
 }
 
@@ -135,7 +134,9 @@ fn check_place(
     ensures refused { IfErr result (λ e. (own : List Document) → AwaitedIn own (map standing_of standings.now) → NamesOne (spec.causes_at (borne_in index.now) (unknown_by own) (standing_of standing.now)) e) }
 {
     let place = &standing.place;
-    check_text(alloc, schema_in_force(place.path.is_root(), place.contents))?;
+    let siblings = place.dialect.siblings;
+    let text = schema_in_force(siblings, place.path.is_root(), place.contents);
+    check_text(alloc, text)?;
     check_awaited(alloc, index, standings, standing)
 }
 

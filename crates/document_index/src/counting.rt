@@ -45,7 +45,7 @@ fn schemas_named_among(members: &Map<String, Value>) -> Option<usize>
 /// How many members named `$schema` there are in documents, at schema places or not, and none where a `usize` does not count them. It
 /// walks each document once.
 pub fn how_many(documents: &[Document<'_>]) -> Option<usize>
-    ensures { SomeIff result (bearers.how_many (map document_of documents.now ∷ []) < 2 ^ 64) (bearers.how_many (map document_of documents.now ∷ [])) }
+    ensures { SomeIff result (bearers.how_many (map document_of documents.now) < 2 ^ 64) (bearers.how_many (map document_of documents.now)) }
 {
     let mut count: usize = 0;
     for document in documents {

@@ -6,6 +6,7 @@ ghost use Rattle.serde_json.specs.View.{view};
 ghost use Rattle.schema_definitions.specs.Words as words;
 ghost use Rattle.schema_definitions.specs.Identifiers as identifiers;
 ghost use Rattle.schema_definitions.specs.Bearers as bearers;
+ghost use Rattle.schema_dialects.specs.Dialects.{dialect_of};
 ghost use Rattle.document_index.specs.Seen.{standing_of, located_of};
 ghost use Rattle.document_index.specs.Located.{kept_of};
 ghost use Rattle.document_index.specs.Indexes.{bearer_of, named, anchor_named};
@@ -70,10 +71,10 @@ fn put_given_uri(
     by_uri: &mut BTreeMap<String, Bearer>,
     standing: &Standing<'_>,
 ) -> Result<(), AllocError>
-    ensures { OnOk result ((q : List ℕ) → named by_uri.new q ≡ (if bearers.is_root standing.now.place.path && bytes_eq standing.now.uri.value q then Some (kept_of (located_of standing.now)) else named by_uri.old q)) }
+    ensures { OnOk result ((q : List ℕ) → named by_uri.new q ≡ (if bearers.is_root standing.now.place.path && bytes_eq standing.now.name.uri.value q then Some (kept_of (located_of standing.now)) else named by_uri.old q)) }
 {
     if standing.place.path.is_root() {
-        put(alloc, by_uri, standing.uri.as_str(), standing)?;
+        put(alloc, by_uri, standing.name.uri.as_str(), standing)?;
     }
     Ok(())
 }
@@ -84,9 +85,9 @@ fn put_base(
     by_uri: &mut BTreeMap<String, Bearer>,
     standing: &Standing<'_>,
 ) -> Result<(), AllocError>
-    ensures { OnOk result ((q : List ℕ) → named by_uri.new q ≡ (if is_some (identifiers.identifier standing.now.place.dialect.draft (view standing.now.place.contents.now)) && bytes_eq standing.now.place.base.value q then Some (kept_of (located_of standing.now)) else named by_uri.old q)) }
+    ensures { OnOk result ((q : List ℕ) → named by_uri.new q ≡ (if is_some (identifiers.identifier (dialect_of standing.now.place.dialect) (view standing.now.place.contents.now)) && bytes_eq standing.now.place.base.value q then Some (kept_of (located_of standing.now)) else named by_uri.old q)) }
 {
-    if identifier(standing.place.dialect.draft, standing.place.contents).is_some() {
+    if identifier(standing.place.dialect, standing.place.contents).is_some() {
         put(alloc, by_uri, standing.place.base.as_str(), standing)?;
     }
     Ok(())
@@ -152,10 +153,9 @@ fn put_anchors(
     if place.awaits.is_some() {
         return Ok(());
     }
-    let draft = place.dialect.draft;
-    let name = anchor(draft, place.contents);
+    let name = anchor(place.dialect, place.contents);
     put_anchor(alloc, by_anchor, name, standing)?;
-    let dynamic_name = dynamic_anchor(draft, place.contents);
+    let dynamic_name = dynamic_anchor(place.dialect, place.contents);
     put_anchor(alloc, by_anchor, dynamic_name, standing)
 }
 
@@ -170,7 +170,7 @@ fn put_dynamic_anchor(
     if place.awaits.is_some() {
         return Ok(());
     }
-    let name = dynamic_anchor(place.dialect.draft, place.contents);
+    let name = dynamic_anchor(place.dialect, place.contents);
     put_anchor(alloc, by_anchor, name, standing)
 }
 

@@ -30,9 +30,9 @@ pub struct Prepared {
 
 // What documents tell of meta-schemas, where none of them is told anew.
 fn told_once(alloc: Global, documents: &[Document<'_>]) -> Result<MetaSchemas, Error>
-    ensures told { IfOk result (λ k. Tells k (bearers.meta (map document_of documents.now ∷ []))) }
-    ensures ok { OnOk result (told_anew (map document_of documents.now ∷ []) ≡ []) }
-    ensures refused { IfErr result (NamesOne (told_anew (map document_of documents.now ∷ []))) }
+    ensures told { IfOk result (λ k. Tells k (bearers.meta (map document_of documents.now))) }
+    ensures ok { OnOk result (told_anew (map document_of documents.now) ≡ []) }
+    ensures refused { IfErr result (NamesOne (told_anew (map document_of documents.now))) }
 {
     let Told {
         meta_schemas: known,
@@ -49,10 +49,10 @@ fn checked_index(
     known: &MetaSchemas,
     documents: &[Document<'_>],
 ) -> Result<Index, Error>
-    requires { Tells known.now (bearers.meta (map document_of documents.now ∷ [])) }
+    requires { Tells known.now (bearers.meta (map document_of documents.now)) }
     ensures indexed { IfOk result (λ i. Indexes i (located_standings (dialects_in known.now) (map document_of documents.now))) }
-    ensures ok { OnOk result (flat_map (place_causes (map document_of documents.now ∷ [])) (bearers.standings (bearers.meta (map document_of documents.now ∷ [])) (map document_of documents.now)) ≡ []) }
-    ensures refused { IfErr result (NamesOne (flat_map (place_causes (map document_of documents.now ∷ [])) (bearers.standings (bearers.meta (map document_of documents.now ∷ [])) (map document_of documents.now)))) }
+    ensures ok { OnOk result (flat_map (place_causes (map document_of documents.now)) (bearers.standings (bearers.meta (map document_of documents.now)) (map document_of documents.now)) ≡ []) }
+    ensures refused { IfErr result (NamesOne (flat_map (place_causes (map document_of documents.now)) (bearers.standings (bearers.meta (map document_of documents.now)) (map document_of documents.now)))) }
 {
     let places = standings(alloc, known, documents)?;
     let index = Index::of(alloc, &places)?;
@@ -71,9 +71,9 @@ fn checked_index(
 /// A cause that the documents have, or want of memory.
 pub fn prepare(alloc: Global, documents: &[Document<'_>]) -> Result<Prepared, Error>
     ensures indexed { IfOk result (λ p. Indexes p.index (located_standings (dialects_in p.known) (map document_of documents.now))) }
-    ensures told { IfOk result (λ p. (uri : List ℕ) → dialects_in p.known uri ≡ bearers.meta (map document_of documents.now ∷ []) uri) }
-    ensures accepted { OnOk result (document_causes (map document_of documents.now ∷ []) ≡ []) }
-    ensures refused { IfErr result (NamesOne (document_causes (map document_of documents.now ∷ []))) }
+    ensures told { IfOk result (λ p. (uri : List ℕ) → dialects_in p.known uri ≡ bearers.meta (map document_of documents.now) uri) }
+    ensures accepted { OnOk result (document_causes (map document_of documents.now) ≡ []) }
+    ensures refused { IfErr result (NamesOne (document_causes (map document_of documents.now))) }
 {
     let known = told_once(alloc, documents)?;
     let index = checked_index(alloc, &known, documents)?;

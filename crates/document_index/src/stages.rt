@@ -28,7 +28,7 @@ fn put(
     ensures { OnOk result ((q : List ℕ) → dialects_in borne.new q ≡ (if bytes_eq uri.now q then Some (bearers.dialect_by (standing_of standing.now)) else dialects_in borne.old q)) }
 {
     let place = &standing.place;
-    let dialect = Dialect::by_meta_schema(place.dialect.draft, place.contents);
+    let dialect = place.dialect.by_meta_schema(place.contents);
     borne.insert(alloc, uri, dialect)
 }
 
@@ -38,10 +38,10 @@ fn put_given_uri(
     borne: &mut MetaSchemas,
     standing: &Standing<'_>,
 ) -> Result<(), AllocError>
-    ensures { OnOk result ((q : List ℕ) → dialects_in borne.new q ≡ (if bearers.is_root standing.now.place.path && bytes_eq standing.now.uri.value q then Some (bearers.dialect_by (standing_of standing.now)) else dialects_in borne.old q)) }
+    ensures { OnOk result ((q : List ℕ) → dialects_in borne.new q ≡ (if bearers.is_root standing.now.place.path && bytes_eq standing.now.name.uri.value q then Some (bearers.dialect_by (standing_of standing.now)) else dialects_in borne.old q)) }
 {
     if standing.place.path.is_root() {
-        put(alloc, borne, standing.uri.as_str(), standing)?;
+        put(alloc, borne, standing.name.uri.as_str(), standing)?;
     }
     Ok(())
 }
@@ -52,9 +52,9 @@ fn put_base(
     borne: &mut MetaSchemas,
     standing: &Standing<'_>,
 ) -> Result<(), AllocError>
-    ensures { OnOk result ((q : List ℕ) → dialects_in borne.new q ≡ (if is_some (identifiers.identifier standing.now.place.dialect.draft (view standing.now.place.contents.now)) && bytes_eq standing.now.place.base.value q then Some (bearers.dialect_by (standing_of standing.now)) else dialects_in borne.old q)) }
+    ensures { OnOk result ((q : List ℕ) → dialects_in borne.new q ≡ (if is_some (identifiers.identifier (dialect_of standing.now.place.dialect) (view standing.now.place.contents.now)) && bytes_eq standing.now.place.base.value q then Some (bearers.dialect_by (standing_of standing.now)) else dialects_in borne.old q)) }
 {
-    if identifier(standing.place.dialect.draft, standing.place.contents).is_some() {
+    if identifier(standing.place.dialect, standing.place.contents).is_some() {
         put(alloc, borne, standing.place.base.as_str(), standing)?;
     }
     Ok(())
@@ -94,7 +94,9 @@ fn are_same(left: Option<KnownVocabularies>, right: Option<KnownVocabularies>) -
 fn is_same(left: Dialect, right: Dialect) -> bool
     ensures { Decides result (left ≡ right) }
 {
-    left.draft == right.draft && are_same(left.required, right.required)
+    left.draft == right.draft
+        && are_same(left.required, right.required)
+        && left.siblings == right.siblings
 }
 
 fn is_told_alike(left: Option<Dialect>, right: Option<Dialect>) -> bool
@@ -126,7 +128,12 @@ fn anew_at(
     ensures { IfOk result (λ u. listed (option_map causes.circular_metaschema u) ≡ laws.anew_at (dialects_in told.now) (dialects_in after.now) (standing_of standing.now)) }
 {
     let place = &standing.place;
-    match named_meta_schema(alloc, place.path.is_root(), place.contents)? {
+    match named_meta_schema(
+        alloc,
+        place.dialect.siblings,
+        place.path.is_root(),
+        place.contents,
+    )? {
         Some(uri) => Ok(unless_alike(told, after, uri)),
         None => Ok(None),
     }

@@ -6,21 +6,19 @@ ghost use Rattle.schema_dialects.specs.Dialects.{dialects_in};
 ghost use Rattle.document_index.specs.Located.{located_standings, standings_at};
 ghost use Rattle.document_index.specs.Seen.{document_of, standing_of, located_of};
 
-use crate::document::Document;
+use crate::document::{Document, DocumentName};
 use schema_dialects::MetaSchemas;
 use schema_places::document::places;
 use schema_places::place::Place;
 use std::alloc::{AllocError, Global};
-use std::rc::Rc;
-use uri_references::uri::Uri;
 
 /// A schema place of one of several documents.
 #[derive(Drop)]
 pub struct Standing<'d> {
     /// The document's position among them.
     pub document: usize,
-    /// The document's URI.
-    pub uri: Rc<Uri>,
+    /// The document's name.
+    pub name: DocumentName,
     /// The place in the document.
     pub place: Place<'d>,
 }
@@ -37,13 +35,13 @@ fn push_standings<'d>(
     for place in places(
         alloc,
         known,
-        &document.uri,
+        &document.name.uri,
         document.default,
         document.contents.value(),
     )? {
         found.push(Standing {
             document: position,
-            uri: document.uri.clone()?,
+            name: document.name.clone()?,
             place,
         })?;
     }

@@ -32,8 +32,8 @@ fn one_more(
     documents: &[Document<'_>],
     told: &MetaSchemas,
 ) -> Result<Told, AllocError>
-    ensures next { IfOk result (λ t. (n : ℕ) → Tells told.now (bearers.dialects (map document_of documents.now ∷ []) n) → Tells t.meta_schemas (bearers.dialects (map document_of documents.now ∷ []) (suc n))) }
-    ensures anew { IfOk result (λ t. (n : ℕ) → Tells told.now (bearers.dialects (map document_of documents.now ∷ []) n) → option_map causes.circular_metaschema t.anew ≡ slice_get (laws.anew_after (map document_of documents.now ∷ []) n) 0) }
+    ensures next { IfOk result (λ t. (n : ℕ) → Tells told.now (bearers.dialects (map document_of documents.now) n) → Tells t.meta_schemas (bearers.dialects (map document_of documents.now) (suc n))) }
+    ensures anew { IfOk result (λ t. (n : ℕ) → Tells told.now (bearers.dialects (map document_of documents.now) n) → option_map causes.circular_metaschema t.anew ≡ slice_get (laws.anew_after (map document_of documents.now) n) 0) }
 {
     let places = standings(alloc, told, documents)?;
     let meta_schemas = borne_by(alloc, &places)?;
@@ -55,8 +55,8 @@ pub fn told_after(
     documents: &[Document<'_>],
     stages: usize,
 ) -> Result<Told, AllocError>
-    ensures told { IfOk result (λ t. (uri : List ℕ) → dialects_in t.meta_schemas uri ≡ bearers.dialects (map document_of documents.now ∷ []) (suc stages) uri) }
-    ensures anew { IfOk result (λ t. option_map causes.circular_metaschema t.anew ≡ slice_get (laws.anew_after (map document_of documents.now ∷ []) stages) 0) }
+    ensures told { IfOk result (λ t. (uri : List ℕ) → dialects_in t.meta_schemas uri ≡ bearers.dialects (map document_of documents.now) (suc stages) uri) }
+    ensures anew { IfOk result (λ t. option_map causes.circular_metaschema t.anew ≡ slice_get (laws.anew_after (map document_of documents.now) stages) 0) }
 {
     let mut next = one_more(alloc, documents, &MetaSchemas::none(alloc))?;
     let mut stage: usize = 0;
@@ -75,9 +75,9 @@ pub fn told_after(
 ///
 /// Where memory was refused, a count of owners is full, or a `usize` does not count the members named `$schema`.
 pub fn meta_schemas(alloc: Global, documents: &[Document<'_>]) -> Result<Told, AllocError>
-    ensures told { IfOk result (λ t. (uri : List ℕ) → dialects_in t.meta_schemas uri ≡ bearers.meta (map document_of documents.now ∷ []) uri) }
-    ensures anew { IfOk result (λ t. option_map causes.circular_metaschema t.anew ≡ slice_get (causes.told_anew (map document_of documents.now ∷ [])) 0) }
-    ensures rests { IfOk result (λ t. t.anew ≡ None → causes.told_anew (map document_of documents.now ∷ []) ≡ []) }
+    ensures told { IfOk result (λ t. (uri : List ℕ) → dialects_in t.meta_schemas uri ≡ bearers.meta (map document_of documents.now) uri) }
+    ensures anew { IfOk result (λ t. option_map causes.circular_metaschema t.anew ≡ slice_get (causes.told_anew (map document_of documents.now)) 0) }
+    ensures rests { IfOk result (λ t. t.anew ≡ None → causes.told_anew (map document_of documents.now) ≡ []) }
 {
     match how_many(documents) {
         Some(stages) => told_after(alloc, documents, stages),

@@ -18,7 +18,7 @@ pub all_known : (own : List Document) → NothingAwaits own → AllByRecursion K
 all_known own h = known_each (standings no_meta own) (recursion_from_All (λ s. s.place.awaits ≡ None) (standings no_meta own) h)
 
 pub same_last : (test : Standing → Bool) (own : List Document) (meta : List ℕ → Option Dialect) → standings meta own ≡ standings no_meta own
-    → last_standing test meta (own ∷ []) ≡ last_standing test no_meta (own ∷ [])
+    → last_standing test meta own ≡ last_standing test no_meta own
 same_last test own meta e = ap (λ ss. or_else (last_that test ss) None) e
 
 pub documents_alone_tell : DocumentsAloneTell

@@ -49,12 +49,12 @@ module _ (told : List ℕ → Option Dialect) (own : List Document) (rise : list
       let p = is_placed told own rise s i in
       ended_found s p (start s.place) (record { met = inl p.there })
 
-  last_listed : (test : Standing → Bool) → IfSome (last_standing test told (own ∷ [])) Listed
+  last_listed : (test : Standing → Bool) → IfSome (last_standing test told own) Listed
   last_listed test = by (last_that test (standings told own)) (of_last Listed test (standings told own) (each_in Listed (standings told own) (λ s i. i)))
     where
       by : (o : Option Standing) → IfSome o Listed → IfSome (or_else o None) Listed
       by (Some s) i = i
       by None i = tt
 
-  pub all_found : Holds (own ∷ []) told (λ s. In s (standings told own)) (Found told own)
+  pub all_found : Holds own told (λ s. In s (standings told own)) (Found told own)
   all_found = record { last = last_listed; along = along_found; itself = itself_found }

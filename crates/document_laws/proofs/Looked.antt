@@ -23,17 +23,17 @@ module _ (own : List Document) (awaits : NothingAwaits own) (meta : List ℕ →
       ap (λ r. if is_utf8 decoded then result_map (ended s) r else Err (invalid_percent_encoding written))
       (same_walk meta written (behind_first (pieces 47 decoded)) from (record { last = k.below; here = (refl, refl) }))
 
-  same_anchor : (s : Standing) (k : List ℕ) → by_anchor meta (own ∷ []) s k ≡ by_anchor no_meta (own ∷ []) s k
+  same_anchor : (s : Standing) (k : List ℕ) → by_anchor meta own s k ≡ by_anchor no_meta own s k
   same_anchor s k =
       ap (λ o. if has 47 k then Err (invalid_anchor k) else result_map target_of (ok_or (no_such_anchor k) o))
       ((documents_alone_tell own awaits meta).anchored s.place.base k)
 
-  same_fragment : (s : Standing) → StandsKnown s → (f : List ℕ) → by_fragment meta (own ∷ []) s f ≡ by_fragment no_meta (own ∷ []) s f
+  same_fragment : (s : Standing) → StandsKnown s → (f : List ℕ) → by_fragment meta own s f ≡ by_fragment no_meta own s f
   same_fragment s k [] = refl
   same_fragment s k (b ∷ f) =
       ap₂ (λ pointed anchored. if b == 47 then pointed else anchored) (same_pointer s k (b ∷ f) (percent_decode (b ∷ f))) (same_anchor s (b ∷ f))
 
-  bearer_known : (uri : List ℕ) → IfSome (bearer_under no_meta (own ∷ []) uri) StandsKnown
+  bearer_known : (uri : List ℕ) → IfSome (bearer_under no_meta own uri) StandsKnown
   bearer_known uri = by (last_that (bears uri) (standings no_meta own)) (of_last StandsKnown (bears uri) (standings no_meta own) (all_stand_known own (all_known own awaits)))
     where
       by : (o : Option Standing) → IfSome o StandsKnown → IfSome (or_else o None) StandsKnown
@@ -41,20 +41,20 @@ module _ (own : List Document) (awaits : NothingAwaits own) (meta : List ℕ →
       by None k = tt
 
   same_behind : (cause : LookupCause) (o : Option Standing) → IfSome o StandsKnown → (f : List ℕ)
-      → and_then (ok_or cause o) (λ s. by_fragment meta (own ∷ []) s f) ≡ and_then (ok_or cause o) (λ s. by_fragment no_meta (own ∷ []) s f)
+      → and_then (ok_or cause o) (λ s. by_fragment meta own s f) ≡ and_then (ok_or cause o) (λ s. by_fragment no_meta own s f)
   same_behind cause None k f = refl
   same_behind cause (Some s) k f = same_fragment s k f
 
   same_uri : (uri f : List ℕ)
-      → and_then (ok_or (unretrievable uri) (bearer_under meta (own ∷ []) uri)) (λ s. by_fragment meta (own ∷ []) s f)
-      ≡ and_then (ok_or (unretrievable uri) (bearer_under no_meta (own ∷ []) uri)) (λ s. by_fragment no_meta (own ∷ []) s f)
+      → and_then (ok_or (unretrievable uri) (bearer_under meta own uri)) (λ s. by_fragment meta own s f)
+      ≡ and_then (ok_or (unretrievable uri) (bearer_under no_meta own uri)) (λ s. by_fragment no_meta own s f)
   same_uri uri f =
-      ap (λ o. and_then (ok_or (unretrievable uri) o) (λ s. by_fragment meta (own ∷ []) s f)) ((documents_alone_tell own awaits meta).bearers uri)
-      ∙ same_behind (unretrievable uri) (bearer_under no_meta (own ∷ []) uri) (bearer_known uri) f
+      ap (λ o. and_then (ok_or (unretrievable uri) o) (λ s. by_fragment meta own s f)) ((documents_alone_tell own awaits meta).bearers uri)
+      ∙ same_behind (unretrievable uri) (bearer_under no_meta own uri) (bearer_known uri) f
 
   same_resolved : (cause : LookupCause) (o : Option (List ℕ)) (f : List ℕ)
-      → and_then (ok_or cause o) (λ uri. and_then (ok_or (unretrievable uri) (bearer_under meta (own ∷ []) uri)) (λ s. by_fragment meta (own ∷ []) s f))
-      ≡ and_then (ok_or cause o) (λ uri. and_then (ok_or (unretrievable uri) (bearer_under no_meta (own ∷ []) uri)) (λ s. by_fragment no_meta (own ∷ []) s f))
+      → and_then (ok_or cause o) (λ uri. and_then (ok_or (unretrievable uri) (bearer_under meta own uri)) (λ s. by_fragment meta own s f))
+      ≡ and_then (ok_or cause o) (λ uri. and_then (ok_or (unretrievable uri) (bearer_under no_meta own uri)) (λ s. by_fragment no_meta own s f))
   same_resolved cause None f = refl
   same_resolved cause (Some uri) f = same_uri uri f
 

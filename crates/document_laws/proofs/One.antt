@@ -41,13 +41,13 @@ each_rises [] h d i = elim i [ ]
 each_rises (x ∷ own) h d first = first_so (contents_rise d) (list_all contents_rise own) h
 each_rises (x ∷ own) h d (later i) = each_rises own (second_so (contents_rise x) (list_all contents_rise own) h) d i
 
-pub only_list : (own other : List Document) → In other (own ∷ []) → other ≡ own
+pub only_list : (own other : List Document) → In other own → other ≡ own
 only_list own other first = refl
 only_list own other (later i) = elim i [ ]
 
 -- two values at one path of one document are the same
 pub origins_agree : (own : List Document) → are_apart own ≡ true → list_all contents_rise own ≡ true → (u v : List ℕ) (p q : List Part) (x y : Data)
-    → Origin (own ∷ []) u p x → Origin (own ∷ []) v q y → u ≡ v → p ≡ q → x ≡ y
+    → Origin own u p x → Origin own v q y → u ≡ v → p ≡ q → x ≡ y
 origins_agree own apart rise u v p q x y a b same_uri same_path =
     let listed = subst (λ ds. In a.document ds) (only_list own a.own a.given) a.listed in
     let listed_too = subst (λ ds. In b.document ds) (only_list own b.own b.given) b.listed in
@@ -59,4 +59,4 @@ origins_agree own apart rise u v p q x y a b same_uri same_path =
 pub contents_are_one : ContentsAreOne
 contents_are_one own apart rise t u e f same_uri same_path =
     origins_agree own apart rise t.document u.document t.path u.path t.contents u.contents
-    (target_comes_of (own ∷ []) t e).origin (target_comes_of (own ∷ []) u f).origin same_uri same_path
+    (target_comes_of own t e).origin (target_comes_of own u f).origin same_uri same_path

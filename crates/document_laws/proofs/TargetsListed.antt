@@ -150,7 +150,7 @@ awaits_none (Some uri) cs ds f h = (let no : f uri ∷ [] ≡ [] = second_empty 
 
 pub causeless_await_nothing : CauselessAwaitNothing
 causeless_await_nothing own h s i =
-    let docs : Documents = own ∷ [] in
+    let docs : Documents = own in
     let none = no_cause docs (standings (meta docs) own) (second_empty (told_anew docs) (flat_map (place_causes docs) (standings (meta docs) own)) h) s i in
     awaits_none s.place.awaits (flat_map unless_reference (listed (schema_in_force (is_root s.place.path) s.place.contents)))
     _ (awaited_cause docs (suc (how_many_await docs docs))) none
@@ -159,7 +159,7 @@ causeless_await_nothing own h s i =
 
 module _ (own : List Document) (rise : list_all contents_rise own ≡ true) where
   abbrev docs : Documents
-  docs = own ∷ []
+  docs = own
 
   found : (t : Target) → IsTarget docs t → Found (meta docs) own t
   found t i = of_target docs (λ s. In s (standings (meta docs) own)) (Found (meta docs) own) (all_found (meta docs) own rise) t i
@@ -173,9 +173,9 @@ pub targets_are_listed : TargetsAreListed
 targets_are_listed own rise = record {
   plain = λ told base reference t e.
       found_agrees told own rise t
-      (of_lookup (own ∷ []) (λ s. In s (standings told own)) (Found told own) told (all_found told own rise) base reference t e);
-  each = λ t i. found_agrees (meta (own ∷ [])) own rise t (found own rise t i);
+      (of_lookup own (λ s. In s (standings told own)) (Found told own) told (all_found told own rise) base reference t e);
+  each = λ t i. found_agrees (meta own) own rise t (found own rise t i);
   accepted = as_listed own rise;
   one = λ causes apart t u i j.
-      found_one (meta (own ∷ [])) own apart (causeless_await_nothing own causes) t u (found own rise t i) (found own rise u j);
+      found_one (meta own) own apart (causeless_await_nothing own causes) t u (found own rise t i) (found own rise u j);
 }

@@ -40,23 +40,23 @@ pub record AgreesWithList (told : List ℕ → Option Dialect) (own : List Docum
 
 -- the same by what the documents themselves tell, where nothing awaits
 pub record IsAsListed (own : List Document) (t : Target) : Type 0 where
-  pub listed : t.is_place ≡ true → (s : Standing) × In s (standings (meta (own ∷ [])) own) × IsThere t s
-  pub place : are_apart own ≡ true → (s : Standing) → In s (standings (meta (own ∷ [])) own) → StandsAt t.document t.path s → (t.is_place ≡ true) × IsThere t s
+  pub listed : t.is_place ≡ true → (s : Standing) × In s (standings (meta own) own) × IsThere t s
+  pub place : are_apart own ≡ true → (s : Standing) → In s (standings (meta own) own) → StandsAt t.document t.path s → (t.is_place ≡ true) × IsThere t s
 
 -- of documents without a cause to be refused: each target is as the list has it
 abbrev pub AreAsListed : List Document → Type 0
-AreAsListed own = (t : Target) → IsTarget (own ∷ []) t → IsAsListed own t
+AreAsListed own = (t : Target) → IsTarget own t → IsAsListed own t
 
 -- and where their URIs are apart, two at one path are one, so that a path determines base and dialect there
 abbrev pub AreOne : List Document → Type 0
-AreOne own = are_apart own ≡ true → (t u : Target) → IsTarget (own ∷ []) t → IsTarget (own ∷ []) u → t.document ≡ u.document → t.path ≡ u.path → t ≡ u
+AreOne own = are_apart own ≡ true → (t u : Target) → IsTarget own t → IsTarget own u → t.document ≡ u.document → t.path ≡ u.path → t ≡ u
 
 -- where names rise, of each target: whatever is told of meta-schemas; by what the documents tell; and of documents without a cause
 pub record TargetsAgree (own : List Document) : Type 0 where
-  pub plain : (told : List ℕ → Option Dialect) (base reference : List ℕ) (t : Target) → lookup_under told (own ∷ []) base reference ≡ Ok t → AgreesWithList told own t
-  pub each : (t : Target) → IsTarget (own ∷ []) t → AgreesWithList (meta (own ∷ [])) own t
-  pub accepted : document_causes (own ∷ []) ≡ [] → AreAsListed own
-  pub one : document_causes (own ∷ []) ≡ [] → AreOne own
+  pub plain : (told : List ℕ → Option Dialect) (base reference : List ℕ) (t : Target) → lookup_under told own base reference ≡ Ok t → AgreesWithList told own t
+  pub each : (t : Target) → IsTarget own t → AgreesWithList (meta own) own t
+  pub accepted : document_causes own ≡ [] → AreAsListed own
+  pub one : document_causes own ≡ [] → AreOne own
 
 abbrev pub TargetsAreListed : Type 0
 TargetsAreListed = (own : List Document) → list_all contents_rise own ≡ true → TargetsAgree own
@@ -73,8 +73,8 @@ PlacesAreOne = (own : List Document) → are_apart own ≡ true → list_all con
 
 -- by what the documents themselves tell, where their URIs are apart
 abbrev pub ListOnce : List Document → Type 0
-ListOnce own = are_apart own ≡ true → ListsOnce (meta (own ∷ [])) own
+ListOnce own = are_apart own ≡ true → ListsOnce (meta own) own
 
 -- documents without a cause await nothing
 abbrev pub CauselessAwaitNothing : Type 0
-CauselessAwaitNothing = (own : List Document) → document_causes (own ∷ []) ≡ [] → (s : Standing) → In s (standings (meta (own ∷ [])) own) → s.place.awaits ≡ None
+CauselessAwaitNothing = (own : List Document) → document_causes own ≡ [] → (s : Standing) → In s (standings (meta own) own) → s.place.awaits ≡ None

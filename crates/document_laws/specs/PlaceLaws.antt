@@ -24,8 +24,8 @@ NothingAwaits own = All (λ s. s.place.awaits ≡ None) (standings no_meta own)
 -- these documents have the same places, and the same bearers of URIs and anchors, whatever is told of meta-schemas
 pub record AloneTell (own : List Document) (meta : List ℕ → Option Dialect) : Type 0 where
   pub places : standings meta own ≡ standings no_meta own
-  pub bearers : (uri : List ℕ) → bearer_under meta (own ∷ []) uri ≡ bearer_under no_meta (own ∷ []) uri
-  pub anchored : (base k : List ℕ) → anchored_under meta (own ∷ []) base k ≡ anchored_under no_meta (own ∷ []) base k
+  pub bearers : (uri : List ℕ) → bearer_under meta own uri ≡ bearer_under no_meta own uri
+  pub anchored : (base k : List ℕ) → anchored_under meta own base k ≡ anchored_under no_meta own base k
 
 abbrev pub DocumentsAloneTell : Type 0
 DocumentsAloneTell = (own : List Document) → NothingAwaits own → (meta : List ℕ → Option Dialect) → AloneTell own meta
@@ -33,4 +33,4 @@ DocumentsAloneTell = (own : List Document) → NothingAwaits own → (meta : Lis
 -- and references lead to the same targets, with the same causes where they lead nowhere
 abbrev pub LookupsAloneTell : Type 0
 LookupsAloneTell = (own : List Document) → NothingAwaits own → (meta : List ℕ → Option Dialect) (base reference : List ℕ)
-    → lookup_under meta (own ∷ []) base reference ≡ lookup_under no_meta (own ∷ []) base reference
+    → lookup_under meta own base reference ≡ lookup_under no_meta own base reference

@@ -52,7 +52,7 @@ pub data IsTarget (docs : Documents) : Target → Type 0 where
 -- one place holds one value
 abbrev pub ContentsAreOne : Type 0
 ContentsAreOne = (own : List Document) → are_apart own ≡ true → list_all contents_rise own ≡ true
-    → (t u : Target) → IsTarget (own ∷ []) t → IsTarget (own ∷ []) u → t.document ≡ u.document → t.path ≡ u.path → t.contents ≡ u.contents
+    → (t u : Target) → IsTarget own t → IsTarget own u → t.document ≡ u.document → t.path ≡ u.path → t.contents ≡ u.contents
 
 -- ---- pointers are texts
 

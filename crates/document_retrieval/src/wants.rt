@@ -110,7 +110,7 @@ fn wants_under(
     known: &MetaSchemas,
     documents: &[Document<'_>],
 ) -> Result<Vec<Want>, AllocError>
-    ensures { IfOk result (λ v. map want_of v.items ≡ rounds.wants_under (dialects_in known.now) (map document_of documents.now ∷ [])) }
+    ensures { IfOk result (λ v. map want_of v.items ≡ rounds.wants_under (dialects_in known.now) (map document_of documents.now)) }
 {
     let places = standings(alloc, known, documents)?;
     let index = Index::of(alloc, &places)?;
@@ -130,7 +130,7 @@ fn wants_under(
 ///
 /// As [`meta_schemas`].
 pub fn wants_of(alloc: Global, documents: &[Document<'_>]) -> Result<Vec<Want>, AllocError>
-    ensures { IfOk result (λ v. map want_of v.items ≡ rounds.wants (map document_of documents.now ∷ [])) }
+    ensures { IfOk result (λ v. map want_of v.items ≡ rounds.wants (map document_of documents.now)) }
 {
     let told = meta_schemas(alloc, documents)?;
     wants_under(alloc, &told.meta_schemas, documents)

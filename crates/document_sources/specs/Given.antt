@@ -4,7 +4,8 @@ use Rattle.std.specs.List.{list_any}
 use Rattle.serde_json.specs.Data.{Data}
 use Rattle.schema_drafts.specs.declared.draft.Draft.{Draft}
 use Rattle.schema_definitions.specs.Words.{or}
-use Rattle.schema_definitions.specs.Bearers.{Document}
+use Rattle.schema_definitions.specs.Places.{standard}
+use Rattle.schema_definitions.specs.Bearers.{Document, Layer}
 
 -- a document, and its draft where it names none, if one was given with it
 pub record Given : Type 0 where
@@ -21,12 +22,12 @@ abbrev pub with_all : List Given → List Given → List Given
 with_all hs [] = hs
 with_all hs (g ∷ gs) = with_all (with_given hs g) gs
 
--- the documents, those without a draft of their own with the one by default
-abbrev pub document_by : Draft → Given → Document
-document_by default g = record { uri = g.uri; contents = g.contents; default = or default g.draft }
+-- the documents of a layer, those without a draft of their own with the layer's
+abbrev pub document_by : Layer → Given → Document
+document_by l g = record { layer = l.number; uri = g.uri; contents = g.contents; default = standard l.siblings (or l.draft g.draft) }
 
-abbrev pub documents_by : Draft → List Given → List Document
-documents_by default gs = map (document_by default) gs
+abbrev pub documents_by : Layer → List Given → List Document
+documents_by l gs = map (document_by l) gs
 
 -- the position of a document
 abbrev pub position_in : List Given → List ℕ → Option ℕ

@@ -5,6 +5,7 @@ mod adding;
 mod default;
 pub mod document;
 pub mod error;
+pub mod layer;
 pub mod list;
 mod map;
 pub mod named;

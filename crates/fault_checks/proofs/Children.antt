@@ -46,14 +46,14 @@ pub record AtTarget (c inner : code.Site) (w : ReferenceKeyword) (text : List �
   pub contents : view inner.contents.now ≡ (target_in target).contents
   pub base : base_of inner.resolver ≡ base_of target.resolver
   pub scope : scope_of inner.resolver ≡ scope_of target.resolver
-  pub documents : documents_at inner ≡ documents_in target.resolver ∷ []
+  pub documents : documents_at inner ≡ documents_in target.resolver
   pub stands : (s : Site) (reference : List ℕ) → Stands inner (target_site s reference (target_in target))
   pub matches : inner.matches ≡ c.matches
 
 pub target_meets : (c inner : code.Site) (w : ReferenceKeyword) (text : List ℕ) (target : Resolved) (path : List Part) (x : Scene) (s : Site) → AtTarget c inner w text target → Meets c path x s
     → IsRight x (target_site s text (target_in target)) → Meets inner (path_of_reference text) x (target_site s text (target_in target))
 target_meets c inner w text target path x s at m right = record {
-  documents = m.documents ∙ sym (at.documents ∙ ap (λ own. own ∷ []) at.found.documents);
+  documents = m.documents ∙ sym (at.documents ∙ at.found.documents);
   stands = at.stands s text;
   scope =
       ap₂ (λ present outer. entered_scope (base_of target.resolver) present outer) m.stands.base m.scope ∙ sym at.found.scope ∙ sym at.scope;
@@ -65,5 +65,5 @@ target_meets c inner w text target path x s at m right = record {
 pub target_shallow : (c inner : code.Site) (w : ReferenceKeyword) (text : List ℕ) (target : Resolved) → AtTarget c inner w text target → depth (view inner.contents.now) ≤ deepest (documents_at inner)
 target_shallow c inner w text target at =
     let lies = looked_up_lies w (documents_at c) (base_of c.resolver) (scope_of c.resolver) text (target_in target) at.found.found in
-    subst (λ (docs : Documents). depth (view inner.contents.now) ≤ deepest docs) (sym (at.documents ∙ ap (λ own. own ∷ []) at.found.documents))
+    subst (λ (docs : Documents). depth (view inner.contents.now) ≤ deepest docs) (sym (at.documents ∙ at.found.documents))
     (subst (λ (e : Data). depth e ≤ deepest (documents_at c)) (sym at.contents) lies.shallow)

@@ -25,14 +25,14 @@ read_from p r t d (Some m) found h = record {
 }
 
 abbrev root_from : List Document → List ℕ → List ℕ → Root
-root_from own base reference = record { documents = own ∷ []; base = base; reference = reference }
+root_from own base reference = record { documents = own; base = base; reference = reference }
 
 pub one_root : {own other : List Document} {base other_base : List ℕ} (reference : List ℕ) → own ≡ other → base ≡ other_base → root_from own base reference ≡ root_from other other_base reference
 one_root reference d b = rw (d, b) refl
 
 -- in documents that were prepared
-pub read_there : (own : List Document) (base reference : List ℕ) (t : Target) → lookup (own ∷ []) base reference ≡ Ok t → are_apart own ≡ true → list_all contents_rise own ≡ true
-    → (p : Patterns) (d : Data) (m : Option Matches) → (IsPlaced own t → ReadsAt p (own ∷ []) t d m) → (r : Root) → root_from own base reference ≡ r → AreReadIn p r d m
+pub read_there : (own : List Document) (base reference : List ℕ) (t : Target) → lookup own base reference ≡ Ok t → are_apart own ≡ true → list_all contents_rise own ≡ true
+    → (p : Patterns) (d : Data) (m : Option Matches) → (IsPlaced own t → ReadsAt p own t d m) → (r : Root) → root_from own base reference ≡ r → AreReadIn p r d m
 read_there own base reference t found apart rise p d m h r e =
     subst (λ (x : Root). AreReadIn p x d m) e (read_from p (root_from own base reference) t d m found (h (record { apart = apart; rise = rise; target = by_reference base reference found })))
 

@@ -33,7 +33,7 @@ pub record DecidesRoot (t : Target) (docs : Documents) (m : Matches) (d : Data) 
 
 -- the same from what a reference leads to
 abbrev pub DecidesAt : Resolved → Matches → Data → List ℕ → List ℕ → Bool → Type 0
-DecidesAt root m d instance evaluation b = DecidesRoot (target_in root) (documents_in root.resolver ∷ []) m d instance evaluation b
+DecidesAt root m d instance evaluation b = DecidesRoot (target_in root) (documents_in root.resolver) m d instance evaluation b
 
 -- of each match that a value asks for these say what is known of it
 pub record AgreeWithKnown (p : Patterns) (r : Root) (matches : List ℕ → List ℕ → Bool) (target : Target) (d : Data) : Type 0 where
@@ -97,4 +97,4 @@ ReadsAt p docs t d (Some m) = ReadsReached p docs t d m
 
 -- from what a reference leads to, where that is placed in the documents
 abbrev pub ReadsPlaced : Patterns → Resolved → Data → Option Matches → Type 0
-ReadsPlaced p root d m = IsPlaced (documents_in root.resolver) (target_in root) → ReadsAt p (documents_in root.resolver ∷ []) (target_in root) d m
+ReadsPlaced p root d m = IsPlaced (documents_in root.resolver) (target_in root) → ReadsAt p (documents_in root.resolver) (target_in root) d m

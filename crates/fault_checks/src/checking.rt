@@ -50,7 +50,7 @@ fn is_spelled(
     instance: Option<&str>,
     evaluation: Option<&str>,
 ) -> Result<bool, AllocError>
-    requires shallow { depth (target_in root.now).contents ≤ deepest (documents_in root.now.resolver ∷ []) }
+    requires shallow { depth (target_in root.now).contents ≤ deepest (documents_in root.now.resolver) }
     ensures { IfOk result (DecidesAt root.now matches.now (view value.now) (text_left instance.entry) (text_left evaluation.entry)) }
 {
     let site = at_root(root, matches)?;

@@ -30,8 +30,8 @@ pub fn tell_root<'r, 'i>(
     value: &'i Value,
     observer: &mut Observer<'i>,
 ) -> Result<(), AllocError>
-    requires shallow { depth (target_in root.now).contents ≤ deepest (documents_in root.now.resolver ∷ []) }
-    ensures { OnOk result (TellsRoot (target_in root.now) (documents_in root.now.resolver ∷ []) matches.now (view value.now) observer.old observer.new) }
+    requires shallow { depth (target_in root.now).contents ≤ deepest (documents_in root.now.resolver) }
+    ensures { OnOk result (TellsRoot (target_in root.now) (documents_in root.now.resolver) matches.now (view value.now) observer.old observer.new) }
 {
     let site = at_root(root, matches)?;
     let instance = LazyLocation::new();

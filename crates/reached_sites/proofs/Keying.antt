@@ -78,7 +78,7 @@ module _ (own : List Document) where
   same-documents : (v w : Visit) → Belongs own v → Belongs own w → documents_in v.site.resolver ≡ documents_in w.site.resolver
   same-documents v w b c = b.documents ∙ sym c.documents
 
-  pub sites-alike : (v w : Visit) → Belongs own v → Belongs own w → Repeats v w → view v.site.contents.now ≡ view w.site.contents.now → AreAlike (own ∷ []) (site_of w) (site_of v)
+  pub sites-alike : (v w : Visit) → Belongs own v → Belongs own w → Repeats v w → view v.site.contents.now ≡ view w.site.contents.now → AreAlike own (site_of w) (site_of v)
   sites-alike v w b c r e =
       let key : scope_key (documents_at w.site) (base_of w.site.resolver) (scope_of w.site.resolver) ≡ scope_key (documents_at v.site) (base_of v.site.resolver) (scope_of v.site.resolver) =
       sym w.keyed ∙ sym r.key ∙ v.keyed in
@@ -89,7 +89,7 @@ module _ (own : List Document) where
         base = sym r.base;
         dialect = ap dialect_of (sym r.dialect);
         road = ap spelled (sym r.point.road);
-        scope = subst (λ (ds : List Document). scope_key (ds ∷ []) (base_of w.site.resolver) (scope_of w.site.resolver) ≡ scope_key (own ∷ []) (base_of v.site.resolver) (scope_of v.site.resolver)) c.documents
+        scope = subst (λ (ds : List Document). scope_key (ds ∷ []) (base_of w.site.resolver) (scope_of w.site.resolver) ≡ scope_key own (base_of v.site.resolver) (scope_of v.site.resolver)) c.documents
             (subst (λ (ds : List Document). scope_key (documents_at w.site) (base_of w.site.resolver) (scope_of w.site.resolver) ≡ scope_key (ds ∷ []) (base_of v.site.resolver) (scope_of v.site.resolver)) b.documents key);
         here = present-of w;
         there = present-of v;

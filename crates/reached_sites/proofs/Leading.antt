@@ -24,10 +24,10 @@ module _ (v : Visit) (makes : List ℕ → Bool) (leads : List Visit) where
   object-here : (ms : Members) → view v.site.contents.now ≡ object ms → Rest (own_of v) makes (site_of v) ms ms [] leads → Leads (own_of v) makes (site_of v) leads
   object-here ms e rest =
       let s = site_of v in
-      let rows = rows-of-object (own_of v ∷ []) makes s ms e in
+      let rows = rows-of-object (own_of v) makes s ms e in
       record {
         right = ap causes_in rows ∙ rest.right;
-        met = subst (λ (vs : List Visit). Matches (own_of v) vs (leads_in (rows_at (own_of v ∷ []) makes s))) (sym rest.met.grown)
+        met = subst (λ (vs : List Visit). Matches (own_of v) vs (leads_in (rows_at (own_of v) makes s))) (sym rest.met.grown)
             (subst (λ (rs : List Row). Matches (own_of v) rest.met.added (leads_in rs)) (sym rows) rest.met.met);
       }
 
@@ -35,10 +35,10 @@ module _ (v : Visit) (makes : List ℕ → Bool) (leads : List Visit) where
   leads-object s ms m e rest = leads-alike (own_of v) makes s (site_of v) leads m.alike (object-here ms e rest)
 
 pub rows-of-boolean : (own : List Document) (makes : List ℕ → Bool) (s : Site) (b : Bool) → s.contents ≡ boolean b
-    → (causes_in (rows_at (own ∷ []) makes s) ≡ []) × (leads_in (rows_at (own ∷ []) makes s) ≡ [])
+    → (causes_in (rows_at own makes s) ≡ []) × (leads_in (rows_at own makes s) ≡ [])
 unfolding rows_at
-rows-of-boolean own makes s true e = (ap (λ d. causes_in (rows_in s (contexts (own ∷ []) makes s) d)) e, ap (λ d. leads_in (rows_in s (contexts (own ∷ []) makes s) d)) e)
-rows-of-boolean own makes s false e = (ap (λ d. causes_in (rows_in s (contexts (own ∷ []) makes s) d)) e, ap (λ d. leads_in (rows_in s (contexts (own ∷ []) makes s) d)) e)
+rows-of-boolean own makes s true e = (ap (λ d. causes_in (rows_in s (contexts own makes s) d)) e, ap (λ d. leads_in (rows_in s (contexts own makes s) d)) e)
+rows-of-boolean own makes s false e = (ap (λ d. causes_in (rows_in s (contexts own makes s) d)) e, ap (λ d. leads_in (rows_in s (contexts own makes s) d)) e)
 
 pub leads-boolean : (v : Visit) (makes : List ℕ → Bool) (s : Site) (b : Bool) (leads : List Visit) → Met v s
     → view v.site.contents.now ≡ boolean b → leads ≡ [] → Leads (own_of v) makes s leads
@@ -47,7 +47,7 @@ leads-boolean v makes s b leads m e n =
     let rows = rows-of-boolean (own_of v) makes s b is in
     record {
       right = rows.0;
-      met = subst (λ (vs : List Visit). Matches (own_of v) vs (leads_in (rows_at (own_of v ∷ []) makes s))) (sym n)
+      met = subst (λ (vs : List Visit). Matches (own_of v) vs (leads_in (rows_at (own_of v) makes s))) (sym n)
           (subst (λ (ss : List Site). Matches (own_of v) [] ss) (sym rows.1) none);
     }
 

@@ -45,11 +45,11 @@ HasVisit vs s = (v : Visit) × In v vs × Met v s
 
 -- nothing is wrong at a site, and those that it leads to have visits
 pub record Checked (own : List Document) (makes : List ℕ → Bool) (vs : List Visit) (s : Site) : Type 0 where
-  pub right : causes_in (rows_at (own ∷ []) makes s) ≡ []
-  pub led : (t : Site) → In t (leads_in (rows_at (own ∷ []) makes s)) → HasVisit vs t
+  pub right : causes_in (rows_at own makes s) ≡ []
+  pub led : (t : Site) → In t (leads_in (rows_at own makes s)) → HasVisit vs t
 
 abbrev ReachedBy : List Document → (List ℕ → Bool) → Site → Visit → Type 0
-ReachedBy own makes root v = (t : Site) × Met v t × Reached (own ∷ []) makes root t
+ReachedBy own makes root v = (t : Site) × Met v t × Reached own makes root t
 
 -- the first ones are checked; all are reached from the root
 pub record Progress (own : List Document) (makes : List ℕ → Bool) (root : Target) (vs : List Visit) (next : ℕ) : Type 0 where
@@ -72,10 +72,10 @@ module _ (own : List Document) (makes : List ℕ → Bool) (root : Target) where
 
   -- ---- visits of one key
 
-  among : (v : Visit) → Belongs own v → (s t : Site) → AreAlike (own ∷ []) s t → AreAlike (documents_in v.site.resolver ∷ []) s t
+  among : (v : Visit) → Belongs own v → (s t : Site) → AreAlike own s t → AreAlike (documents_in v.site.resolver) s t
   among v b s t a = subst (λ (ds : List Document). AreAlike (ds ∷ []) s t) (sym b.documents) a
 
-  alike-in : (v : Visit) (s : Site) → Belongs own v → Met v s → AreAlike (own ∷ []) s (site_of v)
+  alike-in : (v : Visit) (s : Site) → Belongs own v → Met v s → AreAlike own s (site_of v)
   alike-in v s b m = subst (λ (ds : List Document). AreAlike (ds ∷ []) s (site_of v)) b.documents m.alike
 
   same_contents : IsPlaced own root → (v w : Visit) → ReachedBy own makes start v → ReachedBy own makes start w → Repeats v w → view v.site.contents.now ≡ view w.site.contents.now
@@ -86,7 +86,7 @@ module _ (own : List Document) (makes : List ℕ → Bool) (root : Target) where
 
   met-again : IsPlaced own root → (v w : Visit) → Belongs own v → Belongs own w → ReachedBy own makes start v → ReachedBy own makes start w → Repeats v w → (s : Site) → Met w s → Met v s
   met-again h v w b c x y r s m =
-      record { alike = among v b s (site_of v) (joined (own ∷ []) s (site_of w) (site_of v) (alike-in w s c m) (sites-alike own v w b c r (same_contents h v w x y r))) }
+      record { alike = among v b s (site_of v) (joined own s (site_of w) (site_of v) (alike-in w s c m) (sites-alike own v w b c r (same_contents h v w x y r))) }
 
   -- ---- one visit more
 
@@ -117,7 +117,7 @@ module _ (own : List Document) (makes : List ℕ → Bool) (root : Target) where
     lead-reached w j =
         let h = p.reached v listed in
         let x = site-of own (led h.0 h.1).met j in
-        let y = in-some (λ (r : Row). r.leads) (rows_at (own ∷ []) makes h.0) x.1 in
+        let y = in-some (λ (r : Row). r.leads) (rows_at own makes h.0) x.1 in
         (x.0, x.2, by_keyword y.0 x.0 h.2 y.1 y.2)
 
     new-reached : (w : Visit) → In w old ⊎ In w g.added → ReachedBy own makes start w
@@ -172,26 +172,26 @@ module _ (own : List Document) (makes : List ℕ → Bool) (root : Target) where
       (λ s m. subst (λ (ds : List Document). Leads ds makes s leads) (p.belongs v listed).documents (led s m)) p
 
   pub progress-refuses : (old : List Visit) (i : ℕ) (v : Visit) (e : BuildCause) → i < length old → v ≡ get_or old i v
-      → ((s : Site) → Met v s → RefusesRoot (documents_in v.site.resolver ∷ []) makes s e) → Progress own makes root old i → RefusesRoot (own ∷ []) makes start e
+      → ((s : Site) → Met v s → RefusesRoot (documents_in v.site.resolver) makes s e) → Progress own makes root old i → RefusesRoot own makes start e
   progress-refuses old i v e within at h p =
       let listed = in-at old i v within at in
       let r = p.reached v listed in
-      refuses-through (own ∷ []) makes start r.0 e r.2 (subst (λ (ds : List Document). RefusesRoot (ds ∷ []) makes r.0 e) (p.belongs v listed).documents (h r.0 r.1))
+      refuses-through own makes start r.0 e r.2 (subst (λ (ds : List Document). RefusesRoot (ds ∷ []) makes r.0 e) (p.belongs v listed).documents (h r.0 r.1))
 
   -- ---- the keys of the visits are reached
 
   module _ (vs : List Visit) (n : ℕ) (p : Progress own makes root vs n) where
-    met-key : (v : Visit) (s : Site) → Belongs own v → Met v s → key_of_site (own ∷ []) s ≡ key_at v
+    met-key : (v : Visit) (s : Site) → Belongs own v → Met v s → key_of_site own s ≡ key_at v
     met-key v s b m =
-        subst (λ (ds : List Document). key_of_site (ds ∷ []) s ≡ key_at v) b.documents (alike-key (documents_in v.site.resolver ∷ []) s (site_of v) m.alike)
+        subst (λ (ds : List Document). key_of_site (ds ∷ []) s ≡ key_at v) b.documents (alike-key (documents_in v.site.resolver) s (site_of v) m.alike)
 
-    key-reached : (k : CompileKey) → In k (map key_at vs) → IsReached (own ∷ []) makes (start ∷ []) k
+    key-reached : (k : CompileKey) → In k (map key_at vs) → IsReached own makes (start ∷ []) k
     key-reached k i =
         let h = keys-in vs k i in
         let r = p.reached h.0 h.1 in
         record { root = start; listed = first; site = r.0; reached = r.2; named = met-key h.0 r.0 (p.belongs h.0 h.1) r.1 ∙ h.2 }
 
-    pub keys-exceed : Apart vs → (limit : ℕ) → limit < length vs → (e : BuildCause) → e ≡ NodeLimit limit → IsExceeded (own ∷ []) makes start limit e
+    pub keys-exceed : Apart vs → (limit : ℕ) → limit < length vs → (e : BuildCause) → e ≡ NodeLimit limit → IsExceeded own makes start limit e
     keys-exceed a limit more e is = record {
       named = is;
       exceeds = record {
@@ -207,37 +207,37 @@ module _ (own : List Document) (makes : List ℕ → Bool) (root : Target) where
     each-checked : (v : Visit) → In v vs → (s : Site) → Met v s → Checked own makes vs s
     each-checked v i = p.checked a v (subst (λ l. In v l) (sym (take_all n vs all)) i)
 
-    has-visit : (s : Site) → Reached (own ∷ []) makes start s → HasVisit vs s
+    has-visit : (s : Site) → Reached own makes start s → HasVisit vs s
     has-visit _ at_root = p.begins
     has-visit _ (by_keyword {s = s} row t r i j) =
         let h = has-visit s r in
-        (each-checked h.0 h.1 s h.2).led t (in-all (λ (r : Row). r.leads) (rows_at (own ∷ []) makes s) i j)
+        (each-checked h.0 h.1 s h.2).led t (in-all (λ (r : Row). r.leads) (rows_at own makes s) i j)
 
-    reached-checked : (s : Site) → Reached (own ∷ []) makes start s → Checked own makes vs s
+    reached-checked : (s : Site) → Reached own makes start s → Checked own makes vs s
     reached-checked s r = (let h = has-visit s r in each-checked h.0 h.1 s h.2)
 
-    pub no-cause : (c : rows.BuildCause) → IsCauseOf (own ∷ []) makes start c → ⊥
+    pub no-cause : (c : rows.BuildCause) → IsCauseOf own makes start c → ⊥
     no-cause c w =
-        in-none (causes_in (rows_at (own ∷ []) makes w.site)) (reached-checked w.site w.reached).right (in-all (λ (r : Row). r.causes) (rows_at (own ∷ []) makes w.site) w.stands w.wrong)
+        in-none (causes_in (rows_at own makes w.site)) (reached-checked w.site w.reached).right (in-all (λ (r : Row). r.causes) (rows_at own makes w.site) w.stands w.wrong)
 
-    key-visited : (k : CompileKey) → IsReached (own ∷ []) makes (start ∷ []) k → In k (map key_at vs)
+    key-visited : (k : CompileKey) → IsReached own makes (start ∷ []) k → In k (map key_at vs)
     key-visited k r =
-        let reached = subst (λ (s : Site). Reached (own ∷ []) makes s r.site) (in-one r.listed) r.reached in
+        let reached = subst (λ (s : Site). Reached own makes s r.site) (in-one r.listed) r.reached in
         let h = has-visit r.site reached in
         subst (λ (l : CompileKey). In l (map key_at vs)) (sym (met-key vs n p h.0 r.site (p.belongs h.0 h.1) h.2) ∙ r.named) (key-in vs h.0 h.1)
 
-    pub keys-within : (limit : ℕ) → length vs ≤ limit → AreWithin (own ∷ []) makes (start ∷ []) limit
+    pub keys-within : (limit : ℕ) → length vs ≤ limit → AreWithin own makes (start ∷ []) limit
     keys-within limit few keys are =
         let fewer = are-fewer keys (map key_at vs) are.distinct (λ k i. key-visited k (are.reached k i)) in
         let same = length-map vs key_at in
         omega (arith, fewer, same, few)
 
     -- a table of what the visits' schemas write has each pattern that is reached
-    pub all-among : {M : Type 0} (table : PatternTable M) → Noted table vs n → AreAmong (own ∷ []) makes start (texts_of_table table)
+    pub all-among : {M : Type 0} (table : PatternTable M) → Noted table vs n → AreAmong own makes start (texts_of_table table)
     all-among table noted = record {
       each = λ s r k i p j.
           let h = has-visit s r in
-          noted h.0 (subst (λ l. In h.0 l) (sym (take_all n vs all)) h.1) s h.2 p (site-written (own ∷ []) makes s k i p j);
+          noted h.0 (subst (λ l. In h.0 l) (sym (take_all n vs all)) h.1) s h.2 p (site-written own makes s k i p j);
     }
 
 -- ---- the table

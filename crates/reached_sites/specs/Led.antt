@@ -15,5 +15,5 @@ causes_in rows = flat_map (λ r. r.causes) rows
 
 -- nothing is wrong at a site, and visits stand for the sites that its keywords lead to
 pub record Leads (own : List Document) (makes : List ℕ → Bool) (s : Site) (visits : List Visit) : Type 0 where
-  pub right : causes_in (rows_at (own ∷ []) makes s) ≡ []
-  pub met : Matches own visits (leads_in (rows_at (own ∷ []) makes s))
+  pub right : causes_in (rows_at own makes s) ≡ []
+  pub met : Matches own visits (leads_in (rows_at own makes s))

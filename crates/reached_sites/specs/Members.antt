@@ -9,7 +9,7 @@ use Rattle.reached_sites.specs.Led.{leads_in, causes_in}
 use Rattle.reached_sites.specs.declared.visit.Visit.{Visit}
 
 abbrev pub context_in : List Document → (List ℕ → Bool) → Site → Members → Context
-context_in own makes s all = record { documents = own ∷ []; makes = makes; site = s; members = all }
+context_in own makes s all = record { documents = own; makes = makes; site = s; members = all }
 
 -- nothing is wrong at some members of all, and visits were put behind others for the sites that they lead to
 pub record Rest (own : List Document) (makes : List ℕ → Bool) (s : Site) (all some : Members) (old new : List Visit) : Type 0 where

@@ -9,4 +9,4 @@ use Rattle.document_laws.specs.TargetLaws.{are_apart, contents_rise, IsTarget}
 pub record IsPlaced (own : List Document) (root : Target) : Type 0 where
   pub apart : are_apart own ≡ true
   pub rise : list_all contents_rise own ≡ true
-  pub target : IsTarget (own ∷ []) root
+  pub target : IsTarget own root

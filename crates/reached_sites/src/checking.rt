@@ -30,11 +30,11 @@ fn walk<'r, P: PatternMaker>(
     maker: &P,
     limit: usize,
 ) -> Result<PatternTable<P::Matcher>, BuildCause>
-    ensures accepted { IfOk result (λ t. IsPlaced (documents_in root.now.resolver) (target_in root.now) → (c : rows.BuildCause) → IsCauseOf (documents_in root.now.resolver ∷ []) (P.patterns maker.now).makes (root_site (target_in root.now)) c → ⊥) }
-    ensures within { IfOk result (λ t. IsPlaced (documents_in root.now.resolver) (target_in root.now) → AreWithin (documents_in root.now.resolver ∷ []) (P.patterns maker.now).makes (root_site (target_in root.now) ∷ []) limit) }
-    ensures patterns { IfOk result (λ t. IsPlaced (documents_in root.now.resolver) (target_in root.now) → AreAmong (documents_in root.now.resolver ∷ []) (P.patterns maker.now).makes (root_site (target_in root.now)) (texts_of_table t)) }
+    ensures accepted { IfOk result (λ t. IsPlaced (documents_in root.now.resolver) (target_in root.now) → (c : rows.BuildCause) → IsCauseOf (documents_in root.now.resolver) (P.patterns maker.now).makes (root_site (target_in root.now)) c → ⊥) }
+    ensures within { IfOk result (λ t. IsPlaced (documents_in root.now.resolver) (target_in root.now) → AreWithin (documents_in root.now.resolver) (P.patterns maker.now).makes (root_site (target_in root.now) ∷ []) limit) }
+    ensures patterns { IfOk result (λ t. IsPlaced (documents_in root.now.resolver) (target_in root.now) → AreAmong (documents_in root.now.resolver) (P.patterns maker.now).makes (root_site (target_in root.now)) (texts_of_table t)) }
     ensures made { IfOk result (λ t. AreMadeBy P.Matcher.finds (P.patterns maker.now).finished t) }
-    ensures refused { IfErr result (RefusesWithin (documents_in root.now.resolver ∷ []) (P.patterns maker.now).makes (root_site (target_in root.now)) limit) }
+    ensures refused { IfErr result (RefusesWithin (documents_in root.now.resolver) (P.patterns maker.now).makes (root_site (target_in root.now)) limit) }
 {
     let mut table = PatternTable::new(alloc);
     let mut visits: Vec<Visit<'r>> = Vec::new(alloc);
@@ -74,11 +74,11 @@ pub fn check_reached<P: PatternMaker>(
     maker: &P,
     limit: usize,
 ) -> Result<PatternTable<P::Matcher>, BuildCause>
-    ensures accepted { IfOk result (λ t. IsPlaced (documents_in root.now.resolver) (target_in root.now) → (c : rows.BuildCause) → IsCauseOf (documents_in root.now.resolver ∷ []) (P.patterns maker.now).makes (root_site (target_in root.now)) c → ⊥) }
-    ensures within { IfOk result (λ t. IsPlaced (documents_in root.now.resolver) (target_in root.now) → AreWithin (documents_in root.now.resolver ∷ []) (P.patterns maker.now).makes (root_site (target_in root.now) ∷ []) limit) }
-    ensures patterns { IfOk result (λ t. IsPlaced (documents_in root.now.resolver) (target_in root.now) → AreAmong (documents_in root.now.resolver ∷ []) (P.patterns maker.now).makes (root_site (target_in root.now)) (texts_of_table t)) }
+    ensures accepted { IfOk result (λ t. IsPlaced (documents_in root.now.resolver) (target_in root.now) → (c : rows.BuildCause) → IsCauseOf (documents_in root.now.resolver) (P.patterns maker.now).makes (root_site (target_in root.now)) c → ⊥) }
+    ensures within { IfOk result (λ t. IsPlaced (documents_in root.now.resolver) (target_in root.now) → AreWithin (documents_in root.now.resolver) (P.patterns maker.now).makes (root_site (target_in root.now) ∷ []) limit) }
+    ensures patterns { IfOk result (λ t. IsPlaced (documents_in root.now.resolver) (target_in root.now) → AreAmong (documents_in root.now.resolver) (P.patterns maker.now).makes (root_site (target_in root.now)) (texts_of_table t)) }
     ensures made { IfOk result (λ t. AreMadeBy P.Matcher.finds (P.patterns maker.now).finished t) }
-    ensures refused { IfErr result (RefusesWithin (documents_in root.now.resolver ∷ []) (P.patterns maker.now).makes (root_site (target_in root.now)) limit) }
+    ensures refused { IfErr result (RefusesWithin (documents_in root.now.resolver) (P.patterns maker.now).makes (root_site (target_in root.now)) limit) }
 {
     let matches = Matches::none(alloc);
     walk(alloc, &*root, &matches, maker, limit)

@@ -13,7 +13,7 @@ use Rattle.reading_laws.specs.Keys.{Distinct}
 -- the sites reached from roots that references lead to: one place holds one value
 abbrev pub ReachedContentsAreOne : Type 0
 ReachedContentsAreOne = (own : List Document) → are_apart own ≡ true → list_all contents_rise own ≡ true → (makes : List ℕ → Bool)
-    → (r q : Target) → IsTarget (own ∷ []) r → IsTarget (own ∷ []) q → (s t : Site) → Reached (own ∷ []) makes (root_site r) s → Reached (own ∷ []) makes (root_site q) t
+    → (r q : Target) → IsTarget own r → IsTarget own q → (s t : Site) → Reached own makes (root_site r) s → Reached own makes (root_site q) t
     → s.document ≡ t.document → s.path ≡ t.path → s.contents ≡ t.contents
 
 abbrev pub KeysAreFewer : Type 0

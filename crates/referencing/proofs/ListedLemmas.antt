@@ -11,8 +11,8 @@ none : (cs : List DocumentCause) → is_empty cs ≡ true → cs ≡ []
 none [] e = refl
 none (c ∷ cs) e = absurd (cc (e))
 
-pub causeless : (r : Registry) → document_causes (documents_of r ∷ []) ≡ []
-causeless r = none (document_causes (documents_of r ∷ [])) r.stands.accepted
+pub causeless : (r : Registry) → document_causes (documents_of r) ≡ []
+causeless r = none (document_causes (documents_of r)) r.stands.accepted
 
 pub agreeing : (r : Registry) → TargetsAgree (documents_of r)
 agreeing r = targets_are_listed (documents_of r) r.stands.rising

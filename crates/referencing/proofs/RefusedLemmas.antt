@@ -29,11 +29,11 @@ in_turn (Ok x) f g = refl
 in_turn (Err e) f g = refl
 
 pub looked-up : (documents : List Document) (base reference : List ℕ)
-    → lookup (documents ∷ []) base reference
-    ≡ and_then (bearer_wanted documents base (cut_at 35 reference).0) (λ s. by_fragment (meta (documents ∷ [])) (documents ∷ []) s (or [] (cut_at 35 reference).1))
+    → lookup documents base reference
+    ≡ and_then (bearer_wanted documents base (cut_at 35 reference).0) (λ s. by_fragment (meta documents) documents s (or [] (cut_at 35 reference).1))
 unfolding lookup_under
 looked-up documents base reference =
-    in_turn (ok_or (invalid_uri (cut_at 35 reference).0) (resolved base (cut_at 35 reference).0)) (bearer_at documents) (λ s. by_fragment (meta (documents ∷ [])) (documents ∷ []) s (or [] (cut_at 35 reference).1))
+    in_turn (ok_or (invalid_uri (cut_at 35 reference).0) (resolved base (cut_at 35 reference).0)) (bearer_at documents) (λ s. by_fragment (meta documents) documents s (or [] (cut_at 35 reference).1))
 
 pub if-err : {X E : Type 0} (P Q : E → Type 0) (r : Result X E) → ((e : E) → P e → Q e) → IfErr r P → IfErr r Q
 if-err P Q (Ok x) h p = p

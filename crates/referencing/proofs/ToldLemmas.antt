@@ -15,15 +15,15 @@ use Rattle.document_index.specs.Answers.{dynamically_anchored_under}
 use Rattle.referencing.specs.Found.{redirect}
 
 -- bearers under the meta-schemas that are known, where these are what the documents tell
-module _ (known : MetaSchemas) (own : List Document) (told : (uri : List ℕ) → dialects_in known uri ≡ meta (own ∷ []) uri) where
-  pub told-bearer : (uri : List ℕ) → bearer_under (dialects_in known) (own ∷ []) uri ≡ bearer (own ∷ []) uri
-  told-bearer uri = (alike_tell (dialects_in known) (meta (own ∷ [])) told).bearers (own ∷ []) uri
+module _ (known : MetaSchemas) (own : List Document) (told : (uri : List ℕ) → dialects_in known uri ≡ meta own uri) where
+  pub told-bearer : (uri : List ℕ) → bearer_under (dialects_in known) own uri ≡ bearer own uri
+  told-bearer uri = (alike_tell (dialects_in known) (meta own) told).bearers own uri
 
-  pub told-anchored : (base k : List ℕ) → anchored_under (dialects_in known) (own ∷ []) base k ≡ anchored (own ∷ []) base k
-  told-anchored base k = (alike_tell (dialects_in known) (meta (own ∷ [])) told).anchored (own ∷ []) base k
+  pub told-anchored : (base k : List ℕ) → anchored_under (dialects_in known) own base k ≡ anchored own base k
+  told-anchored base k = (alike_tell (dialects_in known) (meta own) told).anchored own base k
 
-  pub told-dynamic : (base k : List ℕ) → dynamically_anchored_under (dialects_in known) (own ∷ []) base k ≡ dynamically_anchored (own ∷ []) base k
-  told-dynamic base k = (alike_tell (dialects_in known) (meta (own ∷ [])) told).dynamic (own ∷ []) base k
+  pub told-dynamic : (base k : List ℕ) → dynamically_anchored_under (dialects_in known) own base k ≡ dynamically_anchored own base k
+  told-dynamic base k = (alike_tell (dialects_in known) (meta own) told).dynamic own base k
 
 -- a pointer leads to the same under two that tell the same
 pub same_pointer : (m n : List ℕ → Option Dialect) → ((uri : List ℕ) → m uri ≡ n uri) → (s : Standing) (written decoded : List ℕ)

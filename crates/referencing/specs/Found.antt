@@ -13,7 +13,7 @@ found_target f = target_of f.document.value f.reached
 
 -- the bearer of a reference without its fragment
 abbrev pub bearer_at : List Document → List ℕ → Result Standing LookupCause
-bearer_at documents uri = ok_or (unretrievable uri) (bearer (documents ∷ []) uri)
+bearer_at documents uri = ok_or (unretrievable uri) (bearer documents uri)
 
 abbrev pub bearer_wanted : List Document → List ℕ → List ℕ → Result Standing LookupCause
 bearer_wanted documents base text = and_then (ok_or (invalid_uri text) (resolved base text)) (bearer_at documents)

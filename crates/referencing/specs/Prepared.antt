@@ -19,9 +19,9 @@ pub record HasCause (a : Asking) (limit : ℕ) (own : List Document) (e : Error)
   pub documents : List Document
   pub uris : List (List ℕ)
   pub gathered : IsGathered a limit own documents uris
-  pub complete : wants (documents ∷ []) ≡ []
+  pub complete : wants documents ≡ []
   pub cause : DocumentCause
-  pub among : In cause (document_causes (documents ∷ []))
+  pub among : In cause (document_causes documents)
   pub named : NamesDocument cause e
 
 -- want of memory; or the documents could not be gathered; or they were, and have a cause

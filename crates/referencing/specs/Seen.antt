@@ -15,4 +15,4 @@ retrieved_by r = map (λ u. u.value) r.retrieved.items
 
 -- what they tell of meta-schemas
 abbrev pub told_by : Registry → List ℕ → Option Dialect
-told_by r = meta (documents_of r ∷ [])
+told_by r = meta (documents_of r)

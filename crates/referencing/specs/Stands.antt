@@ -17,7 +17,7 @@ contents_rise d = rises d.contents
 -- the meta-schemas that are known are those of which the documents tell, and the index is of the documents under these; the objects of the
 -- documents have their names in order, each once; and they have no cause to be refused
 pub record Stands (known : MetaSchemas) (index : Index) (documents : List Document) : Type 0 where
-  pub told : (uri : List ℕ) → dialects_in known uri ≡ meta (documents ∷ []) uri
+  pub told : (uri : List ℕ) → dialects_in known uri ≡ meta documents uri
   pub indexed : Indexes index (located_standings (dialects_in known) documents)
   pub rising : list_all contents_rise documents ≡ true
-  pub accepted : is_empty (document_causes (documents ∷ [])) ≡ true
+  pub accepted : is_empty (document_causes documents) ≡ true

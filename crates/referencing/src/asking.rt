@@ -40,7 +40,7 @@ fn required_or_all(
 impl<'a> Registry<'a> {
     // The contents of the meta-schema that a schema names, where somebody bears its URI.
     fn meta_schema_of(&self, contents: &Value) -> Result<Option<&Value>, AllocError>
-        ensures { IfOk result (λ m. option_map (λ v. view v.now) m ≡ meta_schema_of (documents_of self.now ∷ []) (view contents.now)) }
+        ensures { IfOk result (λ m. option_map (λ v. view v.now) m ≡ meta_schema_of (documents_of self.now) (view contents.now)) }
     {
         match named_meta_schema(self.alloc, true, contents)? {
             Some(uri) => Ok(self.contents_of(uri.as_str())),
@@ -61,8 +61,8 @@ impl<'a> Registry<'a> {
         draft: Draft,
         contents: &Value,
     ) -> Result<VocabularySet, AllocError>
-        ensures same { IfOk result (λ s. sets.AreSame (sets.vocabularies_of s) (vocabularies_for (documents_of self.now ∷ []) (view contents.now))) }
-        ensures whole { IfOk result (λ s. vocabularies_for (documents_of self.now ∷ []) (view contents.now) ≡ spec.all_of_draft → sets.listed s ≡ sets.own draft) }
+        ensures same { IfOk result (λ s. sets.AreSame (sets.vocabularies_of s) (vocabularies_for (documents_of self.now) (view contents.now))) }
+        ensures whole { IfOk result (λ s. vocabularies_for (documents_of self.now) (view contents.now) ≡ spec.all_of_draft → sets.listed s ≡ sets.own draft) }
     {
         required_or_all(self.alloc, draft, self.meta_schema_of(contents)?)
     }
@@ -93,8 +93,8 @@ impl<'r> Resolver<'r> {
         draft: Draft,
         contents: &Value,
     ) -> Result<VocabularySet, AllocError>
-        ensures same { IfOk result (λ s. sets.AreSame (sets.vocabularies_of s) (vocabularies_for (documents_in self.now ∷ []) (view contents.now))) }
-        ensures whole { IfOk result (λ s. vocabularies_for (documents_in self.now ∷ []) (view contents.now) ≡ spec.all_of_draft → sets.listed s ≡ sets.own draft) }
+        ensures same { IfOk result (λ s. sets.AreSame (sets.vocabularies_of s) (vocabularies_for (documents_in self.now) (view contents.now))) }
+        ensures whole { IfOk result (λ s. vocabularies_for (documents_in self.now) (view contents.now) ≡ spec.all_of_draft → sets.listed s ≡ sets.own draft) }
     {
         self.registry.find_vocabularies(draft, contents)
     }

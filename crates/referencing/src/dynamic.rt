@@ -36,7 +36,7 @@ fn outer<'r>(
     name: &str,
     inner: Option<Standing<'r>>,
 ) -> Result<Option<Standing<'r>>, AllocError>
-    ensures { IfOk result (λ s. option_map standing_of s ≡ words.or_else (bearers.dynamically_anchored (documents_of registry.now ∷ []) resource.now name.now) (option_map standing_of inner.entry)) }
+    ensures { IfOk result (λ s. option_map standing_of s ≡ words.or_else (bearers.dynamically_anchored (documents_of registry.now) resource.now name.now) (option_map standing_of inner.entry)) }
 {
     match registry.dynamically_anchored(resource.as_str(), name)? {
         Some(standing) => Ok(Some(standing)),
@@ -51,7 +51,7 @@ fn outermost_standing<'r>(
     innermost: &Uri,
     scope: &List<Rc<Uri>>,
 ) -> Result<Option<Standing<'r>>, AllocError>
-    ensures { IfOk result (λ s. option_map standing_of s ≡ option_and_then (λ u. bearers.dynamically_anchored (documents_of registry.now ∷ []) u name.now) (words.last_that (λ u. is_some (bearers.dynamically_anchored (documents_of registry.now ∷ []) u name.now)) (innermost.now ∷ map (λ u. u.value) scope.now))) }
+    ensures { IfOk result (λ s. option_map standing_of s ≡ option_and_then (λ u. bearers.dynamically_anchored (documents_of registry.now) u name.now) (words.last_that (λ u. is_some (bearers.dynamically_anchored (documents_of registry.now) u name.now)) (innermost.now ∷ map (λ u. u.value) scope.now))) }
 {
     let mut found = registry.dynamically_anchored(innermost.as_str(), name)?;
     let mut rest = scope.iter();
@@ -67,8 +67,8 @@ fn outermost<'r>(
     innermost: &Uri,
     scope: &List<Rc<Uri>>,
 ) -> Result<Found<'r>, Error>
-    ensures ok { IfOk result (λ f. spec.outermost (documents_of registry.now ∷ []) name.now (innermost.now ∷ map (λ u. u.value) scope.now) ≡ Ok (found_target f)) }
-    ensures refused { IfErr result (RefusesLookup (spec.outermost (documents_of registry.now ∷ []) name.now (innermost.now ∷ map (λ u. u.value) scope.now))) }
+    ensures ok { IfOk result (λ f. spec.outermost (documents_of registry.now) name.now (innermost.now ∷ map (λ u. u.value) scope.now) ≡ Ok (found_target f)) }
+    ensures refused { IfErr result (RefusesLookup (spec.outermost (documents_of registry.now) name.now (innermost.now ∷ map (λ u. u.value) scope.now))) }
 {
     match outermost_standing(registry, name, innermost, scope)? {
         Some(standing) => Ok(whole(standing)),
@@ -98,7 +98,7 @@ fn end_of_run<'s>(
     present: &'s Rc<Uri>,
     scope: &'s List<Rc<Uri>>,
 ) -> &'s Rc<Uri>
-    ensures { result.now.value ≡ spec.end_of_run (documents_of registry.now ∷ []) present.now.value (map (λ u. u.value) scope.now) }
+    ensures { result.now.value ≡ spec.end_of_run (documents_of registry.now) present.now.value (map (λ u. u.value) scope.now) }
 {
     let mut last = present;
     let mut rest = scope.iter();
@@ -115,7 +115,7 @@ impl<'r> Resolver<'r> {
     /// What bears the dynamic anchors under a base, by their names, if there are any: a `$dynamicRef` that finds one of these names leads to
     /// the outermost resource of the scope that has it. One search by the base.
     pub fn dynamic_anchors(&self, base: &str) -> Option<&'r BTreeMap<String, Bearer>>
-        ensures { (name : List ℕ) → is_some (option_and_then (λ names. named names.now name) result) ≡ is_some (bearers.dynamically_anchored (documents_in self.now ∷ []) base.now name) }
+        ensures { (name : List ℕ) → is_some (option_and_then (λ names. named names.now name) result) ≡ is_some (bearers.dynamically_anchored (documents_in self.now) base.now name) }
     {
         self.registry.index.dynamic_anchors(base)
     }
@@ -124,7 +124,7 @@ impl<'r> Resolver<'r> {
     ///
     /// It looks each resource of the run up.
     pub fn run_end(&self) -> &Rc<Uri>
-        ensures { result.now.value ≡ keys.run_end (documents_in self.now ∷ []) (base_of self.now) (scope_of self.now) }
+        ensures { result.now.value ≡ keys.run_end (documents_in self.now) (base_of self.now) (scope_of self.now) }
     {
         if self.registry.is_recursive(self.base.as_str()) {
             end_of_run(self.registry, &self.base, &self.scope)
@@ -135,8 +135,8 @@ impl<'r> Resolver<'r> {
 
     // What a dynamic reference leads to, by what it leads to as a plain one.
     fn redirected(&self, found: Found<'r>, name: &str) -> Result<Found<'r>, Error>
-        ensures ok { IfOk result (λ f. redirect (documents_in self.now ∷ []) (scope_of self.now) name.now (found_target found.entry) ≡ Ok (found_target f)) }
-        ensures refused { IfErr result (RefusesLookup (redirect (documents_in self.now ∷ []) (scope_of self.now) name.now (found_target found.entry))) }
+        ensures ok { IfOk result (λ f. redirect (documents_in self.now) (scope_of self.now) name.now (found_target found.entry) ≡ Ok (found_target f)) }
+        ensures refused { IfErr result (RefusesLookup (redirect (documents_in self.now) (scope_of self.now) name.now (found_target found.entry))) }
     {
         if is_dynamic(&found, name) {
             outermost(self.registry, name, &found.reached.base, &self.scope)
@@ -154,10 +154,10 @@ impl<'r> Resolver<'r> {
     ///
     /// Why the reference leads nowhere, with the texts that it names, or want of memory.
     pub fn lookup_dynamic_ref(&self, reference: &str) -> Result<Resolved<'r>, Error>
-        ensures ok { IfOk result (λ r. spec.dynamic_lookup (documents_in self.now ∷ []) (base_of self.now) (scope_of self.now) reference.now ≡ Ok (target_in r)) }
+        ensures ok { IfOk result (λ r. spec.dynamic_lookup (documents_in self.now) (base_of self.now) (scope_of self.now) reference.now ≡ Ok (target_in r)) }
         ensures scope { IfOk result (λ r. scope_of r.resolver ≡ entered_scope (base_of r.resolver) (base_of self.now) (scope_of self.now)) }
         ensures documents { IfOk result (λ r. documents_in r.resolver ≡ documents_in self.now) }
-        ensures refused { IfErr result (RefusesLookup (spec.dynamic_lookup (documents_in self.now ∷ []) (base_of self.now) (scope_of self.now) reference.now)) }
+        ensures refused { IfErr result (RefusesLookup (spec.dynamic_lookup (documents_in self.now) (base_of self.now) (scope_of self.now) reference.now)) }
     {
         let (_, fragment) = split_fragment(reference);
         let found = look_up(self.registry, &self.base, reference)?;
@@ -174,10 +174,10 @@ impl<'r> Resolver<'r> {
     ///
     /// Where no schema place bears the base, which is then named, or want of memory.
     pub fn lookup_recursive_ref(&self) -> Result<Resolved<'r>, Error>
-        ensures ok { IfOk result (λ r. spec.recursive_lookup (documents_in self.now ∷ []) (base_of self.now) (scope_of self.now) ≡ Ok (target_in r)) }
+        ensures ok { IfOk result (λ r. spec.recursive_lookup (documents_in self.now) (base_of self.now) (scope_of self.now) ≡ Ok (target_in r)) }
         ensures scope { IfOk result (λ r. scope_of r.resolver ≡ entered_scope (base_of r.resolver) (base_of self.now) (scope_of self.now)) }
         ensures documents { IfOk result (λ r. documents_in r.resolver ≡ documents_in self.now) }
-        ensures refused { IfErr result (RefusesLookup (spec.recursive_lookup (documents_in self.now ∷ []) (base_of self.now) (scope_of self.now))) }
+        ensures refused { IfErr result (RefusesLookup (spec.recursive_lookup (documents_in self.now) (base_of self.now) (scope_of self.now))) }
     {
         let resource = self.run_end();
         match self.registry.bearer(resource.as_str())? {

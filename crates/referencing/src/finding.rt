@@ -67,7 +67,7 @@ impl<'a> Registry<'a> {
     ///
     /// Where a count of owners is full.
     pub fn bearer(&self, uri: &str) -> Result<Option<Standing<'_>>, AllocError>
-        ensures { IfOk result (λ s. option_map standing_of s ≡ bearers.bearer (documents_of self.now ∷ []) uri.now) }
+        ensures { IfOk result (λ s. option_map standing_of s ≡ bearers.bearer (documents_of self.now) uri.now) }
     {
         match answers::bearer(&self.documents, &self.index, uri) {
             Some((document, bearer)) => standing_at(document, bearer),
@@ -83,7 +83,7 @@ impl<'a> Registry<'a> {
     ///
     /// Where a count of owners is full.
     pub fn anchored(&self, base: &str, name: &str) -> Result<Option<Standing<'_>>, AllocError>
-        ensures { IfOk result (λ s. option_map standing_of s ≡ bearers.anchored (documents_of self.now ∷ []) base.now name.now) }
+        ensures { IfOk result (λ s. option_map standing_of s ≡ bearers.anchored (documents_of self.now) base.now name.now) }
     {
         match answers::anchored(&self.documents, &self.index, base, name) {
             Some((document, bearer)) => standing_at(document, bearer),
@@ -103,7 +103,7 @@ impl<'a> Registry<'a> {
         base: &str,
         name: &str,
     ) -> Result<Option<Standing<'_>>, AllocError>
-        ensures { IfOk result (λ s. option_map standing_of s ≡ bearers.dynamically_anchored (documents_of self.now ∷ []) base.now name.now) }
+        ensures { IfOk result (λ s. option_map standing_of s ≡ bearers.dynamically_anchored (documents_of self.now) base.now name.now) }
     {
         match answers::dynamically_anchored(&self.documents, &self.index, base, name) {
             Some((document, bearer)) => standing_at(document, bearer),
@@ -113,7 +113,7 @@ impl<'a> Registry<'a> {
 
     // What the last schema place that bears a URI holds.
     pub(crate) fn contents_of(&self, uri: &str) -> Option<&Value>
-        ensures { option_map (λ v. view v.now) result ≡ option_map (λ (s : bearers.Standing). s.place.contents) (bearers.bearer (documents_of self.now ∷ []) uri.now) }
+        ensures { option_map (λ v. view v.now) result ≡ option_map (λ (s : bearers.Standing). s.place.contents) (bearers.bearer (documents_of self.now) uri.now) }
     {
         let (document, bearer) = answers::bearer(&self.documents, &self.index, uri)?;
         bearer.path.find_in(document.contents.value())
@@ -123,7 +123,7 @@ impl<'a> Registry<'a> {
     ///
     /// One search by the URI, and a look-up for each step of the place's path.
     pub fn is_recursive(&self, uri: &str) -> bool
-        ensures { result ≡ scopes.recurs (documents_of self.now ∷ []) uri.now }
+        ensures { result ≡ scopes.recurs (documents_of self.now) uri.now }
     {
         match self.contents_of(uri) {
             Some(contents) => says_recursive(contents),
@@ -133,7 +133,7 @@ impl<'a> Registry<'a> {
 
     /// Whether a schema place bears a URI. One search by the URI.
     pub fn contains_resource(&self, uri: &str) -> bool
-        ensures { result ≡ is_some (bearers.bearer (documents_of self.now ∷ []) uri.now) }
+        ensures { result ≡ is_some (bearers.bearer (documents_of self.now) uri.now) }
     {
         answers::bearer(&self.documents, &self.index, uri).is_some()
     }

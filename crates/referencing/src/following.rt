@@ -48,9 +48,9 @@ fn chain_at<'r>(resolved: Resolved<'r>) -> Result<Chain<'r>, AllocError>
 }
 
 fn take_step<'r>(chain: Chain<'r>, step: &Step<'_>) -> Result<Chain<'r>, Error>
-    ensures ok { IfOk result (λ c. one_step (documents_in chain.entry.resolver ∷ []) (stand_of chain.entry) step.now ≡ Ok (stand_of c)) }
+    ensures ok { IfOk result (λ c. one_step (documents_in chain.entry.resolver) (stand_of chain.entry) step.now ≡ Ok (stand_of c)) }
     ensures over { IfOk result (λ c. IfSome chain.entry.last (λ r. documents_in r.resolver ≡ documents_in chain.entry.resolver) → IsOver (documents_in chain.entry.resolver) c) }
-    ensures refused { IfErr result (RefusesLookup (one_step (documents_in chain.entry.resolver ∷ []) (stand_of chain.entry) step.now)) }
+    ensures refused { IfErr result (RefusesLookup (one_step (documents_in chain.entry.resolver) (stand_of chain.entry) step.now)) }
 {
     match step {
         Step::Lookup(reference) => Ok(chain_at(chain.resolver.lookup(reference)?)?),
@@ -75,9 +75,9 @@ pub fn follow<'r>(
     base: Uri,
     steps: &[Step<'_>],
 ) -> Result<Option<Resolved<'r>>, Error>
-    ensures ok { IfOk result (λ r. last_of_chain (documents_of registry.now ∷ []) base steps.now ≡ Ok (option_map answer_in r)) }
+    ensures ok { IfOk result (λ r. last_of_chain (documents_of registry.now) base steps.now ≡ Ok (option_map answer_in r)) }
     ensures documents { IfOk result (λ r. IfSome r (λ x. documents_in x.resolver ≡ documents_of registry.now)) }
-    ensures refused { IfErr result (RefusesLookup (followed (documents_of registry.now ∷ []) (begun base) steps.now)) }
+    ensures refused { IfErr result (RefusesLookup (followed (documents_of registry.now) (begun base) steps.now)) }
 {
     let mut chain = Chain {
         resolver: registry.resolver(base)?,

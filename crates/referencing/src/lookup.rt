@@ -78,7 +78,7 @@ impl<'r> Resolver<'r> {
 
     /// What is known of meta-schemas of one's own: all that the documents tell of them (Core 8.1.1, 8.1.2).
     pub fn meta_schemas(&self) -> &'r MetaSchemas
-        ensures { (uri : List ℕ) → dialects_in result.now uri ≡ meta (documents_in self.now ∷ []) uri }
+        ensures { (uri : List ℕ) → dialects_in result.now uri ≡ meta (documents_in self.now) uri }
     {
         &self.registry.known
     }
@@ -191,10 +191,10 @@ impl<'r> Resolver<'r> {
     ///
     /// Why the reference leads nowhere, with the texts that it names, or want of memory.
     pub fn lookup(&self, reference: &str) -> Result<Resolved<'r>, Error>
-        ensures ok { IfOk result (λ r. spec.lookup (documents_in self.now ∷ []) (base_of self.now) reference.now ≡ Ok (target_in r)) }
+        ensures ok { IfOk result (λ r. spec.lookup (documents_in self.now) (base_of self.now) reference.now ≡ Ok (target_in r)) }
         ensures scope { IfOk result (λ r. scope_of r.resolver ≡ entered_scope (base_of r.resolver) (base_of self.now) (scope_of self.now)) }
         ensures documents { IfOk result (λ r. documents_in r.resolver ≡ documents_in self.now) }
-        ensures refused { IfErr result (RefusesLookup (spec.lookup (documents_in self.now ∷ []) (base_of self.now) reference.now)) }
+        ensures refused { IfErr result (RefusesLookup (spec.lookup (documents_in self.now) (base_of self.now) reference.now)) }
     {
         let found = look_up(self.registry, &self.base, reference)?;
         Ok(self.arrived(found)?)

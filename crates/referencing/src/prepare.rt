@@ -37,8 +37,8 @@ impl<'a> Registry<'a> {
     ) -> Result<Registry<'a>, Error>
         ensures documents { IfOk result (λ r. documents_of r ≡ map document_of documents.entry.items) }
         ensures retrieved { IfOk result (λ r. retrieved_by r ≡ map (λ u. u.value) retrieved.items) }
-        ensures accepted { OnOk result (document_causes (map document_of documents.entry.items ∷ []) ≡ []) }
-        ensures refused { IfErr result (NamesOne (document_causes (map document_of documents.entry.items ∷ []))) }
+        ensures accepted { OnOk result (document_causes (map document_of documents.entry.items) ≡ []) }
+        ensures refused { IfErr result (NamesOne (document_causes (map document_of documents.entry.items))) }
     {
         let Prepared { known, index } = prepared::prepare(alloc, &documents)?;
         check_names(&documents);
@@ -62,8 +62,8 @@ impl<'a> Registry<'a> {
     pub fn of(alloc: Global, documents: Vec<Document<'a>>) -> Result<Registry<'a>, Error>
         ensures documents { IfOk result (λ r. documents_of r ≡ map document_of documents.entry.items) }
         ensures retrieved { IfOk result (λ r. retrieved_by r ≡ []) }
-        ensures accepted { OnOk result (document_causes (map document_of documents.entry.items ∷ []) ≡ []) }
-        ensures refused { IfErr result (NamesOne (document_causes (map document_of documents.entry.items ∷ []))) }
+        ensures accepted { OnOk result (document_causes (map document_of documents.entry.items) ≡ []) }
+        ensures refused { IfErr result (NamesOne (document_causes (map document_of documents.entry.items))) }
     {
         Registry::with_retrieved(alloc, documents, Vec::new(alloc))
     }

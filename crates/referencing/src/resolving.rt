@@ -85,8 +85,8 @@ fn by_anchor<'r>(
     standing: &Standing<'_>,
     name: &str,
 ) -> Result<Found<'r>, Error>
-    ensures ok { IfOk result (λ f. spec.by_anchor (told_by registry.now) (documents_of registry.now ∷ []) (standing_of standing.now) name.now ≡ Ok (found_target f)) }
-    ensures refused { IfErr result (RefusesLookup (spec.by_anchor (told_by registry.now) (documents_of registry.now ∷ []) (standing_of standing.now) name.now)) }
+    ensures ok { IfOk result (λ f. spec.by_anchor (told_by registry.now) (documents_of registry.now) (standing_of standing.now) name.now ≡ Ok (found_target f)) }
+    ensures refused { IfErr result (RefusesLookup (spec.by_anchor (told_by registry.now) (documents_of registry.now) (standing_of standing.now) name.now)) }
 {
     if has_slash(name) {
         return Err(invalid_anchor(registry.alloc, name));
@@ -102,8 +102,8 @@ fn by_fragment<'r>(
     standing: Standing<'r>,
     fragment: &str,
 ) -> Result<Found<'r>, Error>
-    ensures ok { IfOk result (λ f. spec.by_fragment (told_by registry.now) (documents_of registry.now ∷ []) (standing_of standing.entry) fragment.now ≡ Ok (found_target f)) }
-    ensures refused { IfErr result (RefusesLookup (spec.by_fragment (told_by registry.now) (documents_of registry.now ∷ []) (standing_of standing.entry) fragment.now)) }
+    ensures ok { IfOk result (λ f. spec.by_fragment (told_by registry.now) (documents_of registry.now) (standing_of standing.entry) fragment.now ≡ Ok (found_target f)) }
+    ensures refused { IfErr result (RefusesLookup (spec.by_fragment (told_by registry.now) (documents_of registry.now) (standing_of standing.entry) fragment.now)) }
 {
     match fragment.as_bytes() {
         [] => Ok(whole(standing)),
@@ -145,8 +145,8 @@ pub fn look_up<'r>(
     base: &Uri,
     reference: &str,
 ) -> Result<Found<'r>, Error>
-    ensures ok { IfOk result (λ f. spec.lookup (documents_of registry.now ∷ []) base.now reference.now ≡ Ok (found_target f)) }
-    ensures refused { IfErr result (RefusesLookup (spec.lookup (documents_of registry.now ∷ []) base.now reference.now)) }
+    ensures ok { IfOk result (λ f. spec.lookup (documents_of registry.now) base.now reference.now ≡ Ok (found_target f)) }
+    ensures refused { IfErr result (RefusesLookup (spec.lookup (documents_of registry.now) base.now reference.now)) }
 {
     let (text, fragment) = split_fragment(reference);
     let bearer = wanted(registry, base, text)?;

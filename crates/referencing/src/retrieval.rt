@@ -35,8 +35,8 @@ impl<'a> Registry<'a> {
     ) -> Result<Registry<'a>, Error>
         ensures documents { IfOk result (λ r. IsGathered (asking R.may_answer R.may_refuse retriever.now default) limit (map document_of documents.entry.items) (documents_of r) (retrieved_by r)) }
         ensures once { IfOk result (λ r. none_twice (retrieved_by r) ≡ true) }
-        ensures complete { IfOk result (λ r. wants (documents_of r ∷ []) ≡ []) }
-        ensures accepted { IfOk result (λ r. document_causes (documents_of r ∷ []) ≡ []) }
+        ensures complete { IfOk result (λ r. wants (documents_of r) ≡ []) }
+        ensures accepted { IfOk result (λ r. document_causes (documents_of r) ≡ []) }
         ensures alone { IfOk result (λ r. AnswersNothing (asking R.may_answer R.may_refuse retriever.now default) → (documents_of r ≡ map document_of documents.entry.items) × (retrieved_by r ≡ [])) }
         ensures refused { IfErr result (RefusesRegistry (asking R.may_answer R.may_refuse retriever.now default) limit (map document_of documents.entry.items)) }
     {
@@ -63,8 +63,8 @@ impl<'a, R: Retrieve + Drop> RegistryBuilder<'a, R> {
     pub fn prepare(self) -> Result<Registry<'a>, Error>
         ensures documents { IfOk result (λ r. IsGathered (asking_of R.may_answer R.may_refuse self.entry) self.entry.limit (added_in self.entry) (documents_of r) (retrieved_by r)) }
         ensures once { IfOk result (λ r. none_twice (retrieved_by r) ≡ true) }
-        ensures complete { IfOk result (λ r. wants (documents_of r ∷ []) ≡ []) }
-        ensures accepted { IfOk result (λ r. document_causes (documents_of r ∷ []) ≡ []) }
+        ensures complete { IfOk result (λ r. wants (documents_of r) ≡ []) }
+        ensures accepted { IfOk result (λ r. document_causes (documents_of r) ≡ []) }
         ensures alone { IfOk result (λ r. AnswersNothing (asking_of R.may_answer R.may_refuse self.entry) → (documents_of r ≡ added_in self.entry) × (retrieved_by r ≡ [])) }
         ensures refused { IfErr result (RefusesRegistry (asking_of R.may_answer R.may_refuse self.entry) self.entry.limit (added_in self.entry)) }
     {

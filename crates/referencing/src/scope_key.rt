@@ -91,8 +91,8 @@ impl<'r> Resolver<'r> {
     ///
     /// Where memory was refused or a count of owners is full.
     pub fn scope_key(&self) -> Result<ScopeKey, AllocError>
-        ensures key { IfOk result (λ k. key_of k ≡ spec.scope_key (documents_in self.now ∷ []) (base_of self.now) (scope_of self.now)) }
-        ensures alike { IfOk result (λ k. (scope : List (List ℕ)) → IsPresent (base_of self.now) scope → key_of k ≡ spec.scope_key (documents_in self.now ∷ []) (base_of self.now) scope → Alike (documents_in self.now ∷ []) (base_of self.now) (scope_of self.now) scope) }
+        ensures key { IfOk result (λ k. key_of k ≡ spec.scope_key (documents_in self.now) (base_of self.now) (scope_of self.now)) }
+        ensures alike { IfOk result (λ k. (scope : List (List ℕ)) → IsPresent (base_of self.now) scope → key_of k ≡ spec.scope_key (documents_in self.now) (base_of self.now) scope → Alike (documents_in self.now) (base_of self.now) (scope_of self.now) scope) }
     {
         let alloc = self.registry.alloc;
         let resources = outermost_first(alloc, &self.scope)?;

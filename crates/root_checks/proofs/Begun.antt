@@ -26,24 +26,24 @@ use Rattle.root_checks.proofs.Visits.{ArePlaced, met-again, reached-more}
 module _ (own : List Document) (base : List ℕ) where
   -- ---- the sites of references
 
-  pub sites-more : (rs : List (List ℕ)) (r : List ℕ) → sites_from own base (rs ++ r ∷ []) ≡ sites_from own base rs ++ site_of_answer (lookup (own ∷ []) base r)
-  sites-more [] r = append-nil (site_of_answer (lookup (own ∷ []) base r))
+  pub sites-more : (rs : List (List ℕ)) (r : List ℕ) → sites_from own base (rs ++ r ∷ []) ≡ sites_from own base rs ++ site_of_answer (lookup own base r)
+  sites-more [] r = append-nil (site_of_answer (lookup own base r))
   sites-more (q ∷ rs) r =
-      ap (λ ss. site_of_answer (lookup (own ∷ []) base q) ++ ss) (sites-more rs r)
-      ∙ sym (append_assoc (site_of_answer (lookup (own ∷ []) base q)) (sites_from own base rs) (site_of_answer (lookup (own ∷ []) base r)))
+      ap (λ ss. site_of_answer (lookup own base q) ++ ss) (sites-more rs r)
+      ∙ sym (append_assoc (site_of_answer (lookup own base q)) (sites_from own base rs) (site_of_answer (lookup own base r)))
 
-  answer-lies : (r : List ℕ) (a : _) → lookup (own ∷ []) base r ≡ a → (s : Site) → In s (site_of_answer a) → Lies (own ∷ []) s
-  answer-lies r (Ok t) e s i = subst (λ u. Lies (own ∷ []) u) (sym (in-one i)) (root_lies own t (by_reference base r e))
+  answer-lies : (r : List ℕ) (a : _) → lookup own base r ≡ a → (s : Site) → In s (site_of_answer a) → Lies own s
+  answer-lies r (Ok t) e s i = subst (λ u. Lies own u) (sym (in-one i)) (root_lies own t (by_reference base r e))
   answer-lies r (Err c) e s i = none-in i
 
-  either-lies : (r : List ℕ) (rs : List (List ℕ)) (s : Site) → (In s (sites_from own base rs) → Lies (own ∷ []) s)
-      → In s (site_of_answer (lookup (own ∷ []) base r)) ⊎ In s (sites_from own base rs) → Lies (own ∷ []) s
-  either-lies r rs s rest (inl j) = answer-lies r (lookup (own ∷ []) base r) refl s j
+  either-lies : (r : List ℕ) (rs : List (List ℕ)) (s : Site) → (In s (sites_from own base rs) → Lies own s)
+      → In s (site_of_answer (lookup own base r)) ⊎ In s (sites_from own base rs) → Lies own s
+  either-lies r rs s rest (inl j) = answer-lies r (lookup own base r) refl s j
   either-lies r rs s rest (inr j) = rest j
 
-  sites-lie : (rs : List (List ℕ)) (s : Site) → In s (sites_from own base rs) → Lies (own ∷ []) s
+  sites-lie : (rs : List (List ℕ)) (s : Site) → In s (sites_from own base rs) → Lies own s
   sites-lie [] s i = none-in i
-  sites-lie (r ∷ rs) s i = either-lies r rs s (sites-lie rs s) (in-either (site_of_answer (lookup (own ∷ []) base r)) (sites_from own base rs) i)
+  sites-lie (r ∷ rs) s i = either-lies r rs s (sites-lie rs s) (in-either (site_of_answer (lookup own base r)) (sites_from own base rs) i)
 
   pub sites-placed : are_apart own ≡ true → list_all contents_rise own ≡ true → (rs : List (List ℕ)) → ArePlaced own (sites_from own base rs)
   sites-placed apart rise rs = record { apart = apart; rise = rise; lie = λ s i. sites-lie rs s i }
@@ -61,7 +61,7 @@ module _ (own : List Document) (base : List ℕ) where
   start-later old new added (r ∷ rs) (o ∷ os) e h = (starts-later old new added r o e h.0, start-later old new added rs os e h.1)
 
   -- each site of references that begin is visited
-  visited-of : (vs : List Visit) (r : List ℕ) (o : Option ℕ) (a : _) → lookup (own ∷ []) base r ≡ a → StartsAt own base vs r o → (s : Site) → In s (site_of_answer a) → (i : ℕ) × IsVisited vs i s
+  visited-of : (vs : List Visit) (r : List ℕ) (o : Option ℕ) (a : _) → lookup own base r ≡ a → StartsAt own base vs r o → (s : Site) → In s (site_of_answer a) → (i : ℕ) × IsVisited vs i s
   visited-of vs r None (Ok t) e h s i = (let no : Ok t ≡ Err h.0 = sym e ∙ h.1 in absurd (cc (no)))
   visited-of vs r (Some j) (Ok t) e h s i =
       let same : Ok h.target ≡ Ok t = sym h.found ∙ e in
@@ -73,14 +73,14 @@ module _ (own : List Document) (base : List ℕ) where
   Somewhere vs s = (i : ℕ) × IsVisited vs i s
 
   either-visited : (vs : List Visit) (r : List ℕ) (rs : List (List ℕ)) (o : Option ℕ) (s : Site) → StartsAt own base vs r o → (In s (sites_from own base rs) → Somewhere vs s)
-      → In s (site_of_answer (lookup (own ∷ []) base r)) ⊎ In s (sites_from own base rs) → Somewhere vs s
-  either-visited vs r rs o s h rest (inl j) = visited-of vs r o (lookup (own ∷ []) base r) refl h s j
+      → In s (site_of_answer (lookup own base r)) ⊎ In s (sites_from own base rs) → Somewhere vs s
+  either-visited vs r rs o s h rest (inl j) = visited-of vs r o (lookup own base r) refl h s j
   either-visited vs r rs o s h rest (inr j) = rest j
 
   pub sites-visited : (vs : List Visit) (rs : List (List ℕ)) (os : List (Option ℕ)) → Start own base vs rs os → (s : Site) → In s (sites_from own base rs) → Somewhere vs s
   sites-visited vs [] os h s i = none-in i
   sites-visited vs (r ∷ rs) [] h s i = absurd h
-  sites-visited vs (r ∷ rs) (o ∷ os) h s i = either-visited vs r rs o s h.0 (sites-visited vs rs os h.1 s) (in-either (site_of_answer (lookup (own ∷ []) base r)) (sites_from own base rs) i)
+  sites-visited vs (r ∷ rs) (o ∷ os) h s i = either-visited vs r rs o s h.0 (sites-visited vs rs os h.1 s) (in-either (site_of_answer (lookup own base r)) (sites_from own base rs) i)
 
   -- ---- one reference more
 
@@ -109,7 +109,7 @@ module _ (own : List Document) (base : List ℕ) where
       reached-too : (v : Visit) → IsReachedFrom own makes (sites_from own base rs) v → IsReachedFrom own makes (sites_from own base more) v
       reached-too v h =
           reached-more own makes (sites_from own base rs) (sites_from own base more) v
-          (λ s i. subst (λ ss. In s ss) (sym (sites-more rs r)) (in-before (sites_from own base rs) (site_of_answer (lookup (own ∷ []) base r)) i)) h
+          (λ s i. subst (λ ss. In s ss) (sym (sites-more rs r)) (in-before (sites_from own base rs) (site_of_answer (lookup own base r)) i)) h
 
       pub begun-nowhere : (old new : List Visit) → new ≡ old → AreBegun rs old → AreBegun more new
       begun-nowhere old new e b = subst (λ (vs : List Visit). AreBegun more vs) (sym e) (record { belongs = b.belongs; reached = λ v i. reached-too v (b.reached v i) })
@@ -118,7 +118,7 @@ module _ (own : List Document) (base : List ℕ) where
         root-listed : In (root_site h.target) (sites_from own base more)
         root-listed =
             subst (λ ss. In (root_site h.target) ss) (sym (sites-more rs r))
-            (in-behind (sites_from own base rs) (site_of_answer (lookup (own ∷ []) base r)) (subst (λ a. In (root_site h.target) (site_of_answer a)) (sym h.found) first))
+            (in-behind (sites_from own base rs) (site_of_answer (lookup own base r)) (subst (λ a. In (root_site h.target) (site_of_answer a)) (sym h.found) first))
 
         its : IsReachedFrom own makes (sites_from own base more) h.visit
         its = record { site = root_site h.target; met = h.met; root = root_site h.target; listed = root-listed; reached = at_root }

@@ -60,7 +60,7 @@ module _ (own : List Document) (makes : List ℕ → Bool) (roots : List Site) (
   lead-reached : (w : Visit) → In w leads → IsReachedFrom own makes roots w
   lead-reached w j =
       let x = site-of own (led its.site its.met).met j in
-      let y = in-some (λ (r : Row). r.leads) (rows_at (own ∷ []) makes its.site) x.1 in
+      let y = in-some (λ (r : Row). r.leads) (rows_at own makes its.site) x.1 in
       record { site = x.0; met = x.2; root = its.root; listed = its.listed; reached = by_keyword y.0 x.0 its.reached y.1 y.2 }
 
   either : (w : Visit) → In w new → In w old ⊎ In w added

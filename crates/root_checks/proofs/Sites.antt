@@ -21,20 +21,20 @@ use Rattle.root_checks.specs.Led.{Tells, MembersLed, IsLed}
 use Rattle.root_checks.proofs.Members.{tells-right, tells-wrong}
 
 module _ (own : List Document) (makes : List ℕ → Bool) (s t : Site) (leads : List Visit) (b : Bool) where
-  pub led-alike : AreAlike (own ∷ []) s t → IsLed own makes t leads b → IsLed own makes s leads b
+  pub led-alike : AreAlike own s t → IsLed own makes t leads b → IsLed own makes s leads b
   led-alike a l =
-      let h = read_alike (own ∷ []) makes s t a in
-      let rs = rows_at (own ∷ []) makes s in
-      let qs = rows_at (own ∷ []) makes t in
+      let h = read_alike own makes s t a in
+      let rs = rows_at own makes s in
+      let qs = rows_at own makes t in
       record {
-        met = matches-alike own (leads_in rs) (leads_in qs) leads (alike-leads (own ∷ []) rs qs h.rows) l.met;
-        tells = subst (λ cs. Tells b cs) (sym (one-causes (own ∷ []) rs qs h.rows)) l.tells;
+        met = matches-alike own (leads_in rs) (leads_in qs) leads (alike-leads own rs qs h.rows) l.met;
+        tells = subst (λ cs. Tells b cs) (sym (one-causes own rs qs h.rows)) l.tells;
       }
 
 module _ (v : Visit) (makes : List ℕ → Bool) (s : Site) (m : Met v s) (leads : List Visit) (b : Bool) where
   pub led-object : (ms : Members) → view v.site.contents.now ≡ object ms → MembersLed (own_of v) makes (site_of v) ms leads b → IsLed (own_of v) makes s leads b
   led-object ms e l =
-      let rows = rows-of-object (own_of v ∷ []) makes (site_of v) ms e in
+      let rows = rows-of-object (own_of v) makes (site_of v) ms e in
       led-alike (own_of v) makes s (site_of v) leads b m.alike (record {
         met = subst (λ (rs : List Row). Matches (own_of v) leads (leads_in rs)) (sym rows) l.met;
         tells = subst (λ (rs : List Row). Tells b (causes_in rs)) (sym rows) l.tells;
@@ -44,17 +44,17 @@ module _ (v : Visit) (makes : List ℕ → Bool) (s : Site) (m : Met v s) (leads
   led-boolean x e n t =
       let rows = rows-of-boolean (own_of v) makes s x (m.alike.contents ∙ e) in
       record {
-        met = subst (λ l. Matches (own_of v) l (leads_in (rows_at (own_of v ∷ []) makes s))) (sym n) (subst (λ ss. Matches (own_of v) [] ss) (sym rows.1) none);
-        tells = subst (λ y. Tells y (causes_in (rows_at (own_of v ∷ []) makes s))) (sym t) (tells-right (causes_in (rows_at (own_of v ∷ []) makes s)) rows.0);
+        met = subst (λ l. Matches (own_of v) l (leads_in (rows_at (own_of v) makes s))) (sym n) (subst (λ ss. Matches (own_of v) [] ss) (sym rows.1) none);
+        tells = subst (λ y. Tells y (causes_in (rows_at (own_of v) makes s))) (sym t) (tells-right (causes_in (rows_at (own_of v) makes s)) rows.0);
       }
 
   pub led-other : (d : Data) → view v.site.contents.now ≡ d → IsOther d → leads ≡ [] → b ≡ false → IsLed (own_of v) makes s leads b
   led-other d e o n f =
-      let rows = other-rows (own_of v ∷ []) makes s d (m.alike.contents ∙ e) o in
+      let rows = other-rows (own_of v) makes s d (m.alike.contents ∙ e) o in
       record {
-        met = subst (λ l. Matches (own_of v) l (leads_in (rows_at (own_of v ∷ []) makes s))) (sym n)
+        met = subst (λ l. Matches (own_of v) l (leads_in (rows_at (own_of v) makes s))) (sym n)
             (subst (λ (rs : List Row). Matches (own_of v) [] (leads_in rs)) (sym rows) none);
-        tells = subst (λ y. Tells y (causes_in (rows_at (own_of v ∷ []) makes s))) (sym f)
+        tells = subst (λ y. Tells y (causes_in (rows_at (own_of v) makes s))) (sym f)
             (subst (λ (rs : List Row). Tells false (causes_in rs)) (sym rows) (tells-wrong _ _ first));
       }
 

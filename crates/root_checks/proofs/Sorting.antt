@@ -71,7 +71,7 @@ module _ {M : Type 0} (finds : M → List ℕ → Option Bool) (p : Patterns) (o
     found = ap is_ok s.found;
     right = λ u there cause h.
         let same = finds_one (root_from own base r) s.target u s.found there in
-        no-cause own p.makes (sites_from own base rs) vs es wrong w.graph i clear (root_site s.target) s.visited cause (subst (λ (t : Target). IsCauseOf (own ∷ []) p.makes (root_site t) cause) (sym same) h);
+        no-cause own p.makes (sites_from own base rs) vs es wrong w.graph i clear (root_site s.target) s.visited cause (subst (λ (t : Target). IsCauseOf own p.makes (root_site t) cause) (sym same) h);
   }
 
   unsound-there : {P : Type 0} (r : List ℕ) (i : ℕ) (s : Starts own base r vs i) → LeadsTo es wrong i → Sound r → P
@@ -103,7 +103,7 @@ module _ {M : Type 0} (finds : M → List ℕ → Option Bool) (p : Patterns) (o
   holds-there : (r : List ℕ) (i : ℕ) (s : Starts own base r vs i) → (LeadsTo es wrong i → ⊥) → HoldsPatterns p (root_from own base r) (texts_of_table g.table)
   holds-there r i s clear u there =
       let same = finds_one (root_from own base r) s.target u s.found there in
-      subst (λ (t : Target). AreAmong (own ∷ []) p.makes (root_site t) (texts_of_table g.table)) same
+      subst (λ (t : Target). AreAmong own p.makes (root_site t) (texts_of_table g.table)) same
       (all-among own p.makes (sites_from own base rs) vs es wrong w.graph i clear (root_site s.target) s.visited g.table w.noted)
 
   holds-at : (r : List ℕ) (o : Option ℕ) (b : Bool) → StartsAt own base vs r o → IsClear es wrong o b → Sound r → HoldsPatterns p (root_from own base r) (texts_of_table g.table)

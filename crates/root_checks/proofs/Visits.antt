@@ -21,15 +21,15 @@ use Rattle.root_checks.specs.Graphs.{IsReachedFrom}
 pub record ArePlaced (own : List Document) (roots : List Site) : Type 0 where
   pub apart : are_apart own ≡ true
   pub rise : list_all contents_rise own ≡ true
-  pub lie : (r : Site) → In r roots → Lies (own ∷ []) r
+  pub lie : (r : Site) → In r roots → Lies own r
 
 pub reached-more : (own : List Document) (makes : List ℕ → Bool) (roots more : List Site) (v : Visit) → ((r : Site) → In r roots → In r more) → IsReachedFrom own makes roots v
     → IsReachedFrom own makes more v
 reached-more own makes roots more v f h = record { site = h.site; met = h.met; root = h.root; listed = f h.root h.listed; reached = h.reached }
 
 module _ (own : List Document) (makes : List ℕ → Bool) (roots : List Site) (placed : ArePlaced own roots) where
-  lies : (v : Visit) (x : IsReachedFrom own makes roots v) → Lies (own ∷ []) x.site
-  lies v x = reached_lies (own ∷ []) makes x.root x.site (placed.lie x.root x.listed) x.reached
+  lies : (v : Visit) (x : IsReachedFrom own makes roots v) → Lies own x.site
+  lies v x = reached_lies own makes x.root x.site (placed.lie x.root x.listed) x.reached
 
   same-contents : (v w : Visit) → IsReachedFrom own makes roots v → IsReachedFrom own makes roots w → Repeats v w → view v.site.contents.now ≡ view w.site.contents.now
   same-contents v w x y r =
@@ -37,15 +37,15 @@ module _ (own : List Document) (makes : List ℕ → Bool) (roots : List Site) (
       let path = x.met.alike.path ∙ ap (λ (p : Place). p.path) r.point.place ∙ sym y.met.alike.path in
       sym x.met.alike.contents ∙ one_value own placed.apart placed.rise x.site y.site (lies v x) (lies w y) document path ∙ y.met.alike.contents
 
-  among : (v : Visit) → Belongs own v → (s t : Site) → AreAlike (own ∷ []) s t → AreAlike (documents_in v.site.resolver ∷ []) s t
+  among : (v : Visit) → Belongs own v → (s t : Site) → AreAlike own s t → AreAlike (documents_in v.site.resolver) s t
   among v b s t a = subst (λ (ds : List Document). AreAlike (ds ∷ []) s t) (sym b.documents) a
 
-  alike-in : (v : Visit) (s : Site) → Belongs own v → Met v s → AreAlike (own ∷ []) s (site_of v)
+  alike-in : (v : Visit) (s : Site) → Belongs own v → Met v s → AreAlike own s (site_of v)
   alike-in v s b m = subst (λ (ds : List Document). AreAlike (ds ∷ []) s (site_of v)) b.documents m.alike
 
   repeated : (v w : Visit) → Belongs own v → Belongs own w → IsReachedFrom own makes roots v → IsReachedFrom own makes roots w → Repeats v w → (s : Site) → Met w s → Met v s
   repeated v w b c x y r s m =
-      record { alike = among v b s (site_of v) (joined (own ∷ []) s (site_of w) (site_of v) (alike-in w s c m) (sites-alike own v w b c r (same-contents v w x y r))) }
+      record { alike = among v b s (site_of v) (joined own s (site_of w) (site_of v) (alike-in w s c m) (sites-alike own v w b c r (same-contents v w x y r))) }
 
   -- a visit stands for the sites of another, where it is this one or repeats it
   pub met-again : (v w : Visit) → Belongs own v → Belongs own w → IsReachedFrom own makes roots v → IsReachedFrom own makes roots w → (v ≡ w) ⊎ Repeats v w → (s : Site) → Met w s → Met v s

@@ -17,4 +17,4 @@ RefusesEach docs makes roots limit e = AreExceeded docs makes roots limit e ⊎ 
 
 -- those that some references from a base lead to
 abbrev pub RefusesFrom : (List ℕ → Bool) → List Document → List ℕ → List (List ℕ) → ℕ → BuildCause → Type 0
-RefusesFrom makes own base references limit e = RefusesEach (own ∷ []) makes (sites_from own base references) limit e
+RefusesFrom makes own base references limit e = RefusesEach own makes (sites_from own base references) limit e

@@ -19,10 +19,10 @@ pub record IsVisited (vs : List Visit) (i : ℕ) (s : Site) : Type 0 where
 
 module _ (own : List Document) (makes : List ℕ → Bool) where
   abbrev pub led_from : Site → List Site
-  led_from s = leads_in (rows_at (own ∷ []) makes s)
+  led_from s = leads_in (rows_at own makes s)
 
   abbrev pub wrong_at : Site → List BuildCause
-  wrong_at s = causes_in (rows_at (own ∷ []) makes s)
+  wrong_at s = causes_in (rows_at own makes s)
 
   -- a visit of a site that is reached from one of the roots
   pub record IsReachedFrom (roots : List Site) (v : Visit) : Type 0 where
@@ -30,7 +30,7 @@ module _ (own : List Document) (makes : List ℕ → Bool) where
     pub met : Met v site
     pub root : Site
     pub listed : In root roots
-    pub reached : Reached (own ∷ []) makes root site
+    pub reached : Reached own makes root site
 
   -- a site leads to one that is visited at a position
   pub record LeadsToVisit (vs : List Visit) (j : ℕ) (s : Site) : Type 0 where

@@ -44,8 +44,8 @@ pub record MembersLed (own : List Document) (makes : List ℕ → Bool) (s : Sit
 
 -- visits stand for the sites that the keywords of a schema lead to, and whether none of these has a cause
 pub record IsLed (own : List Document) (makes : List ℕ → Bool) (s : Site) (leads : List Visit) (b : Bool) : Type 0 where
-  pub met : Matches own leads (leads_in (rows_at (own ∷ []) makes s))
-  pub tells : Tells b (causes_in (rows_at (own ∷ []) makes s))
+  pub met : Matches own leads (leads_in (rows_at own makes s))
+  pub tells : Tells b (causes_in (rows_at own makes s))
 
 -- ---- the same of a visit, where a table is filled
 

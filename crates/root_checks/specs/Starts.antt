@@ -16,15 +16,15 @@ site_of_answer (Err e) = []
 -- the sites of those that lead somewhere
 abbrev pub sites_from : List Document → List ℕ → List (List ℕ) → List Site
 sites_from own base [] = []
-sites_from own base (r ∷ rs) = site_of_answer (lookup (own ∷ []) base r) ++ sites_from own base rs
+sites_from own base (r ∷ rs) = site_of_answer (lookup own base r) ++ sites_from own base rs
 
 abbrev pub LeadsNowhere : List Document → List ℕ → List ℕ → Type 0
-LeadsNowhere own base r = (e : LookupCause) × (lookup (own ∷ []) base r ≡ Err e)
+LeadsNowhere own base r = (e : LookupCause) × (lookup own base r ≡ Err e)
 
 -- what a reference leads to is visited at a position
 pub record Starts (own : List Document) (base r : List ℕ) (vs : List Visit) (i : ℕ) : Type 0 where
   pub target : Target
-  pub found : lookup (own ∷ []) base r ≡ Ok target
+  pub found : lookup own base r ≡ Ok target
   pub visited : IsVisited vs i (root_site target)
 
 abbrev pub StartsAt : List Document → List ℕ → List Visit → List ℕ → Option ℕ → Type 0
@@ -37,7 +37,7 @@ Start own base vs rs starts = AllZip (StartsAt own base vs) rs starts
 -- the visit of what one reference leads to was put behind others, unless it is one of them
 pub record Begins (own : List Document) (base r : List ℕ) (old new : List Visit) (i : ℕ) : Type 0 where
   pub target : Target
-  pub found : lookup (own ∷ []) base r ≡ Ok target
+  pub found : lookup own base r ≡ Ok target
   pub visit : Visit
   pub met : Met visit (root_site target)
   pub belongs : Belongs own visit

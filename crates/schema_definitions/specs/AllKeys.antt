@@ -4,7 +4,7 @@ use Rattle.std.specs.List.{flat_map}
 use Rattle.serde_json.specs.Data.{Data, null, boolean, number, string, array, object, Items, no_items, item, Members, no_members, member}
 use Rattle.json_values.specs.Parts.{Part, name, index}
 use Rattle.schema_meaning.specs.Places.{SchemaPlace, Key}
-use Rattle.schema_definitions.specs.Bearers.{Document, Documents}
+use Rattle.schema_definitions.specs.Bearers.{Document, Documents, document_name}
 
 -- the places of an instance at a path: its values, and the names of its members; paths have their last part first
 abbrev mutual
@@ -43,11 +43,11 @@ abbrev mutual
   paths_of_members path (member k d ms) = paths_in (name k ∷ path) d ++ paths_of_members path ms
 
 abbrev pub places_in : Document → List SchemaPlace
-places_in d = map (λ path. record { document = d.uri; path = path }) (paths_in [] d.contents)
+places_in d = map (λ path. record { document = document_name d; path = path }) (paths_in [] d.contents)
 
 -- every place of the documents, a schema's or not
 abbrev pub places_of : Documents → List SchemaPlace
-places_of docs = flat_map (λ own. flat_map places_in own) docs
+places_of docs = flat_map places_in docs
 
 -- every key that a reference can have: a place of the documents with a place of the instance
 abbrev pub keys_of : Documents → Data → List Key

@@ -4,31 +4,49 @@ use Rattle.std.specs.List.{flat_map}
 use Rattle.serde_json.specs.Data.{Data, null, boolean, number, string, array, object, Items, no_items, item, Members, no_members, member}
 use Rattle.serde_json.specs.Find.{get}
 use Rattle.json_values.specs.Parts.{Part}
-use Rattle.schema_drafts.specs.Vocabularies.{Vocabulary, vocabulary_named, Vocabularies, all_of_draft, only, known_among}
+use Rattle.schema_drafts.specs.Vocabularies.{standard, Vocabulary, vocabulary_named, Vocabularies, all_of_draft, only, known_among}
 use Rattle.schema_drafts.specs.declared.draft.Draft.{Draft}
-use Rattle.schema_definitions.specs.Words.{or_else, last_that, has_text}
+use Rattle.schema_definitions.specs.Words.{last_that, has_text}
 use Rattle.schema_definitions.specs.Identifiers.{identifier, anchors, dynamic_anchors}
 use Rattle.schema_definitions.specs.Places.{Dialect, SchemaPlace, places}
 
--- a document: the URI under which it was added, what it holds, and its draft where it names none
+-- a document: its layer, the URI under which it was added, what it holds, and its dialect where it names none
 pub record Document : Type 0 where
+  pub layer : ℕ
   pub uri : List ℕ
   pub contents : Data
-  pub default : Draft
+  pub default : Dialect
 
--- a registry's own documents in their order, and then those of its parents, the nearest first
+-- the documents of a registry: those of its parent, and then its own, in their order
 abbrev pub Documents : Type 0
-Documents = List (List Document)
+Documents = List Document
 
--- a schema place of a document
+-- the own documents of a registry are a layer above those of its parent: its number, and how documents are read that name no draft
+pub record Layer : Type 0 where
+  pub number : ℕ
+  pub draft : Draft
+  pub siblings : Bool
+
+abbrev pub by_default : Layer → Dialect
+by_default l = standard l.siblings l.draft
+
+-- the name of a document: its layer and then its URI, so that an own document and a parent's are two, whatever their URIs
+abbrev pub document_name : Document → List ℕ
+document_name d = d.layer ∷ d.uri
+
+abbrev pub uri_in : List ℕ → List ℕ
+uri_in [] = []
+uri_in (layer ∷ uri) = uri
+
+-- a schema place of a document, which goes by its name
 pub record Standing : Type 0 where
   pub document : List ℕ
   pub place : SchemaPlace
 
 abbrev pub standing_in : (List ℕ → Option Dialect) → Document → List Standing
-standing_in meta d = map (λ p. record { document = d.uri; place = p }) (places meta d.uri d.default d.contents)
+standing_in meta d = map (λ p. record { document = document_name d; place = p }) (places meta d.uri d.default d.contents)
 
-unfoldable pub standings : (List ℕ → Option Dialect) → List Document → List Standing
+unfoldable pub standings : (List ℕ → Option Dialect) → Documents → List Standing
 standings meta documents = flat_map (standing_in meta) documents
 
 abbrev pub is_root : List Part → Bool
@@ -39,12 +57,11 @@ is_root (p ∷ ps) = false
 abbrev pub bears : List ℕ → Standing → Bool
 bears uri s =
     not (is_some s.place.awaits)
-    && ((is_root s.place.path && bytes_eq s.document uri) || (is_some (identifier s.place.dialect.draft s.place.contents) && bytes_eq s.place.base uri))
+    && ((is_root s.place.path && bytes_eq (uri_in s.document) uri) || (is_some (identifier s.place.dialect s.place.contents) && bytes_eq s.place.base uri))
 
--- of several bearers the last counts, and own documents before a parent's
+-- of several bearers the last counts, so own documents before a parent's
 abbrev pub last_standing : (Standing → Bool) → (List ℕ → Option Dialect) → Documents → Option Standing
-last_standing test meta [] = None
-last_standing test meta (own ∷ parents) = or_else (last_that test (standings meta own)) (last_standing test meta parents)
+last_standing test meta docs = last_that test (standings meta docs)
 
 -- ---- meta-schemas of one's own (Core 8.1.1, 8.1.2)
 
@@ -78,7 +95,11 @@ required_by vocabulary = counting (declared_by vocabulary)
 
 -- the dialect of schemas that name this one as their meta-schema: its draft, and the vocabularies that it requires
 abbrev pub dialect_by : Standing → Dialect
-dialect_by s = record { draft = s.place.dialect.draft; vocabularies = required_by (get (codes "$vocabulary") s.place.contents) }
+dialect_by s = record {
+  draft = s.place.dialect.draft;
+  vocabularies = required_by (get (codes "$vocabulary") s.place.contents);
+  siblings = s.place.dialect.siblings;
+}
 
 -- the dialects of meta-schemas, where n may stand above one another
 unfoldable pub dialects : Documents → ℕ → List ℕ → Option Dialect
@@ -103,13 +124,9 @@ abbrev mutual
   schemas_named_among no_members = 0
   schemas_named_among (member k d ms) = (if bytes_eq k (codes "$schema") then 1 else 0) + schemas_named d + schemas_named_among ms
 
-abbrev pub schemas_of_each : List Document → ℕ
-schemas_of_each [] = 0
-schemas_of_each (d ∷ ds) = schemas_named d.contents + schemas_of_each ds
-
 abbrev pub how_many : Documents → ℕ
 how_many [] = 0
-how_many (own ∷ parents) = schemas_of_each own + how_many parents
+how_many (d ∷ ds) = schemas_named d.contents + how_many ds
 
 -- What the documents tell of meta-schemas. Each stands above others at most as often as one is named, and one stage more tells those that nobody names.
 abbrev pub meta : Documents → List ℕ → Option Dialect
@@ -123,8 +140,8 @@ bearer_under meta docs uri = last_standing (bears uri) meta docs
 abbrev pub bearer : Documents → List ℕ → Option Standing
 bearer docs uri = bearer_under (meta docs) docs uri
 
-abbrev pub bears_anchor : (Draft → Data → List (List ℕ)) → List ℕ → List ℕ → Standing → Bool
-bears_anchor of base k s = not (is_some s.place.awaits) && bytes_eq s.place.base base && has_text k (of s.place.dialect.draft s.place.contents)
+abbrev pub bears_anchor : (Dialect → Data → List (List ℕ)) → List ℕ → List ℕ → Standing → Bool
+bears_anchor of base k s = not (is_some s.place.awaits) && bytes_eq s.place.base base && has_text k (of s.place.dialect s.place.contents)
 
 -- an anchor is a name under a base
 abbrev pub anchored_under : (List ℕ → Option Dialect) → Documents → List ℕ → List ℕ → Option Standing

@@ -6,6 +6,7 @@ use Rattle.serde_json.specs.Find.{get}
 use Rattle.uri_references.specs.Passed.{cut_at, is_empty, has, split, is_reference}
 use Rattle.uri_references.specs.Identity.{identity_against}
 pub use Rattle.schema_drafts.specs.Identifiers.{is_hidden, identifier_text, begins_with_hash, without_fragment, identifier}
+use Rattle.schema_drafts.specs.Vocabularies.{Dialect}
 use Rattle.schema_drafts.specs.declared.draft.Draft.{Draft}
 use Rattle.schema_drafts.specs.declared.draft.Draft.TheVariants.{Draft4, Draft6, Draft7, Draft201909, Draft202012, Unknown}
 use Rattle.schema_definitions.specs.Words.{text_at, listed}
@@ -25,23 +26,30 @@ abbrev pub after_hash : List ℕ → List (List ℕ)
 after_hash [] = []
 after_hash (b ∷ t) = if b == 35 then t ∷ [] else []
 
-abbrev pub fragment_anchor : Draft → Data → List (List ℕ)
-fragment_anchor draft d = flat_map after_hash (listed (identifier_text draft d))
+abbrev pub fragment_anchor : Dialect → Data → List (List ℕ)
+fragment_anchor e d = flat_map after_hash (listed (identifier_text e d))
 
 -- by `$dynamicAnchor` (Core 8.2.2)
-abbrev pub dynamic_anchors : Draft → Data → List (List ℕ)
-dynamic_anchors Draft4 d = []
-dynamic_anchors Draft6 d = []
-dynamic_anchors Draft7 d = []
-dynamic_anchors Draft201909 d = []
-dynamic_anchors Draft202012 d = listed (text_at (codes "$dynamicAnchor") d)
-dynamic_anchors Unknown d = listed (text_at (codes "$dynamicAnchor") d)
+abbrev pub dynamic_anchors_by : Draft → Data → List (List ℕ)
+dynamic_anchors_by Draft4 d = []
+dynamic_anchors_by Draft6 d = []
+dynamic_anchors_by Draft7 d = []
+dynamic_anchors_by Draft201909 d = []
+dynamic_anchors_by Draft202012 d = listed (text_at (codes "$dynamicAnchor") d)
+dynamic_anchors_by Unknown d = listed (text_at (codes "$dynamicAnchor") d)
+
+abbrev pub dynamic_anchors : Dialect → Data → List (List ℕ)
+dynamic_anchors e d = dynamic_anchors_by e.draft d
+
+-- by `$anchor`, and before 2019-09 by the identifier
+abbrev pub anchors_by : Draft → Dialect → Data → List (List ℕ)
+anchors_by Draft4 e d = fragment_anchor e d
+anchors_by Draft6 e d = fragment_anchor e d
+anchors_by Draft7 e d = fragment_anchor e d
+anchors_by Draft201909 e d = listed (text_at (codes "$anchor") d)
+anchors_by Draft202012 e d = listed (text_at (codes "$anchor") d)
+anchors_by Unknown e d = listed (text_at (codes "$anchor") d)
 
 -- the anchors that a schema bears (Core 8.2.2; before 2019-09 by its identifier)
-abbrev pub anchors : Draft → Data → List (List ℕ)
-anchors Draft4 d = fragment_anchor Draft4 d
-anchors Draft6 d = fragment_anchor Draft6 d
-anchors Draft7 d = fragment_anchor Draft7 d
-anchors Draft201909 d = listed (text_at (codes "$anchor") d)
-anchors Draft202012 d = listed (text_at (codes "$anchor") d) ++ dynamic_anchors Draft202012 d
-anchors Unknown d = listed (text_at (codes "$anchor") d) ++ dynamic_anchors Unknown d
+abbrev pub anchors : Dialect → Data → List (List ℕ)
+anchors e d = anchors_by e.draft e d ++ dynamic_anchors e d

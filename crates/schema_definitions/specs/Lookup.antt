@@ -63,7 +63,7 @@ in_element (part_of one_or_several) = one
 in_element (part_of by_name) = nothing
 
 abbrev pub in_member : SchemaPlace → Within → List ℕ → Holds
-in_member p at_place k = held_by p.dialect.draft (is_hidden p.dialect.draft p.contents) k
+in_member p at_place k = held_by p.dialect.draft (is_hidden p.dialect p.contents) k
 in_member p (part_of nothing) k = nothing
 in_member p (part_of one) k = nothing
 in_member p (part_of several) k = nothing

@@ -4,21 +4,13 @@ use Rattle.serde_json.specs.Data.{Data, null, boolean, number, string, array, ob
 use Rattle.uri_references.specs.Passed.{cut_at}
 use Rattle.json_values.specs.Parts.{Part, name, index}
 use Rattle.schema_drafts.specs.Drafts.{draft_named}
-use Rattle.schema_drafts.specs.Vocabularies.{Vocabularies, all_of_draft}
+pub use Rattle.schema_drafts.specs.Vocabularies.{Dialect, standard}
 pub use Rattle.schema_drafts.specs.Children.{is_schema}
 use Rattle.schema_drafts.specs.Subschemas.{Holds, nothing, one, several, one_or_several, by_name, held_by}
 use Rattle.schema_drafts.specs.declared.draft.Draft.{Draft}
 use Rattle.schema_drafts.specs.declared.draft.Draft.TheVariants.{Unknown}
 use Rattle.schema_definitions.specs.Words.{or, text_at, levels}
 use Rattle.schema_definitions.specs.Identifiers.{resolved, is_hidden, identifier}
-
--- the dialect of a schema: its draft, and the vocabularies in force
-pub record Dialect : Type 0 where
-  pub draft : Draft
-  pub vocabularies : Vocabularies
-
-abbrev pub standard : Draft → Dialect
-standard draft = record { draft = draft; vocabularies = all_of_draft }
 
 -- A place where a schema stands. `path` has its last part first.
 -- One whose meta-schema is not known awaits it: until then it has no identifier, and no places below it.
@@ -40,17 +32,17 @@ abbrev pub draft_beside : List ℕ → Draft
 draft_beside t = or Unknown (draft_named t)
 
 -- the `$schema` that counts: a root's, or one beside an identifier
-abbrev pub schema_in_force : Bool → Data → Option (List ℕ)
-schema_in_force is_root d =
-    option_and_then (λ t. if is_root || is_some (identifier (draft_beside t) d) then Some t else None) (text_at (codes "$schema") d)
+abbrev pub schema_in_force : Bool → Bool → Data → Option (List ℕ)
+schema_in_force siblings is_root d =
+    option_and_then (λ t. if is_root || is_some (identifier (standard siblings (draft_beside t)) d) then Some t else None) (text_at (codes "$schema") d)
 
 -- the URI of the meta-schema that a schema names, where it is none of the drafts' own
 abbrev pub uri_named : List ℕ → Option Draft → Option (List ℕ)
 uri_named t None = meta_schema_uri t
 uri_named t (Some draft) = None
 
-abbrev pub named_meta_schema : Bool → Data → Option (List ℕ)
-named_meta_schema at_root d = option_and_then (λ t. uri_named t (draft_named t)) (schema_in_force at_root d)
+abbrev pub named_meta_schema : Bool → Bool → Data → Option (List ℕ)
+named_meta_schema siblings at_root d = option_and_then (λ t. uri_named t (draft_named t)) (schema_in_force siblings at_root d)
 
 -- what a `$schema` gives: a dialect, or the URI of a meta-schema that is awaited
 pub data Named : Type 0 where
@@ -63,7 +55,7 @@ by_meta_schema meta outer (Some uri) = elim (meta uri) [ None ↦ awaited uri | 
 
 abbrev pub by_draft : (List ℕ → Option Dialect) → Dialect → List ℕ → Option Draft → Named
 by_draft meta outer t None = by_meta_schema meta outer (meta_schema_uri t)
-by_draft meta outer t (Some draft) = settled (standard draft)
+by_draft meta outer t (Some draft) = settled (standard outer.siblings draft)
 
 abbrev pub by_schema : (List ℕ → Option Dialect) → Dialect → Option (List ℕ) → Named
 by_schema meta outer None = settled outer
@@ -71,19 +63,19 @@ by_schema meta outer (Some t) = by_draft meta outer t (draft_named t)
 
 -- ---- one place
 
-abbrev pub own_base : List ℕ → Draft → Data → List ℕ
-own_base outer draft d = or outer (option_and_then (resolved outer) (identifier draft d))
+abbrev pub own_base : List ℕ → Dialect → Data → List ℕ
+own_base outer e d = or outer (option_and_then (resolved outer) (identifier e d))
 
 abbrev pub placed : List ℕ → Dialect → List Part → Data → Named → SchemaPlace
-placed outer around path d (settled dialect) = record { path = path; contents = d; base = own_base outer dialect.draft d; dialect = dialect; awaits = None }
+placed outer around path d (settled dialect) = record { path = path; contents = d; base = own_base outer dialect d; dialect = dialect; awaits = None }
 placed outer around path d (awaited uri) = record { path = path; contents = d; base = outer; dialect = around; awaits = Some uri }
 
 -- the place of a schema inside another: `meta` tells the dialects of meta-schemas of one's own
 abbrev pub entered : (List ℕ → Option Dialect) → List ℕ → Dialect → List Part → Data → SchemaPlace
-entered meta outer around path d = placed outer around path d (by_schema meta around (schema_in_force false d))
+entered meta outer around path d = placed outer around path d (by_schema meta around (schema_in_force around.siblings false d))
 
-abbrev pub root_place : (List ℕ → Option Dialect) → List ℕ → Draft → Data → SchemaPlace
-root_place meta uri default d = placed uri (standard default) [] d (by_schema meta (standard default) (schema_in_force true d))
+abbrev pub root_place : (List ℕ → Option Dialect) → List ℕ → Dialect → Data → SchemaPlace
+root_place meta uri default d = placed uri default [] d (by_schema meta default (schema_in_force default.siblings true d))
 
 -- ---- the places below a place, in the order of its members and their items
 
@@ -131,11 +123,11 @@ children_in meta p (boolean b) = []
 children_in meta p (number n) = []
 children_in meta p (string s) = []
 children_in meta p (array ds) = []
-children_in meta p (object ms) = children_of meta p (is_hidden p.dialect.draft (object ms)) ms
+children_in meta p (object ms) = children_of meta p (is_hidden p.dialect (object ms)) ms
 
 abbrev pub children : (List ℕ → Option Dialect) → SchemaPlace → List SchemaPlace
 children meta p = if is_some p.awaits then [] else children_in meta p p.contents
 
 -- the schema places of a document, by levels from its root
-unfoldable pub places : (List ℕ → Option Dialect) → List ℕ → Draft → Data → List SchemaPlace
+unfoldable pub places : (List ℕ → Option Dialect) → List ℕ → Dialect → Data → List SchemaPlace
 places meta uri default d = levels (children meta) (suc (depth d)) (root_place meta uri default d ∷ [])

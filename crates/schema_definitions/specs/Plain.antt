@@ -4,17 +4,13 @@ use Rattle.std.specs.List.{flat_map}
 use Rattle.serde_json.specs.Data.{depth}
 use Rattle.schema_meaning.specs.Keywords.{Shape}
 use Rattle.schema_meaning.specs.Readings.{Reading}
-use Rattle.schema_definitions.specs.Bearers.{Document, Documents}
+use Rattle.schema_definitions.specs.Bearers.{Documents}
 use Rattle.schema_definitions.specs.Sites.{Site}
 use Rattle.schema_definitions.specs.Rows.{rows_at}
 
-abbrev pub deepest_of : List Document → ℕ
-deepest_of [] = 0
-deepest_of (d ∷ ds) = max (depth d.contents) (deepest_of ds)
-
 abbrev pub deepest : Documents → ℕ
 deepest [] = 0
-deepest (own ∷ parents) = max (deepest_of own) (deepest parents)
+deepest (d ∷ ds) = max (depth d.contents) (deepest ds)
 
 abbrev pub keywords_at : Documents → (List ℕ → Bool) → Site → List (Shape Site)
 keywords_at docs makes s = flat_map (λ r. r.shapes) (rows_at docs makes s)

@@ -1,14 +1,15 @@
 -- What documents want, round by round.
-use Rattle.std.specs.Prelude.{◌≡◌, ℕ, List, [], ◌∷◌, ◌++◌, codes, map}
+use Rattle.std.specs.Prelude.{◌≡◌, ℕ, List, [], ◌∷◌, ◌++◌, false, codes, map}
 use Rattle.serde_json.specs.Data.{null}
 use Rattle.serde_json.specs.Read.{read}
 use Rattle.schema_drafts.specs.declared.draft.Draft.TheVariants.{Draft202012}
 use Rattle.schema_definitions.specs.Words.{or}
+use Rattle.schema_definitions.specs.Places.{standard}
 use Rattle.schema_definitions.specs.Bearers.{Document}
 use Rattle.schema_definitions.specs.Rounds.{Want, as_reference, as_meta_schema, wants, gathered}
 
 abbrev pub document : List ℕ × List ℕ → Document
-document d = record { uri = d.0; contents = or null (read d.1); default = Draft202012 }
+document d = record { layer = 0; uri = d.0; contents = or null (read d.1); default = standard false Draft202012 }
 
 -- documents at hand, the rounds of answers, and what is wanted then
 pub record Row : Type 0 where
@@ -17,7 +18,7 @@ pub record Row : Type 0 where
   pub wants : List Want
 
 abbrev pub Wants : Row → Type 0
-Wants w = wants (gathered (map document w.added) (map (map document) w.rounds) ∷ []) ≡ w.wants
+Wants w = wants (gathered (map document w.added) (map (map document) w.rounds)) ≡ w.wants
 
 abbrev pub two_references : List (List ℕ × List ℕ)
 two_references = (codes "json-schema:///", codes "{\"properties\":{\"x\":{\"$ref\":\"http://a.test/x\"},\"y\":{\"$ref\":\"http://a.test/y\"},\"z\":{\"$ref\":\"HTTP://a.test/x#/a\"}}}") ∷ []

@@ -62,7 +62,7 @@ abbrev pub has_reference : Members → Bool
 has_reference ms = is_some (get_member (codes "$ref") ms)
 
 abbrev pub counts_here : Context → List ℕ → Bool
-counts_here c k = counts c.site.dialect.draft c.site.dialect.vocabularies (has_reference c.members) k
+counts_here c k = counts c.site.dialect (has_reference c.members) k
 
 abbrev pub beside : Context → List ℕ → Option Data
 beside c k = if counts_here c k then get_member k c.members else None
@@ -330,7 +330,7 @@ consequent_row c k d = if is_some (beside c (codes "if")) then one_schema c k (�
 abbrev pub target_causes : Context → List ℕ → Target → List BuildCause
 target_causes c k t =
     if t.is_place then []
-    else flat_map (λ i. if is_reference (split i) then [] else bad_reference (place_at c (at k)) (invalid_uri i) ∷ []) (listed (identifier_text t.dialect.draft t.contents))
+    else flat_map (λ i. if is_reference (split i) then [] else bad_reference (place_at c (at k)) (invalid_uri i) ∷ []) (listed (identifier_text t.dialect t.contents))
 
 -- a target that is no schema is wrong there
 abbrev pub no_schema_there : Target → List BuildCause

@@ -22,7 +22,7 @@ abbrev pub dynamic_lookup : Documents → List ℕ → List (List ℕ) → List 
 dynamic_lookup docs base scope reference =
     let k = or [] (cut_at 35 reference).1 in
     and_then (lookup docs base reference) (λ t.
-    if is_name k && has_text k (dynamic_anchors t.dialect.draft t.contents) then outermost docs k (t.base ∷ scope) else Ok t)
+    if is_name k && has_text k (dynamic_anchors t.dialect t.contents) then outermost docs k (t.base ∷ scope) else Ok t)
 
 -- whether a resource says `$recursiveAnchor: true`
 abbrev pub recurs : Documents → List ℕ → Bool

@@ -6,7 +6,7 @@ use Rattle.schema_drafts.specs.Counts.{is_keyword, references, applicators, unev
 use Rattle.schema_drafts.specs.Vocabularies.{Vocabularies, only, has_some, is_applicator, is_unevaluated, is_validation}
 use Rattle.schema_drafts.specs.declared.draft.Draft.{Draft}
 use Rattle.schema_drafts.specs.declared.draft.Draft.TheVariants.{Draft4, Draft6, Draft7, Draft201909, Draft202012, Unknown}
-use Rattle.schema_dialects.specs.Sets.{required, listed}
+use Rattle.schema_dialects.specs.Sets.{required, listed, without_siblings}
 use Rattle.schema_dialects.specs.declared.known.KnownVocabularies.{KnownVocabularies}
 use Rattle.schema_dialects.specs.declared.set.VocabularySet.{VocabularySet}
 use Rattle.schema_dialects.proofs.Listed.{is_marked, any_known}
@@ -47,12 +47,13 @@ module _ (vs ws : Vocabularies) (a : has_some is_applicator vs ≡ has_some is_a
       ∙ ap (λ x. by_questions (has_some is_applicator ws) x (has_some is_validation vs) k) u
       ∙ ap (λ x. by_questions (has_some is_applicator ws) (has_some is_unevaluated ws) x k) v
 
-  count_alike : (draft : Draft) (beside_ref : Bool) (k : List ℕ) → counts draft vs beside_ref k ≡ counts draft ws beside_ref k
+  count_alike : (draft : Draft) (beside_ref : Bool) (k : List ℕ) → counts (without_siblings draft vs) beside_ref k ≡ counts (without_siblings draft ws) beside_ref k
   count_alike draft beside_ref k =
-      ap (λ x. is_keyword draft k && x && (not (ignores_siblings draft && beside_ref) || bytes_eq k (codes "$ref"))) (in_alike draft k)
+      ap (λ x. is_keyword draft k && x && (not (ignores_siblings false draft && beside_ref) || bytes_eq k (codes "$ref"))) (in_alike draft k)
 
 -- no keyword is of a custom one
-pub known_count : (s : VocabularySet) (draft : Draft) (beside_ref : Bool) (k : List ℕ) → counts draft (only (required s.known)) beside_ref k ≡ counts draft (only (listed s)) beside_ref k
+pub known_count : (s : VocabularySet) (draft : Draft) (beside_ref : Bool) (k : List ℕ)
+    → counts (without_siblings draft (only (required s.known))) beside_ref k ≡ counts (without_siblings draft (only (listed s))) beside_ref k
 known_count s draft beside_ref k =
     count_alike (only (required s.known)) (only (listed s)) (any_known is_applicator s (λ uri. refl)) (any_known is_unevaluated s (λ uri. refl)) (any_known is_validation s (λ uri. refl)) draft
     beside_ref k

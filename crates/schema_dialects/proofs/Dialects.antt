@@ -119,10 +119,10 @@ required_alike None (Some j) e = absurd cc
 required_alike (Some k) None e = absurd cc
 required_alike (Some k) (Some j) e = let same : required k ≡ required j = cc in ap Some (known_alike k j same)
 
-dialect_from : Draft → Option KnownVocabularies → Dialect
-dialect_from draft o = record { draft = draft; required = o }
+dialect_from : Draft → Option KnownVocabularies → Bool → Dialect
+dialect_from draft o siblings = record { draft = draft; required = o; siblings = siblings }
 
-dialect_from-back : (d : Dialect) → dialect_from d.draft d.required ≡ d
+dialect_from-back : (d : Dialect) → dialect_from d.draft d.required d.siblings ≡ d
 unfolding dialect_from
 dialect_from-back d = refl
 
@@ -130,7 +130,9 @@ dialect_alike : (d e : Dialect) → dialect_of d ≡ dialect_of e → d ≡ e
 dialect_alike d e same =
     let draft : d.draft ≡ e.draft = ap (λ (x : places.Dialect). x.draft) same in
     let required : d.required ≡ e.required = required_alike d.required e.required (ap (λ (x : places.Dialect). x.vocabularies) same) in
-    sym (dialect_from-back d) ∙ ap (λ x. dialect_from x d.required) draft ∙ ap (dialect_from e.draft) required ∙ dialect_from-back e
+    let siblings : d.siblings ≡ e.siblings = ap (λ (x : places.Dialect). x.siblings) same in
+    sym (dialect_from-back d) ∙ ap (λ x. dialect_from x d.required d.siblings) draft ∙ ap (λ x. dialect_from e.draft x d.siblings) required
+    ∙ ap (dialect_from e.draft e.required) siblings ∙ dialect_from-back e
 
 -- two that stand for one are one
 pub same_dialects : (o p : Option Dialect) → option_map dialect_of o ≡ option_map dialect_of p → o ≡ p

@@ -14,7 +14,7 @@ in_force None = all_of_draft
 in_force (Some known) = only (required known)
 
 abbrev pub dialect_of : Dialect → places.Dialect
-dialect_of d = record { draft = d.draft; vocabularies = in_force d.required }
+dialect_of d = record { draft = d.draft; vocabularies = in_force d.required; siblings = d.siblings }
 
 -- the dialects of the meta-schemas that are known, by their URIs
 unfoldable pub dialects_in : MetaSchemas → List ℕ → Option places.Dialect

@@ -1,6 +1,6 @@
 -- Sets of vocabularies.
-use Rattle.std.specs.Prelude.{◌≡◌, ℕ, List, [], ◌∷◌, ◌++◌, Bool, map, if◌then◌else◌, string_bytes}
-use Rattle.schema_drafts.specs.Vocabularies.{Vocabulary, core, applicator, unevaluated, validation, metadata, format, format_annotation, content, custom, Vocabularies, all_of_draft, only, has_some, is_applicator, is_unevaluated, the_known}
+use Rattle.std.specs.Prelude.{◌≡◌, ℕ, List, [], ◌∷◌, ◌++◌, Bool, false, map, if◌then◌else◌, string_bytes}
+use Rattle.schema_drafts.specs.Vocabularies.{Vocabulary, core, applicator, unevaluated, validation, metadata, format, format_annotation, content, custom, Vocabularies, Dialect, all_of_draft, only, has_some, is_applicator, is_unevaluated, the_known}
 use Rattle.schema_drafts.specs.declared.draft.Draft.{Draft}
 use Rattle.schema_drafts.specs.declared.draft.Draft.TheVariants.{Draft4, Draft6, Draft7, Draft201909, Draft202012, Unknown}
 use Rattle.schema_dialects.specs.declared.known.KnownVocabularies.{KnownVocabularies}
@@ -41,6 +41,10 @@ own Draft7 = []
 own Draft201909 = core ∷ applicator ∷ validation ∷ metadata ∷ format ∷ content ∷ []
 own Draft202012 = core ∷ applicator ∷ unevaluated ∷ validation ∷ metadata ∷ format_annotation ∷ content ∷ []
 own Unknown = core ∷ applicator ∷ unevaluated ∷ validation ∷ metadata ∷ format_annotation ∷ content ∷ []
+
+-- the dialect of a draft and these, by which what stands beside `$ref` is ignored in Drafts 4 to 7
+abbrev pub without_siblings : Draft → Vocabularies → Dialect
+without_siblings draft vs = record { draft = draft; vocabularies = vs; siblings = false }
 
 -- the same vocabularies, in whatever order and however often: no test tells the two apart
 abbrev pub AreSame : Vocabularies → Vocabularies → Type 0

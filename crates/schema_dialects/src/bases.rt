@@ -12,7 +12,7 @@ ghost use Rattle.schema_dialects.specs.Seen.{named_of, place_at};
 
 use crate::identifiers::{identifier, schema_in_force};
 use crate::{Dialect, MetaSchemas};
-use schema_drafts::draft::{Draft, draft_named};
+use schema_drafts::draft::draft_named;
 use serde_json::Value;
 use std::alloc::{AllocError, Global};
 use std::rc::Rc;
@@ -57,12 +57,12 @@ pub fn resolved(alloc: Global, base: &Uri, reference: &str) -> Result<Option<Uri
 fn own_base(
     alloc: Global,
     outer: &Rc<Uri>,
-    draft: Draft,
+    dialect: Dialect,
     contents: &Value,
 ) -> Result<Rc<Uri>, AllocError>
-    ensures { IfOk result (λ r. r.value ≡ documents.own_base outer.now.value draft (view contents.now)) }
+    ensures { IfOk result (λ r. r.value ≡ documents.own_base outer.now.value (dialect_of dialect) (view contents.now)) }
 {
-    let Some(text) = identifier(draft, contents) else {
+    let Some(text) = identifier(dialect, contents) else {
         return outer.clone();
     };
     match resolved(alloc, outer, text)? {
@@ -92,19 +92,20 @@ fn uri_named(alloc: Global, text: &str) -> Result<Option<Uri>, AllocError>
 
 /// The URI of the meta-schema that a schema names, where its `$schema` counts and names none of the drafts' own.
 ///
-/// It takes time in the length of that text, and one text.
+/// `siblings` says whether what stands beside `$ref` is read in Drafts 6 and 7. It takes time in the length of that text, and one text.
 ///
 /// # Errors
 ///
 /// Where memory was refused.
 pub fn named_meta_schema(
     alloc: Global,
+    siblings: bool,
     is_root: bool,
     contents: &Value,
 ) -> Result<Option<Uri>, AllocError>
-    ensures { IfOk result (λ u. u ≡ documents.named_meta_schema is_root (view contents.now)) }
+    ensures { IfOk result (λ u. u ≡ documents.named_meta_schema siblings is_root (view contents.now)) }
 {
-    match schema_in_force(is_root, contents) {
+    match schema_in_force(siblings, is_root, contents) {
         Some(text) => uri_named(alloc, text),
         None => Ok(None),
     }
@@ -144,7 +145,7 @@ fn named_by(
     ensures { IfOk result (λ n. named_of n ≡ documents.by_draft (dialects_in known.now) (dialect_of outer) text.now (drafts.draft_named text.now)) }
 {
     match draft_named(text) {
-        Some(draft) => Ok(Named::Known(Dialect::standard(draft))),
+        Some(draft) => Ok(Named::Known(Dialect::standard(outer.siblings, draft))),
         None => by_unknown(alloc, known, outer, text),
     }
 }
@@ -178,11 +179,12 @@ pub fn settle(
     is_root: bool,
     contents: &Value,
 ) -> Result<Settled, AllocError>
-    ensures { IfOk result (λ s. (path : std.List Part) → place_at path (view contents.now) s ≡ documents.placed outer.now.value (dialect_of dialect) path (view contents.now) (documents.by_schema (dialects_in known.now) (dialect_of dialect) (documents.schema_in_force is_root (view contents.now)))) }
+    ensures { IfOk result (λ s. (path : std.List Part) → place_at path (view contents.now) s ≡ documents.placed outer.now.value (dialect_of dialect) path (view contents.now) (documents.by_schema (dialects_in known.now) (dialect_of dialect) (documents.schema_in_force dialect.siblings is_root (view contents.now)))) }
 {
-    match by_schema(alloc, known, dialect, schema_in_force(is_root, contents))? {
+    let text = schema_in_force(dialect.siblings, is_root, contents);
+    match by_schema(alloc, known, dialect, text)? {
         Named::Known(dialect) => Ok(Settled {
-            base: own_base(alloc, outer, dialect.draft, contents)?,
+            base: own_base(alloc, outer, dialect, contents)?,
             dialect,
             awaits: None,
         }),

@@ -5,7 +5,7 @@ ghost use Rattle.schema_drafts.specs.Drafts.{is_listed};
 ghost use Rattle.schema_drafts.specs.Counts as tables;
 ghost use Rattle.schema_drafts.specs.Vocabularies.{has_some, is_applicator, is_unevaluated, is_validation};
 ghost use Rattle.schema_dialects.specs.Sets as spec;
-ghost use Rattle.schema_dialects.specs.Sets.{vocabularies_of};
+ghost use Rattle.schema_dialects.specs.Sets.{vocabularies_of, without_siblings};
 ghost use Rattle.schema_dialects.specs.Dialects.{in_force, dialect_of};
 
 use crate::dialect::Dialect;
@@ -152,19 +152,25 @@ impl Dialect {
     /// Whether a keyword counts in a schema of the dialect: it is one of the draft's, a vocabulary in force has it, and no `$ref` beside
     /// it hides it. It compares the name with a table of some ninety.
     pub fn counts(self, beside_ref: bool, name: &str) -> bool
-        ensures { result ≡ tables.counts (dialect_of self).draft (dialect_of self).vocabularies beside_ref name.now }
+        ensures { result ≡ tables.counts (dialect_of self) beside_ref name.now }
     {
         self.draft.has_keyword(name)
             && is_in_force(self, name)
-            && (!(self.draft.ignores_siblings() && beside_ref) || name == "$ref")
+            && (!(self.draft.ignores_siblings(self.siblings) && beside_ref) || name == "$ref")
     }
 }
 
 /// Whether a keyword counts in a schema of that draft and those vocabularies: it is one of the draft's, a vocabulary in force has
 /// it, and no `$ref` beside it hides it. It compares the name with a table of some ninety.
 pub fn counts(draft: Draft, vocabularies: &VocabularySet, beside_ref: bool, name: &str) -> bool
-    ensures { result ≡ tables.counts draft (vocabularies_of vocabularies.now) beside_ref name.now }
+    ensures { result ≡ tables.counts (without_siblings draft (vocabularies_of vocabularies.now)) beside_ref name.now }
 {
     let required = vocabularies.required();
-    Dialect { draft, required }.counts(beside_ref, name)
+    let siblings = false;
+    Dialect {
+        draft,
+        required,
+        siblings,
+    }
+    .counts(beside_ref, name)
 }

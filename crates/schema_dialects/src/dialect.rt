@@ -23,6 +23,8 @@ pub struct Dialect {
     /// The vocabularies that the meta-schema requires, or none where it does not say which and all of the draft are in force. No
     /// keyword is of a custom vocabulary, so those are left out.
     pub required: Option<KnownVocabularies>,
+    /// Whether what stands beside `$ref` is read in Drafts 6 and 7.
+    pub siblings: bool,
 }
 
 // Marks the vocabulary of that name where a draft knows it.
@@ -59,24 +61,26 @@ fn required_by(contents: &Value) -> Option<KnownVocabularies>
 
 impl Dialect {
     /// A draft with all its vocabularies, as its own meta-schema gives it.
-    pub fn standard(draft: Draft) -> Dialect
-        ensures { dialect_of result ≡ places.standard draft }
+    pub fn standard(siblings: bool, draft: Draft) -> Dialect
+        ensures { dialect_of result ≡ places.standard siblings draft }
     {
         Dialect {
             draft,
             required: None,
+            siblings,
         }
     }
 
-    /// The dialect of the schemas that name a meta-schema of that draft and those contents (Core 8.1.2).
+    /// The dialect of the schemas that name a meta-schema of this dialect and those contents (Core 8.1.2).
     ///
     /// It allocates nothing, and compares each name in `$vocabulary` with fourteen URIs.
-    pub fn by_meta_schema(draft: Draft, contents: &Value) -> Dialect
-        ensures { dialect_of result ≡ record { draft = draft; vocabularies = bearers.required_by (get (codes "$vocabulary") (view contents.now)) } }
+    pub fn by_meta_schema(self, contents: &Value) -> Dialect
+        ensures { dialect_of result ≡ record { draft = self.draft; vocabularies = bearers.required_by (get (codes "$vocabulary") (view contents.now)); siblings = self.siblings } }
     {
         Dialect {
-            draft,
+            draft: self.draft,
             required: required_by(contents),
+            siblings: self.siblings,
         }
     }
 }

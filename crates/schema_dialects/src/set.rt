@@ -104,7 +104,7 @@ impl VocabularySet {
 
     // Those of its vocabularies that the drafts know, or none where it stands for all of a draft.
     pub(crate) fn required(&self) -> Option<KnownVocabularies>
-        ensures { (draft : Draft) (beside_ref : Bool) (name : List ℕ) → tables.counts draft (in_force result) beside_ref name ≡ tables.counts draft (sets.vocabularies_of self.now) beside_ref name }
+        ensures { (draft : Draft) (beside_ref : Bool) (name : List ℕ) → tables.counts (sets.without_siblings draft (in_force result)) beside_ref name ≡ tables.counts (sets.without_siblings draft (sets.vocabularies_of self.now)) beside_ref name }
     {
         if self.is_whole {
             None

@@ -2,6 +2,7 @@
 use Rattle.std.specs.Prelude.{List, [], ◌∷◌, ◌++◌, Bool, true, false, if◌then◌else◌}
 use Rattle.serde_json.specs.Data.{Data, null, boolean, number, string, array, object, Items, no_items, item, Members, no_members, member}
 use Rattle.schema_drafts.specs.Subschemas.{Holds, nothing, one, several, one_or_several, by_name, held_by}
+use Rattle.schema_drafts.specs.Vocabularies.{Dialect}
 use Rattle.schema_drafts.specs.Identifiers.{is_hidden}
 use Rattle.schema_drafts.specs.declared.draft.Draft.{Draft}
 
@@ -56,10 +57,10 @@ of_members draft hidden no_members = []
 of_members draft hidden (member k d ms) = schemas_held (held_by draft hidden k) d ++ of_members draft hidden ms
 
 -- the schemas directly inside a value: none but in an object
-abbrev pub subschemas : Draft → Data → List Data
-subschemas draft null = []
-subschemas draft (boolean b) = []
-subschemas draft (number n) = []
-subschemas draft (string s) = []
-subschemas draft (array ds) = []
-subschemas draft (object ms) = of_members draft (is_hidden draft (object ms)) ms
+abbrev pub subschemas : Dialect → Data → List Data
+subschemas e null = []
+subschemas e (boolean b) = []
+subschemas e (number n) = []
+subschemas e (string s) = []
+subschemas e (array ds) = []
+subschemas e (object ms) = of_members e.draft (is_hidden e (object ms)) ms

@@ -1,7 +1,7 @@
 -- Which keyword counts, by draft and vocabularies (Core 8.1.2; the tables of keywords of Core and Validation in each draft).
 use Rattle.std.specs.Prelude.{ℕ, List, [], ◌∷◌, ◌++◌, Bool, true, false, ◌||◌, ◌&&◌, not, codes, bytes_eq}
 use Rattle.schema_drafts.specs.Drafts.{is_listed, ignores_siblings}
-use Rattle.schema_drafts.specs.Vocabularies.{Vocabularies, has_some, is_applicator, is_validation, is_unevaluated}
+use Rattle.schema_drafts.specs.Vocabularies.{Vocabularies, Dialect, has_some, is_applicator, is_validation, is_unevaluated}
 use Rattle.schema_drafts.specs.declared.draft.Draft.{Draft}
 use Rattle.schema_drafts.specs.declared.draft.Draft.TheVariants.{Draft4, Draft6, Draft7, Draft201909, Draft202012, Unknown}
 
@@ -89,8 +89,10 @@ in_vocabularies Unknown vs k =
     || (is_listed k validations && has_some is_validation vs)
 
 -- whether a keyword counts: it is one of the draft's and of a vocabulary in force, and `$ref` beside does not hide it
-abbrev pub counts : Draft → Vocabularies → Bool → List ℕ → Bool
-counts draft vs beside_ref k = is_keyword draft k && in_vocabularies draft vs k && (not (ignores_siblings draft && beside_ref) || bytes_eq k (codes "$ref"))
+abbrev pub counts : Dialect → Bool → List ℕ → Bool
+counts e beside_ref k =
+    is_keyword e.draft k && in_vocabularies e.draft e.vocabularies k
+    && (not (ignores_siblings e.siblings e.draft && beside_ref) || bytes_eq k (codes "$ref"))
 
 -- ---- names that a draft knows, keywords or not
 

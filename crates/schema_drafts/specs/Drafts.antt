@@ -1,5 +1,5 @@
 -- The drafts of JSON Schema.
-use Rattle.std.specs.Prelude.{ℕ, List, [], ◌∷◌, ◌++◌, Bool, true, false, ◌||◌, codes, bytes_eq, if◌then◌else◌, Option, Some, None}
+use Rattle.std.specs.Prelude.{ℕ, List, [], ◌∷◌, ◌++◌, Bool, true, false, not, ◌||◌, codes, bytes_eq, if◌then◌else◌, Option, Some, None}
 use Rattle.std.specs.List.{list_any}
 use Rattle.schema_drafts.specs.declared.draft.Draft.{Draft}
 use Rattle.schema_drafts.specs.declared.draft.Draft.TheVariants.{Draft4, Draft6, Draft7, Draft201909, Draft202012, Unknown}
@@ -30,14 +30,14 @@ draft_among (row ∷ rest) uri = if bytes_eq row.0 uri then Some row.1 else draf
 abbrev pub draft_named : List ℕ → Option Draft
 draft_named uri = draft_among known_schemas uri
 
--- Drafts 4 to 7: what stands beside `$ref` is ignored (Draft 7, Core 8.3)
-abbrev pub ignores_siblings : Draft → Bool
-ignores_siblings Draft4 = true
-ignores_siblings Draft6 = true
-ignores_siblings Draft7 = true
-ignores_siblings Draft201909 = false
-ignores_siblings Draft202012 = false
-ignores_siblings Unknown = false
+-- Drafts 4 to 7: what stands beside `$ref` is ignored (Draft 7, Core 8.3), in Drafts 6 and 7 where siblings are not read by an option
+abbrev pub ignores_siblings : Bool → Draft → Bool
+ignores_siblings siblings Draft4 = true
+ignores_siblings siblings Draft6 = not siblings
+ignores_siblings siblings Draft7 = not siblings
+ignores_siblings siblings Draft201909 = false
+ignores_siblings siblings Draft202012 = false
+ignores_siblings siblings Unknown = false
 
 -- the keyword of identifiers (Draft 4, Core 7.2; later Core 8.2.1)
 abbrev pub identifier_name : Draft → List ℕ

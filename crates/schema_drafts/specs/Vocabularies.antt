@@ -1,6 +1,7 @@
 -- Vocabularies (Core 8.1.2).
 use Rattle.std.specs.Prelude.{ℕ, List, [], ◌∷◌, ◌++◌, Bool, true, false, ◌||◌, ◌&&◌, codes, bytes_eq, nat_eq, if◌then◌else◌, Option, Some, None}
 use Rattle.std.specs.List.{list_any, filter}
+use Rattle.schema_drafts.specs.declared.draft.Draft.{Draft}
 
 pub data Vocabulary : Type 0 where
   core : Vocabulary
@@ -84,6 +85,16 @@ is_unevaluated (custom uri) = false
 pub data Vocabularies : Type 0 where
   all_of_draft : Vocabularies
   only : List Vocabulary → Vocabularies
+
+-- the dialect of a schema: its draft, the vocabularies in force, and whether what stands beside `$ref` is read in Drafts 6 and 7 (an option)
+pub record Dialect : Type 0 where
+  pub draft : Draft
+  pub vocabularies : Vocabularies
+  pub siblings : Bool
+
+-- a draft with all its vocabularies, as its own meta-schema gives it
+abbrev pub standard : Bool → Draft → Dialect
+standard siblings draft = record { draft = draft; vocabularies = all_of_draft; siblings = siblings }
 
 abbrev pub has_some : (Vocabulary → Bool) → Vocabularies → Bool
 has_some test all_of_draft = true

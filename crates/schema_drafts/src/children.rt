@@ -1,9 +1,10 @@
 //! The schemas directly inside a schema.
 
-ghost use Rattle.std.specs.Prelude.{◌≡◌, []};
+ghost use Rattle.std.specs.Prelude.{◌≡◌, [], false};
 ghost use Rattle.std.specs.Iterator.{YieldsFirstBy, item_count};
 ghost use Rattle.std.specs.Slice.Iter.{iter_rest};
 ghost use Rattle.serde_json.specs.View.{view, items_view};
+ghost use Rattle.schema_drafts.specs.Vocabularies.{standard};
 ghost use Rattle.schema_drafts.specs.Subschemas.{holds_of};
 ghost use Rattle.schema_drafts.specs.Children as spec;
 ghost use Rattle.schema_drafts.specs.Left.{held_left, members_left, left};
@@ -134,7 +135,15 @@ impl Draft {
     /// The schemas directly inside a schema: where its keywords, by this draft, hold schemas (the applicators of Core 10,
     /// and `$defs` and its like of Core 8.2.4). Anything but an object has none. A `$ref` in Drafts 4 to 7 leaves `definitions` alone.
     pub fn subresources_of<'a>(self, contents: &'a Value) -> ChildIter<'a>
-        ensures { left result ≡ spec.subschemas self (view contents.now) }
+        ensures { left result ≡ spec.subschemas (standard false self) (view contents.now) }
+    {
+        self.subresources_with(contents, false)
+    }
+
+    /// The schemas directly inside a schema as [`Draft::subresources_of`] has them. Where siblings of `$ref` are read, a `$ref` in
+    /// Drafts 6 and 7 leaves all of them; Draft 4 is unchanged.
+    pub fn subresources_with<'a>(self, contents: &'a Value, siblings: bool) -> ChildIter<'a>
+        ensures { left result ≡ spec.subschemas (standard siblings self) (view contents.now) }
     {
         let members = match contents {
             Value::Object(members) => Some(members.iter()),
@@ -142,7 +151,7 @@ impl Draft {
         };
         ChildIter {
             draft: self,
-            hidden: is_hidden(self, contents),
+            hidden: is_hidden(siblings, self, contents),
             members,
             held: Held::nothing(),
         }

@@ -107,12 +107,13 @@ impl Draft {
         }
     }
 
-    /// Whether what stands beside `$ref` is ignored, as in Drafts 4 to 7.
-    pub fn ignores_siblings(self) -> bool
-        ensures { result ≡ drafts.ignores_siblings self }
+    /// Whether what stands beside `$ref` is ignored, as in Drafts 4 to 7; in Drafts 6 and 7 it is not where siblings are read.
+    pub fn ignores_siblings(self, siblings: bool) -> bool
+        ensures { result ≡ drafts.ignores_siblings siblings self }
     {
         match self {
-            Draft::Draft4 | Draft::Draft6 | Draft::Draft7 => true,
+            Draft::Draft4 => true,
+            Draft::Draft6 | Draft::Draft7 => !siblings,
             _ => false,
         }
     }

@@ -3,6 +3,7 @@
 ghost use Rattle.std.specs.Prelude.{◌≡◌, option_map};
 ghost use Rattle.serde_json.specs.View.{view};
 ghost use Rattle.uri_grammar.specs.Texts.{cut_at};
+ghost use Rattle.schema_drafts.specs.Vocabularies.{standard};
 ghost use Rattle.schema_drafts.specs.Identifiers as spec;
 
 use crate::draft::Draft;
@@ -15,18 +16,18 @@ pub fn text_at<'d>(contents: &'d Value, name: &str) -> Option<&'d str>
     contents.get(name).and_then(Value::as_str)
 }
 
-/// Whether a `$ref` hides what stands beside it, as in Drafts 4 to 7.
-pub fn is_hidden(draft: Draft, contents: &Value) -> bool
-    ensures { result ≡ spec.is_hidden draft (view contents.now) }
+/// Whether a `$ref` hides what stands beside it, as in Drafts 4 to 7; in Drafts 6 and 7 it does not where siblings are read.
+pub fn is_hidden(siblings: bool, draft: Draft, contents: &Value) -> bool
+    ensures { result ≡ spec.is_hidden (standard siblings draft) (view contents.now) }
 {
-    draft.ignores_siblings() && contents.get("$ref").is_some()
+    draft.ignores_siblings(siblings) && contents.get("$ref").is_some()
 }
 
 /// The text of the identifier's keyword, where it counts.
-pub fn identifier_text(draft: Draft, contents: &Value) -> Option<&str>
-    ensures { option_map (λ t. t.now) result ≡ spec.identifier_text draft (view contents.now) }
+pub fn identifier_text(siblings: bool, draft: Draft, contents: &Value) -> Option<&str>
+    ensures { option_map (λ t. t.now) result ≡ spec.identifier_text (standard siblings draft) (view contents.now) }
 {
-    if is_hidden(draft, contents) {
+    if is_hidden(siblings, draft, contents) {
         return None;
     }
     text_at(contents, draft.id_keyword())
@@ -61,8 +62,8 @@ fn without_fragment(text: &str) -> Option<&str>
 }
 
 /// The identifier of a schema, without its fragment: a reference that gives the base URI. A fragment alone is none.
-pub fn identifier(draft: Draft, contents: &Value) -> Option<&str>
-    ensures { option_map (λ t. t.now) result ≡ spec.identifier draft (view contents.now) }
+pub fn identifier(siblings: bool, draft: Draft, contents: &Value) -> Option<&str>
+    ensures { option_map (λ t. t.now) result ≡ spec.identifier (standard siblings draft) (view contents.now) }
 {
-    without_fragment(identifier_text(draft, contents)?)
+    without_fragment(identifier_text(siblings, draft, contents)?)
 }

@@ -1,9 +1,10 @@
 //! Schemas with their drafts.
 
-ghost use Rattle.std.specs.Prelude.{◌≡◌, codes, option_map, option_and_then};
+ghost use Rattle.std.specs.Prelude.{◌≡◌, false, codes, option_map, option_and_then};
 ghost use Rattle.serde_json.specs.Find.{get, as_str};
 ghost use Rattle.serde_json.specs.View.{view};
 ghost use Rattle.schema_drafts.specs.Drafts as drafts;
+ghost use Rattle.schema_drafts.specs.Vocabularies.{standard};
 ghost use Rattle.schema_drafts.specs.Identifiers as identifiers;
 
 use crate::draft::Draft;
@@ -64,9 +65,9 @@ impl Resource {
 
     /// The identifier, without its fragment. A fragment alone is none.
     pub fn id(&self) -> Option<&str>
-        ensures { option_map (λ t. t.now) result ≡ identifiers.identifier self.now.draft (view self.now.contents) }
+        ensures { option_map (λ t. t.now) result ≡ identifiers.identifier (standard false self.now.draft) (view self.now.contents) }
     {
-        identifier(self.draft, &self.contents)
+        identifier(false, self.draft, &self.contents)
     }
 }
 
@@ -111,9 +112,9 @@ impl<'a> ResourceRef<'a> {
 
     /// The identifier, without its fragment. A fragment alone is none.
     pub fn id(&self) -> Option<&'a str>
-        ensures { option_map (λ t. t.now) result ≡ identifiers.identifier self.now.draft (view self.now.contents.now) }
+        ensures { option_map (λ t. t.now) result ≡ identifiers.identifier (standard false self.now.draft) (view self.now.contents.now) }
     {
-        identifier(self.draft, self.contents)
+        identifier(false, self.draft, self.contents)
     }
 }
 

@@ -72,7 +72,7 @@ in-data meta p (boolean b) = tt
 in-data meta p (number x) = tt
 in-data meta p (string s) = tt
 in-data meta p (array ds) = tt
-in-data meta p (object ms) = of-children meta p (suc (members_depth ms)) (is_hidden p.dialect.draft (object ms)) ms (omega arith)
+in-data meta p (object ms) = of-children meta p (suc (members_depth ms)) (is_hidden p.dialect (object ms)) ms (omega arith)
 
 unless : (b : Bool) (ps : List SchemaPlace) (n : ℕ) → AllBelow n ps → AllBelow n (if b then [] else ps)
 unless true ps n h = tt

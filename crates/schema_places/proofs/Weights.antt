@@ -94,7 +94,7 @@ module _ (meta : List ℕ → Option Dialect) (p : SchemaPlace) where
   in-data (number n) = omega arith
   in-data (string s) = omega arith
   in-data (array ds) = omega arith
-  in-data (object ms) = omega (arith, of-children (is_hidden p.dialect.draft (object ms)) ms)
+  in-data (object ms) = omega (arith, of-children (is_hidden p.dialect (object ms)) ms)
 
 unless : (b : Bool) (ps : List SchemaPlace) (n : ℕ) → sum_by size ps < n → sum_by size (if b then [] else ps) < n
 unless true ps n h = omega (arith, h)

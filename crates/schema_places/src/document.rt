@@ -6,12 +6,11 @@ ghost use Rattle.json_values.specs.Parts as parts;
 ghost use Rattle.schema_drafts.specs.Subschemas as tables;
 ghost use Rattle.schema_definitions.specs.Places as spec;
 ghost use Rattle.schema_places.specs.Seen.{place_of};
-ghost use Rattle.schema_dialects.specs.Dialects.{dialects_in};
+ghost use Rattle.schema_dialects.specs.Dialects.{dialect_of, dialects_in};
 
 use crate::place::{Place, enter, is_schema, root};
-use schema_dialects::MetaSchemas;
+use schema_dialects::{Dialect, MetaSchemas};
 use schema_dialects::identifiers::is_hidden;
-use schema_drafts::draft::Draft;
 use schema_drafts::subschemas::{Subschemas, held_by};
 use schema_steps::Path;
 use serde_json::Value;
@@ -153,7 +152,7 @@ fn push_children<'d>(
         return Ok(());
     }
     if let Value::Object(members) = outer.contents {
-        let hidden = is_hidden(outer.dialect.draft, outer.contents);
+        let hidden = is_hidden(outer.dialect, outer.contents);
         for (name, part) in members.iter() {
             push_member(alloc, known, found, outer, hidden, name.as_str(), part)?;
         }
@@ -176,7 +175,7 @@ fn push_below<'d>(
 }
 
 /// The schema places of a document, by levels from its root: the root, the places in its members in their order, then the places in
-/// those. `default` is the draft where the root names none. A schema that names a meta-schema takes the dialect that this gives, and
+/// those. `default` is the dialect where the root names none. A schema that names a meta-schema takes the dialect that this gives, and
 /// awaits it where it is not known.
 ///
 /// It looks once at each member of a schema and at each schema that one holds, and copies the text of a base only where an identifier
@@ -189,10 +188,10 @@ pub fn places<'d>(
     alloc: Global,
     known: &MetaSchemas,
     uri: &Rc<Uri>,
-    default: Draft,
+    default: Dialect,
     contents: &'d Value,
 ) -> Result<Vec<Place<'d>>, AllocError>
-    ensures { IfOk result (λ v. map place_of v.items ≡ spec.places (dialects_in known.now) uri.now.value default (view contents.now)) }
+    ensures { IfOk result (λ v. map place_of v.items ≡ spec.places (dialects_in known.now) uri.now.value (dialect_of default) (view contents.now)) }
 {
     let mut found = Vec::new(alloc);
     found.push(root(alloc, known, uri, default, contents)?)?;

@@ -9,7 +9,6 @@ ghost use Rattle.schema_places.specs.Seen.{place_of};
 
 use schema_dialects::bases::{Settled, settle};
 use schema_dialects::{Dialect, MetaSchemas};
-use schema_drafts::draft::Draft;
 use schema_steps::Path;
 use serde_json::Value;
 use std::alloc::{AllocError, Global};
@@ -93,7 +92,7 @@ pub fn enter<'d>(
     Ok(settled_place(path, contents, settled))
 }
 
-/// The place of a document's root, under the document's URI. `default` is the draft where the root names none.
+/// The place of a document's root, under the document's URI. `default` is the dialect where the root names none.
 ///
 /// # Errors
 ///
@@ -102,18 +101,11 @@ pub fn root<'d>(
     alloc: Global,
     known: &MetaSchemas,
     uri: &Rc<Uri>,
-    default: Draft,
+    default: Dialect,
     contents: &'d Value,
 ) -> Result<Place<'d>, AllocError>
-    ensures { IfOk result (λ p. place_of p ≡ places.root_place (dialects_in known.now) uri.now.value default (view contents.now)) }
+    ensures { IfOk result (λ p. place_of p ≡ places.root_place (dialects_in known.now) uri.now.value (dialect_of default) (view contents.now)) }
 {
-    let settled = settle(
-        alloc,
-        known,
-        uri,
-        Dialect::standard(default),
-        true,
-        contents,
-    )?;
+    let settled = settle(alloc, known, uri, default, true, contents)?;
     Ok(settled_place(Path::root(), contents, settled))
 }

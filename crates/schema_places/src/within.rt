@@ -36,8 +36,8 @@ impl Within {
     {
         match self {
             Within::AtPlace => {
-                let draft = last.dialect.draft;
-                held_by(draft, is_hidden(draft, last.contents), name)
+                let hidden = is_hidden(last.dialect, last.contents);
+                held_by(last.dialect.draft, hidden, name)
             }
             Within::PartOf(Subschemas::ByName) => Subschemas::One,
             Within::PartOf(_) => Subschemas::None,

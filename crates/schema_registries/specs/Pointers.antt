@@ -15,7 +15,7 @@ pointers_under told d = map pointer_of (places told d.uri d.default d.contents)
 
 -- by what the documents themselves tell
 abbrev pub pointers_of : List Document → Document → List (List ℕ)
-pointers_of documents d = pointers_under (meta (documents ∷ [])) d
+pointers_of documents d = pointers_under (meta documents) d
 
 -- the first document of a URI
 abbrev pub document_at : List Document → List ℕ → Option Document

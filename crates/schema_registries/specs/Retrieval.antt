@@ -24,8 +24,8 @@ may_refuse_whole may_answer may_refuse w uri =
 pub record IsPrepared (a : Asking) (limit : ℕ) (own documents : List Document) (uris : List (List ℕ)) : Type 0 where
   pub gathered : IsGathered a limit own documents uris
   pub once : none_twice uris ≡ true
-  pub complete : wants (documents ∷ []) ≡ []
-  pub accepted : document_causes (documents ∷ []) ≡ []
+  pub complete : wants documents ≡ []
+  pub accepted : document_causes documents ≡ []
   pub alone : AnswersNothing a → (documents ≡ own) × (uris ≡ [])
 
 -- documents given beside others, whose place one takes under an equal URI

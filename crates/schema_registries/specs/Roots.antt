@@ -30,4 +30,4 @@ IsSoundBySome r = ((p : Patterns) → IsSound p r → ⊥) → ⊥
 
 -- in the documents of a registry, from its base
 abbrev pub root_on : SchemaRegistry → List ℕ → Root
-root_on r reference = record { documents = documents_in_registry r ∷ []; base = r.base; reference = reference }
+root_on r reference = record { documents = documents_in_registry r; base = r.base; reference = reference }

@@ -25,8 +25,8 @@ fn follow_from<'r>(
     base: &Uri,
     steps: &[Step<'_>],
 ) -> Result<Option<Resolved<'r>>, Error>
-    ensures ok { IfOk result (λ r. last_of_chain (documents_of registry.now ∷ []) base.now steps.now ≡ Ok (option_map answer_in r)) }
-    ensures refused { IfErr result (RefusesLookup (followed (documents_of registry.now ∷ []) (begun base.now) steps.now)) }
+    ensures ok { IfOk result (λ r. last_of_chain (documents_of registry.now) base.now steps.now ≡ Ok (option_map answer_in r)) }
+    ensures refused { IfErr result (RefusesLookup (followed (documents_of registry.now) (begun base.now) steps.now)) }
 {
     follow(registry, base.clone()?, steps)
 }
@@ -43,8 +43,8 @@ pub fn follow_both<'l, 'r>(
     steps: &[Step<'_>],
 ) -> BothAnswers<'l, 'r>
     requires { documents_of left.now ≡ documents_of right.now }
-    ensures ok { IfOk result.left (λ r. last_of_chain (documents_of left.now ∷ []) base.now steps.now ≡ Ok (option_map answer_in r)) }
-    ensures refused { IfErr result.left (RefusesLookup (followed (documents_of left.now ∷ []) (begun base.now) steps.now)) }
+    ensures ok { IfOk result.left (λ r. last_of_chain (documents_of left.now) base.now steps.now ≡ Ok (option_map answer_in r)) }
+    ensures refused { IfErr result.left (RefusesLookup (followed (documents_of left.now) (begun base.now) steps.now)) }
     ensures alike { AnswerAlike result.left result.right }
 {
     BothAnswers {

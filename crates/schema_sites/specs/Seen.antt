@@ -11,7 +11,7 @@ use Rattle.schema_sites.specs.declared.site.Site as code
 
 -- the documents that references there are looked up in
 abbrev pub documents_at : code.Site → Documents
-documents_at c = documents_in c.resolver ∷ []
+documents_at c = documents_in c.resolver
 
 -- a site of the documents that the code's stands for, wherever it is and whatever its scope is
 pub record Stands (c : code.Site) (s : Site) : Type 0 where

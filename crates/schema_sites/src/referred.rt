@@ -27,10 +27,10 @@ pub(crate) fn look_up<'r>(
     keyword: ReferenceKeyword,
     text: &str,
 ) -> Result<Resolved<'r>, Error>
-    ensures ok { IfOk result (λ r. references.looked_up keyword (documents_in resolver.now ∷ []) (base_of resolver.now) (scope_of resolver.now) text.now ≡ Ok (target_in r)) }
+    ensures ok { IfOk result (λ r. references.looked_up keyword (documents_in resolver.now) (base_of resolver.now) (scope_of resolver.now) text.now ≡ Ok (target_in r)) }
     ensures scope { IfOk result (λ r. scope_of r.resolver ≡ entered_scope (base_of r.resolver) (base_of resolver.now) (scope_of resolver.now)) }
     ensures documents { IfOk result (λ r. documents_in r.resolver ≡ documents_in resolver.now) }
-    ensures refused { IfErr result (RefusesLookup (references.looked_up keyword (documents_in resolver.now ∷ []) (base_of resolver.now) (scope_of resolver.now) text.now)) }
+    ensures refused { IfErr result (RefusesLookup (references.looked_up keyword (documents_in resolver.now) (base_of resolver.now) (scope_of resolver.now) text.now)) }
 {
     match keyword {
         ReferenceKeyword::Ref => resolver.lookup(text),

@@ -35,7 +35,7 @@ pub fn at_target<'r>(resolved: &Resolved<'r>, matches: &'r Matches) -> Result<Si
     ensures base { IfOk result (λ c. base_of c.resolver ≡ base_of resolved.now.resolver) }
     ensures matches { IfOk result (λ c. c.matches ≡ matches.entry) }
     ensures scope { IfOk result (λ c. scope_of c.resolver ≡ scope_of resolved.now.resolver) }
-    ensures documents { IfOk result (λ c. documents_at c ≡ documents_in resolved.now.resolver ∷ []) }
+    ensures documents { IfOk result (λ c. documents_at c ≡ documents_in resolved.now.resolver) }
     ensures stands { IfOk result (λ c. (s : sites.Site) (reference : List ℕ) → Stands c (sites.target_site s reference (target_in resolved.now))) }
 {
     Ok(Site {
@@ -55,7 +55,7 @@ pub fn at_root<'r>(resolved: &Resolved<'r>, matches: &'r Matches) -> Result<Site
     ensures contents { IfOk result (λ c. view c.contents.now ≡ (target_in resolved.now).contents) }
     ensures scope { IfOk result (λ c. scope_of c.resolver ≡ (target_in resolved.now).base ∷ []) }
     ensures matches { IfOk result (λ c. c.matches ≡ matches.entry) }
-    ensures documents { IfOk result (λ c. documents_at c ≡ documents_in resolved.now.resolver ∷ []) }
+    ensures documents { IfOk result (λ c. documents_at c ≡ documents_in resolved.now.resolver) }
     ensures stands { IfOk result (λ c. Stands c (sites.root_site (target_in resolved.now))) }
 {
     Ok(Site {

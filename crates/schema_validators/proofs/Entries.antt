@@ -242,8 +242,8 @@ module _ {M : Type 0} (finds : M → List ℕ → Option Bool) (p : Patterns) (o
     keys = subst (λ (u : List ℕ). SortsOut p own u (pointers_of own d) (keys_of m)) (sym named) (subst (λ (x : List (List ℕ)). SortsOut p own document x (keys_of m)) are keys-sorted);
     exactly = λ k. (exactly-there d named are k, exactly-back d named are k);
     reads = λ k v e. subst (λ (u : List ℕ). ReadsPlace finds p own u k v) (sym named) (reads-place k v (entry-of k v e));
-    within = subst (λ (u : List ℕ). AreWithin (own ∷ []) p.makes (sites_from own u (map reference_to (pointers_of own d))) limit) (sym named)
-        (subst (λ (x : List (List ℕ)). AreWithin (own ∷ []) p.makes (sites_from own document (map reference_to x)) limit) are checked.within);
+    within = subst (λ (u : List ℕ). AreWithin own p.makes (sites_from own u (map reference_to (pointers_of own d))) limit) (sym named)
+        (subst (λ (x : List (List ℕ)). AreWithin own p.makes (sites_from own document (map reference_to x)) limit) are checked.within);
   }
 
 -- ---- the document of a URI
@@ -310,7 +310,7 @@ entered-there own uri table ps qs bs cs m e f h =
     subst (λ (x : List Bool). Enters own uri table (map string_bytes ps) x (entries_in m)) f (subst (λ (x : List (String Global)). Enters own uri table (map string_bytes x) cs (entries_in m)) e h)
 
 places-refused : (p : Patterns) (own : List Document) (d : Document) (limit : ℕ) (e : BuildCause) (b : BuildError) → IsOfPlaces e b
-    → RefusesEach (own ∷ []) p.makes (sites_from own d.uri (map reference_to (pointers_of own d))) limit e → ArePlacesExceeded p own d limit b
+    → RefusesEach own p.makes (sites_from own d.uri (map reference_to (pointers_of own d))) limit e → ArePlacesExceeded p own d limit b
 places-refused p own d limit e b (inl m) r = subst (λ (x : BuildError). ArePlacesExceeded p own d limit x) (sym m.1) tt
 places-refused p own d limit e b (inr n) (inl x) = subst (λ (y : BuildError). ArePlacesExceeded p own d limit y) (sym n.1) x
 places-refused p own d limit e b (inr n) (inr m) = absurd (n.0 m)
@@ -319,7 +319,7 @@ pub refused-there : (p : Patterns) (own other : List Document) (uri : List ℕ) 
     → ks ≡ pointers_of own d → d.uri ≡ uri → IsOfPlaces e b → RefusesEach (other ∷ []) p.makes (sites_from other uri refs) limit e → ArePlacesExceeded p own d limit b
 refused-there p own other uri refs ks limit d e b same texts are named of r =
     places-refused p own d limit e b of
-    (subst (λ (u : List ℕ). RefusesEach (own ∷ []) p.makes (sites_from own u (map reference_to (pointers_of own d))) limit e) (sym named)
-    (subst (λ (x : List (List ℕ)). RefusesEach (own ∷ []) p.makes (sites_from own uri (map reference_to x)) limit e) are
-    (subst (λ (x : List (List ℕ)). RefusesEach (own ∷ []) p.makes (sites_from own uri x) limit e) texts
+    (subst (λ (u : List ℕ). RefusesEach own p.makes (sites_from own u (map reference_to (pointers_of own d))) limit e) (sym named)
+    (subst (λ (x : List (List ℕ)). RefusesEach own p.makes (sites_from own uri (map reference_to x)) limit e) are
+    (subst (λ (x : List (List ℕ)). RefusesEach own p.makes (sites_from own uri x) limit e) texts
     (subst (λ (ds : List Document). RefusesEach (ds ∷ []) p.makes (sites_from ds uri refs) limit e) same r))))

@@ -23,17 +23,17 @@ use Rattle.schema_validators.specs.Made.{IsMadeAt, IsMadeBy}
 use Rattle.schema_validators.specs.Seen.{root_in}
 use Rattle.schema_validators.specs.declared.validator.Validator.{Validator}
 
-module _ (own : List Document) (base reference : List ℕ) (t : Target) (found : lookup (own ∷ []) base reference ≡ Ok t)
+module _ (own : List Document) (base reference : List ℕ) (t : Target) (found : lookup own base reference ≡ Ok t)
     (apart : are_apart own ≡ true) (rise : list_all contents_rise own ≡ true) where
   abbrev here : Root
-  here = record { documents = own ∷ []; base = base; reference = reference }
+  here = record { documents = own; base = base; reference = reference }
 
   placed : IsPlaced own t
   placed = record { apart = apart; rise = rise; target = by_reference base reference found }
 
   module _ (p : Patterns) where
     abbrev NoCause : Target → Type 0
-    NoCause u = (c : BuildCause) → IsCauseOf (own ∷ []) p.makes (root_site u) c → ⊥
+    NoCause u = (c : BuildCause) → IsCauseOf own p.makes (root_site u) c → ⊥
 
     pub sound_there : (IsPlaced own t → NoCause t) → (r : Root) → here ≡ r → IsSound p r
     sound_there h r e = subst (IsSound p) e (record {
@@ -41,16 +41,16 @@ module _ (own : List Document) (base reference : List ℕ) (t : Target) (found :
       right = λ u there. subst NoCause (finds_one here t u found there) (h placed);
     })
 
-    pub within_there : (limit : ℕ) → (IsPlaced own t → AreWithin (own ∷ []) p.makes (root_site t ∷ []) limit) → (r : Root) → here ≡ r → IsWithin p limit r
+    pub within_there : (limit : ℕ) → (IsPlaced own t → AreWithin own p.makes (root_site t ∷ []) limit) → (r : Root) → here ≡ r → IsWithin p limit r
     within_there limit h r e = subst (IsWithin p limit) e
-        (λ u there. subst (λ (v : Target). AreWithin (own ∷ []) p.makes (root_site v ∷ []) limit) (finds_one here t u found there) (h placed))
+        (λ u there. subst (λ (v : Target). AreWithin own p.makes (root_site v ∷ []) limit) (finds_one here t u found there) (h placed))
 
-    pub patterns_there : (patterns : List (List ℕ)) → (IsPlaced own t → AreAmong (own ∷ []) p.makes (root_site t) patterns) → (r : Root) → here ≡ r → HoldsPatterns p r patterns
+    pub patterns_there : (patterns : List (List ℕ)) → (IsPlaced own t → AreAmong own p.makes (root_site t) patterns) → (r : Root) → here ≡ r → HoldsPatterns p r patterns
     patterns_there patterns h r e = subst (λ (x : Root). HoldsPatterns p x patterns) e
-        (λ u there. subst (λ (v : Target). AreAmong (own ∷ []) p.makes (root_site v) patterns) (finds_one here t u found there) (h placed))
+        (λ u there. subst (λ (v : Target). AreAmong own p.makes (root_site v) patterns) (finds_one here t u found there) (h placed))
 
 abbrev root_from : List Document → List ℕ → List ℕ → Root
-root_from own base reference = record { documents = own ∷ []; base = base; reference = reference }
+root_from own base reference = record { documents = own; base = base; reference = reference }
 
 pub one_root : {own other : List Document} {base other_base reference other_reference : List ℕ} → own ≡ other → base ≡ other_base → reference ≡ other_reference
     → root_from own base reference ≡ root_from other other_base other_reference

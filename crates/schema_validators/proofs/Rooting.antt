@@ -15,7 +15,7 @@ use Rattle.schema_validators.specs.Maps.{IsMapOf, IsMapAt, ArePlacesExceeded, Re
 use Rattle.schema_validators.specs.declared.error.BuildError.{BuildError}
 use Rattle.schema_validators.specs.declared.validator_map.ValidatorMap.{ValidatorMap}
 
-only_one : (own other : List Document) → In other (own ∷ []) → other ≡ own
+only_one : (own other : List Document) → In other own → other ≡ own
 only_one own _ first = refl
 only_one own other (later i) = elim i [ ]
 
@@ -24,9 +24,9 @@ pub record HasDocument (own : List Document) (uri : List ℕ) : Type 0 where
   pub document : Document
   pub is_at : IsDocumentAt own uri document
 
-pub document-of : (own : List Document) (t : Target) → are_apart own ≡ true → IsTarget (own ∷ []) t → HasDocument own t.document
+pub document-of : (own : List Document) (t : Target) → are_apart own ≡ true → IsTarget own t → HasDocument own t.document
 document-of own t apart is =
-    let o = (target_comes_of (own ∷ []) t is).origin in
+    let o = (target_comes_of own t is).origin in
     let listed = subst (λ (ds : List Document). In o.document ds) (only_one own o.own o.given) o.listed in
     record { document = o.document; is_at = is_document_at own t.document o.document apart listed o.named }
 

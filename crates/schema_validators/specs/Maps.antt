@@ -53,7 +53,7 @@ pub record IsMapOf {M : Type 0} (finds : M → List ℕ → Option Bool) (p : Pa
   pub keys : SortsOut p own d.uri (pointers_of own d) (keys_of m)
   pub exactly : (k : List ℕ) → (is_some (entry_at m k) ≡ true) ↔ (In k (pointers_of own d) × IsSound p (place_root own d.uri k))
   pub reads : (k : List ℕ) (v : Validator M) → entry_at m k ≡ Some v → ReadsPlace finds p own d.uri k v
-  pub within : AreWithin (own ∷ []) p.makes (sites_from own d.uri (map reference_to (pointers_of own d))) limit
+  pub within : AreWithin own p.makes (sites_from own d.uri (map reference_to (pointers_of own d))) limit
 
 -- ---- how it is made
 
@@ -91,7 +91,7 @@ abbrev pub ArePlacesExceeded : Patterns → List Document → Document → ℕ �
 ArePlacesExceeded p own d limit (error.Document e) = ⊥
 ArePlacesExceeded p own d limit (error.Registry e) = ⊥
 ArePlacesExceeded p own d limit (error.Root e) = ⊥
-ArePlacesExceeded p own d limit (error.Schema e) = AreExceeded (own ∷ []) p.makes (sites_from own d.uri (map reference_to (pointers_of own d))) limit e
+ArePlacesExceeded p own d limit (error.Schema e) = AreExceeded own p.makes (sites_from own d.uri (map reference_to (pointers_of own d))) limit e
 ArePlacesExceeded p own d limit (error.MetaSchema e) = ⊥
 ArePlacesExceeded p own d limit error.Memory = Unit {0}
 

@@ -8,7 +8,7 @@ use Rattle.schema_validators.specs.declared.validator.Validator.{Validator}
 
 -- a reference from a base into documents
 abbrev pub root_of : List Document → List ℕ → List ℕ → Root
-root_of documents base reference = record { documents = documents ∷ []; base = base; reference = reference }
+root_of documents base reference = record { documents = documents; base = base; reference = reference }
 
 abbrev pub root_in : {M : Type 0} → Validator M → Root
 root_in v = root_of (documents_of v.registry.value) v.base (string_bytes v.root)

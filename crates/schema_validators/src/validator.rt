@@ -48,7 +48,7 @@ pub struct Validator<M = RegexMatcher> {
     pub(crate) root: String,
     pub(crate) draft: Draft,
     pub(crate) table: Rc<PatternTable<M>>,
-    ghost sound: { IsSoundBySome (record { documents = documents_of registry.value ∷ []; base = base; reference = string_bytes root }) },
+    ghost sound: { IsSoundBySome (record { documents = documents_of registry.value; base = base; reference = string_bytes root }) },
 }
 
 impl Validator {
@@ -258,8 +258,8 @@ fn tell_at<'i>(
     value: &'i Value,
     observer: &mut Observer<'i>,
 ) -> Result<(), AllocError>
-    requires shallow { depth (target_in root.now).contents ≤ deepest (documents_in root.now.resolver ∷ []) }
-    ensures { OnOk result (TellsRoot (target_in root.now) (documents_in root.now.resolver ∷ []) matches.now (view value.now) observer.old observer.new) }
+    requires shallow { depth (target_in root.now).contents ≤ deepest (documents_in root.now.resolver) }
+    ensures { OnOk result (TellsRoot (target_in root.now) (documents_in root.now.resolver) matches.now (view value.now) observer.old observer.new) }
 {
     tell_root(alloc, root, matches, value, observer)
 }

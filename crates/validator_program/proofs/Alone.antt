@@ -23,7 +23,7 @@ use Rattle.validator_program.specs.Built.{patterns_of_regex, default_node_limit,
 pub record StaysAlone (draft : Draft) (metas : Option (List Given)) (given : List Given) (registry : SchemaRegistry) : Type 0 where
   pub parent : AreAlone draft metas registry.parent
   pub own : documents_in_registry registry ≡ documents_alone metas draft given
-  pub accepted : document_causes (documents_in_registry registry ∷ []) ≡ []
+  pub accepted : document_causes (documents_in_registry registry) ≡ []
 
 holds_alone : (a : Asking) (limit : ℕ) (own : List Document) (registry : SharedRegistry) → AnswersNothing a
     → IsPrepared a limit own (documents_shared registry) (retrieved_shared registry) → HoldsAlone own registry

@@ -27,7 +27,7 @@ default_node_limit = 65536
 pub record HoldsAlone (documents : List Document) (registry : SharedRegistry) : Type 0 where
   pub holds : documents_shared registry ≡ documents
   pub retrieved : retrieved_shared registry ≡ []
-  pub accepted : document_causes (documents ∷ []) ≡ []
+  pub accepted : document_causes documents ≡ []
 
 -- so does that of the meta-schemas, where some are given
 abbrev pub AreAlone : Draft → Option (List Given) → Option SharedRegistry → Type 0

@@ -9,7 +9,7 @@ use Rattle.document_index.proofs.awaited.awaited_cause.Goals as goal
 pub loop-awaited-init : goal.loop-awaited-init
 loop-awaited-init c =
     let ss : List Standing = map standing_of c.args.standings.now in
-    λ own there. ap (λ (n : ℕ). awaited_cause (own ∷ []) (suc n) c.args.uri) (c.how_many_await-left.ensures ∙ sym (counted own ss there))
+    λ own there. ap (λ (n : ℕ). awaited_cause own (suc n) c.args.uri) (c.how_many_await-left.ensures ∙ sym (counted own ss there))
 
 pub returns-then-left-eq0 : goal.returns-then-left-eq0
 returns-then-left-eq0 c =
@@ -19,7 +19,7 @@ returns-then-left-eq0 c =
     let left : ℕ = c.loop-awaited.left in
     let led : awaited_among ss uri ≡ Some next = sym (c.in_ok-next.ensures ∙ ap (awaited_among ss) c.as_str.ensures.value) ∙ c.in-Some.is in
     λ own there.
-    sym (one_up own ss there left uri next led ∙ ap (λ (n : ℕ). awaited_cause (own ∷ []) n next) c.if-left-eq0.true) ∙ c.loop-awaited.invariant own there
+    sym (one_up own ss there left uri next led ∙ ap (λ (n : ℕ). awaited_cause own n next) c.if-left-eq0.true) ∙ c.loop-awaited.invariant own there
 
 pub loop-awaited-preserved : goal.loop-awaited-preserved
 loop-awaited-preserved c =
@@ -30,7 +30,7 @@ loop-awaited-preserved c =
     let led : awaited_among ss uri ≡ Some next = sym (c.in_ok-next.ensures ∙ ap (awaited_among ss) c.as_str.ensures.value) ∙ c.in-Some.is in
     let less : suc (left - 1) ≡ left = omega (arith, c.if-left-eq0.false) in
     λ own there.
-    ap (λ (n : ℕ). awaited_cause (own ∷ []) n next) less ∙ sym (one_up own ss there left uri next led) ∙ c.loop-awaited.invariant own there
+    ap (λ (n : ℕ). awaited_cause own n next) less ∙ sym (one_up own ss there left uri next led) ∙ c.loop-awaited.invariant own there
 
 pub returns : goal.returns
 returns c =
