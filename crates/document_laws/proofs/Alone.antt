@@ -2,7 +2,7 @@
 use Rattle.std.proofs.Common.{◌≡◌, ℕ, List, [], ◌∷◌, Bool, Option, None, ap}
 use Rattle.std.proofs.lemmas.List.Elements.{recursion_from_All}
 use Rattle.std.specs.List.{AllByRecursion}
-use Rattle.schema_definitions.specs.Words.{or_else, last_that}
+use Rattle.schema_definitions.specs.Words.{last_that}
 use Rattle.schema_definitions.specs.Places.{Dialect}
 use Rattle.schema_definitions.specs.Bearers.{Document, Standing, standings, bears, bears_anchor, last_standing}
 use Rattle.schema_definitions.specs.Identifiers.{anchors}
@@ -19,7 +19,7 @@ all_known own h = known_each (standings no_meta own) (recursion_from_All (λ s. 
 
 pub same_last : (test : Standing → Bool) (own : List Document) (meta : List ℕ → Option Dialect) → standings meta own ≡ standings no_meta own
     → last_standing test meta own ≡ last_standing test no_meta own
-same_last test own meta e = ap (λ ss. or_else (last_that test ss) None) e
+same_last test own meta e = ap (last_that test) e
 
 pub documents_alone_tell : DocumentsAloneTell
 documents_alone_tell own h meta =

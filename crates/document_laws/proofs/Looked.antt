@@ -4,7 +4,7 @@ use Rattle.std.specs.Str.{is_utf8}
 use Rattle.std.specs.Prelude.{IfSome, if◌then◌else◌}
 use Rattle.percent_encoding.specs.Percent.{percent_decode}
 use Rattle.uri_grammar.specs.Texts.{cut_at, has, pieces}
-use Rattle.schema_definitions.specs.Words.{or, or_else, last_that, result_map, ok_or, and_then}
+use Rattle.schema_definitions.specs.Words.{or, result_map, ok_or, and_then}
 use Rattle.schema_definitions.specs.Identifiers.{resolved}
 use Rattle.schema_definitions.specs.Places.{Dialect}
 use Rattle.schema_definitions.specs.Bearers.{Document, Standing, standings, bears, bearer_under}
@@ -34,11 +34,7 @@ module _ (own : List Document) (awaits : NothingAwaits own) (meta : List ℕ →
       ap₂ (λ pointed anchored. if b == 47 then pointed else anchored) (same_pointer s k (b ∷ f) (percent_decode (b ∷ f))) (same_anchor s (b ∷ f))
 
   bearer_known : (uri : List ℕ) → IfSome (bearer_under no_meta own uri) StandsKnown
-  bearer_known uri = by (last_that (bears uri) (standings no_meta own)) (of_last StandsKnown (bears uri) (standings no_meta own) (all_stand_known own (all_known own awaits)))
-    where
-      by : (o : Option Standing) → IfSome o StandsKnown → IfSome (or_else o None) StandsKnown
-      by (Some s) k = k
-      by None k = tt
+  bearer_known uri = of_last StandsKnown (bears uri) (standings no_meta own) (all_stand_known own (all_known own awaits))
 
   same_behind : (cause : LookupCause) (o : Option Standing) → IfSome o StandsKnown → (f : List ℕ)
       → and_then (ok_or cause o) (λ s. by_fragment meta own s f) ≡ and_then (ok_or cause o) (λ s. by_fragment no_meta own s f)

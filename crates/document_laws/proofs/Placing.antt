@@ -4,7 +4,7 @@ use Rattle.std.specs.List.{flat_map, AllByRecursion, list_all}
 use Rattle.std.specs.Prelude.{is_some}
 use Rattle.schema_meaning.specs.Members.{In, first, later}
 use Rattle.schema_definitions.specs.Places.{Dialect, SchemaPlace, root_place, places}
-use Rattle.schema_definitions.specs.Bearers.{Document, Standing, standing_in, standings}
+use Rattle.schema_definitions.specs.Bearers.{Document, document_name, Standing, standing_in, standings}
 use Rattle.schema_definitions.specs.Lookup.{Walk}
 use Rattle.document_laws.specs.TargetLaws.{are_apart, contents_rise}
 use Rattle.document_laws.specs.ListedLaws.{StandsAbove, PlacesAreOne}
@@ -22,22 +22,22 @@ abbrev pub from_root : (List ℕ → Option Dialect) → Document → Walk
 from_root told d = start (root_place told d.uri d.default d.contents)
 
 abbrev pub standing : List ℕ → SchemaPlace → Standing
-standing uri p = record { document = uri; place = p }
+standing document p = record { document = document; place = p }
 
 -- a place of one of the documents, which is reached along its path
 pub record Placed (told : List ℕ → Option Dialect) (own : List Document) (s : Standing) : Type 0 where
   pub document : Document
   pub among : In document own
-  pub named : document.uri ≡ s.document
+  pub named : document_name document ≡ s.document
   pub there : reach told (from_root told document) s.place.path ≡ Some (start s.place)
 
 module _ (told : List ℕ → Option Dialect) (own : List Document) where
-  pub is_listed : (d : Document) (p : SchemaPlace) → In d own → In p (places_in told d) → In (standing d.uri p) (standings told own)
+  pub is_listed : (d : Document) (p : SchemaPlace) → In d own → In p (places_in told d) → In (standing (document_name d) p) (standings told own)
   unfolding standings
-  is_listed d p i j = in_flat_map (standing_in told) d own (standing d.uri p) i (in_map (standing d.uri) p (places_in told d) j)
+  is_listed d p i j = in_flat_map (standing_in told) d own (standing (document_name d) p) i (in_map (standing (document_name d)) p (places_in told d) j)
 
   in_document : (d : Document) → In d own → (ps : List SchemaPlace) → AllByRecursion (Arrives told (root_place told d.uri d.default d.contents)) ps
-      → AllByRecursion (Placed told own) (map (λ p. record { document = d.uri; place = p }) ps)
+      → AllByRecursion (Placed told own) (map (λ p. record { document = document_name d; place = p }) ps)
   in_document d i [] h = tt
   in_document d i (p ∷ ps) h = (record { document = d; among = i; named = refl; there = h.0.there }, in_document d i ps h.1)
 
@@ -58,8 +58,8 @@ module _ (told : List ℕ → Option Dialect) (own : List Document) where
     is_placed s i = of_in (Placed told own) s (standings told own) all_placed i
 
     module _ (apart : are_apart own ≡ true) where
-      -- places of documents with one URI are of one document
-      pub placed_with : (d : Document) → In d own → (s : Standing) → In s (standings told own) → d.uri ≡ s.document
+      -- places of documents with one name are of one document
+      pub placed_with : (d : Document) → In d own → (s : Standing) → In s (standings told own) → document_name d ≡ s.document
           → reach told (from_root told d) s.place.path ≡ Some (start s.place)
       placed_with d i s j same =
           let p = is_placed s j in

@@ -3,7 +3,6 @@ use Rattle.std.specs.Prelude.{ℕ, ◌≡◌, List, [], ◌∷◌, reverse, Opti
 use Rattle.std.specs.List.{All}
 use Rattle.serde_json.specs.Data.{Data}
 use Rattle.json_values.specs.Pointers.{value_at}
-use Rattle.schema_drafts.specs.declared.draft.Draft.{Draft}
 use Rattle.schema_definitions.specs.Places.{Dialect, SchemaPlace, places}
 use Rattle.schema_definitions.specs.Bearers.{Document, standings, bearer_under, anchored_under}
 use Rattle.schema_definitions.specs.Lookup.{lookup_under}
@@ -15,7 +14,7 @@ Leads d p = value_at (reverse p.path) d ≡ Some p.contents
 
 -- each place does, whatever is told of meta-schemas
 abbrev pub PlacesLead : Data → Type 0
-PlacesLead d = (meta : List ℕ → Option Dialect) (uri : List ℕ) (default : Draft) → All (Leads d) (places meta uri default d)
+PlacesLead d = (meta : List ℕ → Option Dialect) (uri : List ℕ) (default : Dialect) → All (Leads d) (places meta uri default d)
 
 -- no schema place of the documents awaits its meta-schema
 abbrev pub NothingAwaits : List Document → Type 0

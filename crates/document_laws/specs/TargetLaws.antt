@@ -8,7 +8,7 @@ use Rattle.uri_grammar.specs.Texts.{cut_at}
 use Rattle.schema_meaning.specs.Members.{In}
 use Rattle.schema_meaning.specs.Places.{SchemaPlace}
 use Rattle.schema_definitions.specs.Words.{or}
-use Rattle.schema_definitions.specs.Bearers.{Document, Documents}
+use Rattle.schema_definitions.specs.Bearers.{Document, Documents, document_name}
 use Rattle.schema_definitions.specs.Lookup.{Target, lookup}
 use Rattle.schema_definitions.specs.Scopes.{dynamic_lookup, recursive_lookup}
 use Rattle.schema_definitions.specs.AllKeys.{places_of}
@@ -35,10 +35,10 @@ RecursiveLookupsLie = (docs : Documents) (base : List ℕ) (scope : List (List �
 
 -- ---- of one list of documents
 
--- no URI is given twice
+-- no name is given twice
 abbrev pub are_apart : List Document → Bool
 are_apart [] = true
-are_apart (d ∷ ds) = not (list_any (λ e. bytes_eq d.uri e.uri) ds) && are_apart ds
+are_apart (d ∷ ds) = not (list_any (λ e. bytes_eq (document_name d) (document_name e)) ds) && are_apart ds
 
 abbrev pub contents_rise : Document → Bool
 contents_rise d = rises d.contents
