@@ -10,7 +10,7 @@ use Rattle.schema_drafts.specs.declared.draft.Draft.TheVariants.{Unknown}
 use Rattle.schema_definitions.specs.Words.{or, levels, text_at}
 use Rattle.schema_definitions.specs.Identifiers.{is_hidden, identifier}
 use Rattle.schema_definitions.specs.Places.{Dialect, SchemaPlace, standard, Named, settled, awaited, meta_schema_uri, draft_beside, uri_named, named_meta_schema, by_meta_schema, by_draft, by_schema, schema_in_force, placed, entered, root_place, if_schema, each_item, each_member, in_list, in_map, held, children_of, children_in, children, places}
-use Rattle.schema_definitions.specs.Bearers.{Document, document_name, standing_in, standings, is_root}
+use Rattle.schema_definitions.specs.Bearers.{Documents, document_name, standing_in, standings, is_root}
 use Rattle.document_laws.proofs.Lists.{first_part, second_part}
 use Rattle.document_laws.specs.Agreeing.{Agrees, AgreeingTellPlaces}
 
@@ -192,17 +192,17 @@ module _ (told after : List ℕ → Option Dialect) where
   at_places uri [] k = tt
   at_places uri (p ∷ ps) k = (record { same = k.0.agrees }, at_places uri ps k.1)
 
-  same_each_document : (own : List Document) → AllByRecursion (Agrees told after) (flat_map (standing_in told) own) → flat_map (standing_in after) own ≡ flat_map (standing_in told) own
+  same_each_document : (docs : Documents) → AllByRecursion (Agrees told after) (flat_map (standing_in told) docs) → flat_map (standing_in after) docs ≡ flat_map (standing_in told) docs
   same_each_document [] k = refl
-  same_each_document (d ∷ own) k =
-      let agree = at_places (document_name d) (places told d.uri d.default d.contents) (first_part (Agrees told after) (standing_in told d) (flat_map (standing_in told) own) k) in
+  same_each_document (d ∷ docs) k =
+      let agree = at_places (document_name d) (places told d.uri d.default d.contents) (first_part (Agrees told after) (standing_in told d) (flat_map (standing_in told) docs) k) in
       ap₂ (λ ss ts. ss ++ ts)
       (ap (map (λ p. record { document = document_name d; place = p })) (same_places d.uri d.default d.contents agree))
-      (same_each_document own (second_part (Agrees told after) (standing_in told d) (flat_map (standing_in told) own) k))
+      (same_each_document docs (second_part (Agrees told after) (standing_in told d) (flat_map (standing_in told) docs) k))
 
-  pub same_standings : (own : List Document) → AllByRecursion (Agrees told after) (standings told own) → standings after own ≡ standings told own
+  pub same_standings : (docs : Documents) → AllByRecursion (Agrees told after) (standings told docs) → standings after docs ≡ standings told docs
   unfolding standings
-  same_standings own k = same_each_document own k
+  same_standings docs k = same_each_document docs k
 
 pub agreeing_tell_places : AgreeingTellPlaces
-agreeing_tell_places told after own = same_standings told after own
+agreeing_tell_places told after docs = same_standings told after docs

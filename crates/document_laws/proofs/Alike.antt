@@ -12,7 +12,7 @@ use Rattle.schema_drafts.specs.Subschemas.{Holds}
 use Rattle.schema_definitions.specs.Words.{or, last_that, result_map, ok_or, and_then}
 use Rattle.schema_definitions.specs.Identifiers.{resolved, anchors, dynamic_anchors}
 use Rattle.schema_definitions.specs.Places.{Dialect, SchemaPlace, schema_in_force, placed, entered, root_place, children, places}
-use Rattle.schema_definitions.specs.Bearers.{Document, Documents, Standing, standings, bears, bears_anchor, last_standing, bearer_under}
+use Rattle.schema_definitions.specs.Bearers.{Documents, Standing, standings, bears, bears_anchor, last_standing, bearer_under}
 use Rattle.schema_definitions.specs.Lookup.{unretrievable, pointer_to_nowhere, invalid_percent_encoding, no_such_anchor, invalid_anchor, invalid_uri, Walk, at_place, part_of, holds_schema, in_element, in_member, arrived, item_at, step_to, walk, ended, behind_first, by_pointer, target_of, by_anchor, by_fragment, lookup_under}
 use Rattle.document_laws.specs.Agreeing.{Agrees, AlikeTell}
 use Rattle.document_laws.proofs.Agreeing.{AllAgree, by_text, same_root, same_children, same_places, same_standings}
@@ -48,8 +48,8 @@ module _ (m n : List ℕ → Option Dialect) (h : (uri : List ℕ) → m uri ≡
   same_inside : (uri : List ℕ) (default : Dialect) (d : Data) → places m uri default d ≡ places n uri default d
   same_inside uri default d = same_places n m uri default d (all_agree (places n uri default d))
 
-  same_standing : (own : List Document) → standings m own ≡ standings n own
-  same_standing own = same_standings n m own (all_stand (standings n own))
+  same_standing : (docs : Documents) → standings m docs ≡ standings n docs
+  same_standing docs = same_standings n m docs (all_stand (standings n docs))
 
   same_last : (test : Standing → Bool) (docs : Documents) → last_standing test m docs ≡ last_standing test n docs
   same_last test docs = ap (last_that test) (same_standing docs)

@@ -5,7 +5,7 @@ use Rattle.std.specs.Prelude.{⊤}
 use Rattle.serde_json.specs.Data.{Data, depth}
 use Rattle.schema_definitions.specs.Words.{levels}
 use Rattle.schema_definitions.specs.Places.{Dialect, SchemaPlace, by_schema, schema_in_force, root_place, children, places}
-use Rattle.schema_definitions.specs.Bearers.{Document, document_name, Standing, standing_in, standings}
+use Rattle.schema_definitions.specs.Bearers.{Documents, document_name, Standing, standing_in, standings}
 use Rattle.schema_dialects.specs.Unknown.{no_meta}
 use Rattle.document_laws.proofs.Lists.{joined, by_levels, first_part, second_part}
 use Rattle.document_laws.proofs.Depths.{Shallow, children_shallow, placed_contents}
@@ -81,15 +81,15 @@ stand_known : (uri : List ℕ) (ps : List SchemaPlace) → AllByRecursion KnownB
 stand_known uri [] k = tt
 stand_known uri (p ∷ ps) k = (record { below = k.0 }, stand_known uri ps k.1)
 
-each_stands_known : (own : List Document) → AllByRecursion KnownStanding (flat_map (standing_in no_meta) own) → AllByRecursion StandsKnown (flat_map (standing_in no_meta) own)
+each_stands_known : (docs : Documents) → AllByRecursion KnownStanding (flat_map (standing_in no_meta) docs) → AllByRecursion StandsKnown (flat_map (standing_in no_meta) docs)
 each_stands_known [] k = tt
-each_stands_known (d ∷ own) k =
+each_stands_known (d ∷ docs) k =
     let ps = places no_meta d.uri d.default d.contents in
-    let known = known_places (document_name d) ps (first_part KnownStanding (standing_in no_meta d) (flat_map (standing_in no_meta) own) k) in
-    joined StandsKnown (standing_in no_meta d) (flat_map (standing_in no_meta) own)
+    let known = known_places (document_name d) ps (first_part KnownStanding (standing_in no_meta d) (flat_map (standing_in no_meta) docs) k) in
+    joined StandsKnown (standing_in no_meta d) (flat_map (standing_in no_meta) docs)
     (stand_known (document_name d) ps (known_below_places d.uri d.default d.contents known))
-    (each_stands_known own (second_part KnownStanding (standing_in no_meta d) (flat_map (standing_in no_meta) own) k))
+    (each_stands_known docs (second_part KnownStanding (standing_in no_meta d) (flat_map (standing_in no_meta) docs) k))
 
-pub all_stand_known : (own : List Document) → AllByRecursion KnownStanding (standings no_meta own) → AllByRecursion StandsKnown (standings no_meta own)
+pub all_stand_known : (docs : Documents) → AllByRecursion KnownStanding (standings no_meta docs) → AllByRecursion StandsKnown (standings no_meta docs)
 unfolding standings
-all_stand_known own k = each_stands_known own k
+all_stand_known docs k = each_stands_known docs k

@@ -5,7 +5,7 @@ use Rattle.std.specs.List.{flat_map, AllByRecursion}
 use Rattle.schema_definitions.specs.Words.{listed}
 use Rattle.schema_definitions.specs.Places.{Dialect, named_meta_schema}
 use Rattle.schema_definitions.specs.Bearers.{Documents, Standing, standings, is_root, dialects, how_many}
-use Rattle.schema_definitions.specs.DocumentCauses.{DocumentCause, circular_metaschema, is_told_alike}
+use Rattle.schema_definitions.specs.DocumentCauses.{circular_metaschema, is_told_alike}
 use Rattle.document_laws.specs.Agreeing.{Agrees}
 use Rattle.document_laws.proofs.Alike.{all_stand}
 use Rattle.document_laws.specs.Stages.{unless_alike, anew_at, AtRest, OnlyRestTellsNoneAnew, RestIsTold, MetaIsFixed}

@@ -10,7 +10,7 @@ use Rattle.schema_drafts.specs.declared.draft.Draft.{Draft}
 use Rattle.schema_definitions.specs.Words.{levels}
 use Rattle.schema_definitions.specs.Identifiers.{is_hidden}
 use Rattle.schema_definitions.specs.Places.{Dialect, SchemaPlace, meta_schema_uri, by_meta_schema, by_draft, by_schema, schema_in_force, placed, entered, root_place, if_schema, each_item, each_member, in_list, in_map, held, children_of, children_in, children, places}
-use Rattle.schema_definitions.specs.Bearers.{Document, document_name, Standing, standing_in, standings}
+use Rattle.schema_definitions.specs.Bearers.{Documents, document_name, Standing, standing_in, standings}
 use Rattle.schema_dialects.specs.Unknown.{no_meta}
 use Rattle.document_laws.proofs.Lists.{first_part, second_part}
 
@@ -153,15 +153,15 @@ pub known_places : (uri : List ℕ) (ps : List SchemaPlace) → AllByRecursion K
 known_places uri [] k = tt
 known_places uri (p ∷ ps) k = (k.0.known, known_places uri ps k.1)
 
-same_each_document : (meta : List ℕ → Option Dialect) (own : List Document) → AllByRecursion KnownStanding (flat_map (standing_in no_meta) own)
-    → flat_map (standing_in meta) own ≡ flat_map (standing_in no_meta) own
+same_each_document : (meta : List ℕ → Option Dialect) (docs : Documents) → AllByRecursion KnownStanding (flat_map (standing_in no_meta) docs)
+    → flat_map (standing_in meta) docs ≡ flat_map (standing_in no_meta) docs
 same_each_document meta [] k = refl
-same_each_document meta (d ∷ own) k =
-    let known = known_places (document_name d) (places no_meta d.uri d.default d.contents) (first_part KnownStanding (standing_in no_meta d) (flat_map (standing_in no_meta) own) k) in
+same_each_document meta (d ∷ docs) k =
+    let known = known_places (document_name d) (places no_meta d.uri d.default d.contents) (first_part KnownStanding (standing_in no_meta d) (flat_map (standing_in no_meta) docs) k) in
     ap₂ (λ ss ts. ss ++ ts)
     (ap (map (λ p. record { document = document_name d; place = p })) (same_places meta d.uri d.default d.contents known))
-    (same_each_document meta own (second_part KnownStanding (standing_in no_meta d) (flat_map (standing_in no_meta) own) k))
+    (same_each_document meta docs (second_part KnownStanding (standing_in no_meta d) (flat_map (standing_in no_meta) docs) k))
 
-pub same_standings : (meta : List ℕ → Option Dialect) (own : List Document) → AllByRecursion KnownStanding (standings no_meta own) → standings meta own ≡ standings no_meta own
+pub same_standings : (meta : List ℕ → Option Dialect) (docs : Documents) → AllByRecursion KnownStanding (standings no_meta docs) → standings meta docs ≡ standings no_meta docs
 unfolding standings
-same_standings meta own k = same_each_document meta own k
+same_standings meta docs k = same_each_document meta docs k

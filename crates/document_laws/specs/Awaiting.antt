@@ -1,5 +1,5 @@
 -- A document in which a pointer leads through a schema place that awaits its meta-schema.
-use Rattle.std.specs.Prelude.{◌≡◌, List, [], ◌∷◌, map, true, false, codes, Ok}
+use Rattle.std.specs.Prelude.{◌≡◌, [], ◌∷◌, map, true, false, codes, Ok}
 use Rattle.serde_json.specs.Data.{null}
 use Rattle.serde_json.specs.Read.{read}
 use Rattle.json_values.specs.Parts.{name}

@@ -33,9 +33,9 @@ DynamicLookupsLie = (docs : Documents) (base : List ℕ) (scope : List (List ℕ
 abbrev pub RecursiveLookupsLie : Type 0
 RecursiveLookupsLie = (docs : Documents) (base : List ℕ) (scope : List (List ℕ)) (t : Target) → recursive_lookup docs base scope ≡ Ok t → Lies docs t
 
--- ---- of one list of documents
+-- ---- names apart
 
--- no name is given twice
+-- no two have one name
 abbrev pub are_apart : List Document → Bool
 are_apart [] = true
 are_apart (d ∷ ds) = not (list_any (λ e. bytes_eq (document_name d) (document_name e)) ds) && are_apart ds
@@ -51,8 +51,8 @@ pub data IsTarget (docs : Documents) : Target → Type 0 where
 
 -- one place holds one value
 abbrev pub ContentsAreOne : Type 0
-ContentsAreOne = (own : List Document) → are_apart own ≡ true → list_all contents_rise own ≡ true
-    → (t u : Target) → IsTarget own t → IsTarget own u → t.document ≡ u.document → t.path ≡ u.path → t.contents ≡ u.contents
+ContentsAreOne = (docs : Documents) → are_apart docs ≡ true → list_all contents_rise docs ≡ true
+    → (t u : Target) → IsTarget docs t → IsTarget docs u → t.document ≡ u.document → t.path ≡ u.path → t.contents ≡ u.contents
 
 -- ---- pointers are texts
 
