@@ -1,5 +1,5 @@
 -- Documents have their names apart: those of a layer above others, and those that were retrieved.
-use Rattle.std.proofs.Common.{◌≡◌, ◌≢◌, ◌<◌, ℕ, suc, max, List, [], ◌∷◌, ◌++◌, map, Bool, true, false, not, ◌&&◌, ◌||◌, refl, sym, ap, ◌∙◌, bytes_eq, append-nil, append_assoc, arith}
+use Rattle.std.proofs.Common.{◌≡◌, ◌<◌, ℕ, List, [], ◌∷◌, ◌++◌, map, Bool, true, false, not, ◌&&◌, ◌||◌, refl, sym, ap, ◌∙◌, bytes_eq, append-nil, append_assoc, arith}
 use Rattle.std.specs.List.{list_any, flat_map}
 use Rattle.std.proofs.lemmas.Slice.Eq.{bytes_eq-Decides}
 use Rattle.std.proofs.lemmas.List.Folds.{list_any-append}
@@ -13,7 +13,7 @@ use Rattle.document_laws.specs.TargetLaws.{are_apart}
 use Rattle.document_retrieval.specs.Layers.{layer_above}
 use Rattle.document_retrieval.specs.Stages.{IsGathered}
 use Rattle.document_retrieval.proofs.OnceLemmas.{asked-once}
-use Rattle.document_retrieval.proofs.Truths.{same, self, left-false, neither, both, not-true, clash, or-elim, or-left, or-right, and-left, and-right}
+use Rattle.document_retrieval.proofs.Truths.{same, self, neither, both, not-true, clash, or-elim, or-left, or-right, and-left, and-right}
 
 abbrev is_named : List ℕ → Documents → Bool
 is_named n ds = list_any (λ (e : Document). bytes_eq n (document_name e)) ds

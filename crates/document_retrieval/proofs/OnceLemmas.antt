@@ -1,6 +1,6 @@
 -- No URI is asked for twice.
-use Rattle.std.proofs.Common.{◌≡◌, ℕ, List, [], ◌∷◌, ◌++◌, map, Bool, true, false, not, ◌&&◌, ◌||◌, if◌then◌else◌, is_some, refl, sym, ap, subst, ◌∙◌, bytes_eq}
-use Rattle.std.specs.List.{list_any, flat_map}
+use Rattle.std.proofs.Common.{◌≡◌, ℕ, List, [], ◌∷◌, ◌++◌, map, Bool, true, false, ◌||◌, if◌then◌else◌, is_some, refl, sym, ap, subst, ◌∙◌, bytes_eq}
+use Rattle.std.specs.List.{flat_map}
 use Rattle.std.proofs.lemmas.List.Folds.{list_any-append}
 use Rattle.schema_definitions.specs.Words.{has_text}
 use Rattle.schema_definitions.specs.Bearers.{Document, Documents, standings, meta, bearer_under}
