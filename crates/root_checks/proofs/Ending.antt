@@ -47,7 +47,7 @@ module _ (own : List Document) (makes : List ℕ → Bool) where
   module _ (roots : List Site) (vs : List Visit) (es : List Edge) (wrong : List ℕ) (n : ℕ) (g : IsGraph own makes roots vs es wrong n) where
     met-key : (v : Visit) (s : Site) → Belongs own v → Met v s → key_of_site own s ≡ key_at v
     met-key v s b m =
-        subst (λ (ds : List Document). key_of_site (ds ∷ []) s ≡ key_at v) b.documents (alike-key (documents_in v.site.resolver) s (site_of v) m.alike)
+        subst (λ (ds : List Document). key_of_site ds s ≡ key_at v) b.documents (alike-key (documents_in v.site.resolver) s (site_of v) m.alike)
 
     key-reached : (k : CompileKey) → In k (map key_at vs) → IsReached own makes roots k
     key-reached k i =
