@@ -1,22 +1,49 @@
 -- Schema places under two that tell the same of all meta-schemas that are named at places.
-use Rattle.std.proofs.Common.{◌≡◌, ◌∙◌, ℕ, zero, suc, List, [], ◌∷◌, ◌++◌, Bool, true, false, if◌then◌else◌, Option, Some, None, option_and_then, is_some, map, refl, ap, ap₂}
+use Rattle.std.proofs.Common.{◌≡◌, ◌∙◌, ℕ, zero, suc, List, [], ◌∷◌, ◌++◌, Bool, true, false, if◌then◌else◌, Option, Some, None, option_and_then, is_some, map, codes, ◌||◌, refl, sym, ap, ap₂}
 use Rattle.std.specs.List.{flat_map, AllByRecursion}
 use Rattle.serde_json.specs.Data.{Data, null, boolean, number, string, array, object, Items, no_items, item, Members, no_members, member, depth}
 use Rattle.json_values.specs.Parts.{Part, name, index}
 use Rattle.schema_drafts.specs.Drafts.{draft_named}
 use Rattle.schema_drafts.specs.Subschemas.{Holds, nothing, one, several, one_or_several, by_name, held_by}
 use Rattle.schema_drafts.specs.declared.draft.Draft.{Draft}
-use Rattle.schema_definitions.specs.Words.{levels}
-use Rattle.schema_definitions.specs.Identifiers.{is_hidden}
-use Rattle.schema_definitions.specs.Places.{Dialect, SchemaPlace, standard, Named, settled, awaited, meta_schema_uri, uri_named, named_meta_schema, by_meta_schema, by_draft, by_schema, schema_in_force, placed, entered, root_place, if_schema, each_item, each_member, in_list, in_map, held, children_of, children_in, children, places}
-use Rattle.schema_definitions.specs.Bearers.{Document, standing_in, standings, is_root}
+use Rattle.schema_drafts.specs.declared.draft.Draft.TheVariants.{Unknown}
+use Rattle.schema_definitions.specs.Words.{or, levels, text_at}
+use Rattle.schema_definitions.specs.Identifiers.{is_hidden, identifier}
+use Rattle.schema_definitions.specs.Places.{Dialect, SchemaPlace, standard, Named, settled, awaited, meta_schema_uri, draft_beside, uri_named, named_meta_schema, by_meta_schema, by_draft, by_schema, schema_in_force, placed, entered, root_place, if_schema, each_item, each_member, in_list, in_map, held, children_of, children_in, children, places}
+use Rattle.schema_definitions.specs.Bearers.{Documents, document_name, standing_in, standings, is_root}
 use Rattle.document_laws.proofs.Lists.{first_part, second_part}
 use Rattle.document_laws.specs.Agreeing.{Agrees, AgreeingTellPlaces}
+
+-- ---- what a schema names is the same whether siblings are read: they bear on drafts alone that are named by their own URIs
+
+abbrev named : (siblings at_root : Bool) (d : Data) (t : List ℕ) (draft : Option Draft) → Option (List ℕ)
+named siblings at_root d t draft =
+    option_and_then (λ u. uri_named u (draft_named u)) (if at_root || is_some (identifier (standard siblings (or Unknown draft)) d) then Some t else None)
+
+none_named : (t : List ℕ) (draft : Draft) → draft_named t ≡ Some draft → (b : Bool)
+    → option_and_then (λ u. uri_named u (draft_named u)) (if b then Some t else None) ≡ None
+none_named t draft e true = ap (uri_named t) e
+none_named t draft e false = refl
+
+named_alike : (a b at_root : Bool) (d : Data) (t : List ℕ) (draft : Option Draft) → draft_named t ≡ draft
+    → named a at_root d t draft ≡ named b at_root d t draft
+named_alike a b at_root d t None e = refl
+named_alike a b at_root d t (Some draft) e =
+    none_named t draft e (at_root || is_some (identifier (standard a draft) d)) ∙ sym (none_named t draft e (at_root || is_some (identifier (standard b draft) d)))
+
+text_alike : (a b at_root : Bool) (d : Data) (o : Option (List ℕ))
+    → option_and_then (λ u. uri_named u (draft_named u)) (option_and_then (λ t. if at_root || is_some (identifier (standard a (draft_beside t)) d) then Some t else None) o)
+    ≡ option_and_then (λ u. uri_named u (draft_named u)) (option_and_then (λ t. if at_root || is_some (identifier (standard b (draft_beside t)) d) then Some t else None) o)
+text_alike a b at_root d None = refl
+text_alike a b at_root d (Some t) = named_alike a b at_root d t (draft_named t) refl
+
+pub same_named : (a b at_root : Bool) (d : Data) → named_meta_schema a at_root d ≡ named_meta_schema b at_root d
+same_named a b at_root d = text_alike a b at_root d (text_at (codes "$schema") d)
 
 module _ (told after : List ℕ → Option Dialect) where
   -- of what a place names
   pub record AgreesAt (p : SchemaPlace) : Type 0 where
-    pub same : (uri : List ℕ) → named_meta_schema (is_root p.path) p.contents ≡ Some uri → after uri ≡ told uri
+    pub same : (uri : List ℕ) → named_meta_schema p.dialect.siblings (is_root p.path) p.contents ≡ Some uri → after uri ≡ told uri
 
   unfoldable pub AllAgree : List SchemaPlace → Type 0
   AllAgree ps = AllByRecursion AgreesAt ps
@@ -38,20 +65,20 @@ module _ (told after : List ℕ → Option Dialect) where
   by_text around (Some t) h = by_named around t (draft_named t) h
 
   names_there : (outer : List ℕ) (around : Dialect) (path : List Part) (d : Data) (n : Named) → AgreesAt (placed outer around path d n)
-      → (u : List ℕ) → named_meta_schema (is_root path) d ≡ Some u → after u ≡ told u
-  names_there outer around path d (settled dialect) a = a.same
-  names_there outer around path d (awaited uri) a = a.same
+      → (u : List ℕ) → named_meta_schema around.siblings (is_root path) d ≡ Some u → after u ≡ told u
+  names_there outer around path d (settled dialect) a u e = a.same u (same_named dialect.siblings around.siblings (is_root path) d ∙ e)
+  names_there outer around path d (awaited uri) a u e = a.same u e
 
   same_entered : (outer : List ℕ) (around : Dialect) (part : Part) (path : List Part) (d : Data) → AgreesAt (entered told outer around (part ∷ path) d)
       → entered after outer around (part ∷ path) d ≡ entered told outer around (part ∷ path) d
   same_entered outer around part path d a =
-      let t = schema_in_force false d in
+      let t = schema_in_force around.siblings false d in
       ap (placed outer around (part ∷ path) d) (by_text around t (names_there outer around (part ∷ path) d (by_schema told around t) a))
 
-  pub same_root : (uri : List ℕ) (default : Draft) (d : Data) → AgreesAt (root_place told uri default d) → root_place after uri default d ≡ root_place told uri default d
+  pub same_root : (uri : List ℕ) (default : Dialect) (d : Data) → AgreesAt (root_place told uri default d) → root_place after uri default d ≡ root_place told uri default d
   same_root uri default d a =
-      let t = schema_in_force true d in
-      ap (placed uri (standard default) [] d) (by_text (standard default) t (names_there uri (standard default) [] d (by_schema told (standard default) t) a))
+      let t = schema_in_force default.siblings true d in
+      ap (placed uri default [] d) (by_text default t (names_there uri default [] d (by_schema told default t) a))
 
   -- ---- the places below a place
 
@@ -123,7 +150,7 @@ module _ (told after : List ℕ → Option Dialect) where
     same_inside (number n) k = refl
     same_inside (string s) k = refl
     same_inside (array ds) k = refl
-    same_inside (object ms) k = same_each (is_hidden p.dialect.draft (object ms)) ms k
+    same_inside (object ms) k = same_each (is_hidden p.dialect (object ms)) ms k
 
     same_unless : (b : Bool) (ps qs : List SchemaPlace) → (AllAgree ps → qs ≡ ps) → AllAgree (if b then [] else ps) → (if b then [] else qs) ≡ (if b then [] else ps)
     same_unless true ps qs f k = refl
@@ -152,7 +179,7 @@ module _ (told after : List ℕ → Option Dialect) where
       ap (λ qs. ps ++ levels (children after) (suc n) qs) (same_below ps (first_part AgreesAt next (levels (children told) n (flat_map (children told) next)) deeper))
       ∙ ap (λ qs. ps ++ qs) (same_levels (suc n) next deeper)
 
-  pub same_places : (uri : List ℕ) (default : Draft) (d : Data) → AllAgree (places told uri default d) → places after uri default d ≡ places told uri default d
+  pub same_places : (uri : List ℕ) (default : Dialect) (d : Data) → AllAgree (places told uri default d) → places after uri default d ≡ places told uri default d
   unfolding places AllAgree
   same_places uri default d k =
       ap (λ p. levels (children after) (suc (depth d)) (p ∷ [])) (same_root uri default d k.0)
@@ -165,17 +192,17 @@ module _ (told after : List ℕ → Option Dialect) where
   at_places uri [] k = tt
   at_places uri (p ∷ ps) k = (record { same = k.0.agrees }, at_places uri ps k.1)
 
-  same_each_document : (own : List Document) → AllByRecursion (Agrees told after) (flat_map (standing_in told) own) → flat_map (standing_in after) own ≡ flat_map (standing_in told) own
+  same_each_document : (docs : Documents) → AllByRecursion (Agrees told after) (flat_map (standing_in told) docs) → flat_map (standing_in after) docs ≡ flat_map (standing_in told) docs
   same_each_document [] k = refl
-  same_each_document (d ∷ own) k =
-      let agree = at_places d.uri (places told d.uri d.default d.contents) (first_part (Agrees told after) (standing_in told d) (flat_map (standing_in told) own) k) in
+  same_each_document (d ∷ docs) k =
+      let agree = at_places (document_name d) (places told d.uri d.default d.contents) (first_part (Agrees told after) (standing_in told d) (flat_map (standing_in told) docs) k) in
       ap₂ (λ ss ts. ss ++ ts)
-      (ap (map (λ p. record { document = d.uri; place = p })) (same_places d.uri d.default d.contents agree))
-      (same_each_document own (second_part (Agrees told after) (standing_in told d) (flat_map (standing_in told) own) k))
+      (ap (map (λ p. record { document = document_name d; place = p })) (same_places d.uri d.default d.contents agree))
+      (same_each_document docs (second_part (Agrees told after) (standing_in told d) (flat_map (standing_in told) docs) k))
 
-  pub same_standings : (own : List Document) → AllByRecursion (Agrees told after) (standings told own) → standings after own ≡ standings told own
+  pub same_standings : (docs : Documents) → AllByRecursion (Agrees told after) (standings told docs) → standings after docs ≡ standings told docs
   unfolding standings
-  same_standings own k = same_each_document own k
+  same_standings docs k = same_each_document docs k
 
 pub agreeing_tell_places : AgreeingTellPlaces
-agreeing_tell_places told after own = same_standings told after own
+agreeing_tell_places told after docs = same_standings told after docs

@@ -9,11 +9,10 @@ use Rattle.uri_grammar.specs.Texts.{cut_at, has, pieces}
 use Rattle.json_values.specs.Parts.{Part, name, index}
 use Rattle.json_values.specs.Pointers.{index_of}
 use Rattle.schema_drafts.specs.Subschemas.{Holds}
-use Rattle.schema_drafts.specs.declared.draft.Draft.{Draft}
-use Rattle.schema_definitions.specs.Words.{or, or_else, last_that, result_map, ok_or, and_then}
+use Rattle.schema_definitions.specs.Words.{or, last_that, result_map, ok_or, and_then}
 use Rattle.schema_definitions.specs.Identifiers.{resolved, anchors, dynamic_anchors}
 use Rattle.schema_definitions.specs.Places.{Dialect, SchemaPlace, schema_in_force, placed, entered, root_place, children, places}
-use Rattle.schema_definitions.specs.Bearers.{Document, Documents, Standing, standings, bears, bears_anchor, last_standing, bearer_under}
+use Rattle.schema_definitions.specs.Bearers.{Documents, Standing, standings, bears, bears_anchor, last_standing, bearer_under}
 use Rattle.schema_definitions.specs.Lookup.{unretrievable, pointer_to_nowhere, invalid_percent_encoding, no_such_anchor, invalid_anchor, invalid_uri, Walk, at_place, part_of, holds_schema, in_element, in_member, arrived, item_at, step_to, walk, ended, behind_first, by_pointer, target_of, by_anchor, by_fragment, lookup_under}
 use Rattle.document_laws.specs.Agreeing.{Agrees, AlikeTell}
 use Rattle.document_laws.proofs.Agreeing.{AllAgree, by_text, same_root, same_children, same_places, same_standings}
@@ -38,23 +37,22 @@ module _ (m n : List ℕ → Option Dialect) (h : (uri : List ℕ) → m uri ≡
   all_stand (s ∷ ss) = (record { agrees = λ uri e. h uri }, all_stand ss)
 
   same_entry : (outer : List ℕ) (around : Dialect) (path : List Part) (d : Data) → entered m outer around path d ≡ entered n outer around path d
-  same_entry outer around path d = ap (placed outer around path d) (by_text n m around (schema_in_force false d) (λ u e. h u))
+  same_entry outer around path d = ap (placed outer around path d) (by_text n m around (schema_in_force around.siblings false d) (λ u e. h u))
 
-  begun : (uri : List ℕ) (default : Draft) (d : Data) → root_place m uri default d ≡ root_place n uri default d
+  begun : (uri : List ℕ) (default : Dialect) (d : Data) → root_place m uri default d ≡ root_place n uri default d
   begun uri default d = same_root n m uri default d (record { same = λ u e. h u })
 
   same_below : (p : SchemaPlace) → children m p ≡ children n p
   same_below p = same_children n m p (all_agree (children n p))
 
-  same_inside : (uri : List ℕ) (default : Draft) (d : Data) → places m uri default d ≡ places n uri default d
+  same_inside : (uri : List ℕ) (default : Dialect) (d : Data) → places m uri default d ≡ places n uri default d
   same_inside uri default d = same_places n m uri default d (all_agree (places n uri default d))
 
-  same_standing : (own : List Document) → standings m own ≡ standings n own
-  same_standing own = same_standings n m own (all_stand (standings n own))
+  same_standing : (docs : Documents) → standings m docs ≡ standings n docs
+  same_standing docs = same_standings n m docs (all_stand (standings n docs))
 
   same_last : (test : Standing → Bool) (docs : Documents) → last_standing test m docs ≡ last_standing test n docs
-  same_last test [] = refl
-  same_last test (own ∷ parents) = ap₂ (λ o p. or_else o p) (ap (last_that test) (same_standing own)) (same_last test parents)
+  same_last test docs = ap (last_that test) (same_standing docs)
 
   -- ---- walks
 

@@ -9,9 +9,8 @@ use Rattle.json_values.specs.Pointers.{value_in}
 use Rattle.json_values.specs.Rising.{rises, are_rising, items_rise, members_rise}
 use Rattle.json_values.proofs.Names.{get_same}
 use Rattle.schema_drafts.specs.Subschemas.{Holds, nothing, one, several, one_or_several, by_name, held_by}
-use Rattle.schema_drafts.specs.declared.draft.Draft.{Draft}
 use Rattle.schema_definitions.specs.Identifiers.{is_hidden}
-use Rattle.schema_definitions.specs.Places.{Dialect, SchemaPlace, standard, Named, settled, awaited, by_schema, schema_in_force, is_schema, placed, entered, root_place, if_schema, each_item, each_member, in_list, in_map, held, children_of, children_in, children, places}
+use Rattle.schema_definitions.specs.Places.{Dialect, SchemaPlace, Named, settled, awaited, by_schema, schema_in_force, is_schema, placed, entered, root_place, if_schema, each_item, each_member, in_list, in_map, held, children_of, children_in, children, places}
 use Rattle.schema_definitions.specs.Lookup.{Walk, at_place, part_of, holds_schema, in_element, arrived}
 use Rattle.document_laws.proofs.Lists.{joined, by_levels}
 use Rattle.document_laws.proofs.Leading.{Among, among_itself, among_rest, rising_rest, From, from_first, from_rest, from_here}
@@ -52,7 +51,7 @@ module _ (meta : List ℕ → Option Dialect) (root : SchemaPlace) where
   entered_arrives : (p : SchemaPlace) (h : Holds) (path : List Part) (d : Data) → holds_schema h d ≡ true → Meets path (come p h path d) → rises d ≡ true
       → Arrives (entered meta p.base p.dialect path d)
   entered_arrives p h path d schema m r =
-      placed_arrives p.base p.dialect path d (by_schema meta p.dialect (schema_in_force false d))
+      placed_arrives p.base p.dialect path d (by_schema meta p.dialect (schema_in_force p.dialect.siblings false d))
       (subst (λ b. Meets path (if b then record { path = path; contents = d; last = entered meta p.base p.dialect path d; within = at_place } else inner p h path d)) schema m) r
 
   -- where a schema of its own holds one
@@ -119,12 +118,12 @@ module _ (meta : List ℕ → Option Dialect) (root : SchemaPlace) where
   -- ---- the places below a place
 
   each_arrives : (p : SchemaPlace) → Meets p.path (start p) → is_some p.awaits ≡ false → (hidden : Bool) (all : Members) → p.contents ≡ object all
-      → is_hidden p.dialect.draft p.contents ≡ hidden → (ms : Members) → Among ms all → are_rising ms ≡ true → members_rise ms ≡ true
+      → is_hidden p.dialect p.contents ≡ hidden → (ms : Members) → Among ms all → are_rising ms ≡ true → members_rise ms ≡ true
       → AllByRecursion Arrives (children_of meta p hidden ms)
   each_arrives p m goes hidden all is same no_members a g r = tt
   each_arrives p m goes hidden all is same (member k d ms) a g r =
       let found : value_in (name k) p.contents ≡ Some d = ap (value_in (name k)) is ∙ a.found k d (get_same k k d ms refl) in
-      let next : Meets (name k ∷ p.path) (come p (held_by p.dialect.draft (is_hidden p.dialect.draft p.contents) k) (name k ∷ p.path) d) =
+      let next : Meets (name k ∷ p.path) (come p (held_by p.dialect.draft (is_hidden p.dialect p.contents) k) (name k ∷ p.path) d) =
       meets_next (start p) p.path m goes (name k) d found in
       let there = subst (λ b. Meets (name k ∷ p.path) (come p (held_by p.dialect.draft b k) (name k ∷ p.path) d)) same next in
       joined Arrives (held meta p (name k ∷ p.path) (held_by p.dialect.draft hidden k) d) (children_of meta p hidden ms)
@@ -139,7 +138,7 @@ module _ (meta : List ℕ → Option Dialect) (root : SchemaPlace) where
   inside_arrives p m goes (string s) is r = tt
   inside_arrives p m goes (array ds) is r = tt
   inside_arrives p m goes (object ms) is r =
-      each_arrives p m goes (is_hidden p.dialect.draft (object ms)) ms is (ap (is_hidden p.dialect.draft) is) ms (among_itself ms)
+      each_arrives p m goes (is_hidden p.dialect (object ms)) ms is (ap (is_hidden p.dialect) is) ms (among_itself ms)
       (first_so (are_rising ms) (members_rise ms) r) (second_so (are_rising ms) (members_rise ms) r)
 
   children_arrive : (p : SchemaPlace) → Arrives p → AllByRecursion Arrives (children meta p)
@@ -150,13 +149,13 @@ module _ (meta : List ℕ → Option Dialect) (root : SchemaPlace) where
       by false e = inside_arrives p a.there e p.contents refl a.rising
 
 -- where the names rise, each schema place of a document is reached along its path
-pub places_arrive : (meta : List ℕ → Option Dialect) (uri : List ℕ) (default : Draft) (d : Data) → rises d ≡ true
+pub places_arrive : (meta : List ℕ → Option Dialect) (uri : List ℕ) (default : Dialect) (d : Data) → rises d ≡ true
     → AllByRecursion (Arrives meta (root_place meta uri default d)) (places meta uri default d)
 unfolding places
 places_arrive meta uri default d r =
     let root = root_place meta uri default d in
-    let named = by_schema meta (standard default) (schema_in_force true d) in
-    let at_root : reach meta (start root) root.path ≡ Some (start root) = ap (reach meta (start root)) (placed_path uri (standard default) [] d named) in
+    let named = by_schema meta default (schema_in_force default.siblings true d) in
+    let at_root : reach meta (start root) root.path ≡ Some (start root) = ap (reach meta (start root)) (placed_path uri default [] d named) in
     let first : Arrives meta root root =
-    record { there = at_root; rising = ap rises (placed_contents uri (standard default) [] d named) ∙ r } in
+    record { there = at_root; rising = ap rises (placed_contents uri default [] d named) ∙ r } in
     by_levels (Arrives meta root) (children meta) (children_arrive meta root) (suc (depth d)) (root ∷ []) (first, tt)

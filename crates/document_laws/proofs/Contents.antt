@@ -17,8 +17,8 @@ apart [] qs ds es a b = b ∙ ap (λ xs. xs ++ es) a
 apart (p ∷ ps) qs ds es a b = ap (λ xs. p.contents ∷ xs) (apart ps qs (contents_of ps) es refl b) ∙ ap (λ xs. xs ++ es) a
 
 module _ (meta : List ℕ → Option Dialect) (p : SchemaPlace) where
-  entered_contents : (path : List Part) (d : Data) → (placed p.base p.dialect path d (by_schema meta p.dialect (schema_in_force false d))).contents ∷ [] ≡ d ∷ []
-  entered_contents path d = ap (λ x. x ∷ []) (placed_contents p.base p.dialect path d (by_schema meta p.dialect (schema_in_force false d)))
+  entered_contents : (path : List Part) (d : Data) → (placed p.base p.dialect path d (by_schema meta p.dialect (schema_in_force p.dialect.siblings false d))).contents ∷ [] ≡ d ∷ []
+  entered_contents path d = ap (λ x. x ∷ []) (placed_contents p.base p.dialect path d (by_schema meta p.dialect (schema_in_force p.dialect.siblings false d)))
 
   one_contents : (path : List Part) (d : Data) → contents_of (if_schema meta p path d) ≡ inside.if_schema d
   one_contents path null = refl
@@ -71,10 +71,10 @@ module _ (meta : List ℕ → Option Dialect) (p : SchemaPlace) where
       apart (held meta p (name k ∷ p.path) h d) (children_of meta p hidden ms) (inside.schemas_held h d) (inside.of_members p.dialect.draft hidden ms)
       (held_contents (name k ∷ p.path) h d) (members_contents hidden ms)
 
-  pub children_contents : (d : Data) → contents_of (children_in meta p d) ≡ inside.subschemas p.dialect.draft d
+  pub children_contents : (d : Data) → contents_of (children_in meta p d) ≡ inside.subschemas p.dialect d
   children_contents null = refl
   children_contents (boolean b) = refl
   children_contents (number n) = refl
   children_contents (string s) = refl
   children_contents (array ds) = refl
-  children_contents (object ms) = members_contents (is_hidden p.dialect.draft (object ms)) ms
+  children_contents (object ms) = members_contents (is_hidden p.dialect (object ms)) ms

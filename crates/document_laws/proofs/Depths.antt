@@ -24,7 +24,7 @@ pub record Shallow (n : ℕ) (p : SchemaPlace) : Type 0 where
 module _ (meta : List ℕ → Option Dialect) (n : ℕ) where
   entered_shallow : (p : SchemaPlace) (path : List Part) (d : Data) → depth d < n → Shallow n (entered meta p.base p.dialect path d)
   entered_shallow p path d h =
-      record { is = subst (λ c. depth c < n) (sym (placed_contents p.base p.dialect path d (by_schema meta p.dialect (schema_in_force false d)))) h }
+      record { is = subst (λ c. depth c < n) (sym (placed_contents p.base p.dialect path d (by_schema meta p.dialect (schema_in_force p.dialect.siblings false d)))) h }
 
   schema_shallow : (p : SchemaPlace) (path : List Part) (d : Data) → depth d < n → AllByRecursion (Shallow n) (if_schema meta p path d)
   schema_shallow p path null h = tt
@@ -82,7 +82,7 @@ module _ (meta : List ℕ → Option Dialect) (n : ℕ) where
   inside_shallow p (number m) h = tt
   inside_shallow p (string s) h = tt
   inside_shallow p (array ds) h = tt
-  inside_shallow p (object ms) h = each_shallow p (is_hidden p.dialect.draft (object ms)) ms (omega (arith, h))
+  inside_shallow p (object ms) h = each_shallow p (is_hidden p.dialect (object ms)) ms (omega (arith, h))
 
   pub children_shallow : (p : SchemaPlace) → Shallow (suc n) p → AllByRecursion (Shallow n) (children meta p)
   children_shallow p s = unless (Shallow n) (is_some p.awaits) (children_in meta p p.contents) (inside_shallow p p.contents s.is)

@@ -48,9 +48,9 @@ module _ (docs : Documents) where
   same_dynamic_by base left right same reference =
       let k = or [] (cut_at 35 reference).1 in
       same_behind (lookup docs base reference)
-      (λ t. if is_name k && has_text k (dynamic_anchors t.dialect.draft t.contents) then outermost docs k (t.base ∷ left) else Ok t)
-      (λ t. if is_name k && has_text k (dynamic_anchors t.dialect.draft t.contents) then outermost docs k (t.base ∷ right) else Ok t)
-      (λ t. ap (λ r. if is_name k && has_text k (dynamic_anchors t.dialect.draft t.contents) then r else Ok t) (same k t.base))
+      (λ t. if is_name k && has_text k (dynamic_anchors t.dialect t.contents) then outermost docs k (t.base ∷ left) else Ok t)
+      (λ t. if is_name k && has_text k (dynamic_anchors t.dialect t.contents) then outermost docs k (t.base ∷ right) else Ok t)
+      (λ t. ap (λ r. if is_name k && has_text k (dynamic_anchors t.dialect t.contents) then r else Ok t) (same k t.base))
 
   same_dynamic : (base : List ℕ) (left right : List (List ℕ)) → first_ones [] (reversed_onto left []) ≡ first_ones [] (reversed_onto right [])
       → (reference : List ℕ) → dynamic_lookup docs base left reference ≡ dynamic_lookup docs base right reference

@@ -3,10 +3,9 @@ use Rattle.std.proofs.Common.{◌≡◌, ◌<◌, ℕ, zero, suc, List, [], ◌�
 use Rattle.std.specs.List.{flat_map, AllByRecursion}
 use Rattle.std.specs.Prelude.{⊤}
 use Rattle.serde_json.specs.Data.{Data, depth}
-use Rattle.schema_drafts.specs.declared.draft.Draft.{Draft}
 use Rattle.schema_definitions.specs.Words.{levels}
-use Rattle.schema_definitions.specs.Places.{SchemaPlace, standard, by_schema, schema_in_force, root_place, children, places}
-use Rattle.schema_definitions.specs.Bearers.{Document, Standing, standing_in, standings}
+use Rattle.schema_definitions.specs.Places.{Dialect, SchemaPlace, by_schema, schema_in_force, root_place, children, places}
+use Rattle.schema_definitions.specs.Bearers.{Documents, document_name, Standing, standing_in, standings}
 use Rattle.schema_dialects.specs.Unknown.{no_meta}
 use Rattle.document_laws.proofs.Lists.{joined, by_levels, first_part, second_part}
 use Rattle.document_laws.proofs.Depths.{Shallow, children_shallow, placed_contents}
@@ -65,12 +64,12 @@ all_levels (suc n) (suc m) ps s k = one_deeper n m (all_levels n m) ps s k
 
 -- ---- documents
 
-pub known_below_places : (uri : List ℕ) (default : Draft) (d : Data) → AllKnown (places no_meta uri default d) → AllByRecursion KnownBelow (places no_meta uri default d)
+pub known_below_places : (uri : List ℕ) (default : Dialect) (d : Data) → AllKnown (places no_meta uri default d) → AllByRecursion KnownBelow (places no_meta uri default d)
 unfolding places
 known_below_places uri default d k =
     let root = root_place no_meta uri default d in
     let m : ℕ = suc (depth d) in
-    let same : root.contents ≡ d = placed_contents uri (standard default) [] d (by_schema no_meta (standard default) (schema_in_force true d)) in
+    let same : root.contents ≡ d = placed_contents uri default [] d (by_schema no_meta default (schema_in_force default.siblings true d)) in
     let shallow : Shallow m root = record { is = subst (λ c. depth c < m) (sym same) (omega arith) } in
     let within = from_levels m (root ∷ []) k in
     by_levels KnownBelow (children no_meta) known_children m (root ∷ []) (gathered (root ∷ []) (λ n. all_levels n m (root ∷ []) (shallow, tt) within))
@@ -82,15 +81,15 @@ stand_known : (uri : List ℕ) (ps : List SchemaPlace) → AllByRecursion KnownB
 stand_known uri [] k = tt
 stand_known uri (p ∷ ps) k = (record { below = k.0 }, stand_known uri ps k.1)
 
-each_stands_known : (own : List Document) → AllByRecursion KnownStanding (flat_map (standing_in no_meta) own) → AllByRecursion StandsKnown (flat_map (standing_in no_meta) own)
+each_stands_known : (docs : Documents) → AllByRecursion KnownStanding (flat_map (standing_in no_meta) docs) → AllByRecursion StandsKnown (flat_map (standing_in no_meta) docs)
 each_stands_known [] k = tt
-each_stands_known (d ∷ own) k =
+each_stands_known (d ∷ docs) k =
     let ps = places no_meta d.uri d.default d.contents in
-    let known = known_places d.uri ps (first_part KnownStanding (standing_in no_meta d) (flat_map (standing_in no_meta) own) k) in
-    joined StandsKnown (standing_in no_meta d) (flat_map (standing_in no_meta) own)
-    (stand_known d.uri ps (known_below_places d.uri d.default d.contents known))
-    (each_stands_known own (second_part KnownStanding (standing_in no_meta d) (flat_map (standing_in no_meta) own) k))
+    let known = known_places (document_name d) ps (first_part KnownStanding (standing_in no_meta d) (flat_map (standing_in no_meta) docs) k) in
+    joined StandsKnown (standing_in no_meta d) (flat_map (standing_in no_meta) docs)
+    (stand_known (document_name d) ps (known_below_places d.uri d.default d.contents known))
+    (each_stands_known docs (second_part KnownStanding (standing_in no_meta d) (flat_map (standing_in no_meta) docs) k))
 
-pub all_stand_known : (own : List Document) → AllByRecursion KnownStanding (standings no_meta own) → AllByRecursion StandsKnown (standings no_meta own)
+pub all_stand_known : (docs : Documents) → AllByRecursion KnownStanding (standings no_meta docs) → AllByRecursion StandsKnown (standings no_meta docs)
 unfolding standings
-all_stand_known own k = each_stands_known own k
+all_stand_known docs k = each_stands_known docs k

@@ -14,7 +14,7 @@ use Rattle.json_values.proofs.Names.{get_same, get_other}
 use Rattle.json_values.proofs.Kept.{first_rise, behind_none}
 use Rattle.schema_drafts.specs.Subschemas.{Holds, nothing, one, several, one_or_several, by_name, held_by}
 use Rattle.schema_definitions.specs.Identifiers.{is_hidden}
-use Rattle.schema_definitions.specs.Places.{Dialect, SchemaPlace, standard, Named, settled, awaited, by_schema, schema_in_force, placed, entered, root_place, if_schema, each_item, each_member, in_list, in_map, held, children_of, children_in, children, places}
+use Rattle.schema_definitions.specs.Places.{Dialect, SchemaPlace, Named, settled, awaited, by_schema, schema_in_force, placed, entered, root_place, if_schema, each_item, each_member, in_list, in_map, held, children_of, children_in, children, places}
 use Rattle.json_values.specs.Rising.{rises, are_rising, items_rise, members_rise}
 use Rattle.document_laws.specs.PlaceLaws.{Leads, PlacesLead}
 use Rattle.document_laws.proofs.Lists.{joined, unless, by_levels}
@@ -96,7 +96,7 @@ module _ (whole : Data) (meta : List ℕ → Option Dialect) where
 
   entered_sound : (p : SchemaPlace) (path : List Part) (d : Data) → value_at (reverse path) whole ≡ Some d → rises d ≡ true
       → Sound whole (entered meta p.base p.dialect path d)
-  entered_sound p path d h r = placed_sound p.base p.dialect path d (by_schema meta p.dialect (schema_in_force false d)) h r
+  entered_sound p path d h r = placed_sound p.base p.dialect path d (by_schema meta p.dialect (schema_in_force p.dialect.siblings false d)) h r
 
   schema_sound : (p : SchemaPlace) (path : List Part) (d : Data) → value_at (reverse path) whole ≡ Some d → rises d ≡ true
       → AllByRecursion (Sound whole) (if_schema meta p path d)
@@ -169,7 +169,7 @@ module _ (whole : Data) (meta : List ℕ → Option Dialect) where
   inside_sound p (string s) h r = tt
   inside_sound p (array ds) h r = tt
   inside_sound p (object ms) h r =
-      each_sound p (is_hidden p.dialect.draft (object ms)) ms h ms (among_itself ms)
+      each_sound p (is_hidden p.dialect (object ms)) ms h ms (among_itself ms)
       (first_so (are_rising ms) (members_rise ms) r) (second_so (are_rising ms) (members_rise ms) r)
 
   children_sound : (p : SchemaPlace) → Sound whole p → AllByRecursion (Sound whole) (children meta p)
@@ -183,6 +183,6 @@ led whole (p ∷ ps) h = (h.0.leads, led whole ps h.1)
 pub places_lead : (d : Data) → rises d ≡ true → PlacesLead d
 unfolding places
 places_lead d r meta uri default =
-    let first = placed_sound d meta uri (standard default) [] d (by_schema meta (standard default) (schema_in_force true d)) refl r in
+    let first = placed_sound d meta uri default [] d (by_schema meta default (schema_in_force default.siblings true d)) refl r in
     All-from_recursion (Leads d) (places meta uri default d)
     (led d (places meta uri default d) (by_levels (Sound d) (children meta) (children_sound d meta) (suc (depth d)) (root_place meta uri default d ∷ []) (first, tt)))

@@ -4,9 +4,8 @@ use Rattle.std.specs.List.{flat_map, AllByRecursion}
 use Rattle.std.specs.Prelude.{is_some}
 use Rattle.serde_json.specs.Data.{Data, depth}
 use Rattle.schema_meaning.specs.Members.{In, first}
-use Rattle.schema_drafts.specs.declared.draft.Draft.{Draft}
 use Rattle.schema_definitions.specs.Words.{levels}
-use Rattle.schema_definitions.specs.Places.{Dialect, SchemaPlace, standard, by_schema, schema_in_force, root_place, children_in, children, places}
+use Rattle.schema_definitions.specs.Places.{Dialect, SchemaPlace, by_schema, schema_in_force, root_place, children_in, children, places}
 use Rattle.document_laws.proofs.Lists.{joined}
 use Rattle.document_laws.proofs.Listed.{in_first, in_second, in_either, in_flat_map, of_in, each_in}
 use Rattle.document_laws.proofs.Depths.{Shallow, children_shallow, placed_contents}
@@ -48,11 +47,11 @@ module _ (meta : List ℕ → Option Dialect) where
         | inr j ↦ closed_levels n (flat_map (children meta) ps) p (shallow_below n ps s) j
       ])
 
-  module _ (uri : List ℕ) (default : Draft) (d : Data) where
+  module _ (uri : List ℕ) (default : Dialect) (d : Data) where
     root_shallow : Shallow (suc (depth d)) (root_place meta uri default d)
     root_shallow =
         let root = root_place meta uri default d in
-        let same : root.contents ≡ d = placed_contents uri (standard default) [] d (by_schema meta (standard default) (schema_in_force true d)) in
+        let same : root.contents ≡ d = placed_contents uri default [] d (by_schema meta default (schema_in_force default.siblings true d)) in
         record { is = subst (λ c. depth c < suc (depth d)) (sym same) (omega arith) }
 
     pub root_among : In (root_place meta uri default d) (places meta uri default d)

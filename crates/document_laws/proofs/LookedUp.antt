@@ -74,9 +74,9 @@ module _ (docs : Documents) (S : Standing → Type 0) (T : Target → Type 0) wh
         let k = or [] (cut_at 35 reference).1 in
         of_ok T (dynamic_lookup docs base scope reference) t
         (ok_next T T (lookup docs base reference)
-        (λ u. if is_name k && has_text k (dynamic_anchors u.dialect.draft u.contents) then outermost docs k (u.base ∷ scope) else Ok u)
+        (λ u. if is_name k && has_text k (dynamic_anchors u.dialect u.contents) then outermost docs k (u.base ∷ scope) else Ok u)
         (lookup_holds (meta docs) h base reference)
-        (λ u i. ok_either T (is_name k && has_text k (dynamic_anchors u.dialect.draft u.contents)) (outermost docs k (u.base ∷ scope)) (Ok u)
+        (λ u i. ok_either T (is_name k && has_text k (dynamic_anchors u.dialect u.contents)) (outermost docs k (u.base ∷ scope)) (Ok u)
         (outermost_holds k (u.base ∷ scope)) i)) e
 
     pub of_run : (base : List ℕ) (scope : List (List ℕ)) (t : Target) → recursive_lookup docs base scope ≡ Ok t → T t

@@ -91,9 +91,9 @@ module _ (meta : List ℕ → Option Dialect) (S : SchemaPlace → Type 0) where
     at_member p path d at_place ms k e s goes here is g =
         let contents : p.contents ≡ object ms = sym here.1 ∙ is in
         let below : AllByRecursion S (children_in meta p (object ms)) = subst (λ x. AllByRecursion S (children_in meta p x)) contents (kept p s goes) in
-        let there = one_child p (is_hidden p.dialect.draft (object ms)) ms k e g below in
-        subst (λ x. AllByRecursion S (held meta p (name k ∷ path) (held_by p.dialect.draft (is_hidden p.dialect.draft x) k) e)) (sym contents)
-        (subst (λ q. AllByRecursion S (held meta p (name k ∷ q) (held_by p.dialect.draft (is_hidden p.dialect.draft (object ms)) k) e)) (sym here.0) there)
+        let there = one_child p (is_hidden p.dialect (object ms)) ms k e g below in
+        subst (λ x. AllByRecursion S (held meta p (name k ∷ path) (held_by p.dialect.draft (is_hidden p.dialect x) k) e)) (sym contents)
+        (subst (λ q. AllByRecursion S (held meta p (name k ∷ q) (held_by p.dialect.draft (is_hidden p.dialect (object ms)) k) e)) (sym here.0) there)
     at_member p path d (part_of nothing) ms k e s goes here is g = tt
     at_member p path d (part_of one) ms k e s goes here is g = tt
     at_member p path d (part_of several) ms k e s goes here is g = tt
@@ -112,7 +112,7 @@ module _ (meta : List ℕ → Option Dialect) (S : SchemaPlace → Type 0) where
   enters w part e s =
       let p = w.last in
       let path : List Part = part ∷ w.path in
-      let named = by_schema meta p.dialect (schema_in_force false e) in
+      let named = by_schema meta p.dialect (schema_in_force p.dialect.siblings false e) in
       record { last = s; here = (sym (placed_path p.base p.dialect path e named), sym (placed_contents p.base p.dialect path e named)) }
 
   pub arrived_stands : (w : Walk) (h : Holds) (part : Part) (e : Data) → S w.last → AllByRecursion S (held meta w.last (part ∷ w.path) h e)

@@ -1,7 +1,7 @@
 -- Stages at rest stay at rest.
-use Rattle.std.proofs.Common.{◌≡◌, ◌∙◌, ◌+◌, ◌-◌, ℕ, zero, suc, List, [], ◌∷◌, Bool, Option, option_map, refl, ap, ap₂, sym, arith}
+use Rattle.std.proofs.Common.{◌≡◌, ◌∙◌, ◌+◌, ◌-◌, ℕ, zero, suc, List, Bool, Option, option_map, refl, ap, sym, arith}
 use Rattle.std.specs.List.{AllByRecursion}
-use Rattle.schema_definitions.specs.Words.{or_else, last_that}
+use Rattle.schema_definitions.specs.Words.{last_that}
 use Rattle.schema_definitions.specs.Places.{Dialect}
 use Rattle.schema_definitions.specs.Bearers.{Documents, Standing, standings, bears, last_standing, dialect_by, dialects}
 use Rattle.document_laws.specs.Agreeing.{Agrees}
@@ -10,11 +10,10 @@ use Rattle.document_laws.proofs.Alike.{alike_tell}
 use Rattle.document_laws.specs.Stages.{AtRest, RestStays, RestIsFixed}
 
 module _ (told after : List ℕ → Option Dialect) where
-  -- where two agree, each layer has the same places, and so the same bearers
-  same_last : (test : Standing → Bool) (docs : Documents) → AllByRecursion (λ own. AllByRecursion (Agrees told after) (standings told own)) docs
+  -- where two agree, the places are the same, and so the bearers
+  same_last : (test : Standing → Bool) (docs : Documents) → AllByRecursion (Agrees told after) (standings told docs)
       → last_standing test after docs ≡ last_standing test told docs
-  same_last test [] h = refl
-  same_last test (own ∷ parents) h = ap₂ (λ o p. or_else o p) (ap (last_that test) (agreeing_tell_places told after own h.0)) (same_last test parents h.1)
+  same_last test docs h = ap (last_that test) (agreeing_tell_places told after docs h)
 
 beyond : ℕ → ℕ → ℕ
 beyond zero n = n

@@ -6,7 +6,7 @@ use Rattle.schema_drafts.specs.Vocabularies.{Vocabulary, core, applicator, uneva
 use Rattle.schema_drafts.specs.declared.draft.Draft.{Draft}
 use Rattle.schema_drafts.specs.declared.draft.Draft.TheVariants.{Draft4, Draft6, Draft7, Draft201909, Draft202012, Unknown}
 use Rattle.schema_definitions.specs.Places.{Dialect}
-use Rattle.schema_definitions.specs.DocumentCauses.{number_of_draft, are_listed_alike, are_alike, is_told_alike}
+use Rattle.schema_definitions.specs.DocumentCauses.{number_of_draft, are_listed_alike, are_alike, are_both, is_told_alike}
 use Rattle.document_laws.specs.Stages.{ToldAlikeIsSame}
 
 first_so : (a b : Bool) → (a && b) ≡ true → a ≡ true
@@ -93,8 +93,18 @@ vocabularies_themselves : (vs : Vocabularies) → are_alike vs vs ≡ true
 vocabularies_themselves all_of_draft = refl
 vocabularies_themselves (only vs) = list_itself vs
 
-of_draft : Draft → Vocabularies → Dialect
-of_draft draft vs = record { draft = draft; vocabularies = vs }
+same_siblings : (a b : Bool) → are_both a b ≡ true → a ≡ b
+same_siblings true true h = refl
+same_siblings true false h = absurd (false≢true h)
+same_siblings false true h = absurd (false≢true h)
+same_siblings false false h = refl
+
+siblings_themselves : (b : Bool) → are_both b b ≡ true
+siblings_themselves true = refl
+siblings_themselves false = refl
+
+of_draft : Draft → Vocabularies → Bool → Dialect
+of_draft draft vs siblings = record { draft = draft; vocabularies = vs; siblings = siblings }
 
 same_dialect : (o p : Option Dialect) → is_told_alike o p ≡ true → o ≡ p
 unfolding of_draft
@@ -104,13 +114,20 @@ same_dialect (Some d) None h = absurd (false≢true h)
 same_dialect (Some d) (Some e) h =
     let drafts : Bool = nat_eq (number_of_draft d.draft) (number_of_draft e.draft) in
     let vocabularies : Bool = are_alike d.vocabularies e.vocabularies in
-    ap₂ (λ x y. Some (of_draft x y)) (same_draft d.draft e.draft (first_so drafts vocabularies h)) (same_vocabularies d.vocabularies e.vocabularies (second_so drafts vocabularies h))
+    let siblings : Bool = are_both d.siblings e.siblings in
+    let both = first_so (drafts && vocabularies) siblings h in
+    ap₂ (λ x y. Some (of_draft x y d.siblings)) (same_draft d.draft e.draft (first_so drafts vocabularies both))
+    (same_vocabularies d.vocabularies e.vocabularies (second_so drafts vocabularies both))
+    ∙ ap (λ z. Some (of_draft e.draft e.vocabularies z)) (same_siblings d.siblings e.siblings (second_so (drafts && vocabularies) siblings h))
 
 dialect_itself : (o : Option Dialect) → is_told_alike o o ≡ true
 dialect_itself None = refl
 dialect_itself (Some d) =
-    both_so (nat_eq (number_of_draft d.draft) (number_of_draft d.draft)) (are_alike d.vocabularies d.vocabularies)
-    (eq-eqb (number_of_draft d.draft) (number_of_draft d.draft) refl) (vocabularies_themselves d.vocabularies)
+    let drafts : Bool = nat_eq (number_of_draft d.draft) (number_of_draft d.draft) in
+    let vocabularies : Bool = are_alike d.vocabularies d.vocabularies in
+    both_so (drafts && vocabularies) (are_both d.siblings d.siblings)
+    (both_so drafts vocabularies (eq-eqb (number_of_draft d.draft) (number_of_draft d.draft) refl) (vocabularies_themselves d.vocabularies))
+    (siblings_themselves d.siblings)
 
 pub told_alike_is_same : ToldAlikeIsSame
 told_alike_is_same o p = (same_dialect o p, λ e. ap (is_told_alike o) (sym e) ∙ dialect_itself o)

@@ -6,9 +6,8 @@ use Rattle.serde_json.specs.Data.{Data, null, boolean, number, string, array, ob
 use Rattle.serde_json.specs.Find.{get_item}
 use Rattle.json_values.specs.Parts.{Part, name, index}
 use Rattle.schema_drafts.specs.Subschemas.{Holds, nothing, one, several, one_or_several, by_name, held_by}
-use Rattle.schema_drafts.specs.declared.draft.Draft.{Draft}
 use Rattle.schema_definitions.specs.Identifiers.{is_hidden}
-use Rattle.schema_definitions.specs.Places.{Dialect, SchemaPlace, standard, Named, settled, awaited, by_schema, schema_in_force, placed, entered, root_place, if_schema, each_item, each_member, in_list, in_map, held, children_of, children_in, children, places}
+use Rattle.schema_definitions.specs.Places.{Dialect, SchemaPlace, Named, settled, awaited, by_schema, schema_in_force, placed, entered, root_place, if_schema, each_item, each_member, in_list, in_map, held, children_of, children_in, children, places}
 use Rattle.document_laws.proofs.Lists.{joined, unless, by_levels}
 use Rattle.document_laws.proofs.Inside.{Inside, HoldsMember, here, behind, itself, item_inside, member_inside}
 
@@ -44,7 +43,7 @@ module _ (whole : Data) (meta : List ℕ → Option Dialect) where
   placed_inside outer around path d (awaited uri) i = record { is = i }
 
   entered_inside : (p : SchemaPlace) (path : List Part) (d : Data) → Inside whole path d → PlaceInside whole (entered meta p.base p.dialect path d)
-  entered_inside p path d i = placed_inside p.base p.dialect path d (by_schema meta p.dialect (schema_in_force false d)) i
+  entered_inside p path d i = placed_inside p.base p.dialect path d (by_schema meta p.dialect (schema_in_force p.dialect.siblings false d)) i
 
   schema_inside : (p : SchemaPlace) (path : List Part) (d : Data) → Inside whole path d → AllByRecursion (PlaceInside whole) (if_schema meta p path d)
   schema_inside p path null i = tt
@@ -108,13 +107,13 @@ module _ (whole : Data) (meta : List ℕ → Option Dialect) where
   inside_inside p (number n) i = tt
   inside_inside p (string s) i = tt
   inside_inside p (array ds) i = tt
-  inside_inside p (object ms) i = each_inside p (is_hidden p.dialect.draft (object ms)) ms i ms (record { found = λ k e h. h })
+  inside_inside p (object ms) i = each_inside p (is_hidden p.dialect (object ms)) ms i ms (record { found = λ k e h. h })
 
   children_inside : (p : SchemaPlace) → PlaceInside whole p → AllByRecursion (PlaceInside whole) (children meta p)
   children_inside p s = unless (PlaceInside whole) (is_some p.awaits) (children_in meta p p.contents) (inside_inside p p.contents s.is)
 
-pub places_inside : (meta : List ℕ → Option Dialect) (uri : List ℕ) (default : Draft) (d : Data) → AllByRecursion (PlaceInside d) (places meta uri default d)
+pub places_inside : (meta : List ℕ → Option Dialect) (uri : List ℕ) (default : Dialect) (d : Data) → AllByRecursion (PlaceInside d) (places meta uri default d)
 unfolding places
 places_inside meta uri default d =
-    let root = placed_inside d meta uri (standard default) [] d (by_schema meta (standard default) (schema_in_force true d)) (itself d) in
+    let root = placed_inside d meta uri default [] d (by_schema meta default (schema_in_force default.siblings true d)) (itself d) in
     by_levels (PlaceInside d) (children meta) (children_inside d meta) (suc (depth d)) (root_place meta uri default d ∷ []) (root, tt)

@@ -7,8 +7,8 @@ use Rattle.serde_json.specs.Data.{Data}
 use Rattle.json_values.specs.Parts.{Part}
 use Rattle.schema_meaning.specs.Members.{In, first, later}
 use Rattle.schema_definitions.specs.Words.{listed}
-use Rattle.schema_definitions.specs.Places.{Dialect, SchemaPlace, standard, by_schema, schema_in_force}
-use Rattle.schema_definitions.specs.Bearers.{Document, Documents, Standing, standings, is_root, meta}
+use Rattle.schema_definitions.specs.Places.{Dialect, SchemaPlace, by_schema, schema_in_force}
+use Rattle.schema_definitions.specs.Bearers.{Document, Documents, document_name, Standing, standings, is_root, meta}
 use Rattle.schema_definitions.specs.DocumentCauses.{DocumentCause, document_causes, place_causes, told_anew, awaited_cause, how_many_await, unless_reference}
 use Rattle.schema_definitions.specs.Lookup.{Walk, Within, at_place, part_of, is_at_place, Target}
 use Rattle.document_laws.specs.TargetLaws.{are_apart, contents_rise, IsTarget}
@@ -41,7 +41,7 @@ module _ (told : List ℕ → Option Dialect) (d : Document) where
 
   reached_at : (path : List Part) (w : Walk) → reach told (from_root told d) path ≡ Some w → w.path ≡ path
   reached_at path w e =
-      reach_path told (from_root told d) (placed_path d.uri (standard d.default) [] d.contents (by_schema told (standard d.default) (schema_in_force true d.contents))) path w e
+      reach_path told (from_root told d) (placed_path d.uri d.default [] d.contents (by_schema told d.default (schema_in_force d.default.siblings true d.contents))) path w e
 
   by_within : (p : SchemaPlace) (path : List Part) (e : Data) (w : Within) → is_at_place w ≡ true → Here told (IsAmong (places_in told d)) p path e w
       → (path ≡ p.path) × (e ≡ p.contents)
@@ -62,32 +62,32 @@ module _ (told : List ℕ → Option Dialect) (d : Document) where
 
 -- ---- in documents
 
-module _ (told : List ℕ → Option Dialect) (own : List Document) where
-  module _ (d : Document) (i : In d own) (v : Walk) where
+module _ (told : List ℕ → Option Dialect) (docs : Documents) where
+  module _ (d : Document) (i : In d docs) (v : Walk) where
     listed_there : reach told (from_root told d) v.path ≡ Some v → is_at_place v.within ≡ true
-        → (r : Standing) × In r (standings told own) × IsThere (target_at d.uri v) r
+        → (r : Standing) × In r (standings told docs) × IsThere (target_at (document_name d) v) r
     listed_there m place =
         let at = at_listed told d v.path v m place in (
-          standing d.uri v.last,
-          is_listed told own d v.last i at.among,
+          standing (document_name d) v.last,
+          is_listed told docs d v.last i at.among,
           record { at = record { document = refl; path = sym at.path }; contents = sym at.contents; base = refl; dialect = refl },
         )
 
     -- a place that was passed and awaits its meta-schema stands above
-    none_passed : Behind told (from_root told d) v → NoneAwaitsAbove told own d.uri v.path → ⊥
+    none_passed : Behind told (from_root told d) v → NoneAwaitsAbove told docs (document_name d) v.path → ⊥
     none_passed b none =
         let w = b.passed in
         let at = at_listed told d b.path w b.reached (first_so (is_at_place w.within) (is_some w.last.awaits) b.stopped) in
         let path : b.path ≡ w.last.path = sym (reached_at told d b.path w b.reached) ∙ at.path in
-        let above : StandsAbove d.uri v.path (standing d.uri w.last) =
+        let above : StandsAbove (document_name d) v.path (standing (document_name d) w.last) =
         record { document = refl; part = b.part; parts = b.parts; behind = b.behind ∙ ap (λ (q : List Part). b.parts ++ b.part ∷ q) path } in
-        let awaits = none (standing d.uri w.last) (is_listed told own d w.last i at.among) above in
+        let awaits = none (standing (document_name d) w.last) (is_listed told docs d w.last i at.among) above in
         let no : false ≡ true = sym (ap is_some awaits) ∙ second_so (is_at_place w.within) (is_some w.last.awaits) b.stopped in cc
 
-    pub stands_there : Met told (from_root told d) v → NoneAwaitsAbove told own d.uri v.path → reach told (from_root told d) v.path ≡ Some v
+    pub stands_there : Met told (from_root told d) v → NoneAwaitsAbove told docs (document_name d) v.path → reach told (from_root told d) v.path ≡ Some v
     stands_there m none = elim m.met [ inl there ↦ there | inr b ↦ absurd (none_passed b none) ]
 
-    is_the_place : (r : Standing) → StandsAt d.uri v.path r → v ≡ start r.place → (is_at_place v.within ≡ true) × IsThere (target_at d.uri v) r
+    is_the_place : (r : Standing) → StandsAt (document_name d) v.path r → v ≡ start r.place → (is_at_place v.within ≡ true) × IsThere (target_at (document_name d) v) r
     is_the_place r at same = (
       ap (λ (w : Walk). is_at_place w.within) same,
       record {
@@ -98,9 +98,9 @@ module _ (told : List ℕ → Option Dialect) (own : List Document) where
       },
     )
 
-    module _ (rise : list_all contents_rise own ≡ true) (apart : are_apart own ≡ true) (r : Standing) (j : In r (standings told own)) (at : StandsAt d.uri v.path r) where
+    module _ (rise : list_all contents_rise docs ≡ true) (apart : are_apart docs ≡ true) (r : Standing) (j : In r (standings told docs)) (at : StandsAt (document_name d) v.path r) where
       place_reached : reach told (from_root told d) v.path ≡ Some (start r.place)
-      place_reached = ap (reach told (from_root told d)) (sym at.path) ∙ placed_with told own rise apart d i r j (sym at.document)
+      place_reached = ap (reach told (from_root told d)) (sym at.path) ∙ placed_with told docs rise apart d i r j (sym at.document)
 
       met_place : reach told (from_root told d) v.path ≡ Some v → v ≡ start r.place
       met_place met = (let found : Some v ≡ Some (start r.place) = sym met ∙ place_reached in cc)
@@ -110,24 +110,24 @@ module _ (told : List ℕ → Option Dialect) (own : List Document) where
           let none = none_behind told (from_root told d) b.parts (b.part ∷ b.path) (stopped told (from_root told d) b.passed b.path b.reached b.stopped b.part) in
           let no : Some (start r.place) ≡ None = sym place_reached ∙ ap (reach told (from_root told d)) b.behind ∙ none in cc
 
-      the_place : Met told (from_root told d) v → (is_at_place v.within ≡ true) × IsThere (target_at d.uri v) r
+      the_place : Met told (from_root told d) v → (is_at_place v.within ≡ true) × IsThere (target_at (document_name d) v) r
       the_place m = elim m.met [ inl met ↦ is_the_place r at (met_place met) | inr b ↦ absurd (not_behind b) ]
 
-    agrees : list_all contents_rise own ≡ true → Met told (from_root told d) v → AgreesWithList told own (target_at d.uri v)
+    agrees : list_all contents_rise docs ≡ true → Met told (from_root told d) v → AgreesWithList told docs (target_at (document_name d) v)
     agrees rise m = record {
       listed = λ place none. listed_there (stands_there m none) place;
       place = λ apart r j at. the_place rise apart r j at m;
     }
 
-  pub found_agrees : list_all contents_rise own ≡ true → (t : Target) → Found told own t → AgreesWithList told own t
-  found_agrees rise t f = subst (λ u. AgreesWithList told own u) (sym f.is) (agrees f.document f.among f.walk rise f.met)
+  pub found_agrees : list_all contents_rise docs ≡ true → (t : Target) → Found told docs t → AgreesWithList told docs t
+  found_agrees rise t f = subst (λ u. AgreesWithList told docs u) (sym f.is) (agrees f.document f.among f.walk rise f.met)
 
   -- two at one path, above which nothing awaits
-  pub found_one : are_apart own ≡ true → ((s : Standing) → In s (standings told own) → s.place.awaits ≡ None) → (t u : Target) → Found told own t → Found told own u
+  pub found_one : are_apart docs ≡ true → ((s : Standing) → In s (standings told docs) → s.place.awaits ≡ None) → (t u : Target) → Found told docs t → Found told docs u
       → t.document ≡ u.document → t.path ≡ u.path → t ≡ u
-  found_one apart none t u f g uris paths =
-      let named : f.document.uri ≡ g.document.uri = sym (ap (λ (x : Target). x.document) f.is) ∙ uris ∙ ap (λ (x : Target). x.document) g.is in
-      let one : f.document ≡ g.document = same_document own apart f.document g.document f.among g.among named in
+  found_one apart none t u f g names paths =
+      let named : document_name f.document ≡ document_name g.document = sym (ap (λ (x : Target). x.document) f.is) ∙ names ∙ ap (λ (x : Target). x.document) g.is in
+      let one : f.document ≡ g.document = same_document docs apart f.document g.document f.among g.among named in
       let path : f.walk.path ≡ g.walk.path = sym (ap (λ (x : Target). x.path) f.is) ∙ paths ∙ ap (λ (x : Target). x.path) g.is in
       let left = stands_there f.document f.among f.walk f.met (λ s i above. none s i) in
       let right = stands_there g.document g.among g.walk g.met (λ s i above. none s i) in
@@ -135,7 +135,7 @@ module _ (told : List ℕ → Option Dialect) (own : List Document) where
       subst (λ (d : Document). reach told (from_root told d) f.walk.path ≡ Some f.walk) one left in
       let both : Some f.walk ≡ Some g.walk = sym moved ∙ ap (reach told (from_root told g.document)) path ∙ right in
       let walks : f.walk ≡ g.walk = cc in
-      f.is ∙ ap (λ (uri : List ℕ). target_at uri f.walk) named ∙ ap (target_at g.document.uri) walks ∙ sym g.is
+      f.is ∙ ap (λ (name : List ℕ). target_at name f.walk) named ∙ ap (target_at (document_name g.document)) walks ∙ sym g.is
 
 -- ---- what awaits nothing
 
@@ -149,33 +149,29 @@ awaits_none None cs ds f h = refl
 awaits_none (Some uri) cs ds f h = (let no : f uri ∷ [] ≡ [] = second_empty cs (f uri ∷ []) h in cc)
 
 pub causeless_await_nothing : CauselessAwaitNothing
-causeless_await_nothing own h s i =
-    let docs : Documents = own in
-    let none = no_cause docs (standings (meta docs) own) (second_empty (told_anew docs) (flat_map (place_causes docs) (standings (meta docs) own)) h) s i in
-    awaits_none s.place.awaits (flat_map unless_reference (listed (schema_in_force (is_root s.place.path) s.place.contents)))
-    _ (awaited_cause docs (suc (how_many_await docs docs))) none
+causeless_await_nothing docs h s i =
+    let none = no_cause docs (standings (meta docs) docs) (second_empty (told_anew docs) (flat_map (place_causes docs) (standings (meta docs) docs)) h) s i in
+    awaits_none s.place.awaits (flat_map unless_reference (listed (schema_in_force s.place.dialect.siblings (is_root s.place.path) s.place.contents)))
+    _ (awaited_cause docs (suc (how_many_await docs))) none
 
 -- ---- targets
 
-module _ (own : List Document) (rise : list_all contents_rise own ≡ true) where
-  abbrev docs : Documents
-  docs = own
+module _ (docs : Documents) (rise : list_all contents_rise docs ≡ true) where
+  found : (t : Target) → IsTarget docs t → Found (meta docs) docs t
+  found t i = of_target docs (λ s. In s (standings (meta docs) docs)) (Found (meta docs) docs) (all_found (meta docs) docs rise) t i
 
-  found : (t : Target) → IsTarget docs t → Found (meta docs) own t
-  found t i = of_target docs (λ s. In s (standings (meta docs) own)) (Found (meta docs) own) (all_found (meta docs) own rise) t i
-
-  as_listed : document_causes docs ≡ [] → (t : Target) → IsTarget docs t → IsAsListed own t
+  as_listed : document_causes docs ≡ [] → (t : Target) → IsTarget docs t → IsAsListed docs t
   as_listed causes t i =
-      let agrees = found_agrees (meta docs) own rise t (found t i) in
-      record { listed = λ place. agrees.listed place (λ s j above. causeless_await_nothing own causes s j); place = agrees.place }
+      let agrees = found_agrees (meta docs) docs rise t (found t i) in
+      record { listed = λ place. agrees.listed place (λ s j above. causeless_await_nothing docs causes s j); place = agrees.place }
 
 pub targets_are_listed : TargetsAreListed
-targets_are_listed own rise = record {
+targets_are_listed docs rise = record {
   plain = λ told base reference t e.
-      found_agrees told own rise t
-      (of_lookup own (λ s. In s (standings told own)) (Found told own) told (all_found told own rise) base reference t e);
-  each = λ t i. found_agrees (meta own) own rise t (found own rise t i);
-  accepted = as_listed own rise;
+      found_agrees told docs rise t
+      (of_lookup docs (λ s. In s (standings told docs)) (Found told docs) told (all_found told docs rise) base reference t e);
+  each = λ t i. found_agrees (meta docs) docs rise t (found docs rise t i);
+  accepted = as_listed docs rise;
   one = λ causes apart t u i j.
-      found_one (meta own) own apart (causeless_await_nothing own causes) t u (found own rise t i) (found own rise u j);
+      found_one (meta docs) docs apart (causeless_await_nothing docs causes) t u (found docs rise t i) (found docs rise u j);
 }

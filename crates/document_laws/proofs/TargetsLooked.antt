@@ -13,7 +13,7 @@ use Rattle.document_laws.proofs.LookedUp.{Holds, of_target}
 module _ (docs : Documents) where
   ended_comes : (s : Standing) (o : Origin docs s.document s.place.path s.place.contents) (w : Walk) → WalkInside o.document.contents w → Comes docs (ended s w)
   ended_comes s o w i =
-      record { origin = record { document = o.document; own = o.own; given = o.given; listed = o.listed; named = o.named; inside = i.is } }
+      record { origin = record { document = o.document; listed = o.listed; named = o.named; inside = i.is } }
 
   along_comes : (told : List ℕ → Option Dialect) (s : Standing) → Stands docs s → (written : List ℕ) (tokens : List (List ℕ))
       → IfOk (walk told written tokens (start s.place)) (λ w. Comes docs (ended s w))

@@ -4,8 +4,8 @@ use Rattle.std.proofs.lemmas.Bool.{eqb-true, eqb-false}
 use Rattle.std.specs.List.{flat_map, AllByRecursion}
 use Rattle.schema_definitions.specs.Words.{listed}
 use Rattle.schema_definitions.specs.Places.{Dialect, named_meta_schema}
-use Rattle.schema_definitions.specs.Bearers.{Document, Documents, Standing, standings, is_root, dialects, how_many}
-use Rattle.schema_definitions.specs.DocumentCauses.{DocumentCause, circular_metaschema, is_told_alike}
+use Rattle.schema_definitions.specs.Bearers.{Documents, Standing, standings, is_root, dialects, how_many}
+use Rattle.schema_definitions.specs.DocumentCauses.{circular_metaschema, is_told_alike}
 use Rattle.document_laws.specs.Agreeing.{Agrees}
 use Rattle.document_laws.proofs.Alike.{all_stand}
 use Rattle.document_laws.specs.Stages.{unless_alike, anew_at, AtRest, OnlyRestTellsNoneAnew, RestIsTold, MetaIsFixed}
@@ -47,52 +47,31 @@ module _ (told after : List ℕ → Option Dialect) where
 
   pub none_at : (ss : List Standing) → AllByRecursion (Agrees told after) ss → flat_map (anew_at told after) ss ≡ []
   none_at [] h = refl
-  none_at (s ∷ ss) h = ap₂ (λ cs ds. cs ++ ds) (of_named (named_meta_schema (is_root s.place.path) s.place.contents) h.0.agrees) (none_at ss h.1)
+  none_at (s ∷ ss) h = ap₂ (λ cs ds. cs ++ ds) (of_named (named_meta_schema s.place.dialect.siblings (is_root s.place.path) s.place.contents) h.0.agrees) (none_at ss h.1)
 
   pub agreeing_at : (ss : List Standing) → flat_map (anew_at told after) ss ≡ [] → AllByRecursion (Agrees told after) ss
   agreeing_at [] h = tt
   agreeing_at (s ∷ ss) h = (
-    record { agrees = named_alike (named_meta_schema (is_root s.place.path) s.place.contents) (first_empty (anew_at told after s) (flat_map (anew_at told after) ss) h) },
+    record { agrees = named_alike (named_meta_schema s.place.dialect.siblings (is_root s.place.path) s.place.contents) (first_empty (anew_at told after s) (flat_map (anew_at told after) ss) h) },
     agreeing_at ss (second_empty (anew_at told after s) (flat_map (anew_at told after) ss) h),
-  )
-
-  -- ---- all layers
-
-  anew_in : List Document → List DocumentCause
-  anew_in own = flat_map (anew_at told after) (standings told own)
-
-  none_in : (docs : Documents) → AllByRecursion (λ own. AllByRecursion (Agrees told after) (standings told own)) docs
-      → flat_map (λ own. flat_map (anew_at told after) (standings told own)) docs ≡ []
-  none_in [] h = refl
-  none_in (own ∷ docs) h = ap₂ (λ cs ds. cs ++ ds) (none_at (standings told own) h.0) (none_in docs h.1)
-
-  agreeing_in : (docs : Documents) → flat_map (λ own. flat_map (anew_at told after) (standings told own)) docs ≡ []
-      → AllByRecursion (λ own. AllByRecursion (Agrees told after) (standings told own)) docs
-  unfolding anew_in
-  agreeing_in [] h = tt
-  agreeing_in (own ∷ docs) h = (
-    agreeing_at (standings told own) (first_empty (anew_in own) (flat_map anew_in docs) h),
-    agreeing_in docs (second_empty (anew_in own) (flat_map anew_in docs) h),
   )
 
 pub only_rest_tells_none_anew : OnlyRestTellsNoneAnew
 only_rest_tells_none_anew docs = record {
-  none = λ n. none_in (dialects docs n) (dialects docs (suc n)) docs;
-  rests = λ n. agreeing_in (dialects docs n) (dialects docs (suc n)) docs;
+  none = λ n. none_at (dialects docs n) (dialects docs (suc n)) (standings (dialects docs n) docs);
+  rests = λ n. agreeing_at (dialects docs n) (dialects docs (suc n)) (standings (dialects docs n) docs);
   last = refl;
 }
 
 -- ---- a stage before the last
 
 module _ (docs : Documents) where
-  all_at_rest : (n : ℕ) → ((uri : List ℕ) → dialects docs (suc n) uri ≡ dialects docs n uri) → (layers : Documents)
-      → AllByRecursion (λ own. AllByRecursion (Agrees (dialects docs n) (dialects docs (suc n))) (standings (dialects docs n) own)) layers
-  all_at_rest n same [] = tt
-  all_at_rest n same (own ∷ layers) = (all_stand (dialects docs (suc n)) (dialects docs n) same (standings (dialects docs n) own), all_at_rest n same layers)
+  all_at_rest : (n : ℕ) → ((uri : List ℕ) → dialects docs (suc n) uri ≡ dialects docs n uri) → AtRest docs n
+  all_at_rest n same = all_stand (dialects docs (suc n)) (dialects docs n) same (standings (dialects docs n) docs)
 
   -- after a stage at rest each is
   rest_after : (n m : ℕ) → AtRest docs n → n < m → AtRest docs m
-  rest_after n m rest less = all_at_rest m (λ uri. rest_stays docs n rest (suc m) (omega (arith, less)) uri ∙ sym (rest_stays docs n rest m less uri)) docs
+  rest_after n m rest less = all_at_rest m (λ uri. rest_stays docs n rest (suc m) (omega (arith, less)) uri ∙ sym (rest_stays docs n rest m less uri))
 
   pub rest_from : (n m : ℕ) → AtRest docs n → n ≤ m → AtRest docs m
   rest_from n m rest less = by (n == m) refl

@@ -9,8 +9,8 @@ use Rattle.schema_drafts.specs.Subschemas.{Holds, nothing, one, several, one_or_
 use Rattle.schema_drafts.specs.declared.draft.Draft.{Draft}
 use Rattle.schema_definitions.specs.Words.{levels}
 use Rattle.schema_definitions.specs.Identifiers.{is_hidden}
-use Rattle.schema_definitions.specs.Places.{Dialect, SchemaPlace, standard, meta_schema_uri, by_meta_schema, by_draft, by_schema, schema_in_force, placed, entered, root_place, if_schema, each_item, each_member, in_list, in_map, held, children_of, children_in, children, places}
-use Rattle.schema_definitions.specs.Bearers.{Document, Standing, standing_in, standings}
+use Rattle.schema_definitions.specs.Places.{Dialect, SchemaPlace, meta_schema_uri, by_meta_schema, by_draft, by_schema, schema_in_force, placed, entered, root_place, if_schema, each_item, each_member, in_list, in_map, held, children_of, children_in, children, places}
+use Rattle.schema_definitions.specs.Bearers.{Documents, document_name, Standing, standing_in, standings}
 use Rattle.schema_dialects.specs.Unknown.{no_meta}
 use Rattle.document_laws.proofs.Lists.{first_part, second_part}
 
@@ -41,10 +41,10 @@ module _ (meta : List ℕ → Option Dialect) where
 
   pub same_entered : (outer : List ℕ) (around : Dialect) (path : List Part) (d : Data) → Known (entered no_meta outer around path d)
       → entered meta outer around path d ≡ entered no_meta outer around path d
-  same_entered outer around path d k = ap (placed outer around path d) (same_named outer around path d (schema_in_force false d) k)
+  same_entered outer around path d k = ap (placed outer around path d) (same_named outer around path d (schema_in_force around.siblings false d) k)
 
-  same_root : (uri : List ℕ) (default : Draft) (d : Data) → Known (root_place no_meta uri default d) → root_place meta uri default d ≡ root_place no_meta uri default d
-  same_root uri default d k = ap (placed uri (standard default) [] d) (same_named uri (standard default) [] d (schema_in_force true d) k)
+  same_root : (uri : List ℕ) (default : Dialect) (d : Data) → Known (root_place no_meta uri default d) → root_place meta uri default d ≡ root_place no_meta uri default d
+  same_root uri default d k = ap (placed uri default [] d) (same_named uri default [] d (schema_in_force default.siblings true d) k)
 
   -- ---- the places below a place
 
@@ -110,7 +110,7 @@ module _ (meta : List ℕ → Option Dialect) where
   same_inside p (number n) k = refl
   same_inside p (string s) k = refl
   same_inside p (array ds) k = refl
-  same_inside p (object ms) k = same_each p (is_hidden p.dialect.draft (object ms)) ms k
+  same_inside p (object ms) k = same_each p (is_hidden p.dialect (object ms)) ms k
 
   same_unless : (b : Bool) (ps qs : List SchemaPlace) → (AllKnown ps → qs ≡ ps) → AllKnown (if b then [] else ps) → (if b then [] else qs) ≡ (if b then [] else ps)
   same_unless true ps qs f k = refl
@@ -138,7 +138,7 @@ module _ (meta : List ℕ → Option Dialect) where
       ap (λ qs. ps ++ levels (children meta) (suc n) qs) (same_below ps (first_part Known next (levels (children no_meta) n (flat_map (children no_meta) next)) deeper))
       ∙ ap (λ qs. ps ++ qs) (same_levels (suc n) next deeper)
 
-  pub same_places : (uri : List ℕ) (default : Draft) (d : Data) → AllKnown (places no_meta uri default d) → places meta uri default d ≡ places no_meta uri default d
+  pub same_places : (uri : List ℕ) (default : Dialect) (d : Data) → AllKnown (places no_meta uri default d) → places meta uri default d ≡ places no_meta uri default d
   unfolding places
   same_places uri default d k =
       ap (λ p. levels (children meta) (suc (depth d)) (p ∷ [])) (same_root uri default d k.0)
@@ -153,15 +153,15 @@ pub known_places : (uri : List ℕ) (ps : List SchemaPlace) → AllByRecursion K
 known_places uri [] k = tt
 known_places uri (p ∷ ps) k = (k.0.known, known_places uri ps k.1)
 
-same_each_document : (meta : List ℕ → Option Dialect) (own : List Document) → AllByRecursion KnownStanding (flat_map (standing_in no_meta) own)
-    → flat_map (standing_in meta) own ≡ flat_map (standing_in no_meta) own
+same_each_document : (meta : List ℕ → Option Dialect) (docs : Documents) → AllByRecursion KnownStanding (flat_map (standing_in no_meta) docs)
+    → flat_map (standing_in meta) docs ≡ flat_map (standing_in no_meta) docs
 same_each_document meta [] k = refl
-same_each_document meta (d ∷ own) k =
-    let known = known_places d.uri (places no_meta d.uri d.default d.contents) (first_part KnownStanding (standing_in no_meta d) (flat_map (standing_in no_meta) own) k) in
+same_each_document meta (d ∷ docs) k =
+    let known = known_places (document_name d) (places no_meta d.uri d.default d.contents) (first_part KnownStanding (standing_in no_meta d) (flat_map (standing_in no_meta) docs) k) in
     ap₂ (λ ss ts. ss ++ ts)
-    (ap (map (λ p. record { document = d.uri; place = p })) (same_places meta d.uri d.default d.contents known))
-    (same_each_document meta own (second_part KnownStanding (standing_in no_meta d) (flat_map (standing_in no_meta) own) k))
+    (ap (map (λ p. record { document = document_name d; place = p })) (same_places meta d.uri d.default d.contents known))
+    (same_each_document meta docs (second_part KnownStanding (standing_in no_meta d) (flat_map (standing_in no_meta) docs) k))
 
-pub same_standings : (meta : List ℕ → Option Dialect) (own : List Document) → AllByRecursion KnownStanding (standings no_meta own) → standings meta own ≡ standings no_meta own
+pub same_standings : (meta : List ℕ → Option Dialect) (docs : Documents) → AllByRecursion KnownStanding (standings no_meta docs) → standings meta docs ≡ standings no_meta docs
 unfolding standings
-same_standings meta own k = same_each_document meta own k
+same_standings meta docs k = same_each_document meta docs k

@@ -47,7 +47,7 @@ module _ (meta : List ℕ → Option Dialect) where
   enters w part e b =
       let p = w.last in
       let path : List Part = part ∷ w.path in
-      let named = by_schema no_meta p.dialect (schema_in_force false e) in
+      let named = by_schema no_meta p.dialect (schema_in_force p.dialect.siblings false e) in
       let arrive : SchemaPlace → Walk = λ q. record { path = path; contents = e; last = q; within = at_place } in
       record {
         same = ap arrive (same_entered meta p.base p.dialect path e (known_itself (entered no_meta p.base p.dialect path e) b));

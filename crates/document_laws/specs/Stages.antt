@@ -9,7 +9,7 @@ use Rattle.document_laws.specs.Agreeing.{Agrees}
 
 -- one stage more tells the same of all meta-schemas that are named at schema places
 abbrev pub AtRest : Documents → ℕ → Type 0
-AtRest docs n = AllByRecursion (λ own. AllByRecursion (Agrees (dialects docs n) (dialects docs (suc n))) (standings (dialects docs n) own)) docs
+AtRest docs n = AllByRecursion (Agrees (dialects docs n) (dialects docs (suc n))) (standings (dialects docs n) docs)
 
 -- where n stages are at rest, no stage after the next tells another dialect of any URI
 abbrev pub RestStays : Type 0
@@ -30,11 +30,11 @@ abbrev pub unless_alike : (List ℕ → Option Dialect) → (List ℕ → Option
 unless_alike told after uri = if is_told_alike (told uri) (after uri) then [] else circular_metaschema uri ∷ []
 
 abbrev pub anew_at : (List ℕ → Option Dialect) → (List ℕ → Option Dialect) → Standing → List DocumentCause
-anew_at told after s = flat_map (unless_alike told after) (listed (named_meta_schema (is_root s.place.path) s.place.contents))
+anew_at told after s = flat_map (unless_alike told after) (listed (named_meta_schema s.place.dialect.siblings (is_root s.place.path) s.place.contents))
 
 -- those of which one stage more than n tells another dialect
 abbrev pub anew_after : Documents → ℕ → List DocumentCause
-anew_after docs n = flat_map (λ own. flat_map (anew_at (dialects docs n) (dialects docs (suc n))) (standings (dialects docs n) own)) docs
+anew_after docs n = flat_map (anew_at (dialects docs n) (dialects docs (suc n))) (standings (dialects docs n) docs)
 
 -- there are none where n stages are at rest, and only there; the documents tell those anew that the last stage does
 pub record RestTellsNoneAnew (docs : Documents) : Type 0 where

@@ -9,4 +9,4 @@ contents_of ps = map (λ p. p.contents) ps
 
 -- whatever is told of meta-schemas
 abbrev pub ChildrenAreSubschemas : Type 0
-ChildrenAreSubschemas = (meta : List ℕ → Option Dialect) (p : SchemaPlace) (d : Data) → contents_of (children_in meta p d) ≡ subschemas p.dialect.draft d
+ChildrenAreSubschemas = (meta : List ℕ → Option Dialect) (p : SchemaPlace) (d : Data) → contents_of (children_in meta p d) ≡ subschemas p.dialect d

@@ -8,7 +8,7 @@ use Rattle.uri_grammar.specs.Texts.{cut_at}
 use Rattle.schema_meaning.specs.Members.{In}
 use Rattle.schema_meaning.specs.Places.{SchemaPlace}
 use Rattle.schema_definitions.specs.Words.{or}
-use Rattle.schema_definitions.specs.Bearers.{Document, Documents}
+use Rattle.schema_definitions.specs.Bearers.{Document, Documents, document_name}
 use Rattle.schema_definitions.specs.Lookup.{Target, lookup}
 use Rattle.schema_definitions.specs.Scopes.{dynamic_lookup, recursive_lookup}
 use Rattle.schema_definitions.specs.AllKeys.{places_of}
@@ -33,12 +33,12 @@ DynamicLookupsLie = (docs : Documents) (base : List ℕ) (scope : List (List ℕ
 abbrev pub RecursiveLookupsLie : Type 0
 RecursiveLookupsLie = (docs : Documents) (base : List ℕ) (scope : List (List ℕ)) (t : Target) → recursive_lookup docs base scope ≡ Ok t → Lies docs t
 
--- ---- of one list of documents
+-- ---- names apart
 
--- no URI is given twice
+-- no two have one name
 abbrev pub are_apart : List Document → Bool
 are_apart [] = true
-are_apart (d ∷ ds) = not (list_any (λ e. bytes_eq d.uri e.uri) ds) && are_apart ds
+are_apart (d ∷ ds) = not (list_any (λ e. bytes_eq (document_name d) (document_name e)) ds) && are_apart ds
 
 abbrev pub contents_rise : Document → Bool
 contents_rise d = rises d.contents
@@ -51,8 +51,8 @@ pub data IsTarget (docs : Documents) : Target → Type 0 where
 
 -- one place holds one value
 abbrev pub ContentsAreOne : Type 0
-ContentsAreOne = (own : List Document) → are_apart own ≡ true → list_all contents_rise own ≡ true
-    → (t u : Target) → IsTarget own t → IsTarget own u → t.document ≡ u.document → t.path ≡ u.path → t.contents ≡ u.contents
+ContentsAreOne = (docs : Documents) → are_apart docs ≡ true → list_all contents_rise docs ≡ true
+    → (t u : Target) → IsTarget docs t → IsTarget docs u → t.document ≡ u.document → t.path ≡ u.path → t.contents ≡ u.contents
 
 -- ---- pointers are texts
 

@@ -13,8 +13,8 @@ pub fn places_lead(contents: &Value)
     names_rise(contents);
 }
 
-/// Among documents whose URIs are apart and whose names rise, a place of a document is one schema place at most, so it determines base and
-/// dialect there; and no schema place stands below one that awaits its meta-schema. It costs nothing to call.
+/// Among documents whose names are apart, where members' names rise, a place of a document is one schema place at most, so it determines base
+/// and dialect there; and no schema place stands below one that awaits its meta-schema. It costs nothing to call.
 pub fn places_are_one()
     ensures { PlacesAreOne }
 {}

@@ -18,7 +18,7 @@ pub fn recursive_lookups_lie()
     ensures { RecursiveLookupsLie }
 {}
 
-/// Among documents whose URIs are apart and whose names rise, two references that lead to one place lead to one value.
+/// Among documents whose names are apart, where members' names rise, two references that lead to one place lead to one value.
 pub fn contents_are_one()
     ensures { ContentsAreOne }
 {}
@@ -28,9 +28,9 @@ pub fn lookups_read()
     ensures { LookupsRead }
 {}
 
-/// Where names rise, what a reference leads to counts as a schema place only where the list of the schema places of its document has one
-/// there, with the same contents, base and dialect, as long as no schema place above it awaits its meta-schema. Where the list has one, among
-/// documents whose URIs are apart, the target is that place. In documents without a cause to be refused two targets at one path are one.
+/// Where members' names rise, what a reference leads to counts as a schema place only where the list of the schema places of its document has
+/// one there, with the same contents, base and dialect, as long as no schema place above it awaits its meta-schema. Where the list has one,
+/// among documents whose names are apart, the target is that place. In documents without a cause to be refused two targets at one path are one.
 pub fn targets_are_listed()
     ensures { TargetsAreListed }
 {}

@@ -29,10 +29,10 @@ module _ (docs : Documents) (makes : List ℕ → Bool) (s : Site) (o : Origin d
 
   below_lies : (added : List Part) (d : Data) → Inside whole (added ++ s.path) d → Lies docs (below docs s added d)
   below_lies added d i =
-      let named : Named = by_schema (meta docs) s.dialect (schema_in_force false d) in
+      let named : Named = by_schema (meta docs) s.dialect (schema_in_force s.dialect.siblings false d) in
       let at = subst (λ (path : List Part). Inside whole path d) (sym (placed_path s.base s.dialect (added ++ s.path) d named)) i in
       let inside = subst (λ (e : Data). Inside whole (below docs s added d).path e) (sym (placed_contents s.base s.dialect (added ++ s.path) d named)) at in
-      record { origin = record { document = o.document; own = o.own; given = o.given; listed = o.listed; named = o.named; inside = inside } }
+      record { origin = record { document = o.document; listed = o.listed; named = o.named; inside = inside } }
 
   target_lies : (text : List ℕ) (t : Target) → IsTarget docs t → Lies docs (target_site s text t)
   target_lies text t is = record { origin = (target_comes_of docs t is).origin }

@@ -52,7 +52,7 @@ below_under c k d h _ (is_below added e p) =
     record {
       is =
           subst (λ (x : Data). depth x < depth (object c.members))
-          (sym (placed_contents c.site.base c.site.dialect (added ++ c.site.path) e (by_schema (meta c.documents) c.site.dialect (schema_in_force false e))))
+          (sym (placed_contents c.site.base c.site.dialect (added ++ c.site.path) e (by_schema (meta c.documents) c.site.dialect (schema_in_force c.site.dialect.siblings false e))))
           (omega (arith, inner, outer));
     }
 
