@@ -1,5 +1,5 @@
 -- Roots in documents that can be told apart.
-use Rattle.std.specs.Prelude.{◌≡◌, List, [], ◌∷◌, true}
+use Rattle.std.specs.Prelude.{◌≡◌, List, true}
 use Rattle.std.specs.List.{list_all}
 use Rattle.schema_definitions.specs.Bearers.{Document}
 use Rattle.schema_definitions.specs.Lookup.{Target}

@@ -1,5 +1,5 @@
 -- What a graph of all that is reached says of its roots.
-use Rattle.std.proofs.Common.{◌≡◌, ◌∙◌, ◌<◌, ◌≤◌, ℕ, List, [], ◌∷◌, Bool, sym, subst, arith, length, map, slice_get}
+use Rattle.std.proofs.Common.{◌≡◌, ◌∙◌, ◌<◌, ◌≤◌, ℕ, List, Bool, sym, subst, arith, length, map, slice_get}
 use Rattle.std.proofs.lemmas.List.{length-map}
 use Rattle.schema_meaning.specs.Members.{In}
 use Rattle.schema_definitions.specs.Bearers.{Document}

@@ -1,5 +1,5 @@
 -- Visits of one key stand for the same sites.
-use Rattle.std.proofs.Common.{◌≡◌, ◌∙◌, ◌⊎◌, ℕ, List, [], ◌∷◌, Bool, true, sym, ap, subst, inl, inr}
+use Rattle.std.proofs.Common.{◌≡◌, ◌∙◌, ◌⊎◌, ℕ, List, Bool, true, sym, ap, subst, inl, inr}
 use Rattle.std.specs.List.{list_all}
 use Rattle.serde_json.specs.View.{view}
 use Rattle.schema_meaning.specs.Members.{In}

@@ -1,5 +1,5 @@
 use Rattle.std.specs.Borrow.{Bor}
-use Rattle.std.proofs.Common.{◌≡◌, ◌≤◌, ◌∙◌, ◌∷◌, [], sym, ap₂, subst, inl, inr, true, false, Option, option_copied}
+use Rattle.std.proofs.Common.{◌≡◌, ◌≤◌, ◌∙◌, sym, ap₂, subst, inl, inr, true, false, Option, option_copied}
 use Rattle.serde_json.specs.Data.{depth}
 use Rattle.serde_json.specs.View.{view}
 use Rattle.schema_definitions.specs.Lookup.{lookup}

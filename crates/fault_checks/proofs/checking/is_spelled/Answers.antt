@@ -1,4 +1,4 @@
-use Rattle.std.proofs.Common.{◌++◌, ◌∷◌, [], ap₂, List, ℕ}
+use Rattle.std.proofs.Common.{◌++◌, [], ap₂, List, ℕ}
 use Rattle.std.proofs.lemmas.Result.{IfOk-weaker}
 use Rattle.schema_definitions.specs.Sites.{path_of_reference}
 use Rattle.fault_checks.specs.Passed.{documents_in, target_in}

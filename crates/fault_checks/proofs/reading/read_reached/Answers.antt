@@ -1,4 +1,4 @@
-use Rattle.std.proofs.Common.{◌∷◌, [], ◌∙◌, sym}
+use Rattle.std.proofs.Common.{◌∙◌, sym}
 use Rattle.fault_checks.specs.Passed.{documents_in, target_in}
 use Rattle.fault_checks.proofs.ReadLemmas.{has_cause}
 use Rattle.fault_checks.proofs.reading.read_reached.Goals as goal
