@@ -7,12 +7,14 @@ ghost use Rattle.serde_json.specs.View.{view};
 ghost use Rattle.schema_drafts.specs.declared.draft.Draft.TheVariants as drafts;
 ghost use Rattle.schema_definitions.specs.Words.{last_that};
 ghost use Rattle.schema_definitions.specs.Identifiers as identifiers;
+ghost use Rattle.schema_definitions.specs.Places.{standard};
 ghost use Rattle.schema_definitions.specs.Bearers as bearers;
 ghost use Rattle.schema_definitions.specs.DocumentCauses as causes;
 ghost use Rattle.document_index.specs.Seen.{standing_of};
 ghost use Rattle.document_index.specs.Awaited.{AwaitedIn, cause_of, awaited_among};
 
 use crate::standing::Standing;
+use schema_dialects::Dialect;
 use schema_dialects::bases::resolved;
 use schema_dialects::identifiers::identifier;
 use schema_drafts::draft::Draft;

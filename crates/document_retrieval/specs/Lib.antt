@@ -1,3 +1,3 @@
 pub mod Known
 pub mod Stages
-pub mod Inherited
+pub mod Layers

@@ -2,6 +2,7 @@
 #![tactic(auto)]
 
 pub mod given;
+pub mod layers;
 mod names;
 mod round;
 pub mod rounds;

@@ -4,16 +4,18 @@ ghost use Rattle.std.specs.Prelude.{◌≡◌, ◌⊎◌, ◌++◌, ◌∷◌, [
 ghost use Rattle.serde_json.specs.View.{view};
 ghost use Rattle.document_index.specs.Seen.{document_of, contents_view};
 ghost use Rattle.document_sources.specs.Causes.{IsMemory, NamesDocument};
+ghost use Rattle.document_sources.specs.Seen.{layer_of};
 ghost use Rattle.document_retrieval.specs.Known.{want_of};
 ghost use Rattle.document_retrieval.specs.Stages.{asking, documents_in, uris_in, IsAnswer, HasAnswer, Adds, RefusesWant, RefusesRound};
 
 use crate::rounds::Retrieved;
 use crate::wants::{Purpose, Want};
-use document_index::document::{Contents, Document};
+use document_index::document::{Contents, Document, DocumentName};
 use document_sources::Retrieve;
 use document_sources::error::{Error, RetrieveError};
+use document_sources::layer::Layer;
 use document_sources::named::{not_borne, unknown_specification};
-use schema_drafts::draft::Draft;
+use schema_dialects::Dialect;
 use serde_json::Value;
 use std::alloc::{AllocError, Global};
 use std::rc::Rc;
@@ -39,17 +41,20 @@ fn shared<'a>(alloc: Global, value: Value) -> Result<Contents<'a>, AllocError>
 fn answer_to<'a, R: Retrieve>(
     alloc: Global,
     want: &Want,
-    default: Draft,
+    layer: Layer,
     retriever: &R,
 ) -> Result<Document<'a>, Error>
-    ensures ok { IfOk result (λ d. IsAnswer (asking R.may_answer R.may_refuse retriever.now default) (want_of want.now) (document_of d)) }
-    ensures refused { IfErr result (λ e. IsMemory e ⊎ RefusesWant (asking R.may_answer R.may_refuse retriever.now default) (want_of want.now) e) }
+    ensures ok { IfOk result (λ d. IsAnswer (asking R.may_answer R.may_refuse retriever.now (layer_of layer)) (want_of want.now) (document_of d)) }
+    ensures refused { IfErr result (λ e. IsMemory e ⊎ RefusesWant (asking R.may_answer R.may_refuse retriever.now (layer_of layer)) (want_of want.now) e) }
 {
     match retriever.retrieve(alloc, &want.uri) {
         Ok(value) => Ok(Document {
-            uri: want.uri.clone()?,
+            name: DocumentName {
+                layer: layer.number,
+                uri: want.uri.clone()?,
+            },
             contents: shared(alloc, value)?,
-            default,
+            default: Dialect::standard(layer.siblings, layer.draft),
         }),
         Err(error) => match error {
             RetrieveError::Refused => Err(refusal(alloc, want)),
@@ -77,13 +82,13 @@ fn push_answer<R: Retrieve>(
     alloc: Global,
     gathered: &mut Retrieved<'_>,
     want: &Want,
-    default: Draft,
+    layer: Layer,
     retriever: &R,
 ) -> Result<(), Error>
-    ensures ok { OnOk result (HasAnswer (asking R.may_answer R.may_refuse retriever.now default) (want_of want.now) gathered.old gathered.new) }
-    ensures refused { IfErr result (λ e. IsMemory e ⊎ RefusesWant (asking R.may_answer R.may_refuse retriever.now default) (want_of want.now) e) }
+    ensures ok { OnOk result (HasAnswer (asking R.may_answer R.may_refuse retriever.now (layer_of layer)) (want_of want.now) gathered.old gathered.new) }
+    ensures refused { IfErr result (λ e. IsMemory e ⊎ RefusesWant (asking R.may_answer R.may_refuse retriever.now (layer_of layer)) (want_of want.now) e) }
 {
-    let document = answer_to(alloc, want, default, retriever)?;
+    let document = answer_to(alloc, want, layer, retriever)?;
     keep(gathered, document, want.uri.clone()?)?;
     Ok(())
 }
@@ -97,18 +102,18 @@ pub fn push_round<R: Retrieve>(
     alloc: Global,
     gathered: &mut Retrieved<'_>,
     wants: &[Want],
-    default: Draft,
+    layer: Layer,
     retriever: &R,
     limit: u64,
 ) -> Result<(), Error>
-    ensures ok { OnOk result (Adds (asking R.may_answer R.may_refuse retriever.now default) limit (map want_of wants.now) gathered.old gathered.new) }
-    ensures refused { IfErr result (λ e. IsMemory e ⊎ RefusesRound (asking R.may_answer R.may_refuse retriever.now default) limit (map want_of wants.now) gathered.old e) }
+    ensures ok { OnOk result (Adds (asking R.may_answer R.may_refuse retriever.now (layer_of layer)) limit (map want_of wants.now) gathered.old gathered.new) }
+    ensures refused { IfErr result (λ e. IsMemory e ⊎ RefusesRound (asking R.may_answer R.may_refuse retriever.now (layer_of layer)) limit (map want_of wants.now) gathered.old e) }
 {
     if wants.len() as u64 > limit.saturating_sub(gathered.uris.len() as u64) {
         return Err(Error::RetrievalLimit { limit });
     }
     for want in wants {
-        push_answer(alloc, gathered, want, default, retriever)?;
+        push_answer(alloc, gathered, want, layer, retriever)?;
     }
     Ok(())
 }

@@ -99,7 +99,7 @@ fn names_of(alloc: Global, documents: &[Document<'_>]) -> Result<Names, AllocErr
 {
     let mut names = Names::new(alloc);
     for document in documents {
-        names.put(alloc, document.uri.as_str())?;
+        names.put(alloc, document.name.uri.as_str())?;
     }
     Ok(names)
 }

@@ -9,8 +9,8 @@ ghost use Rattle.schema_places.specs.Seen.{place_of};
 ghost use Rattle.schema_dialects.specs.Dialects.{dialect_of, dialects_in};
 
 use crate::place::{Place, enter, is_schema, root};
-use schema_dialects::{Dialect, MetaSchemas};
 use schema_dialects::identifiers::is_hidden;
+use schema_dialects::{Dialect, MetaSchemas};
 use schema_drafts::subschemas::{Subschemas, held_by};
 use schema_steps::Path;
 use serde_json::Value;
