@@ -20,7 +20,7 @@ returns-in-Err-clause-refused g c =
     let resolver = c.in_ok-resolver.resolver in
     let documents : documents_in resolver ≡ documents_shared c.args.registry.now = c.in_ok-resolver.ensures.documents ∙ c.registry.ensures.documents in
     let base : base_of resolver ≡ r.base = c.in_ok-resolver.ensures.base ∙ c.in_ok-clone.ensures.cases in
-    let same : lookup (documents_in resolver ∷ []) (base_of resolver) r.reference ≡ lookup r.documents r.base r.reference = ap₂ (λ ds b. lookup ds b r.reference) documents base in
+    let same : lookup (documents_in resolver) (base_of resolver) r.reference ≡ lookup r.documents r.base r.reference = ap₂ (λ ds b. lookup ds b r.reference) documents base in
     c.of_root.ensures p c.args.node_limit r (subst (λ x. RefusesLookup x c.in-Err.error) same c.in-Err.ensures.refused)
 
 pub returns-clause-refused : goal.returns-clause-refused
@@ -30,11 +30,11 @@ returns-clause-refused g c =
     let resolver = c.in_ok-resolver.resolver in
     let documents : documents_in resolver ≡ documents_shared c.args.registry.now = c.in_ok-resolver.ensures.documents ∙ c.registry.ensures.documents in
     let base : base_of resolver ≡ r.base = c.in_ok-resolver.ensures.base ∙ c.in_ok-clone.ensures.cases in
-    let same : lookup (documents_in resolver ∷ []) (base_of resolver) r.reference ≡ lookup r.documents r.base r.reference = ap₂ (λ ds b. lookup ds b r.reference) documents base in
+    let same : lookup (documents_in resolver) (base_of resolver) r.reference ≡ lookup r.documents r.base r.reference = ap₂ (λ ds b. lookup ds b r.reference) documents base in
     let target = target_in c.in-Ok.found in
     let there : documents_in c.in-Ok.found.resolver ≡ documents_shared c.args.registry.now = c.in-Ok.ensures.documents ∙ documents in
     c.of_schema.ensures p c.args.node_limit r target (sym same ∙ c.in-Ok.ensures.ok)
-    (subst (λ own. RefusesWithin (own ∷ []) p.makes (root_site target) c.args.node_limit c.in-Err-check_reached.cause) there c.in-Err-check_reached.ensures.refused)
+    (subst (λ own. RefusesWithin own p.makes (root_site target) c.args.node_limit c.in-Err-check_reached.cause) there c.in-Err-check_reached.ensures.refused)
 
 pub returns-in-Ok-check_reached-clause-made : goal.returns-in-Ok-check_reached-clause-made
 returns-in-Ok-check_reached-clause-made g c =
