@@ -6,14 +6,14 @@ use Rattle.std.proofs.lemmas.Slice.Eq.{bytes_eq-Decides}
 use Rattle.serde_json.specs.Data.{Data, null, boolean, number, string, array, object, Members, member}
 use Rattle.serde_json.specs.Find.{get, as_array}
 use Rattle.json_values.specs.Parts.{Part, name}
-use Rattle.schema_meaning.specs.Members.{In, first, later, is_listed, all_known}
+use Rattle.schema_meaning.specs.Members.{In, first, later, is_listed, known_too, all_known}
 use Rattle.schema_meaning.specs.Places.{Spot, whole}
 use Rattle.schema_meaning.specs.Faults.{Fault, fault, Faults, none, also, joined, join, is_none, Required}
 use Rattle.schema_meaning.specs.Keywords.{Shape, asserts, required, missing, if_object, none_there, rule}
 use Rattle.schema_meaning.specs.Questions.{Question, at, asked_at}
 use Rattle.schema_meaning.specs.Rules.{Note, Rule, every, conditional, consequents, chosen, if_same, own_faults, faults, asks}
 use Rattle.schema_meaning.specs.Readings.{Reading, rules, bags, verdicts, tell_one, told, IsTold}
-use Rattle.meaning_laws.proofs.Known.{option_map-some, all_known-in, known_too-some}
+use Rattle.meaning_laws.proofs.Known.{option_map-some, all_known-in}
 use Rattle.meaning_laws.proofs.Verdicts.{told_agrees}
 use Rattle.meaning_laws.proofs.Refuses.{told_once}
 use Rattle.meaning_laws.proofs.Stays.{told-asks}
@@ -131,6 +131,12 @@ among_each (gs ∷ rest) fs first = among_first gs (join rest)
 among_each (gs ∷ rest) fs (later i) = among_by (among_each rest fs i) (among_last gs (join rest))
 
 -- ---- what stands beside an answer
+
+known_too-some : {A : Type 0} (o : Option A) (os : Option (List A)) (zs : List A) → known_too o os ≡ Some zs
+    → (x : A) × (xs : List A) × (o ≡ Some x) × (os ≡ Some xs) × (zs ≡ x ∷ xs)
+known_too-some None os zs e = cc
+known_too-some (Some x) None zs e = cc
+known_too-some (Some x) (Some xs) zs e = (x, xs, refl, refl, (let same : x ∷ xs ≡ zs = cc e in sym same))
 
 if_same_first : {A : Type 0} (b : Bool) (x : A) (xs : List A) → In x (if_same b b x xs)
 if_same_first true x xs = first
