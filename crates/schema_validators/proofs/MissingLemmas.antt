@@ -136,7 +136,7 @@ known_too-some : {A : Type 0} (o : Option A) (os : Option (List A)) (zs : List A
     → (x : A) × (xs : List A) × (o ≡ Some x) × (os ≡ Some xs) × (zs ≡ x ∷ xs)
 known_too-some None os zs e = cc
 known_too-some (Some x) None zs e = cc
-known_too-some (Some x) (Some xs) zs e = (x, xs, refl, refl, (let same : x ∷ xs ≡ zs = cc e in sym same))
+known_too-some (Some x) (Some xs) zs e = (x, xs, refl, refl, cc)
 
 if_same_first : {A : Type 0} (b : Bool) (x : A) (xs : List A) → In x (if_same b b x xs)
 if_same_first true x xs = first
