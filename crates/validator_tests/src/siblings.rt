@@ -114,7 +114,7 @@ fn meta_schemas_are_read_by_it(rt: HostRuntime) {
         &rt,
         rt.alloc(),
         READ,
-        "Schema refused by its meta-schema at '/title', '/properties/title/minLength'",
+        "Schema refused by its meta-schema at '/title', '/properties/title/minLength': #/properties/title/minLength #/properties/title/minLength \"a\" MinLength",
     );
 }
 
