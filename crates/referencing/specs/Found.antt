@@ -6,10 +6,11 @@ use Rattle.schema_definitions.specs.Bearers.{Document, Documents, Standing, bear
 use Rattle.schema_definitions.specs.Lookup.{LookupCause, invalid_uri, unretrievable, Target}
 use Rattle.schema_definitions.specs.Scopes.{outermost}
 use Rattle.schema_places.specs.Reached.{target_of}
+use Rattle.document_index.specs.Seen.{name_of}
 use Rattle.referencing.specs.declared.resolving.Found.{Found}
 
 abbrev pub found_target : Found → Target
-found_target f = target_of f.document.value f.reached
+found_target f = target_of (name_of f.document) f.reached
 
 -- the bearer of a reference without its fragment
 abbrev pub bearer_at : List Document → List ℕ → Result Standing LookupCause
@@ -20,4 +21,4 @@ bearer_wanted documents base text = and_then (ok_or (invalid_uri text) (resolved
 
 -- what a dynamic reference leads to, by the name in its fragment and what it leads to as a plain one
 abbrev pub redirect : Documents → List (List ℕ) → List ℕ → Target → Result Target LookupCause
-redirect docs scope k t = if is_name k && has_text k (dynamic_anchors t.dialect.draft t.contents) then outermost docs k (t.base ∷ scope) else Ok t
+redirect docs scope k t = if is_name k && has_text k (dynamic_anchors t.dialect t.contents) then outermost docs k (t.base ∷ scope) else Ok t

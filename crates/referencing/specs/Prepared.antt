@@ -8,11 +8,12 @@ use Rattle.document_sources.specs.Causes.{IsMemory, NamesDocument}
 use Rattle.document_sources.specs.declared.error.Error.{Error}
 use Rattle.schema_definitions.specs.Rounds.{Asking, wants}
 use Rattle.document_retrieval.specs.Stages.{asking, IsGathered, Stops}
+use Rattle.referencing.specs.Built.{layer_in}
 use Rattle.referencing.specs.declared.builder.RegistryBuilder.{RegistryBuilder}
 
--- a builder's retriever is asked, and what is answered is read by the builder's draft where it names none
+-- a builder's retriever is asked, and what is answered is of the layer of the documents that were added
 abbrev pub asking_of : {R : Type 0} → (R → List ℕ → Data → Type 0) → (R → List ℕ → Type 0) → RegistryBuilder R → Asking
-asking_of may_answer may_refuse b = asking may_answer may_refuse b.retriever b.draft
+asking_of may_answer may_refuse b = asking may_answer may_refuse b.retriever (layer_in b)
 
 -- the documents after all rounds, of which nothing else is wanted, have a cause to be refused, which is named
 pub record HasCause (a : Asking) (limit : ℕ) (own : List Document) (e : Error) : Type 0 where

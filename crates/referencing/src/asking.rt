@@ -42,7 +42,7 @@ impl<'a> Registry<'a> {
     fn meta_schema_of(&self, contents: &Value) -> Result<Option<&Value>, AllocError>
         ensures { IfOk result (λ m. option_map (λ v. view v.now) m ≡ meta_schema_of (documents_of self.now) (view contents.now)) }
     {
-        match named_meta_schema(self.alloc, true, contents)? {
+        match named_meta_schema(self.alloc, self.siblings, true, contents)? {
             Some(uri) => Ok(self.contents_of(uri.as_str())),
             None => Ok(None),
         }

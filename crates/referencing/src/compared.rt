@@ -39,13 +39,14 @@ impl<'r> fmt::Debug for Resolver<'r> {
     }
 }
 
-/// The settings, and how many documents were added.
+/// The settings, and how many documents were added to those of the parent.
 impl<'a, R: fmt::Debug> fmt::Debug for RegistryBuilder<'a, R> {
     fn fmt<W: fmt::Write>(&self, f: &mut fmt::Formatter<W>) -> fmt::Result {
         write!(
             f,
-            "RegistryBuilder {{ draft: {:?}, documents: {}, retriever: {:?}, limit: {} }}",
+            "RegistryBuilder {{ draft: {:?}, siblings: {}, documents: {}, retriever: {:?}, limit: {} }}",
             self.draft,
+            self.siblings,
             self.list.documents().len(),
             self.retriever,
             self.limit

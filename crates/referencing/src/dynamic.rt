@@ -11,7 +11,7 @@ ghost use Rattle.document_index.specs.Indexes.{named};
 ghost use Rattle.document_index.specs.Seen.{standing_of};
 ghost use Rattle.document_sources.specs.Causes.{RefusesLookup};
 ghost use Rattle.referencing.specs.Found.{found_target, redirect};
-ghost use Rattle.referencing.specs.Resolved.{base_of, scope_of, documents_in, target_in};
+ghost use Rattle.referencing.specs.Resolved.{base_of, scope_of, documents_in, siblings_in, target_in};
 ghost use Rattle.referencing.specs.Seen.{documents_of};
 
 use crate::registry::Registry;
@@ -84,9 +84,9 @@ fn is_anchor_name(name: &str) -> bool
 
 // Whether a name is that of an anchor, and what was found has it as a dynamic one.
 fn is_dynamic(found: &Found<'_>, name: &str) -> bool
-    ensures { result ≡ (is_name name.now && words.has_text name.now (dynamic_anchors (found_target found.now).dialect.draft (found_target found.now).contents)) }
+    ensures { result ≡ (is_name name.now && words.has_text name.now (dynamic_anchors (found_target found.now).dialect (found_target found.now).contents)) }
 {
-    match dynamic_anchor(found.reached.dialect.draft, found.reached.contents) {
+    match dynamic_anchor(found.reached.dialect, found.reached.contents) {
         Some(anchor) => is_anchor_name(name) && anchor == name,
         None => false,
     }
@@ -157,6 +157,7 @@ impl<'r> Resolver<'r> {
         ensures ok { IfOk result (λ r. spec.dynamic_lookup (documents_in self.now) (base_of self.now) (scope_of self.now) reference.now ≡ Ok (target_in r)) }
         ensures scope { IfOk result (λ r. scope_of r.resolver ≡ entered_scope (base_of r.resolver) (base_of self.now) (scope_of self.now)) }
         ensures documents { IfOk result (λ r. documents_in r.resolver ≡ documents_in self.now) }
+        ensures siblings { IfOk result (λ r. siblings_in r.resolver ≡ siblings_in self.now) }
         ensures refused { IfErr result (RefusesLookup (spec.dynamic_lookup (documents_in self.now) (base_of self.now) (scope_of self.now) reference.now)) }
     {
         let (_, fragment) = split_fragment(reference);
@@ -177,6 +178,7 @@ impl<'r> Resolver<'r> {
         ensures ok { IfOk result (λ r. spec.recursive_lookup (documents_in self.now) (base_of self.now) (scope_of self.now) ≡ Ok (target_in r)) }
         ensures scope { IfOk result (λ r. scope_of r.resolver ≡ entered_scope (base_of r.resolver) (base_of self.now) (scope_of self.now)) }
         ensures documents { IfOk result (λ r. documents_in r.resolver ≡ documents_in self.now) }
+        ensures siblings { IfOk result (λ r. siblings_in r.resolver ≡ siblings_in self.now) }
         ensures refused { IfErr result (RefusesLookup (spec.recursive_lookup (documents_in self.now) (base_of self.now) (scope_of self.now))) }
     {
         let resource = self.run_end();

@@ -31,7 +31,7 @@ fn standing_at<'r>(
     };
     Ok(Some(Standing {
         document: bearer.document,
-        uri: document.uri.clone()?,
+        name: document.name.clone()?,
         place: Place {
             path: bearer.path.clone()?,
             contents,

@@ -1,8 +1,8 @@
 //! Chains of references.
 
-ghost use Rattle.std.specs.Prelude.{◌≡◌, ◌∷◌, [], IfOk, IfErr, IfSome, Ok, Some, None, option_map};
+ghost use Rattle.std.specs.Prelude.{◌≡◌, IfOk, IfErr, IfSome, Ok, Some, None, option_map};
 ghost use Rattle.document_sources.specs.Causes.{RefusesLookup};
-ghost use Rattle.referencing.specs.Resolved.{base_of, scope_of, documents_in};
+ghost use Rattle.referencing.specs.Resolved.{base_of, scope_of, documents_in, siblings_in};
 ghost use Rattle.referencing.specs.Followed.{one_step, followed, begun, last_of_chain, answer_in};
 ghost use Rattle.referencing.specs.Chains.{stand_of, IsOver};
 ghost use Rattle.referencing.specs.Seen.{documents_of};
@@ -39,6 +39,7 @@ fn chain_at<'r>(resolved: Resolved<'r>) -> Result<Chain<'r>, AllocError>
     ensures base { IfOk result (λ c. base_of c.resolver ≡ base_of resolved.entry.resolver) }
     ensures scope { IfOk result (λ c. scope_of c.resolver ≡ scope_of resolved.entry.resolver) }
     ensures documents { IfOk result (λ c. documents_in c.resolver ≡ documents_in resolved.entry.resolver) }
+    ensures siblings { IfOk result (λ c. siblings_in c.resolver ≡ siblings_in resolved.entry.resolver) }
     ensures last { IfOk result (λ c. c.last ≡ Some resolved.entry) }
 {
     Ok(Chain {
@@ -48,9 +49,9 @@ fn chain_at<'r>(resolved: Resolved<'r>) -> Result<Chain<'r>, AllocError>
 }
 
 fn take_step<'r>(chain: Chain<'r>, step: &Step<'_>) -> Result<Chain<'r>, Error>
-    ensures ok { IfOk result (λ c. one_step (documents_in chain.entry.resolver) (stand_of chain.entry) step.now ≡ Ok (stand_of c)) }
-    ensures over { IfOk result (λ c. IfSome chain.entry.last (λ r. documents_in r.resolver ≡ documents_in chain.entry.resolver) → IsOver (documents_in chain.entry.resolver) c) }
-    ensures refused { IfErr result (RefusesLookup (one_step (documents_in chain.entry.resolver) (stand_of chain.entry) step.now)) }
+    ensures ok { IfOk result (λ c. one_step (siblings_in chain.entry.resolver) (documents_in chain.entry.resolver) (stand_of chain.entry) step.now ≡ Ok (stand_of c)) }
+    ensures over { IfOk result (λ c. IsOver (siblings_in chain.entry.resolver) (documents_in chain.entry.resolver) chain.entry → IsOver (siblings_in chain.entry.resolver) (documents_in chain.entry.resolver) c) }
+    ensures refused { IfErr result (RefusesLookup (one_step (siblings_in chain.entry.resolver) (documents_in chain.entry.resolver) (stand_of chain.entry) step.now)) }
 {
     match step {
         Step::Lookup(reference) => Ok(chain_at(chain.resolver.lookup(reference)?)?),
@@ -75,9 +76,10 @@ pub fn follow<'r>(
     base: Uri,
     steps: &[Step<'_>],
 ) -> Result<Option<Resolved<'r>>, Error>
-    ensures ok { IfOk result (λ r. last_of_chain (documents_of registry.now) base steps.now ≡ Ok (option_map answer_in r)) }
+    ensures ok { IfOk result (λ r. last_of_chain registry.now.siblings (documents_of registry.now) base steps.now ≡ Ok (option_map answer_in r)) }
     ensures documents { IfOk result (λ r. IfSome r (λ x. documents_in x.resolver ≡ documents_of registry.now)) }
-    ensures refused { IfErr result (RefusesLookup (followed (documents_of registry.now) (begun base) steps.now)) }
+    ensures siblings { IfOk result (λ r. IfSome r (λ x. siblings_in x.resolver ≡ registry.now.siblings)) }
+    ensures refused { IfErr result (RefusesLookup (followed registry.now.siblings (documents_of registry.now) (begun base) steps.now)) }
 {
     let mut chain = Chain {
         resolver: registry.resolver(base)?,

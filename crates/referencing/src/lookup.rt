@@ -2,23 +2,27 @@
 
 ghost use Rattle.std.specs.Prelude.{◌≡◌, ◌∷◌, [], ℕ, List, IfOk, IfErr, Ok, map};
 ghost use Rattle.serde_json.specs.View.{view};
-ghost use Rattle.schema_definitions.specs.Bearers.{meta};
+ghost use Rattle.schema_definitions.specs.Places.{standard};
+ghost use Rattle.schema_definitions.specs.Bearers.{meta, uri_in};
 ghost use Rattle.schema_definitions.specs.Lookup as spec;
 ghost use Rattle.schema_definitions.specs.Scopes.{entered_scope};
 ghost use Rattle.schema_dialects.specs.Dialects.{dialects_in};
+ghost use Rattle.document_index.specs.Seen.{name_of};
 ghost use Rattle.document_sources.specs.Causes.{RefusesLookup};
 ghost use Rattle.referencing.specs.Found.{found_target};
 ghost use Rattle.referencing.specs.Seen.{documents_of};
-ghost use Rattle.referencing.specs.Resolved.{base_of, scope_of, documents_in, target_in, entered_at, entered_by};
+ghost use Rattle.referencing.specs.Resolved.{base_of, scope_of, documents_in, siblings_in, target_in, entered_at, entered_by};
 
 use crate::registry::Registry;
 use crate::resolver::{Resolved, Resolver};
 use crate::resolving::{Found, look_up};
+use document_index::document::DocumentName;
 use document_sources::error::Error;
 use document_sources::named::invalid_uri;
 use schema_dialects::bases::resolved;
 use schema_dialects::{Dialect, MetaSchemas};
 use schema_drafts::draft::Draft;
+use schema_drafts::identifiers::identifier;
 use schema_drafts::resource::ResourceRef;
 use schema_steps::Path;
 use serde_json::Value;
@@ -35,6 +39,7 @@ impl<'a> Registry<'a> {
     /// Where memory was refused.
     pub fn resolver(&self, base_uri: Uri) -> Result<Resolver<'_>, AllocError>
         ensures documents { IfOk result (λ r. documents_in r ≡ documents_of self.now) }
+        ensures siblings { IfOk result (λ r. siblings_in r ≡ self.now.siblings) }
         ensures base { IfOk result (λ r. base_of r ≡ base_uri) }
         ensures scope { IfOk result (λ r. scope_of r ≡ base_uri ∷ []) }
     {
@@ -101,6 +106,7 @@ impl<'r> Resolver<'r> {
     /// Where memory was refused or a count of owners is full.
     pub fn at(&self, base: Rc<Uri>) -> Result<Resolver<'r>, AllocError>
         ensures documents { IfOk result (λ r. documents_in r ≡ documents_in self.now) }
+        ensures siblings { IfOk result (λ r. siblings_in r ≡ siblings_in self.now) }
         ensures base { IfOk result (λ r. base_of r ≡ base.value) }
         ensures scope { IfOk result (λ r. scope_of r ≡ entered_scope base.value (base_of self.now) (scope_of self.now)) }
     {
@@ -118,6 +124,7 @@ impl<'r> Resolver<'r> {
     /// Where memory was refused or a count of owners is full.
     pub fn alone(&self) -> Result<Resolver<'r>, AllocError>
         ensures documents { IfOk result (λ r. documents_in r ≡ documents_in self.now) }
+        ensures siblings { IfOk result (λ r. siblings_in r ≡ siblings_in self.now) }
         ensures base { IfOk result (λ r. base_of r ≡ base_of self.now) }
         ensures scope { IfOk result (λ r. scope_of r ≡ base_of self.now ∷ []) }
     {
@@ -135,6 +142,7 @@ impl<'r> Resolver<'r> {
     /// Where a count of owners is full.
     pub fn share(&self) -> Result<Resolver<'r>, AllocError>
         ensures documents { IfOk result (λ r. documents_in r ≡ documents_in self.now) }
+        ensures siblings { IfOk result (λ r. siblings_in r ≡ siblings_in self.now) }
         ensures base { IfOk result (λ r. base_of r ≡ base_of self.now) }
         ensures scope { IfOk result (λ r. scope_of r ≡ scope_of self.now) }
     {
@@ -147,6 +155,7 @@ impl<'r> Resolver<'r> {
 
     fn at_uri(&self, uri: Uri) -> Result<Resolver<'r>, AllocError>
         ensures documents { IfOk result (λ r. documents_in r ≡ documents_in self.now) }
+        ensures siblings { IfOk result (λ r. siblings_in r ≡ siblings_in self.now) }
         ensures base { IfOk result (λ r. base_of r ≡ uri) }
         ensures scope { IfOk result (λ r. scope_of r ≡ entered_scope uri (base_of self.now) (scope_of self.now)) }
     {
@@ -156,6 +165,7 @@ impl<'r> Resolver<'r> {
     fn at_identifier(&self, id: &str) -> Result<Resolver<'r>, Error>
         ensures ok { IfOk result (λ r. entered_at (base_of self.now) (scope_of self.now) id.now ≡ Ok (base_of r, scope_of r)) }
         ensures documents { IfOk result (λ r. documents_in r ≡ documents_in self.now) }
+        ensures siblings { IfOk result (λ r. siblings_in r ≡ siblings_in self.now) }
         ensures refused { IfErr result (RefusesLookup (entered_at (base_of self.now) (scope_of self.now) id.now)) }
     {
         let alloc = self.registry.alloc;
@@ -170,6 +180,7 @@ impl<'r> Resolver<'r> {
         ensures target { IfOk result (λ r. target_in r ≡ found_target found.entry) }
         ensures scope { IfOk result (λ r. scope_of r.resolver ≡ entered_scope (base_of r.resolver) (base_of self.now) (scope_of self.now)) }
         ensures documents { IfOk result (λ r. documents_in r.resolver ≡ documents_in self.now) }
+        ensures siblings { IfOk result (λ r. siblings_in r.resolver ≡ siblings_in self.now) }
     {
         let reached = found.reached;
         Ok(Resolved {
@@ -194,23 +205,27 @@ impl<'r> Resolver<'r> {
         ensures ok { IfOk result (λ r. spec.lookup (documents_in self.now) (base_of self.now) reference.now ≡ Ok (target_in r)) }
         ensures scope { IfOk result (λ r. scope_of r.resolver ≡ entered_scope (base_of r.resolver) (base_of self.now) (scope_of self.now)) }
         ensures documents { IfOk result (λ r. documents_in r.resolver ≡ documents_in self.now) }
+        ensures siblings { IfOk result (λ r. siblings_in r.resolver ≡ siblings_in self.now) }
         ensures refused { IfErr result (RefusesLookup (spec.lookup (documents_in self.now) (base_of self.now) reference.now)) }
     {
         let found = look_up(self.registry, &self.base, reference)?;
         Ok(self.arrived(found)?)
     }
 
-    /// The resolver inside a subschema: its identifier, if it has one, changes the base (Core 8.2.1).
+    /// The resolver inside a subschema: its identifier, if it has one, changes the base (Core 8.2.1). It counts beside `$ref` in Drafts 6
+    /// and 7 where the registry reads what stands there.
     ///
     /// # Errors
     ///
     /// Where the identifier is no URI reference, which is then named, or want of memory.
     pub fn in_subresource(&self, subresource: ResourceRef<'_>) -> Result<Resolver<'r>, Error>
-        ensures ok { IfOk result (λ r. entered_by subresource.entry.draft (view subresource.entry.contents.now) (base_of self.now) (scope_of self.now) ≡ Ok (base_of r, scope_of r)) }
+        ensures ok { IfOk result (λ r. entered_by (standard (siblings_in self.now) subresource.entry.draft) (view subresource.entry.contents.now) (base_of self.now) (scope_of self.now) ≡ Ok (base_of r, scope_of r)) }
         ensures documents { IfOk result (λ r. documents_in r ≡ documents_in self.now) }
-        ensures refused { IfErr result (RefusesLookup (entered_by subresource.entry.draft (view subresource.entry.contents.now) (base_of self.now) (scope_of self.now))) }
+        ensures siblings { IfOk result (λ r. siblings_in r ≡ siblings_in self.now) }
+        ensures refused { IfErr result (RefusesLookup (entered_by (standard (siblings_in self.now) subresource.entry.draft) (view subresource.entry.contents.now) (base_of self.now) (scope_of self.now))) }
     {
-        match subresource.id() {
+        let siblings = self.registry.siblings;
+        match identifier(siblings, subresource.draft(), subresource.contents()) {
             Some(id) => self.at_identifier(id),
             None => Ok(self.share()?),
         }
@@ -248,7 +263,14 @@ impl<'r> Resolved<'r> {
 
     /// The URI of the document that the value is in.
     pub fn document(&self) -> &Uri
-        ensures { result.now ≡ self.now.document.value }
+        ensures { result.now ≡ uri_in (target_in self.now).document }
+    {
+        &self.document.uri
+    }
+
+    /// The name of that document, which tells it from others of one URI.
+    pub fn document_name(&self) -> &DocumentName
+        ensures { name_of result.now ≡ (target_in self.now).document }
     {
         &self.document
     }

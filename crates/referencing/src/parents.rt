@@ -1,41 +1,41 @@
 //! Registries that begin with the documents of another.
 
-ghost use Rattle.std.specs.Prelude.{◌≡◌, ◌⊎◌, List, Some, IfOk, IfErr, OnOk, IsTrue};
+ghost use Rattle.std.specs.Prelude.{◌≡◌, ◌⊎◌, List, [], ◌∷◌, Some, IfOk, IfErr, OnOk, IsTrue};
 ghost use Rattle.std.specs.Iterator.{IsFiniteIterable, Drains, YieldsThen};
 ghost use Rattle.schema_drafts.specs.Drafts.{newest};
 ghost use Rattle.document_sources.specs.Causes.{IsMemory};
-ghost use Rattle.document_sources.specs.Given.{with_given};
 ghost use Rattle.document_sources.specs.Uris.{is_document_uri, RefusesUri};
-ghost use Rattle.document_retrieval.specs.Inherited.{inherited};
-ghost use Rattle.referencing.specs.Built.{given_in, given_by, are_document_uris, Adds};
-ghost use Rattle.referencing.specs.Seen.{documents_of};
+ghost use Rattle.referencing.specs.Built.{given_in, given_by, are_document_uris, Adds, IsChildOf};
 
 use crate::builder::RegistryBuilder;
 use crate::registry::Registry;
-use document_retrieval::given::listed_again;
+use document_retrieval::given::shared_again;
 use document_sources::error::Error;
 use document_sources::resource::IntoRegistryResource;
 use std::alloc::{AllocError, Global};
 use std::convert::AsStr;
 
 impl<'a> Registry<'a> {
-    // A builder with the documents of the registry.
+    // A builder that begins with the registry.
     fn begin(&self) -> Result<RegistryBuilder<'a>, AllocError>
-        ensures documents { IfOk result (λ b. given_in b ≡ inherited (documents_of self.now)) }
+        ensures child { IfOk result (IsChildOf self.now) }
+        ensures documents { IfOk result (λ b. given_in b ≡ []) }
         ensures draft { IfOk result (λ b. b.draft ≡ newest) }
         ensures limit { IfOk result (λ b. b.limit ≡ 256) }
     {
-        let list = listed_again(self.alloc, &self.documents)?;
+        let documents = shared_again(self.alloc, &self.documents)?;
         Ok(RegistryBuilder {
-            list,
+            siblings: self.siblings,
+            parent: Some(documents),
             ..RegistryBuilder::new(self.alloc)
         })
     }
 
-    /// A builder with the documents of this registry, those that were retrieved among them, and one more, as [`RegistryBuilder::add`]
-    /// adds it: under the URI of one of them it takes its place. This registry stays as it is.
+    /// A builder that begins with the documents of this registry, those that were retrieved among them, and one of its own, as
+    /// [`RegistryBuilder::add`] adds it. Under the URI of one of them it does not take its place: both are there, and what the own one
+    /// bears counts before what the other does. What stands beside `$ref` is read as in this registry, which stays as it is.
     ///
-    /// The documents that were lent or shared, as those are that a builder prepared, are not copied; each URI is.
+    /// No URI is copied, and no document that was lent or shared, as those are that a builder prepared: each has one more owner.
     ///
     /// # Errors
     ///
@@ -45,7 +45,8 @@ impl<'a> Registry<'a> {
         uri: &str,
         resource: R,
     ) -> Result<RegistryBuilder<'a>, Error>
-        ensures ok { IfOk result (λ b. given_in b ≡ with_given (inherited (documents_of self.now)) (given_by R.contents R.draft uri.now resource)) }
+        ensures ok { IfOk result (λ b. given_in b ≡ given_by R.contents R.draft uri.now resource ∷ []) }
+        ensures child { IfOk result (IsChildOf self.now) }
         ensures draft { IfOk result (λ b. b.draft ≡ newest) }
         ensures limit { IfOk result (λ b. b.limit ≡ 256) }
         ensures accepted { OnOk result (IsTrue (is_document_uri uri.now)) }
@@ -68,7 +69,8 @@ impl<'a> Registry<'a> {
     where
         I::IntoIter: Drop,
         requires { IsFiniteIterable I.into_iter_gives I.IntoIter.can_next I.IntoIter.remaining pairs }
-        ensures ok { IfOk result (λ b. (it : I.IntoIter) × (xs : List (U × R)) × I.into_iter_gives pairs it × Drains I.IntoIter.next_gives it xs × Adds U.text R.contents R.draft (inherited (documents_of self.now)) xs (given_in b)) }
+        ensures ok { IfOk result (λ b. (it : I.IntoIter) × (xs : List (U × R)) × I.into_iter_gives pairs it × Drains I.IntoIter.next_gives it xs × Adds U.text R.contents R.draft [] xs (given_in b)) }
+        ensures child { IfOk result (IsChildOf self.now) }
         ensures draft { IfOk result (λ b. b.draft ≡ newest) }
         ensures limit { IfOk result (λ b. b.limit ≡ 256) }
         ensures refused { IfErr result (λ e. IsMemory e ⊎ ((it : I.IntoIter) × (before : List (U × R)) × (x : U × R) × (rest : I.IntoIter) × I.into_iter_gives pairs it × YieldsThen I.IntoIter.next_gives it before (Some x) rest × IsTrue (are_document_uris U.text before) × RefusesUri (U.text x.0) e)) }

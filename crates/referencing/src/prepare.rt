@@ -32,10 +32,12 @@ impl<'a> Registry<'a> {
     // The registry of documents, with the URIs of those that were retrieved.
     pub(crate) fn with_retrieved(
         alloc: Global,
+        siblings: bool,
         documents: Vec<Document<'a>>,
         retrieved: Vec<Rc<Uri>>,
     ) -> Result<Registry<'a>, Error>
         ensures documents { IfOk result (λ r. documents_of r ≡ map document_of documents.entry.items) }
+        ensures siblings { IfOk result (λ r. r.siblings ≡ siblings) }
         ensures retrieved { IfOk result (λ r. retrieved_by r ≡ map (λ u. u.value) retrieved.items) }
         ensures accepted { OnOk result (document_causes (map document_of documents.entry.items) ≡ []) }
         ensures refused { IfErr result (NamesOne (document_causes (map document_of documents.entry.items))) }
@@ -44,6 +46,7 @@ impl<'a> Registry<'a> {
         check_names(&documents);
         Ok(Registry {
             alloc,
+            siblings,
             documents,
             retrieved,
             known,
@@ -52,6 +55,7 @@ impl<'a> Registry<'a> {
     }
 
     /// The registry of documents, where they have no cause to be refused. The last document of a URI counts, and none is retrieved.
+    /// `siblings` says whether what stands beside `$ref` is read in Drafts 6 and 7, for the subschemas that a resolver enters.
     ///
     /// It costs what [`prepared::prepare`] costs, and walks each document once more. What is copied are URIs, the names of anchors, and
     /// the names of the members that lead to schemas.
@@ -59,13 +63,25 @@ impl<'a> Registry<'a> {
     /// # Errors
     ///
     /// A cause that the documents have, or want of memory. Nothing of the registry is left then.
-    pub fn of(alloc: Global, documents: Vec<Document<'a>>) -> Result<Registry<'a>, Error>
+    pub fn of(
+        alloc: Global,
+        siblings: bool,
+        documents: Vec<Document<'a>>,
+    ) -> Result<Registry<'a>, Error>
         ensures documents { IfOk result (λ r. documents_of r ≡ map document_of documents.entry.items) }
+        ensures siblings { IfOk result (λ r. r.siblings ≡ siblings) }
         ensures retrieved { IfOk result (λ r. retrieved_by r ≡ []) }
         ensures accepted { OnOk result (document_causes (map document_of documents.entry.items) ≡ []) }
         ensures refused { IfErr result (NamesOne (document_causes (map document_of documents.entry.items))) }
     {
-        Registry::with_retrieved(alloc, documents, Vec::new(alloc))
+        Registry::with_retrieved(alloc, siblings, documents, Vec::new(alloc))
+    }
+
+    /// Whether what stands beside `$ref` is read in Drafts 6 and 7.
+    pub fn reads_ref_siblings(&self) -> bool
+        ensures { result ≡ self.now.siblings }
+    {
+        self.siblings
     }
 
     /// In each object of each document the names stand in the order of their bytes, each once. It does nothing.
@@ -74,7 +90,7 @@ impl<'a> Registry<'a> {
     {}
 
     /// What a reference leads to, from whatever base and scope, counts as a schema place only where the list of the schema places of its
-    /// document has one there, with the same contents, base and dialect. Where the documents' URIs are apart, it does wherever the list has
+    /// document has one there, with the same contents, base and dialect. Where the documents' names are apart, it does wherever the list has
     /// one, and a path in a document determines all that a reference leads to, and the schema place. It does nothing.
     pub fn targets_are_listed(&self)
         ensures listed { AreAsListed (documents_of self.now) }

@@ -12,9 +12,11 @@ use std::rc::Rc;
 use uri_references::uri::Uri;
 
 /// Documents that were prepared: each reference in them to a document leads to a schema place. Contracts see the list of the documents.
+/// What stands beside `$ref` is read in Drafts 6 and 7, or not.
 #[derive(Drop)]
 pub struct Registry<'a> {
     pub(crate) alloc: Global,
+    pub(crate) siblings: bool,
     pub(crate) documents: Vec<Document<'a>>,
     pub(crate) retrieved: Vec<Rc<Uri>>,
     pub(crate) known: MetaSchemas,

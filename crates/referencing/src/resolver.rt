@@ -4,6 +4,7 @@ ghost use Rattle.std.specs.Prelude.{map};
 ghost use Rattle.document_laws.specs.ScopeLaws.{IsPresent};
 
 use crate::registry::Registry;
+use document_index::document::DocumentName;
 use schema_dialects::Dialect;
 use schema_steps::Path;
 use serde_json::Value;
@@ -20,13 +21,13 @@ pub struct Resolver<'r> {
     ghost present: { IsPresent base.value (map (λ u. u.value) scope) },
 }
 
-/// What a reference leads to: a value of a document, lent, with its dialect, the document's URI, the path in it, and a resolver there.
+/// What a reference leads to: a value of a document, lent, with its dialect, the document's name, the path in it, and a resolver there.
 #[derive(Drop)]
 pub struct Resolved<'r> {
     pub(crate) contents: &'r Value,
     pub(crate) resolver: Resolver<'r>,
     pub(crate) dialect: Dialect,
-    pub(crate) document: Rc<Uri>,
+    pub(crate) document: DocumentName,
     pub(crate) path: Path,
     pub(crate) is_place: bool,
 }

@@ -12,20 +12,20 @@ ghost use Rattle.referencing.specs.Found.{found_target, bearer_wanted};
 ghost use Rattle.referencing.specs.Seen.{documents_of, told_by};
 
 use crate::registry::Registry;
+use document_index::document::DocumentName;
 use document_index::standing::Standing;
 use document_sources::error::Error;
 use document_sources::named::{invalid_anchor, invalid_uri, no_such_anchor, not_borne};
 use schema_dialects::bases::resolved;
 use schema_places::error::WalkError;
 use schema_places::reached::{Reached, follow_pointer};
-use std::rc::Rc;
 use uri_grammar::components::split_fragment;
 use uri_references::uri::Uri;
 
-/// What a reference leads to, and the URI of the document that it is in.
+/// What a reference leads to, and the name of the document that it is in.
 #[derive(Drop)]
 pub struct Found<'r> {
-    pub document: Rc<Uri>,
+    pub document: DocumentName,
     pub reached: Reached<'r>,
 }
 
@@ -46,7 +46,7 @@ pub(crate) fn whole<'r>(standing: Standing<'r>) -> Found<'r>
 {
     let place = standing.place;
     Found {
-        document: standing.uri,
+        document: standing.name,
         reached: Reached {
             path: place.path,
             contents: place.contents,
@@ -67,7 +67,7 @@ fn by_pointer<'r>(
 {
     match follow_pointer(registry.alloc, &registry.known, &standing.place, fragment) {
         Ok(reached) => Ok(Found {
-            document: standing.uri,
+            document: standing.name,
             reached,
         }),
         Err(error) => Err(walk_refused(error)),

@@ -1,13 +1,11 @@
 -- What is retrieved: values with whole numbers alone, and documents with those that they want.
-use Rattle.std.specs.Prelude.{◌≡◌, ◌⊎◌, ℕ, List, [], ◌∷◌, true, false, Option, Some, None}
+use Rattle.std.specs.Prelude.{◌≡◌, ◌⊎◌, ℕ, List, [], ◌++◌, true, false, Option, Some, None}
 use Rattle.serde_json.specs.Data.{Data}
-use Rattle.schema_drafts.specs.declared.draft.Draft.{Draft}
-use Rattle.schema_definitions.specs.Bearers.{Document}
+use Rattle.schema_definitions.specs.Bearers.{Document, Layer}
 use Rattle.schema_definitions.specs.DocumentCauses.{document_causes}
 use Rattle.schema_definitions.specs.Rounds.{Asking, wants, none_twice}
 use Rattle.document_retrieval.specs.Stages.{IsGathered, AnswersNothing}
-use Rattle.document_retrieval.specs.Inherited.{inherited}
-use Rattle.document_sources.specs.Given.{Given, with_all, documents_by}
+use Rattle.document_sources.specs.Given.{Given, documents_by}
 use Rattle.schema_registries.specs.Whole.{only_whole}
 use Rattle.schema_registries.specs.declared.whole_numbers.WholeNumbers.{WholeNumbers}
 
@@ -28,6 +26,6 @@ pub record IsPrepared (a : Asking) (limit : ℕ) (own documents : List Document)
   pub accepted : document_causes documents ≡ []
   pub alone : AnswersNothing a → (documents ≡ own) × (uris ≡ [])
 
--- documents given beside others, whose place one takes under an equal URI
-abbrev pub beside : List Document → Draft → List Given → List Document
-beside others draft given = documents_by draft (with_all (inherited others) given)
+-- documents given beside others, in a layer of their own behind them
+abbrev pub beside : List Document → Layer → List Given → List Document
+beside others layer given = others ++ documents_by layer given

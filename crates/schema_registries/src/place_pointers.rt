@@ -22,7 +22,8 @@ fn document_at<'d, 'a>(documents: &'d [Document<'a>], uri: &Uri) -> Option<&'d D
 {
     documents
         .iter()
-        .find(|document| document.uri.as_str() == uri.as_str())
+        .rev()
+        .find(|document| document.name.uri.as_str() == uri.as_str())
 }
 
 fn pointers_under(
@@ -37,7 +38,7 @@ fn pointers_under(
     let places = places(
         alloc,
         known,
-        &document.uri,
+        &document.name.uri,
         document.default,
         document.contents.value(),
     )?;
@@ -49,9 +50,9 @@ fn pointers_under(
 }
 
 /// The pointers of the schema places of a registry's document, by levels from its root, whose pointer is empty. No pointer stands twice.
-/// Of several documents of the URI the first counts, and where there is none there are no pointers.
+/// Of several documents of the URI the last counts, an own one before a parent's, and where there is none there are no pointers.
 ///
-/// It finds the document by comparing the URIs in turn, costs what [`places`] costs, and writes a text for each place.
+/// It finds the document by comparing the URIs in turn, from the last on, costs what [`places`] costs, and writes a text for each place.
 ///
 /// # Errors
 ///
