@@ -28,8 +28,8 @@ if-false false x y e = refl
 pub neighbour : (n : Neighbours) (x : Context) → Surrounds n x → (k : List ℕ) → beside x k ≡ beside_in n k
 neighbour n x s k =
     let ms = members_view n.members.now.entries in
-    ap (λ (m : Members). if counts x.site.dialect.draft x.site.dialect.vocabularies (has_reference m) k then get_member k m else None) s.members
-    ∙ ap (λ (y : Dialect). if counts y.draft y.vocabularies (has_reference ms) k then get_member k ms else None) s.dialect
+    ap (λ (m : Members). if counts x.site.dialect (has_reference m) k then get_member k m else None) s.members
+    ∙ ap (λ (y : Dialect). if counts y (has_reference ms) k then get_member k ms else None) s.dialect
 
 none-in : {A : Type 0} (p : A) (ps : List A) → ps ≡ [] → In p ps → ⊥
 none-in p ps none i =

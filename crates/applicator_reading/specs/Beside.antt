@@ -11,7 +11,7 @@ use Rattle.schema_definitions.specs.Rows.{Context, has_reference, names_of_objec
 use Rattle.applicator_reading.specs.declared.neighbours.Neighbours.{Neighbours}
 
 abbrev pub counts_in : Neighbours → List ℕ → Bool
-counts_in n k = counts (dialect_of n.dialect).draft (dialect_of n.dialect).vocabularies (has_reference (members_view n.members.now.entries)) k
+counts_in n k = counts (dialect_of n.dialect) (has_reference (members_view n.members.now.entries)) k
 
 abbrev pub beside_in : Neighbours → List ℕ → Option Data
 beside_in n k = if counts_in n k then get_member k (members_view n.members.now.entries) else None

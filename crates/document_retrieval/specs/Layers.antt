@@ -1,5 +1,5 @@
 -- Layers of documents, by their numbers.
-use Rattle.std.specs.Prelude.{ℕ, suc, List, [], ◌∷◌, max}
+use Rattle.std.specs.Prelude.{ℕ, suc, [], ◌∷◌, max}
 use Rattle.schema_definitions.specs.Bearers.{Documents}
 
 -- the number of a layer above those of all the documents

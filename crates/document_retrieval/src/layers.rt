@@ -1,6 +1,6 @@
 //! Numbers of layers.
 
-ghost use Rattle.std.specs.Prelude.{◌≡◌, map, IfOk};
+ghost use Rattle.std.specs.Prelude.{◌≡◌, ◌≤◌, ◌^◌, map, IfOk, OnErr};
 ghost use Rattle.document_index.specs.Seen.{document_of};
 ghost use Rattle.document_retrieval.specs.Layers as spec;
 
@@ -13,7 +13,8 @@ use std::alloc::AllocError;
 ///
 /// Where a `usize` counts no further.
 pub fn layer_above(documents: &[Document<'_>]) -> Result<usize, AllocError>
-    ensures { IfOk result (λ n. n ≡ spec.layer_above (map document_of documents.now)) }
+    ensures ok { IfOk result (λ n. n ≡ spec.layer_above (map document_of documents.now)) }
+    ensures refused { OnErr result (2 ^ 64 ≤ spec.layer_above (map document_of documents.now)) }
 {
     let mut above: usize = 0;
     for document in documents {

@@ -1,5 +1,5 @@
 -- The sites of subschemas and of targets.
-use Rattle.std.proofs.Common.{◌≡◌, ◌∙◌, ◌++◌, ◌≤◌, ℕ, List, [], ◌∷◌, refl, sym, ap, ap₂, subst}
+use Rattle.std.proofs.Common.{◌≡◌, ◌∙◌, ◌++◌, ◌≤◌, ℕ, List, refl, sym, ap, ap₂, subst}
 use Rattle.std.specs.Borrow.{Bor}
 use Rattle.schema_patterns.specs.Read.{reads}
 use Rattle.schema_patterns.specs.declared.matches.Matches.{Matches}

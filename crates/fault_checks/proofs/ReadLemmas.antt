@@ -1,5 +1,5 @@
 -- Matches that checks of faults go by.
-use Rattle.std.proofs.Common.{◌≡◌, ◌∙◌, inl, inr, ℕ, List, [], ◌∷◌, true, true≢false, Option, Some, None, Ok, refl, sym, ap, subst}
+use Rattle.std.proofs.Common.{◌≡◌, ◌∙◌, inl, inr, ℕ, List, true, true≢false, Option, Some, None, Ok, refl, sym, ap, subst}
 use Rattle.std.specs.List.{list_all}
 use Rattle.serde_json.specs.Data.{Data}
 use Rattle.schema_definitions.specs.Bearers.{Document, Documents}

@@ -93,7 +93,7 @@ module _ (matches : List ℕ → List ℕ → Bool) (a : Applicator) (d : Data) 
       let added = added_at q.subschema.keyword.now q.subschema.entry in
       let h = each.each (here c) (record { contents = refl; base = refl; dialect = refl }) refl matches d (question_of site q) (one_asked site) in
       subst (λ (e : Data). depth e < depth (view c.contents.now))
-      (placed_contents (base_of c.resolver) (dialect_of c.dialect) (added ++ []) (view q.subschema.schema.now) (by_schema (meta (documents_at c)) (dialect_of c.dialect) (schema_in_force false (view q.subschema.schema.now)))) h
+      (placed_contents (base_of c.resolver) (dialect_of c.dialect) (added ++ []) (view q.subschema.schema.now) (by_schema (meta (documents_at c)) (dialect_of c.dialect) (schema_in_force (dialect_of c.dialect).siblings false (view q.subschema.schema.now)))) h
 
 -- ---- what is asked of
 

@@ -72,7 +72,7 @@ module _ (c : code.Site) (ms : Members) (k : List ℕ) (f : Data) (schema : Bor 
   of_schema : (n : List ℕ) (v : Bor Value) → depth (site_at (documents_at c) (somewhere c) n (view v.now)).contents < depth (view c.contents.now) → IsInside c v
   of_schema n v h =
       subst (λ (d : Data). depth d < depth (view c.contents.now))
-      (placed_contents (base_of c.resolver) (dialect_of c.dialect) (at n ++ []) (view v.now) (by_schema (meta (documents_at c)) (dialect_of c.dialect) (schema_in_force false (view v.now)))) h
+      (placed_contents (base_of c.resolver) (dialect_of c.dialect) (at n ++ []) (view v.now) (by_schema (meta (documents_at c)) (dialect_of c.dialect) (schema_in_force (dialect_of c.dialect).siblings false (view v.now)))) h
 
 pub are_inside : (c : code.Site) (ms : Members) (k : List ℕ) (f : Data) (schema : Bor Value) (t e : Option (Bor Value)) → view c.contents.now ≡ object ms → In (k, f) (listed_members ms)
     → ((makes : List ℕ → Bool) (s : Site) → Stands c s → s.scope ≡ scope_of c.resolver → row_at (context_at c ms makes s) k f ≡ row_of (documents_at c) s (keyword.If schema t e)) → AreInside c t e

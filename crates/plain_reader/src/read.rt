@@ -446,12 +446,12 @@ fn read_target<'r, 'i>(
     ensures { OnOk result (TargetTells reading.now keyword text.now target.entry observer.old observer.new) }
 {
     let instance = reading.roads.instance;
-    if is_in_progress(reading.progress, target.document(), target.path(), instance) {
+    if is_in_progress(reading.progress, target.document_name(), target.path(), instance) {
         return Ok(());
     }
     let inner = at_target(&target, reading.site.matches)?;
     let entered = Progress::Target {
-        document: target.document(),
+        document: target.document_name(),
         path: target.path(),
         at: instance,
         before: reading.progress,

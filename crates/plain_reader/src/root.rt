@@ -1,5 +1,5 @@
 //! What a root tells of an instance.
-ghost use Rattle.std.specs.Prelude.{◌≤◌, ◌∷◌, [], OnOk};
+ghost use Rattle.std.specs.Prelude.{◌≤◌, OnOk};
 ghost use Rattle.serde_json.specs.Data.{depth};
 ghost use Rattle.serde_json.specs.View.{view};
 ghost use Rattle.schema_definitions.specs.Plain.{deepest};

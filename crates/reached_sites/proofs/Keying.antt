@@ -89,8 +89,8 @@ module _ (own : List Document) where
         base = sym r.base;
         dialect = ap dialect_of (sym r.dialect);
         road = ap spelled (sym r.point.road);
-        scope = subst (λ (ds : List Document). scope_key (ds ∷ []) (base_of w.site.resolver) (scope_of w.site.resolver) ≡ scope_key own (base_of v.site.resolver) (scope_of v.site.resolver)) c.documents
-            (subst (λ (ds : List Document). scope_key (documents_at w.site) (base_of w.site.resolver) (scope_of w.site.resolver) ≡ scope_key (ds ∷ []) (base_of v.site.resolver) (scope_of v.site.resolver)) b.documents key);
+        scope = subst (λ (ds : List Document). scope_key ds (base_of w.site.resolver) (scope_of w.site.resolver) ≡ scope_key own (base_of v.site.resolver) (scope_of v.site.resolver)) c.documents
+            (subst (λ (ds : List Document). scope_key (documents_at w.site) (base_of w.site.resolver) (scope_of w.site.resolver) ≡ scope_key ds (base_of v.site.resolver) (scope_of v.site.resolver)) b.documents key);
         here = present-of w;
         there = present-of v;
       }

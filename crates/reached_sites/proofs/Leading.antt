@@ -5,7 +5,7 @@ use Rattle.serde_json.specs.Data.{Data, null, boolean, number, string, array, ob
 use Rattle.serde_json.specs.Find.{as_object, as_bool}
 use Rattle.serde_json.specs.View.{view}
 use Rattle.schema_meaning.specs.Members.{In, first}
-use Rattle.schema_definitions.specs.Bearers.{Document}
+use Rattle.schema_definitions.specs.Bearers.{Document, Documents}
 use Rattle.schema_definitions.specs.BuildCauses.{at_root, IsCauseOf}
 use Rattle.schema_definitions.specs.Sites.{Site}
 use Rattle.schema_definitions.specs.Rows.{Place, Row, keyword_value, rows_at, rows_in, no_schema}
@@ -69,7 +69,7 @@ IsOther (string t) = Unit {0}
 IsOther (array ds) = Unit {0}
 IsOther (object ms) = ⊥
 
-pub other-rows : (docs : List (List Document)) (makes : List ℕ → Bool) (s : Site) (d : Data) → s.contents ≡ d → IsOther d → rows_at docs makes s ≡ no_schema s
+pub other-rows : (docs : Documents) (makes : List ℕ → Bool) (s : Site) (d : Data) → s.contents ≡ d → IsOther d → rows_at docs makes s ≡ no_schema s
 unfolding rows_at
 other-rows docs makes s null e o = ap (rows_in s (contexts docs makes s)) e
 other-rows docs makes s (boolean b) e o = absurd o
@@ -122,7 +122,7 @@ other-of (object ms) e f = absurd (cc (e))
 
 -- ---- the patterns that are written
 
-pub written-alike : (docs : List (List Document)) (s t : Site) → AreAlike docs s t → written s ≡ written t
+pub written-alike : (docs : Documents) (s t : Site) → AreAlike docs s t → written s ≡ written t
 written-alike docs s t a = ap₂ written_in a.dialect a.contents
 
 pub written-object : (v : Visit) (s : Site) (ms : Members) → Met v s → view v.site.contents.now ≡ object ms → written s ≡ written_members (site_of v).dialect ms ms

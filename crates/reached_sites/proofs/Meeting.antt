@@ -6,6 +6,7 @@ use Rattle.serde_json.specs.Data.{Data}
 use Rattle.json_values.specs.Parts.{Part}
 use Rattle.schema_definitions.specs.Bearers.{Documents, meta}
 use Rattle.schema_definitions.specs.Places.{Dialect, Named, settled, awaited, by_schema, schema_in_force, placed}
+use Rattle.document_index.specs.Seen.{name_of}
 use Rattle.schema_dialects.specs.Dialects.{dialect_of}
 use Rattle.referencing.specs.Resolved.{base_of, scope_of}
 use Rattle.schema_definitions.specs.CompileKeys.{scope_key}
@@ -30,7 +31,7 @@ pub record Settled (v : Visit) (s : Site) : Type 0 where
   pub scope : s.scope ≡ scope_of v.site.resolver
   pub dialect : s.dialect ≡ dialect_of v.site.dialect
 
-pub met-exactly : (v : Visit) (s : Site) → s.document ≡ v.point.place.document.value → s.path ≡ v.point.place.path → s.contents ≡ view v.site.contents.now
+pub met-exactly : (v : Visit) (s : Site) → s.document ≡ name_of v.point.place.document → s.path ≡ v.point.place.path → s.contents ≡ view v.site.contents.now
     → spelled s.schema_path ≡ spelled v.point.schema_path.steps → Settled v s → Met v s
 met-exactly v s document path contents road h = record {
   alike = record {
@@ -56,7 +57,7 @@ placed-path outer around path d (settled dialect) = refl
 placed-path outer around path d (awaited uri) = refl
 
 abbrev named-below : Documents → Site → Data → Named
-named-below docs s d = by_schema (meta docs) s.dialect (schema_in_force false d)
+named-below docs s d = by_schema (meta docs) s.dialect (schema_in_force s.dialect.siblings false d)
 
 pub below-path : (docs : Documents) (s : Site) (added : List Part) (d : Data) → (below docs s added d).path ≡ added ++ s.path
 below-path docs s added d = placed-path s.base s.dialect (added ++ s.path) d (named-below docs s d)

@@ -29,7 +29,7 @@ alike-leads docs (r ∷ rs) (q ∷ qs) z = zip_append (AreAlike docs) r.leads q.
 
 module _ (own : List Document) where
   met-among : (v : Visit) (s t : Site) → Belongs own v → AreAlike own s t → Met v t → Met v s
-  met-among v s t b a m = met-alike v s t (subst (λ (ds : List Document). AreAlike (ds ∷ []) s t) (sym b.documents) a) m
+  met-among v s t b a m = met-alike v s t (subst (λ (ds : List Document). AreAlike ds s t) (sym b.documents) a) m
 
   pub matches-alike : (ss ts : List Site) (vs : List Visit) → AllZip (AreAlike own) ss ts → Matches own vs ts → Matches own vs ss
   matches-alike [] [] vs z m = m

@@ -3,7 +3,7 @@ use Rattle.std.proofs.Common.{◌≡◌, ◌∙◌, ◌⊎◌, ◌<◌, ◌≤�
 use Rattle.std.proofs.lemmas.List.{take_more, take_all, take-append-le, length-append, length-map}
 use Rattle.serde_json.specs.View.{view}
 use Rattle.schema_meaning.specs.Members.{In, first}
-use Rattle.schema_definitions.specs.Bearers.{Document}
+use Rattle.schema_definitions.specs.Bearers.{Document, Documents}
 use Rattle.schema_definitions.specs.Lookup.{Target}
 use Rattle.schema_definitions.specs.BuildCauses.{Reached, at_root, by_keyword, IsCauseOf}
 use Rattle.schema_definitions.specs.CompileKeys.{CompileKey}
@@ -73,10 +73,10 @@ module _ (own : List Document) (makes : List ℕ → Bool) (root : Target) where
   -- ---- visits of one key
 
   among : (v : Visit) → Belongs own v → (s t : Site) → AreAlike own s t → AreAlike (documents_in v.site.resolver) s t
-  among v b s t a = subst (λ (ds : List Document). AreAlike (ds ∷ []) s t) (sym b.documents) a
+  among v b s t a = subst (λ (ds : List Document). AreAlike ds s t) (sym b.documents) a
 
   alike-in : (v : Visit) (s : Site) → Belongs own v → Met v s → AreAlike own s (site_of v)
-  alike-in v s b m = subst (λ (ds : List Document). AreAlike (ds ∷ []) s (site_of v)) b.documents m.alike
+  alike-in v s b m = subst (λ (ds : List Document). AreAlike ds s (site_of v)) b.documents m.alike
 
   same_contents : IsPlaced own root → (v w : Visit) → ReachedBy own makes start v → ReachedBy own makes start w → Repeats v w → view v.site.contents.now ≡ view w.site.contents.now
   same_contents h v w x y r =
@@ -176,14 +176,14 @@ module _ (own : List Document) (makes : List ℕ → Bool) (root : Target) where
   progress-refuses old i v e within at h p =
       let listed = in-at old i v within at in
       let r = p.reached v listed in
-      refuses-through own makes start r.0 e r.2 (subst (λ (ds : List Document). RefusesRoot (ds ∷ []) makes r.0 e) (p.belongs v listed).documents (h r.0 r.1))
+      refuses-through own makes start r.0 e r.2 (subst (λ (ds : List Document). RefusesRoot ds makes r.0 e) (p.belongs v listed).documents (h r.0 r.1))
 
   -- ---- the keys of the visits are reached
 
   module _ (vs : List Visit) (n : ℕ) (p : Progress own makes root vs n) where
     met-key : (v : Visit) (s : Site) → Belongs own v → Met v s → key_of_site own s ≡ key_at v
     met-key v s b m =
-        subst (λ (ds : List Document). key_of_site (ds ∷ []) s ≡ key_at v) b.documents (alike-key (documents_in v.site.resolver) s (site_of v) m.alike)
+        subst (λ (ds : List Document). key_of_site ds s ≡ key_at v) b.documents (alike-key (documents_in v.site.resolver) s (site_of v) m.alike)
 
     key-reached : (k : CompileKey) → In k (map key_at vs) → IsReached own makes (start ∷ []) k
     key-reached k i =
@@ -252,7 +252,7 @@ module _ {M : Type 0} (before after : PatternTable M) (old new leads : List Visi
   noted-goes within at g w j = one-noted w (in-either (take i old) (v ∷ []) (subst (λ (l : List Visit). In w l) (front-goes old new leads i v within at g) j))
 
 -- a pattern that is not made is a cause of the schema that writes it
-pub pattern-refused : (docs : List (List Document)) (makes : List ℕ → Bool) (v : Visit) (qs : List Pattern) (e : BuildCause)
+pub pattern-refused : (docs : Documents) (makes : List ℕ → Bool) (v : Visit) (qs : List Pattern) (e : BuildCause)
     → ((s : Site) → Met v s → (q : Pattern) → In q qs → is_made_by makes (text_of q) ≡ false → IsCauseOf docs makes s (bad_pattern (place_in q.place)))
     → RefusesPattern makes qs e → (s : Site) → Met v s → RefusesRoot docs makes s e
 pattern-refused docs makes v qs e bad (inl memory) s m = inl memory

@@ -248,7 +248,7 @@ in-patterns x p d r i =
 -- ---- a member's patterns are written there
 
 abbrev pub item : Dialect → Members → List ℕ → Data → List (List ℕ)
-item y all k d = if counts y.draft y.vocabularies (has_reference all) k then written_by k d else []
+item y all k d = if counts y (has_reference all) k then written_by k d else []
 
 written-among : (y : Dialect) (all ms : Members) (k p : List ℕ) (d : Data) → In (k, d) (listed_members ms) → In p (item y all k d) → In p (written_members y all ms)
 written-among y all no_members k p d i j = none-in i

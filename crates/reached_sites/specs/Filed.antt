@@ -2,6 +2,7 @@
 use Rattle.std.specs.Prelude.{◌≡◌, ℕ, List, [], ◌++◌, Some, reverse, slice_get}
 use Rattle.std.specs.BTreeMap.{get_by_text}
 use Rattle.json_values.specs.Pointers.{pointer_text}
+use Rattle.schema_definitions.specs.Bearers.{uri_in}
 use Rattle.schema_definitions.specs.Words.{or}
 use Rattle.schema_meaning.specs.Members.{In}
 use Rattle.schema_definitions.specs.Rows.{Place}
@@ -12,7 +13,7 @@ use Rattle.reached_sites.specs.declared.visited.Visited.{Visited}
 
 -- the text of a place: the document's URI and the path as a pointer, with nothing between
 abbrev pub place_text : Place → List ℕ
-place_text p = p.document ++ pointer_text (reverse p.path)
+place_text p = uri_in p.document ++ pointer_text (reverse p.path)
 
 abbrev pub positions_under : Visited → List ℕ → List ℕ
 positions_under visited text = or [] (get_by_text visited.positions text)

@@ -30,7 +30,7 @@ written_by k d = if bytes_eq k (codes "pattern") then listed (as_str d) else (if
 
 abbrev pub written_members : Dialect → Members → Members → List (List ℕ)
 written_members y all no_members = []
-written_members y all (member k d ms) = (if counts y.draft y.vocabularies (has_reference all) k then written_by k d else []) ++ written_members y all ms
+written_members y all (member k d ms) = (if counts y (has_reference all) k then written_by k d else []) ++ written_members y all ms
 
 abbrev pub written_in : Dialect → Data → List (List ℕ)
 written_in y null = []

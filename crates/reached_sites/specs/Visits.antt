@@ -3,6 +3,7 @@ use Rattle.std.specs.Prelude.{◌≡◌, List, [], ◌∷◌, ◌++◌}
 use Rattle.serde_json.specs.View.{view}
 use Rattle.schema_meaning.specs.Members.{In}
 use Rattle.schema_definitions.specs.Bearers.{Document}
+use Rattle.document_index.specs.Seen.{name_of}
 use Rattle.schema_dialects.specs.Dialects.{dialect_of}
 use Rattle.referencing.specs.Keys.{key_of}
 use Rattle.referencing.specs.Resolved.{base_of, scope_of, documents_in, target_in}
@@ -18,7 +19,7 @@ use Rattle.reached_sites.specs.declared.waypoint.Waypoint.{Waypoint}
 
 abbrev pub site_of : Visit → Site
 site_of v = record {
-  document = v.point.place.document.value;
+  document = name_of v.point.place.document;
   path = v.point.place.path;
   contents = view v.site.contents.now;
   base = base_of v.site.resolver;

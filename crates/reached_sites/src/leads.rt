@@ -3,6 +3,7 @@
 ghost use Rattle.std.specs.Prelude.{◌≡◌, ◌∷◌, ◌++◌, [], List, map, ℕ, Bool, false, IfOk, IfErr, OnOk};
 ghost use Rattle.serde_json.specs.Data.{Data, object};
 ghost use Rattle.serde_json.specs.View.{view, members_view};
+ghost use Rattle.document_index.specs.Seen.{name_of};
 ghost use Rattle.referencing.specs.Resolved.{documents_in, target_in};
 ghost use Rattle.schema_meaning.specs.Members.{In};
 ghost use Rattle.schema_definitions.specs.BuildCauses.{IsCauseOf};
@@ -76,7 +77,7 @@ fn point_of(
     visit: &Visit<'_>,
     subschema: &Subschema<'_>,
 ) -> Result<Waypoint, AllocError>
-    ensures document { IfOk result (λ p. p.place.document.value ≡ visit.now.point.place.document.value) }
+    ensures document { IfOk result (λ p. name_of p.place.document ≡ name_of visit.now.point.place.document) }
     ensures path { IfOk result (λ p. p.place.path ≡ applied.added_at subschema.now.keyword.now subschema.now.entry ++ visit.now.point.place.path) }
     ensures road { IfOk result (λ p. p.schema_path.steps ≡ spelled (applied.added_at subschema.now.keyword.now subschema.now.entry) ++ visit.now.point.schema_path.steps) }
 {

@@ -41,7 +41,7 @@ pub(crate) fn refused(
             expected,
         }),
         Refusal::Target { target } => Ok(BuildCause::KeywordValue {
-            place: SchemaPlace::of_target(alloc, &target)?,
+            place: SchemaPlace::of_target(&target)?,
             expected: "schema",
         }),
         Refusal::Reference(error) => Ok(BuildCause::Reference { place: here, error }),

@@ -5,6 +5,7 @@ ghost use Rattle.std.specs.Bool.{Decides};
 ghost use Rattle.serde_json.specs.View.{view};
 ghost use Rattle.json_values.specs.Parts.{Part};
 ghost use Rattle.schema_definitions.specs.Scopes.{entered_scope};
+ghost use Rattle.document_index.specs.Seen.{name_of};
 ghost use Rattle.referencing.specs.Resolved.{base_of, scope_of, documents_in, target_in};
 ghost use Rattle.schema_definitions.specs.Sites as sites;
 ghost use Rattle.schema_definitions.specs.CompileKeys.{scope_key};
@@ -41,7 +42,9 @@ fn are_same(one: Option<KnownVocabularies>, other: Option<KnownVocabularies>) ->
 fn is_same(one: Dialect, other: Dialect) -> bool
     ensures { Decides result (one ≡ other) }
 {
-    one.draft == other.draft && are_same(one.required, other.required)
+    one.draft == other.draft
+        && one.siblings == other.siblings
+        && are_same(one.required, other.required)
 }
 
 // Whether two schemas are read by one dialect.
@@ -108,7 +111,7 @@ impl<'r> Visit<'r> {
     {
         let site = at_root(root, matches)?;
         Ok(Visit {
-            point: Waypoint::of_root(alloc, root)?,
+            point: Waypoint::of_root(root)?,
             key: key_of_scope(alloc, &site)?,
             site,
         })
@@ -159,7 +162,7 @@ impl<'r> Visit<'r> {
         point: Waypoint,
         contents: &'r Value,
     ) -> Result<Visit<'r>, AllocError>
-        ensures met { IfOk result (λ v. (added : List Part) → self.now.point.place.document.value ≡ point.place.document.value → added ++ self.now.point.place.path ≡ point.place.path → spelled added ++ self.now.point.schema_path.steps ≡ point.schema_path.steps → Met v (sites.below (documents_at self.now.site) (site_of self.now) added (view contents.now))) }
+        ensures met { IfOk result (λ v. (added : List Part) → name_of self.now.point.place.document ≡ name_of point.place.document → added ++ self.now.point.place.path ≡ point.place.path → spelled added ++ self.now.point.schema_path.steps ≡ point.schema_path.steps → Met v (sites.below (documents_at self.now.site) (site_of self.now) added (view contents.now))) }
         ensures belongs { IfOk result (Belongs (documents_in self.now.site.resolver)) }
     {
         let site = self.site.below(alloc, contents)?;

@@ -3,6 +3,7 @@
 ghost use Rattle.std.specs.Prelude.{◌≡◌, ◌∷◌, [], true, IfOk};
 ghost use Rattle.std.specs.Bool.{Decides};
 ghost use Rattle.json_values.specs.Parts.{name as name_part, index as index_part};
+ghost use Rattle.document_index.specs.Seen.{name_of};
 ghost use Rattle.referencing.specs.Resolved.{target_in};
 ghost use Rattle.schema_definitions.specs.Sites.{path_of_reference};
 ghost use Rattle.schema_reports.specs.Readable.{reads_as_path};
@@ -26,14 +27,14 @@ impl Waypoint {
     ///
     /// # Errors
     ///
-    /// Where memory was refused or a count of owners is full.
-    pub fn of_root(alloc: Global, root: &Resolved<'_>) -> Result<Waypoint, AllocError>
-        ensures document { IfOk result (λ p. p.place.document.value ≡ (target_in root.now).document) }
+    /// Where a count of owners is full.
+    pub fn of_root(root: &Resolved<'_>) -> Result<Waypoint, AllocError>
+        ensures document { IfOk result (λ p. name_of p.place.document ≡ (target_in root.now).document) }
         ensures path { IfOk result (λ p. p.place.path ≡ (target_in root.now).path) }
         ensures road { IfOk result (λ p. p.schema_path.steps ≡ []) }
     {
         Ok(Waypoint {
-            place: SchemaPlace::of_target(alloc, root)?,
+            place: SchemaPlace::of_target(root)?,
             schema_path: SchemaPath::root(),
         })
     }
@@ -49,12 +50,12 @@ impl Waypoint {
         target: &Resolved<'_>,
     ) -> Result<Waypoint, AllocError>
         requires { reads_as_path text.now ≡ true }
-        ensures document { IfOk result (λ p. p.place.document.value ≡ (target_in target.now).document) }
+        ensures document { IfOk result (λ p. name_of p.place.document ≡ (target_in target.now).document) }
         ensures path { IfOk result (λ p. p.place.path ≡ (target_in target.now).path) }
         ensures road { IfOk result (λ p. p.schema_path.steps ≡ path_of_reference text.now) }
     {
         Ok(Waypoint {
-            place: SchemaPlace::of_target(alloc, target)?,
+            place: SchemaPlace::of_target(target)?,
             schema_path: SchemaPath::of_reference(alloc, text)?,
         })
     }
@@ -65,7 +66,7 @@ impl Waypoint {
     ///
     /// Where memory was refused or a count of owners is full.
     pub fn member(&self, alloc: Global, name: &str) -> Result<Waypoint, AllocError>
-        ensures document { IfOk result (λ p. p.place.document.value ≡ self.now.place.document.value) }
+        ensures document { IfOk result (λ p. name_of p.place.document ≡ name_of self.now.place.document) }
         ensures path { IfOk result (λ p. p.place.path ≡ name_part name.now ∷ self.now.place.path) }
         ensures road { IfOk result (λ p. p.schema_path.steps ≡ name_part name.now ∷ self.now.schema_path.steps) }
     {
@@ -81,7 +82,7 @@ impl Waypoint {
     ///
     /// Where memory was refused or a count of owners is full.
     pub fn item(&self, alloc: Global, index: usize) -> Result<Waypoint, AllocError>
-        ensures document { IfOk result (λ p. p.place.document.value ≡ self.now.place.document.value) }
+        ensures document { IfOk result (λ p. name_of p.place.document ≡ name_of self.now.place.document) }
         ensures path { IfOk result (λ p. p.place.path ≡ index_part index ∷ self.now.place.path) }
         ensures road { IfOk result (λ p. p.schema_path.steps ≡ by_name (index_part index) ∷ self.now.schema_path.steps) }
     {

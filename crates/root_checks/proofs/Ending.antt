@@ -1,5 +1,5 @@
 -- What a graph of all that is reached says of its roots.
-use Rattle.std.proofs.Common.{◌≡◌, ◌∙◌, ◌<◌, ◌≤◌, ℕ, List, [], ◌∷◌, Bool, sym, subst, arith, length, map, slice_get}
+use Rattle.std.proofs.Common.{◌≡◌, ◌∙◌, ◌<◌, ◌≤◌, ℕ, List, Bool, sym, subst, arith, length, map, slice_get}
 use Rattle.std.proofs.lemmas.List.{length-map}
 use Rattle.schema_meaning.specs.Members.{In}
 use Rattle.schema_definitions.specs.Bearers.{Document}
@@ -47,7 +47,7 @@ module _ (own : List Document) (makes : List ℕ → Bool) where
   module _ (roots : List Site) (vs : List Visit) (es : List Edge) (wrong : List ℕ) (n : ℕ) (g : IsGraph own makes roots vs es wrong n) where
     met-key : (v : Visit) (s : Site) → Belongs own v → Met v s → key_of_site own s ≡ key_at v
     met-key v s b m =
-        subst (λ (ds : List Document). key_of_site (ds ∷ []) s ≡ key_at v) b.documents (alike-key (documents_in v.site.resolver) s (site_of v) m.alike)
+        subst (λ (ds : List Document). key_of_site ds s ≡ key_at v) b.documents (alike-key (documents_in v.site.resolver) s (site_of v) m.alike)
 
     key-reached : (k : CompileKey) → In k (map key_at vs) → IsReached own makes roots k
     key-reached k i =

@@ -1,5 +1,5 @@
 -- Visits of one key stand for the same sites.
-use Rattle.std.proofs.Common.{◌≡◌, ◌∙◌, ◌⊎◌, ℕ, List, [], ◌∷◌, Bool, true, sym, ap, subst, inl, inr}
+use Rattle.std.proofs.Common.{◌≡◌, ◌∙◌, ◌⊎◌, ℕ, List, Bool, true, sym, ap, subst, inl, inr}
 use Rattle.std.specs.List.{list_all}
 use Rattle.serde_json.specs.View.{view}
 use Rattle.schema_meaning.specs.Members.{In}
@@ -38,10 +38,10 @@ module _ (own : List Document) (makes : List ℕ → Bool) (roots : List Site) (
       sym x.met.alike.contents ∙ one_value own placed.apart placed.rise x.site y.site (lies v x) (lies w y) document path ∙ y.met.alike.contents
 
   among : (v : Visit) → Belongs own v → (s t : Site) → AreAlike own s t → AreAlike (documents_in v.site.resolver) s t
-  among v b s t a = subst (λ (ds : List Document). AreAlike (ds ∷ []) s t) (sym b.documents) a
+  among v b s t a = subst (λ (ds : List Document). AreAlike ds s t) (sym b.documents) a
 
   alike-in : (v : Visit) (s : Site) → Belongs own v → Met v s → AreAlike own s (site_of v)
-  alike-in v s b m = subst (λ (ds : List Document). AreAlike (ds ∷ []) s (site_of v)) b.documents m.alike
+  alike-in v s b m = subst (λ (ds : List Document). AreAlike ds s (site_of v)) b.documents m.alike
 
   repeated : (v w : Visit) → Belongs own v → Belongs own w → IsReachedFrom own makes roots v → IsReachedFrom own makes roots w → Repeats v w → (s : Site) → Met w s → Met v s
   repeated v w b c x y r s m =

@@ -1,5 +1,5 @@
 -- When several roots are refused.
-use Rattle.std.specs.Prelude.{◌≡◌, ◌⊎◌, ℕ, List, [], ◌∷◌, Bool}
+use Rattle.std.specs.Prelude.{◌≡◌, ◌⊎◌, ℕ, List, Bool}
 use Rattle.schema_definitions.specs.Bearers.{Document, Documents}
 use Rattle.schema_definitions.specs.Sites.{Site}
 use Rattle.reading_laws.specs.Keys.{Exceeds}

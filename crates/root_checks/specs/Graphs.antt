@@ -1,5 +1,5 @@
 -- The visits that are reached from some roots, as a graph.
-use Rattle.std.specs.Prelude.{◌≡◌, ◌<◌, ℕ, List, [], ◌∷◌, Bool, Some, slice_get}
+use Rattle.std.specs.Prelude.{◌≡◌, ◌<◌, ℕ, List, [], Bool, Some, slice_get}
 use Rattle.schema_definitions.specs.Bearers.{Document}
 use Rattle.schema_meaning.specs.Members.{In}
 use Rattle.schema_definitions.specs.BuildCauses.{Reached}

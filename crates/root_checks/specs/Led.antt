@@ -1,5 +1,5 @@
 -- Where the keywords of a schema lead that have no cause.
-use Rattle.std.specs.Prelude.{◌≡◌, ℕ, List, [], ◌∷◌, Bool, true, false, Option}
+use Rattle.std.specs.Prelude.{◌≡◌, ℕ, List, [], Bool, true, false, Option}
 use Rattle.serde_json.specs.Data.{Data, Members}
 use Rattle.serde_json.specs.View.{view, members_view}
 use Rattle.schema_drafts.specs.Counts.{counts}
@@ -30,7 +30,7 @@ row_in own makes s all k d = row_at (context_in own makes s all) k d
 
 -- the patterns that one member writes
 abbrev pub written_at : Dialect → Members → List ℕ → Data → List (List ℕ)
-written_at y all k d = if counts y.draft y.vocabularies (has_reference all) k then written_by k d else []
+written_at y all k d = if counts y (has_reference all) k then written_by k d else []
 
 -- what a member leads to was put behind others, and whether it has no cause
 pub record MemberLed (own : List Document) (makes : List ℕ → Bool) (s : Site) (all : Members) (k : List ℕ) (d : Data) (old new : List Visit) (b : Bool) : Type 0 where

@@ -1,6 +1,6 @@
 //! Where references begin.
 
-ghost use Rattle.std.specs.Prelude.{◌≡◌, ◌∷◌, [], List, ℕ, Bool, true, map, string_bytes, IfOk, OnOk};
+ghost use Rattle.std.specs.Prelude.{◌≡◌, [], List, ℕ, Bool, true, map, string_bytes, IfOk, OnOk};
 ghost use Rattle.std.specs.List.{list_all};
 ghost use Rattle.document_laws.specs.TargetLaws.{are_apart, contents_rise};
 ghost use Rattle.referencing.specs.Resolved.{base_of, documents_in};

@@ -31,8 +31,8 @@ row-else false r s e = refl
 pub surrounding : (c : code.Site) (ms : Members) (makes : List ℕ → Bool) (s : Site) → Stands c s → s.scope ≡ scope_of c.resolver → Surrounds c ms (context_at c ms makes s)
 surrounding c ms makes s stands scope = record { documents = refl; members = refl; stands = stands; scope = scope }
 
-pub counts-there : (c : code.Site) (ms : Members) (s : Site) → Stands c s → (k : List ℕ) → counts s.dialect.draft s.dialect.vocabularies (has_reference ms) k ≡ counts_at c (has_reference ms) k
-counts-there c ms s stands k = ap (λ (y : Dialect). counts y.draft y.vocabularies (has_reference ms) k) stands.dialect
+pub counts-there : (c : code.Site) (ms : Members) (s : Site) → Stands c s → (k : List ℕ) → counts s.dialect (has_reference ms) k ≡ counts_at c (has_reference ms) k
+counts-there c ms s stands k = ap (λ (y : Dialect). counts y (has_reference ms) k) stands.dialect
 
 -- ---- the rows of the names that are read
 

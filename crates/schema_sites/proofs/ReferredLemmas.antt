@@ -45,11 +45,11 @@ abbrev no_schema : Target → BuildCause
 no_schema target = keyword_value (record { document = target.document; path = target.path }) (codes "schema")
 
 -- an identifier that is no URI reference
-pub wrong-identifier : (x : Context) (k : List ℕ) (target : Target) (i : List ℕ) → target.is_place ≡ false → identifier_text target.dialect.draft target.contents ≡ Some i → is_reference (split i) ≡ false
+pub wrong-identifier : (x : Context) (k : List ℕ) (target : Target) (i : List ℕ) → target.is_place ≡ false → identifier_text target.dialect target.contents ≡ Some i → is_reference (split i) ≡ false
     → target_causes x k target ≡ bad_reference (place_at x (at k)) (invalid_uri i) ∷ []
 wrong-identifier x k target i place text wrong =
     let causes : List ℕ → List BuildCause = λ t. if is_reference (split t) then [] else bad_reference (place_at x (at k)) (invalid_uri t) ∷ [] in
-    ap (λ (b : Bool). if b then [] else flat_map causes (listed (identifier_text target.dialect.draft target.contents))) place
+    ap (λ (b : Bool). if b then [] else flat_map causes (listed (identifier_text target.dialect target.contents))) place
     ∙ ap (λ (o : Option (List ℕ)). flat_map causes (listed o)) text
     ∙ ap (λ (b : Bool). (if b then [] else bad_reference (place_at x (at k)) (invalid_uri i) ∷ []) ++ []) wrong
 

@@ -1,5 +1,5 @@
 -- What the code's sites stand for.
-use Rattle.std.specs.Prelude.{◌≡◌, ℕ, List, [], ◌∷◌, Bool}
+use Rattle.std.specs.Prelude.{◌≡◌, ℕ, List, Bool}
 use Rattle.serde_json.specs.View.{view}
 use Rattle.schema_drafts.specs.Counts.{counts}
 use Rattle.schema_definitions.specs.Bearers.{Documents}
@@ -21,7 +21,7 @@ pub record Stands (c : code.Site) (s : Site) : Type 0 where
 
 -- whether a keyword counts there, `$ref` beside or not
 abbrev pub counts_at : code.Site → Bool → List ℕ → Bool
-counts_at c beside_ref k = counts (dialect_of c.dialect).draft (dialect_of c.dialect).vocabularies beside_ref k
+counts_at c beside_ref k = counts (dialect_of c.dialect) beside_ref k
 
 -- whether the schema is of Draft 4
 abbrev pub is_draft_4_at : code.Site → Bool

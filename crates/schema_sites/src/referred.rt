@@ -47,7 +47,7 @@ fn check_identifier(alloc: Global, target: &Resolved<'_>) -> Result<(), Error>
     if target.is_place() {
         return Ok(());
     }
-    let Some(text) = identifier_text(target.draft(), target.contents()) else {
+    let Some(text) = identifier_text(target.dialect(), target.contents()) else {
         return Ok(());
     };
     if is_uri_reference(text) {

@@ -8,6 +8,7 @@ use Rattle.schema_definitions.specs.Scopes.{entered_scope}
 use Rattle.schema_definitions.specs.Sites.{path_of_reference}
 use Rattle.schema_sites.specs.Passed.{base_of, scope_of, target_in}
 use Rattle.schema_sites.specs.References.{kind_of, name_of}
+use Rattle.document_index.specs.Seen as seen
 use Rattle.schema_sites.specs.Seen.{documents_at}
 use Rattle.schema_patterns.specs.Read.{reads}
 use Rattle.schema_reports.specs.RoadPaths.{instance_in, evaluation_in}
@@ -186,7 +187,7 @@ read::read_target-returns-then-is_in_progress t c =
     let t = target_in c.args.target in
     let at = instance_in r.roads in
     let progress = keys_in r.progress.now in
-    let document : c.document.result.now ≡ t.document = c.document.ensures in
+    let document : seen.name_of c.document_name.result.now ≡ t.document = c.document_name.ensures in
     let path : c.path.result.now ≡ t.path = c.path.ensures in
     let known : c.is_in_progress.result ≡ is_in_progress (key t.document t.path at) progress =
     c.is_in_progress.ensures ∙ ap₂ (λ (u : List ℕ) (p : List Part). is_in_progress (key u p at) progress) document path in
@@ -203,16 +204,16 @@ read::read_target-read_site-requires t c =
     let t = target_in c.args.target in
     let at = instance_in r.roads in
     let progress = keys_in r.progress.now in
-    let document : c.document.result.now ≡ t.document = c.document.ensures in
+    let document : seen.name_of c.document_name.result.now ≡ t.document = c.document_name.ensures in
     let path : c.path.result.now ≡ t.path = c.path.ensures in
     let known : c.is_in_progress.result ≡ is_in_progress (key t.document t.path at) progress =
     c.is_in_progress.ensures ∙ ap₂ (λ (u : List ℕ) (p : List Part). is_in_progress (key u p at) progress) document path in
     let lies = looked_up_lies c.args.keyword (documents_at r.site.now) (base_of r.site.now.resolver) (scope_of r.site.now.resolver) c.args.text.now t c.requires.1.1.found in
     let new : is_in_progress (key t.document t.path at) progress ≡ false = sym known ∙ c.if-is_in_progress.false in
     let contents : t.contents ≡ view c.in_ok-inner.inner.contents.now = sym c.in_ok-inner.ensures.contents in
-    let docs : documents_at c.in_ok-inner.inner ≡ documents_at r.site.now = c.in_ok-inner.ensures.documents ∙ ap (λ ds. ds ∷ []) c.requires.1.1.documents in
+    let docs : documents_at c.in_ok-inner.inner ≡ documents_at r.site.now = c.in_ok-inner.ensures.documents ∙ c.requires.1.1.documents in
     let less = target_deeper (documents_at r.site.now) (spots_of r.whole) (view r.value.now) (view r.site.now.contents.now) t at progress lies r.within new in
-    let falls = falls_by_target (documents_at r.site.now) (documents_at c.in_ok-inner.inner) (spots_of r.whole) t c.document-2.result.now c.path-2.result.now at progress (view c.in_ok-inner.inner.contents.now) (view r.site.now.contents.now) c.document-2.ensures c.path-2.ensures docs contents less in
+    let falls = falls_by_target (documents_at r.site.now) (documents_at c.in_ok-inner.inner) (spots_of r.whole) t (seen.name_of c.document_name-2.result.now) c.path-2.result.now at progress (view c.in_ok-inner.inner.contents.now) (view r.site.now.contents.now) c.document_name-2.ensures c.path-2.ensures docs contents less in
     omega (arith, falls)
 
 pub read::read_target-invariant_of-followed : goal.read::read_target-invariant_of-followed
@@ -221,7 +222,7 @@ read::read_target-invariant_of-followed t c =
     let t = target_in c.args.target in
     let lies = looked_up_lies c.args.keyword (documents_at r.site.now) (base_of r.site.now.resolver) (scope_of r.site.now.resolver) c.args.text.now t c.requires.1.1.found in
     let contents : t.contents ≡ view c.in_ok-inner.inner.contents.now = sym c.in_ok-inner.ensures.contents in
-    let docs : documents_at c.in_ok-inner.inner ≡ documents_at r.site.now = c.in_ok-inner.ensures.documents ∙ ap (λ ds. ds ∷ []) c.requires.1.1.documents in
+    let docs : documents_at c.in_ok-inner.inner ≡ documents_at r.site.now = c.in_ok-inner.ensures.documents ∙ c.requires.1.1.documents in
     record { shallow = shallow_by_target (documents_at r.site.now) (documents_at c.in_ok-inner.inner) t (view c.in_ok-inner.inner.contents.now) docs contents lies; within = r.within }
 
 pub read::read_target-returns : goal.read::read_target-returns
@@ -230,19 +231,19 @@ read::read_target-returns t c =
     let t = target_in c.args.target in
     let at = instance_in r.roads in
     let progress = keys_in r.progress.now in
-    let document : c.document.result.now ≡ t.document = c.document.ensures in
+    let document : seen.name_of c.document_name.result.now ≡ t.document = c.document_name.ensures in
     let path : c.path.result.now ≡ t.path = c.path.ensures in
     let known : c.is_in_progress.result ≡ is_in_progress (key t.document t.path at) progress =
     c.is_in_progress.ensures ∙ ap₂ (λ (u : List ℕ) (p : List Part). is_in_progress (key u p at) progress) document path in
     let lies = looked_up_lies c.args.keyword (documents_at r.site.now) (base_of r.site.now.resolver) (scope_of r.site.now.resolver) c.args.text.now t c.requires.1.1.found in
     let contents : t.contents ≡ view c.in_ok-inner.inner.contents.now = sym c.in_ok-inner.ensures.contents in
-    let docs : documents_at c.in_ok-inner.inner ≡ documents_at r.site.now = c.in_ok-inner.ensures.documents ∙ ap (λ ds. ds ∷ []) c.requires.1.1.documents in
+    let docs : documents_at c.in_ok-inner.inner ≡ documents_at r.site.now = c.in_ok-inner.ensures.documents ∙ c.requires.1.1.documents in
     on_ok_weaker c.read_site.result (λ told. target_on r.site.now (spots_of r.whole) (view r.value.now) r.roads progress (name_of c.args.keyword) c.args.text.now t c.is_in_progress.result c.in_ok-inner.inner _ c.args.observer.now c.read_site.new.observer
     known c.if-is_in_progress.false lies r.within docs c.in_ok-inner.ensures.matches contents
     (λ s. c.in_ok-inner.ensures.stands s c.args.text.now)
     (λ s b scope. ap₂ (λ (u : List ℕ) (us : List (List ℕ)). entered_scope t.base u us) b scope ∙ sym c.requires.1.1.scope ∙ sym c.in_ok-inner.ensures.scope)
     refl (c.push_name-evaluation.ensures ∙ ap (λ (k : List ℕ). name k ∷ evaluation_in r.roads) c.as_str.ensures) (ap₂ (λ (ps : List Part) (r : List ℕ). ps ++ path_of_reference r) c.new-start.ensures c.followed.ensures)
-    (at_target_told c.in_ok-inner.inner (spots_of r.whole) (view r.value.now) _ t c.document-2.result.now c.path-2.result.now at progress c.args.observer.now c.read_site.new.observer c.document-2.ensures c.path-2.ensures told))
+    (at_target_told c.in_ok-inner.inner (spots_of r.whole) (view r.value.now) _ t (seen.name_of c.document_name-2.result.now) c.path-2.result.now at progress c.args.observer.now c.read_site.new.observer c.document_name-2.ensures c.path-2.ensures told))
     c.read_site.ensures
 
 pub read::read_member-returns-after-refusal : goal.read::read_member-returns-after-refusal

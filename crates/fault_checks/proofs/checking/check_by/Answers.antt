@@ -1,5 +1,5 @@
 use Rattle.std.specs.Borrow.{Bor}
-use Rattle.std.proofs.Common.{◌≡◌, ◌≤◌, ◌∙◌, ◌∷◌, [], sym, ap₂, subst, inl, inr, true, false, Option, option_copied}
+use Rattle.std.proofs.Common.{◌≡◌, ◌≤◌, ◌∙◌, sym, ap₂, subst, inl, inr, true, false, Option, option_copied}
 use Rattle.serde_json.specs.Data.{depth}
 use Rattle.serde_json.specs.View.{view}
 use Rattle.schema_definitions.specs.Lookup.{lookup}
@@ -31,9 +31,9 @@ pub is_spelled-requires : goal.is_spelled-requires
 is_spelled-requires c =
     let resolver = c.in_ok-resolver.resolver in
     let target = target_in c.in-Ok.found in
-    let shallow : depth target.contents ≤ deepest (documents_in resolver ∷ []) =
-    (lookups_lie (documents_in resolver ∷ []) (base_of resolver) c.args.root.now target c.in-Ok.ensures.ok).shallow in
-    record { shallow = subst (λ own. depth target.contents ≤ deepest (own ∷ [])) (sym c.in-Ok.ensures.documents) shallow }
+    let shallow : depth target.contents ≤ deepest (documents_in resolver) =
+    (lookups_lie (documents_in resolver) (base_of resolver) c.args.root.now target c.in-Ok.ensures.ok).shallow in
+    record { shallow = subst (λ own. depth target.contents ≤ deepest own) (sym c.in-Ok.ensures.documents) shallow }
 
 pub returns-then-branch : goal.returns-then-branch
 returns-then-branch c =
@@ -45,13 +45,13 @@ returns-then-branch c =
     let t = target_in c.in-Ok.found in
     let documents : documents_in resolver ≡ documents_in_registry registry = c.in_ok-resolver.ensures.documents ∙ c.registry.ensures in
     let base : base_of resolver ≡ r.base = c.in_ok-resolver.ensures.base ∙ c.in_ok-clone.ensures.cases ∙ c.base.ensures in
-    let found : Finds r t = sym (ap₂ (λ ds b. lookup (ds ∷ []) b c.args.root.now) documents base) ∙ c.in-Ok.ensures.ok in
+    let found : Finds r t = sym (ap₂ (λ ds b. lookup ds b c.args.root.now) documents base) ∙ c.in-Ok.ensures.ok in
     let there : documents_in c.in-Ok.found.resolver ≡ documents_in_registry registry = c.in-Ok.ensures.documents ∙ documents in
-    let told = subst (λ b. DecidesRoot t (documents_in c.in-Ok.found.resolver ∷ []) m d (text_left c.in-Some-opened.instance) (text_left c.in-Some-opened-2.evaluation) b) c.if-branch.true c.in_ok-is_spelled-in-Ok.ensures in
+    let told = subst (λ b. DecidesRoot t (documents_in c.in-Ok.found.resolver) m d (text_left c.in-Some-opened.instance) (text_left c.in-Some-opened-2.evaluation) b) c.if-branch.true c.in_ok-is_spelled-in-Ok.ensures in
     λ p read. accepted_by p r d c.args.path.instance_path.now c.args.path.evaluation_path.now t m found
-    (subst (λ own. DecidesRoot t (own ∷ []) m d c.args.path.instance_path.now c.args.path.evaluation_path.now true) there
-    (subst (λ i. DecidesRoot t (documents_in c.in-Ok.found.resolver ∷ []) m d i c.args.path.evaluation_path.now true) (sym c.in-Some-opened.ensures)
-    (subst (λ e. DecidesRoot t (documents_in c.in-Ok.found.resolver ∷ []) m d (text_left c.in-Some-opened.instance) e true) (sym c.in-Some-opened-2.ensures) told)))
+    (subst (λ own. DecidesRoot t own m d c.args.path.instance_path.now c.args.path.evaluation_path.now true) there
+    (subst (λ i. DecidesRoot t (documents_in c.in-Ok.found.resolver) m d i c.args.path.evaluation_path.now true) (sym c.in-Some-opened.ensures)
+    (subst (λ e. DecidesRoot t (documents_in c.in-Ok.found.resolver) m d (text_left c.in-Some-opened.instance) e true) (sym c.in-Some-opened-2.ensures) told)))
     (subst (λ (o : Option (Bor Matches)). AreReadIn p r d (option_copied o)) c.in-Some.is read)
 
 pub returns-in-Ok : goal.returns-in-Ok
@@ -64,13 +64,13 @@ returns-in-Ok c =
     let t = target_in c.in-Ok.found in
     let documents : documents_in resolver ≡ documents_in_registry registry = c.in_ok-resolver.ensures.documents ∙ c.registry.ensures in
     let base : base_of resolver ≡ r.base = c.in_ok-resolver.ensures.base ∙ c.in_ok-clone.ensures.cases ∙ c.base.ensures in
-    let found : Finds r t = sym (ap₂ (λ ds b. lookup (ds ∷ []) b c.args.root.now) documents base) ∙ c.in-Ok.ensures.ok in
+    let found : Finds r t = sym (ap₂ (λ ds b. lookup ds b c.args.root.now) documents base) ∙ c.in-Ok.ensures.ok in
     let there : documents_in c.in-Ok.found.resolver ≡ documents_in_registry registry = c.in-Ok.ensures.documents ∙ documents in
-    let told = subst (λ b. DecidesRoot t (documents_in c.in-Ok.found.resolver ∷ []) m d (text_left c.in-Some-opened.instance) (text_left c.in-Some-opened-2.evaluation) b) c.if-branch.false c.in_ok-is_spelled-in-Ok.ensures in
+    let told = subst (λ b. DecidesRoot t (documents_in c.in-Ok.found.resolver) m d (text_left c.in-Some-opened.instance) (text_left c.in-Some-opened-2.evaluation) b) c.if-branch.false c.in_ok-is_spelled-in-Ok.ensures in
     λ p read. refused_by p r d c.args.path.instance_path.now c.args.path.evaluation_path.now t m found
-    (subst (λ own. DecidesRoot t (own ∷ []) m d c.args.path.instance_path.now c.args.path.evaluation_path.now false) there
-    (subst (λ i. DecidesRoot t (documents_in c.in-Ok.found.resolver ∷ []) m d i c.args.path.evaluation_path.now false) (sym c.in-Some-opened.ensures)
-    (subst (λ e. DecidesRoot t (documents_in c.in-Ok.found.resolver ∷ []) m d (text_left c.in-Some-opened.instance) e false) (sym c.in-Some-opened-2.ensures) told)))
+    (subst (λ own. DecidesRoot t own m d c.args.path.instance_path.now c.args.path.evaluation_path.now false) there
+    (subst (λ i. DecidesRoot t (documents_in c.in-Ok.found.resolver) m d i c.args.path.evaluation_path.now false) (sym c.in-Some-opened.ensures)
+    (subst (λ e. DecidesRoot t (documents_in c.in-Ok.found.resolver) m d (text_left c.in-Some-opened.instance) e false) (sym c.in-Some-opened-2.ensures) told)))
     (subst (λ (o : Option (Bor Matches)). AreReadIn p r d (option_copied o)) c.in-Some.is read)
 
 pub returns : goal.returns
@@ -80,7 +80,7 @@ returns c =
     let resolver = c.in_ok-resolver.resolver in
     let documents : documents_in resolver ≡ documents_in_registry c.args.registry.now = c.in_ok-resolver.ensures.documents ∙ c.registry.ensures in
     let base : base_of resolver ≡ r.base = c.in_ok-resolver.ensures.base ∙ c.in_ok-clone.ensures.cases ∙ c.base.ensures in
-    let same : lookup (documents_in resolver ∷ []) (base_of resolver) r.reference ≡ lookup r.documents r.base r.reference = ap₂ (λ ds b. lookup (ds ∷ []) b c.args.root.now) documents base in
+    let same : lookup (documents_in resolver) (base_of resolver) r.reference ≡ lookup r.documents r.base r.reference = ap₂ (λ ds b. lookup ds b c.args.root.now) documents base in
     λ p read sound. elim c.in-Err.ensures.refused [
       | inl m ↦ absurd (c.in_default-error.not-Memory m)
       | inr h ↦ not_found p r d c.args.path.instance_path.now c.args.path.evaluation_path.now h.0 (sym same ∙ h.1) sound

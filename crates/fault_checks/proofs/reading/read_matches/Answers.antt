@@ -1,4 +1,4 @@
-use Rattle.std.proofs.Common.{◌≡◌, ◌∙◌, ◌∷◌, [], Ok, sym, ap, subst}
+use Rattle.std.proofs.Common.{◌≡◌, ◌∙◌, Ok, sym, ap, subst}
 use Rattle.std.specs.List.{list_all}
 use Rattle.std.proofs.lemmas.Result.{IfOk-weaker}
 use Rattle.serde_json.specs.View.{view}
@@ -19,7 +19,7 @@ returns-in-Ok g c =
     let t = target_in c.in-Ok.found in
     let there : own ≡ documents_in_registry registry = c.in-Ok.ensures.documents ∙ c.in_ok-resolver.ensures.documents ∙ c.registry.ensures in
     let base : base_of resolver ≡ registry.base = c.in_ok-resolver.ensures.base ∙ c.in_ok-clone.ensures.cases ∙ c.base.ensures in
-    let found = subst (λ ds. lookup (ds ∷ []) (base_of resolver) c.args.root.now ≡ Ok t) (sym c.in-Ok.ensures.documents) c.in-Ok.ensures.ok in
+    let found = subst (λ ds. lookup ds (base_of resolver) c.args.root.now ≡ Ok t) (sym c.in-Ok.ensures.documents) c.in-Ok.ensures.ok in
     let apart = ap are_apart there ∙ ap (λ o. are_apart (documents_shared o)) (sym c.own.ensures) ∙ c.documents_are_apart.ensures in
     let rise = ap (list_all contents_rise) (there ∙ sym c.registry-in-Ok.ensures) ∙ c.names_rise.ensures in
     IfOk-weaker c.read_reached.result _ _

@@ -2,6 +2,7 @@ use Rattle.std.proofs.Common.{refl, sym, subst, ℕ, List, [], ◌∷◌, string
 use Rattle.serde_json.specs.View.{members_view}
 use Rattle.json_values.specs.Parts.{Part, name}
 use Rattle.schema_definitions.specs.Rows.{member_names}
+use Rattle.document_index.specs.Seen.{name_of}
 use Rattle.reached_sites.specs.Patterns.{Puts}
 use Rattle.reached_sites.specs.Places.{place_in}
 use Rattle.reached_sites.proofs.Placing.{member-in}
@@ -18,7 +19,7 @@ loop-name-preserved c = λ fin rest.
     let n = string_bytes c.in-Some.name.now in
     let before = c.loop-name.patterns.items in
     let after = c.push.new.self.items in
-    let there = sym (member-in place.document.value place.path c.as_str-text.result.now place c.in_ok-member.field-0 refl c.in_ok-member.ensures.document c.in_ok-member.ensures.path) in
+    let there = sym (member-in (name_of place.document) place.path c.as_str-text.result.now place c.in_ok-member.field-0 refl c.in_ok-member.ensures.document c.in_ok-member.ensures.path) in
     let one = puts-one at parts before after _ n c.in_ok-push.ensures.items c.as_str-text.ensures.value there in
     c.loop-name.invariant fin
     (subst (λ es. Puts at parts (member_names (members_view es)) before fin) (sym c.in-Some.ensures.steps)
