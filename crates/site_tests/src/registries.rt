@@ -230,15 +230,10 @@ const SECOND: [(&str, &str, &str); 2] = [
 fn of_first(rt: &impl Abort, alloc: Global) -> SharedRegistry {
     let mut documents = Documents::new(alloc);
     give(rt, alloc, &mut documents, &FIRST);
-    SharedRegistry::prepare(
-        alloc,
-        &documents,
-        Draft::Draft7,
-        true,
-        &DefaultRetriever,
-        0,
+    SharedRegistry::prepare(alloc, &documents, Draft::Draft7, true, &DefaultRetriever, 0).expect(
+        rt,
+        "a registry",
     )
-    .expect(rt, "a registry")
 }
 
 fn beside_first(rt: &impl Abort, alloc: Global, first: &SharedRegistry) -> SharedRegistry {
