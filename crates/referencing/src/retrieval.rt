@@ -23,7 +23,7 @@ use std::alloc::Global;
 
 // The documents of a parent, where there is one.
 fn documents_or_none<'a>(alloc: Global, parent: Option<Vec<Document<'a>>>) -> Vec<Document<'a>>
-    ensures { map document_of result.items ≡ parents_among parent }
+    ensures { map document_of result.items ≡ parents_among parent.entry }
 {
     match parent {
         Some(documents) => documents,
