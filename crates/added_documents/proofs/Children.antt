@@ -5,9 +5,8 @@ use Rattle.std.specs.Prelude.{is_some}
 use Rattle.serde_json.specs.Data.{Data, null, boolean, number, string, array, object, Items, no_items, item, Members, no_members, member, depth}
 use Rattle.json_values.specs.Parts.{Part, name, index}
 use Rattle.schema_drafts.specs.Subschemas.{Holds, nothing, one, several, one_or_several, by_name, held_by}
-use Rattle.schema_drafts.specs.declared.draft.Draft.{Draft}
 use Rattle.schema_definitions.specs.Identifiers.{is_hidden}
-use Rattle.schema_definitions.specs.Places.{Dialect, SchemaPlace, standard, by_schema, schema_in_force, entered, root_place, if_schema, each_item, each_member, in_list, in_map, held, children_of, children_in, children, places}
+use Rattle.schema_definitions.specs.Places.{Dialect, SchemaPlace, by_schema, schema_in_force, entered, root_place, if_schema, each_item, each_member, in_list, in_map, held, children_of, children_in, children, places}
 use Rattle.document_laws.proofs.Lists.{joined, unless, by_levels}
 use Rattle.document_laws.proofs.Depths.{placed_contents}
 use Rattle.added_documents.specs.Added.{EachNamed, EachNamedIn, EachNamedAmong}
@@ -74,7 +73,7 @@ module _ (P : List ℕ → Type 0) (meta : List ℕ → Option Dialect) (p : Sch
   inside_entered (number n) h = tt
   inside_entered (string s) h = tt
   inside_entered (array ds) h = tt
-  inside_entered (object ms) h = each_entered (is_hidden p.dialect.draft (object ms)) ms h.1
+  inside_entered (object ms) h = each_entered (is_hidden p.dialect (object ms)) ms h.1
 
 -- ---- the values at places
 
@@ -84,7 +83,7 @@ module _ (P : List ℕ → Type 0) (meta : List ℕ → Option Dialect) where
 
   placed_named : (p c : SchemaPlace) → IsEntered P meta p c → NamedAt c
   placed_named p c h =
-      let named = by_schema meta p.dialect (schema_in_force false h.contents) in
+      let named = by_schema meta p.dialect (schema_in_force p.dialect.siblings false h.contents) in
       subst NamedAt (sym h.is)
       (record { each = subst (EachNamed P) (sym (placed_contents p.base p.dialect h.path h.contents named)) h.each })
 
@@ -97,9 +96,9 @@ module _ (P : List ℕ → Type 0) (meta : List ℕ → Option Dialect) where
       unless NamedAt (is_some p.awaits) (children_in meta p p.contents)
       (each_named p (children_in meta p p.contents) (inside_entered P meta p p.contents h.each))
 
-  pub places_named : (uri : List ℕ) (default : Draft) (d : Data) → EachNamed P d → AllByRecursion NamedAt (places meta uri default d)
+  pub places_named : (uri : List ℕ) (default : Dialect) (d : Data) → EachNamed P d → AllByRecursion NamedAt (places meta uri default d)
   unfolding places
   places_named uri default d h =
-      let named = by_schema meta (standard default) (schema_in_force true d) in
-      let root : NamedAt (root_place meta uri default d) = record { each = subst (EachNamed P) (sym (placed_contents uri (standard default) [] d named)) h } in
+      let named = by_schema meta default (schema_in_force default.siblings true d) in
+      let root : NamedAt (root_place meta uri default d) = record { each = subst (EachNamed P) (sym (placed_contents uri default [] d named)) h } in
       by_levels NamedAt (children meta) children_named (suc (depth d)) (root_place meta uri default d ∷ []) (root, tt)

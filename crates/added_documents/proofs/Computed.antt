@@ -1,4 +1,4 @@
-use Rattle.std.proofs.Common.{refl, [], ◌∷◌}
+use Rattle.std.proofs.Common.{refl, ◌∷◌}
 use Rattle.std.specs.Str.{is_utf8, chars}
 use Rattle.std.specs.Fmt.{digits}
 use Rattle.serde_json.proofs.OnLiterals.{serde_json_on_literals}
@@ -22,14 +22,14 @@ unfolding digits serde_json_on_literals lib.Utf8.encode is_utf8 chars percent_de
 premises_are_needed = record {
   by_dialect = record {
     right = record { accepted = refl; builds = built_by_levels reading 4 refl };
-    right_still = record { accepted = refl; builds = built_by_levels ((dialect ∷ reading) ∷ []) 4 refl };
+    right_still = record { accepted = refl; builds = built_by_levels (dialect ∷ reading) 4 refl };
     apart = refl;
     refused = refl;
     accepted = refl;
   };
   by_base = record {
     right = record { accepted = refl; builds = built_by_levels entering 5 refl };
-    right_still = record { accepted = refl; builds = built_by_levels ((resource ∷ entering) ∷ []) 5 refl };
+    right_still = record { accepted = refl; builds = built_by_levels (resource ∷ entering) 5 refl };
     apart = refl;
     refused = refl;
     accepted = refl;
@@ -42,5 +42,5 @@ root_is_mended = record {
   accepted = refl;
   wrong = wrong_by_levels referring 4 not_there refl;
   apart = refl;
-  right = record { accepted = refl; builds = built_by_levels ((referred ∷ referring) ∷ []) 5 refl };
+  right = record { accepted = refl; builds = built_by_levels (referred ∷ referring) 5 refl };
 }

@@ -1,13 +1,12 @@
 -- Documents that name drafts alone.
 use Rattle.std.proofs.Common.{◌≡◌, ℕ, List, [], ◌∷◌, true, Option, Some, None, is_some, codes}
-use Rattle.std.specs.List.{AllByRecursion}
 use Rattle.std.specs.Prelude.{IfSome}
 use Rattle.serde_json.specs.Data.{Data, null, boolean, number, string, array, object, Items, no_items, item, Members, no_members, member}
 use Rattle.schema_drafts.specs.Drafts.{draft_named}
 use Rattle.schema_drafts.specs.declared.draft.Draft.{Draft}
 use Rattle.schema_definitions.specs.Words.{text_at}
 use Rattle.schema_definitions.specs.Places.{Dialect, uri_named}
-use Rattle.schema_definitions.specs.Bearers.{Document, Documents}
+use Rattle.schema_definitions.specs.Bearers.{Documents}
 use Rattle.added_documents.specs.Added.{EachNamed, EachNamedIn, EachNamedAmong, EachNamedBy, IsToldAlike, NamesDraft}
 use Rattle.added_documents.specs.DocumentLaws.{DraftsAreToldAlike}
 
@@ -33,13 +32,9 @@ module _ (P Q : List ℕ → Type 0) (follows : (t : List ℕ) → P t → Q t) 
     members_follow no_members h = tt
     members_follow (member k d ms) h = (each_follows d h.0, members_follow ms h.1)
 
-  list_follows : (own : List Document) → AllByRecursion (λ d. EachNamed P d.contents) own → AllByRecursion (λ d. EachNamed Q d.contents) own
-  list_follows [] h = tt
-  list_follows (d ∷ own) h = (each_follows d.contents h.0, list_follows own h.1)
-
   pub all_follow : (docs : Documents) → EachNamedBy P docs → EachNamedBy Q docs
   all_follow [] h = tt
-  all_follow (own ∷ parents) h = (list_follows own h.0, all_follow parents h.1)
+  all_follow (d ∷ docs) h = (each_follows d.contents h.0, all_follow docs h.1)
 
 none_else : (told after : List ℕ → Option Dialect) (t : List ℕ) (o : Option Draft) → is_some o ≡ true
     → (uri : List ℕ) → uri_named t o ≡ Some uri → after uri ≡ told uri

@@ -76,7 +76,7 @@ module _ (old more new : Documents) (alone : LeftAlone old more new) (makes : Li
   subschemas : (added : List Part) (d : Data) → IsKnown d → SameResult KnownSite (subschema one added d) (subschema other added d)
   subschemas added d h =
       let path = added ++ s.path in
-      let named = by_schema (meta old) s.dialect (schema_in_force false d) in
+      let named = by_schema (meta old) s.dialect (schema_in_force s.dialect.siblings false d) in
       record {
         same = ap (λ p. if is_schema d then Ok (within s added p) else Err (expected one added (codes "schema"))) (same_entered (meta old) (meta new) s.base s.dialect path d h);
         known =

@@ -1,11 +1,11 @@
 -- The stages of documents to which others are added.
 use Rattle.std.proofs.Common.{◌≡◌, ◌≤◌, ◌∙◌, ℕ, zero, suc, List, [], option_map, refl, sym, ap, arith}
-use Rattle.schema_definitions.specs.Bearers.{Document, Documents, bears, dialect_by, dialects, schemas_of_each, how_many, meta}
+use Rattle.schema_definitions.specs.Bearers.{Documents, bears, dialect_by, dialects, how_many, meta}
 use Rattle.schema_definitions.specs.DocumentCauses.{told_anew}
 use Rattle.document_laws.specs.Stages.{AtRest}
 use Rattle.document_laws.proofs.Resting.{rest_stays}
 use Rattle.document_laws.proofs.Told.{only_rest_tells_none_anew}
-use Rattle.added_documents.specs.Added.{Mixed, neither, one_kept, one_added, Joined, none, mixed, added, EachNamedBy, IsToldAlike}
+use Rattle.added_documents.specs.Added.{Joined, neither, one_kept, one_added, EachNamedBy, IsToldAlike}
 use Rattle.added_documents.specs.DocumentLaws.{IsNeverAdded, DialectsStay}
 use Rattle.added_documents.proofs.Drafts.{all_follow}
 use Rattle.added_documents.proofs.Joining.{joined_last}
@@ -13,16 +13,10 @@ use Rattle.added_documents.proofs.Walking.{same_last}
 
 -- ---- together they name no fewer
 
-list_more : (own more new : List Document) → Mixed own more new → schemas_of_each own ≤ schemas_of_each new
-list_more _ _ _ neither = omega arith
-list_more _ more _ (one_kept {old = own} {new = new} d x) = omega (arith, list_more own more new x)
-list_more own _ _ (one_added {more = more} {new = new} d x) = omega (arith, list_more own more new x)
-
 no_fewer : (old more new : Documents) → Joined old more new → how_many old ≤ how_many new
-no_fewer _ _ _ none = omega arith
-no_fewer _ _ _ (mixed {own = own} {more = more} {new = new} {parents = parents} {others = others} {all = all} x j) =
-    omega (arith, list_more own more new x, no_fewer parents others all j)
-no_fewer _ _ _ (added {parents = parents} {others = others} {all = all} own j) = omega (arith, no_fewer parents others all j)
+no_fewer _ _ _ neither = omega arith
+no_fewer _ more _ (one_kept {old = old} {new = new} d j) = omega (arith, no_fewer old more new j)
+no_fewer old _ _ (one_added {more = more} {new = new} d j) = omega (arith, no_fewer old more new j)
 
 module _ (old more new : Documents) (joined : Joined old more new) (never : EachNamedBy (IsNeverAdded more new) old) where
   one_stage : (n : ℕ) → EachNamedBy (IsToldAlike (dialects old n) (dialects new n)) old → (t : List ℕ) → IsNeverAdded more new t

@@ -7,7 +7,6 @@ use Rattle.percent_encoding.specs.Percent.{percent_decode}
 use Rattle.serde_json.specs.Data.{Data}
 use Rattle.serde_json.specs.Find.{get, as_bool}
 use Rattle.uri_grammar.specs.Texts.{cut_at, has, pieces}
-use Rattle.schema_drafts.specs.declared.draft.Draft.{Draft}
 use Rattle.schema_definitions.specs.Words.{or, or_else, last_that, has_text, result_map, ok_or, and_then}
 use Rattle.schema_definitions.specs.Identifiers.{resolved, is_name, anchors, dynamic_anchors}
 use Rattle.schema_definitions.specs.Places.{Dialect}
@@ -45,7 +44,7 @@ module _ (old more new : Documents) (alone : LeftAlone old more new) where
   bearer_free : (q : List ℕ) → Free q → bearer new q ≡ bearer old q
   bearer_free q f = last_free (bears q) f
 
-  anchor_free : (of : Draft → Data → List (List ℕ)) (k q : List ℕ) → Free q
+  anchor_free : (of : Dialect → Data → List (List ℕ)) (k q : List ℕ) → Free q
       → last_standing (bears_anchor of q k) after new ≡ last_standing (bears_anchor of q k) before old
   anchor_free of k q f = last_free (bears_anchor of q k) (none_anchored q of k after more f)
 
@@ -92,7 +91,7 @@ module _ (old more new : Documents) (alone : LeftAlone old more new) where
         borne = λ e.
             base_borne before test old s is
             (nothing_awaited s.place.awaits (bytes_eq s.place.base q)
-            (first_so (not (is_some s.place.awaits) && bytes_eq s.place.base q) (has_text k (anchors s.place.dialect.draft s.place.contents)) (found_passes before test old s is)));
+            (first_so (not (is_some s.place.awaits) && bytes_eq s.place.base q) (has_text k (anchors s.place.dialect s.place.contents)) (found_passes before test old s is)));
       }
 
   unless_slash : (k : List ℕ) (b : Bool) (r : Result Target LookupCause) → IfOk r (Settled k) → IfOk (if b then Err (invalid_anchor k) else r) (Settled k)
@@ -204,7 +203,7 @@ module _ (old more new : Documents) (alone : LeftAlone old more new) where
   on_found k scope u t false borne h s is e = (let value : u ≡ t = cc in record { same = e; known = subst (λ (x : Target). Known x.contents) value s.known })
 
   abbrev on_target : List ℕ → List (List ℕ) → Documents → Target → Result Target LookupCause
-  on_target k scope docs u = if is_name k && has_text k (dynamic_anchors u.dialect.draft u.contents) then outermost docs k (u.base ∷ scope) else Ok u
+  on_target k scope docs u = if is_name k && has_text k (dynamic_anchors u.dialect u.contents) then outermost docs k (u.base ∷ scope) else Ok u
 
   pub dynamic_same : (base : List ℕ) (scope : List (List ℕ)) (reference : List ℕ) (t : Target) → AllByRecursion Free scope
       → dynamic_lookup old base scope reference ≡ Ok t → SameTarget (dynamic_lookup new base scope reference) t
@@ -219,7 +218,7 @@ module _ (old more new : Documents) (alone : LeftAlone old more new) where
           let next = on_target k scope in
           let l = same_lookup base reference u is in
           let here : next old u ≡ Ok t = ap (λ r. and_then r (next old)) (sym is) ∙ e in
-          let there = on_found k scope u t (is_name k) (has_text k (dynamic_anchors u.dialect.draft u.contents)) h l.settled refl here in
+          let there = on_found k scope u t (is_name k) (has_text k (dynamic_anchors u.dialect u.contents)) h l.settled refl here in
           record { same = ap (λ r. and_then r (next new)) l.same ∙ there.same; known = there.known }
 
   -- ---- by the run of resources

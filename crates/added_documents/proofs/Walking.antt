@@ -1,5 +1,5 @@
 -- Under two that tell the same of the meta-schemas named inside values, these have the same places, and walks in them are the same.
-use Rattle.std.proofs.Common.{◌≡◌, ◌∙◌, ℕ, List, [], ◌∷◌, Bool, true, false, ◌||◌, if◌then◌else◌, Option, Some, None, is_some, option_and_then, Result, Ok, Err, IfOk, IfSome, codes, map, refl, ap, ap₂}
+use Rattle.std.proofs.Common.{◌≡◌, ◌∙◌, ℕ, List, [], ◌∷◌, Bool, true, false, ◌||◌, if◌then◌else◌, Option, Some, None, is_some, option_and_then, Result, Ok, Err, IfOk, IfSome, codes, map, refl, ap}
 use Rattle.std.specs.List.{flat_map, AllByRecursion}
 use Rattle.serde_json.specs.Data.{Data, null, boolean, number, string, array, object, Items}
 use Rattle.serde_json.specs.Find.{get_member, get_item, unescape}
@@ -7,10 +7,10 @@ use Rattle.json_values.specs.Parts.{Part, name, index}
 use Rattle.json_values.specs.Pointers.{index_of}
 use Rattle.schema_drafts.specs.Drafts.{draft_named}
 use Rattle.schema_drafts.specs.Subschemas.{Holds}
-use Rattle.schema_definitions.specs.Words.{text_at, or_else, last_that, result_map, ok_or, and_then}
+use Rattle.schema_definitions.specs.Words.{text_at, last_that, result_map, ok_or, and_then}
 use Rattle.schema_definitions.specs.Identifiers.{identifier}
-use Rattle.schema_definitions.specs.Places.{Dialect, SchemaPlace, uri_named, draft_beside, schema_in_force, placed, entered, places}
-use Rattle.schema_definitions.specs.Bearers.{Document, Documents, Standing, standing_in, standings, is_root, last_standing}
+use Rattle.schema_definitions.specs.Places.{Dialect, SchemaPlace, standard, uri_named, draft_beside, schema_in_force, placed, entered, places}
+use Rattle.schema_definitions.specs.Bearers.{Documents, document_name, Standing, standing_in, standings, is_root, last_standing}
 use Rattle.schema_definitions.specs.Lookup.{LookupCause, pointer_to_nowhere, Walk, at_place, part_of, holds_schema, in_element, in_member, arrived, item_at, step_to, walk}
 use Rattle.document_laws.specs.Agreeing.{Agrees}
 use Rattle.document_laws.proofs.Lists.{joined, of_last}
@@ -34,61 +34,50 @@ module _ (told after : List ℕ → Option Dialect) where
   by_text_there kept None h u e = cc
   by_text_there kept (Some t) h u e = by_text_kept t (kept t) h u e
 
-  pub in_force : (at_root : Bool) (d : Data) → Alike d
-      → (u : List ℕ) → option_and_then (λ t. uri_named t (draft_named t)) (schema_in_force at_root d) ≡ Some u → after u ≡ told u
-  in_force at_root null h u e = cc
-  in_force at_root (boolean b) h u e = cc
-  in_force at_root (number n) h u e = cc
-  in_force at_root (string s) h u e = cc
-  in_force at_root (array ds) h u e = cc
-  in_force at_root (object ms) h u e =
-      by_text_there (λ t. at_root || is_some (identifier (draft_beside t) (object ms))) (text_at (codes "$schema") (object ms)) h.0 u e
+  pub in_force : (siblings at_root : Bool) (d : Data) → Alike d
+      → (u : List ℕ) → option_and_then (λ t. uri_named t (draft_named t)) (schema_in_force siblings at_root d) ≡ Some u → after u ≡ told u
+  in_force siblings at_root null h u e = cc
+  in_force siblings at_root (boolean b) h u e = cc
+  in_force siblings at_root (number n) h u e = cc
+  in_force siblings at_root (string s) h u e = cc
+  in_force siblings at_root (array ds) h u e = cc
+  in_force siblings at_root (object ms) h u e =
+      by_text_there (λ t. at_root || is_some (identifier (standard siblings (draft_beside t)) (object ms))) (text_at (codes "$schema") (object ms)) h.0 u e
 
   pub same_entered : (outer : List ℕ) (around : Dialect) (path : List Part) (d : Data) → Alike d → entered after outer around path d ≡ entered told outer around path d
   same_entered outer around path d h =
-      ap (placed outer around path d) (by_text told after around (schema_in_force false d) (in_force false d h))
+      ap (placed outer around path d) (by_text told after around (schema_in_force around.siblings false d) (in_force around.siblings false d h))
 
   -- ---- standings
 
   pub record AlikeAt (s : Standing) : Type 0 where
     pub is : Alike s.place.contents
 
-  at_standings : (uri : List ℕ) (ps : List SchemaPlace) → AllByRecursion (NamedAt (IsToldAlike told after) told) ps
-      → AllByRecursion AlikeAt (map (λ p. record { document = uri; place = p }) ps)
-  at_standings uri [] h = tt
-  at_standings uri (p ∷ ps) h = (record { is = h.0.each }, at_standings uri ps h.1)
+  at_standings : (document : List ℕ) (ps : List SchemaPlace) → AllByRecursion (NamedAt (IsToldAlike told after) told) ps
+      → AllByRecursion AlikeAt (map (λ p. record { document = document; place = p }) ps)
+  at_standings document [] h = tt
+  at_standings document (p ∷ ps) h = (record { is = h.0.each }, at_standings document ps h.1)
 
-  each_alike : (own : List Document) → AllByRecursion (λ d. Alike d.contents) own → AllByRecursion AlikeAt (flat_map (standing_in told) own)
+  each_alike : (docs : Documents) → EachNamedBy (IsToldAlike told after) docs → AllByRecursion AlikeAt (flat_map (standing_in told) docs)
   each_alike [] h = tt
-  each_alike (d ∷ own) h =
-      joined AlikeAt (standing_in told d) (flat_map (standing_in told) own)
-      (at_standings d.uri (places told d.uri d.default d.contents) (places_named (IsToldAlike told after) told d.uri d.default d.contents h.0))
-      (each_alike own h.1)
+  each_alike (d ∷ docs) h =
+      joined AlikeAt (standing_in told d) (flat_map (standing_in told) docs)
+      (at_standings (document_name d) (places told d.uri d.default d.contents) (places_named (IsToldAlike told after) told d.uri d.default d.contents h.0))
+      (each_alike docs h.1)
 
-  stand_alike : (own : List Document) → AllByRecursion (λ d. Alike d.contents) own → AllByRecursion AlikeAt (standings told own)
+  stand_alike : (docs : Documents) → EachNamedBy (IsToldAlike told after) docs → AllByRecursion AlikeAt (standings told docs)
   unfolding standings
-  stand_alike own h = each_alike own h
+  stand_alike docs h = each_alike docs h
 
   each_agrees : (ss : List Standing) → AllByRecursion AlikeAt ss → AllByRecursion (Agrees told after) ss
   each_agrees [] h = tt
-  each_agrees (s ∷ ss) h = (record { agrees = in_force (is_root s.place.path) s.place.contents h.0.is }, each_agrees ss h.1)
+  each_agrees (s ∷ ss) h = (record { agrees = in_force s.place.dialect.siblings (is_root s.place.path) s.place.contents h.0.is }, each_agrees ss h.1)
 
   pub same_last : (test : Standing → Bool) (docs : Documents) → EachNamedBy (IsToldAlike told after) docs → last_standing test after docs ≡ last_standing test told docs
-  same_last test [] h = refl
-  same_last test (own ∷ parents) h =
-      ap₂ (λ o p. or_else o p)
-      (ap (last_that test) (agreeing_tell_places told after own (each_agrees (standings told own) (stand_alike own h.0))))
-      (same_last test parents h.1)
-
-  either_alike : (o p : Option Standing) → IfSome o AlikeAt → IfSome p AlikeAt → IfSome (or_else o p) AlikeAt
-  either_alike (Some s) p h g = h
-  either_alike None p h g = g
+  same_last test docs h = ap (last_that test) (agreeing_tell_places told after docs (each_agrees (standings told docs) (stand_alike docs h)))
 
   pub last_alike : (test : Standing → Bool) (docs : Documents) → EachNamedBy (IsToldAlike told after) docs → IfSome (last_standing test told docs) AlikeAt
-  last_alike test [] h = tt
-  last_alike test (own ∷ parents) h =
-      either_alike (last_that test (standings told own)) (last_standing test told parents)
-      (of_last AlikeAt test (standings told own) (stand_alike own h.0)) (last_alike test parents h.1)
+  last_alike test docs h = of_last AlikeAt test (standings told docs) (stand_alike docs h)
 
   -- ---- walks
 

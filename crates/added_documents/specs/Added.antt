@@ -7,18 +7,11 @@ use Rattle.schema_definitions.specs.Words.{text_at}
 use Rattle.schema_definitions.specs.Places.{Dialect, uri_named}
 use Rattle.schema_definitions.specs.Bearers.{Document, Documents, meta, bearer_under, bearer}
 
--- a list of documents, others, and both together: each keep their order
-pub data Mixed : List Document → List Document → List Document → Type 0 where
-  neither : Mixed [] [] []
-  one_kept : {old more new : List Document} (d : Document) → Mixed old more new → Mixed (d ∷ old) more (d ∷ new)
-  one_added : {old more new : List Document} (d : Document) → Mixed old more new → Mixed old (d ∷ more) (d ∷ new)
-
--- so with each list of a registry and its parents; a whole list may be added too
+-- documents, others, and both together: each keep their order, whatever their layers are
 pub data Joined : Documents → Documents → Documents → Type 0 where
-  none : Joined [] [] []
-  mixed : {own more new : List Document} {parents others all : Documents} → Mixed own more new → Joined parents others all
-      → Joined (own ∷ parents) (more ∷ others) (new ∷ all)
-  added : {parents others all : Documents} (own : List Document) → Joined parents others all → Joined parents (own ∷ others) (own ∷ all)
+  neither : Joined [] [] []
+  one_kept : {old more new : Documents} (d : Document) → Joined old more new → Joined (d ∷ old) more (d ∷ new)
+  one_added : {old more new : Documents} (d : Document) → Joined old more new → Joined old (d ∷ more) (d ∷ new)
 
 -- ---- each `$schema` inside a value, at a schema place or not
 
@@ -40,7 +33,7 @@ abbrev mutual
   EachNamedAmong P (member k d ms) = EachNamed P d × EachNamedAmong P ms
 
 abbrev pub EachNamedBy : (List ℕ → Type 0) → Documents → Type 0
-EachNamedBy P docs = AllByRecursion (λ own. AllByRecursion (λ d. EachNamed P d.contents) own) docs
+EachNamedBy P docs = AllByRecursion (λ d. EachNamed P d.contents) docs
 
 -- two tell the same of the meta-schema that a `$schema` names, where it is none of the drafts' own
 abbrev pub IsToldAlike : (List ℕ → Option Dialect) → (List ℕ → Option Dialect) → List ℕ → Type 0

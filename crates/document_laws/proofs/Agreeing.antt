@@ -9,31 +9,33 @@ use Rattle.schema_drafts.specs.declared.draft.Draft.{Draft}
 use Rattle.schema_drafts.specs.declared.draft.Draft.TheVariants.{Unknown}
 use Rattle.schema_definitions.specs.Words.{or, levels, text_at}
 use Rattle.schema_definitions.specs.Identifiers.{is_hidden, identifier}
-use Rattle.schema_definitions.specs.Places.{Dialect, SchemaPlace, standard, Named, settled, awaited, meta_schema_uri, draft_beside, uri_named, named_meta_schema, by_meta_schema, by_draft, by_schema, schema_in_force, placed, entered, root_place, if_schema, each_item, each_member, in_list, in_map, held, children_of, children_in, children, places}
+use Rattle.schema_definitions.specs.Places.{Dialect, SchemaPlace, standard, Named, settled, awaited, meta_schema_uri, uri_named, named_meta_schema, by_meta_schema, by_draft, by_schema, schema_in_force, placed, entered, root_place, if_schema, each_item, each_member, in_list, in_map, held, children_of, children_in, children, places}
 use Rattle.schema_definitions.specs.Bearers.{Documents, document_name, standing_in, standings, is_root}
 use Rattle.document_laws.proofs.Lists.{first_part, second_part}
 use Rattle.document_laws.specs.Agreeing.{Agrees, AgreeingTellPlaces}
 
--- ---- what a schema names is the same whether siblings are read: they bear on drafts alone that are named by their own URIs
+-- ---- what a schema names is the same whether siblings are read: they bear on drafts alone, and these name no meta-schema of one's own
 
-abbrev named : (siblings at_root : Bool) (d : Data) (t : List ℕ) (draft : Option Draft) → Option (List ℕ)
-named siblings at_root d t draft =
-    option_and_then (λ u. uri_named u (draft_named u)) (if at_root || is_some (identifier (standard siblings (or Unknown draft)) d) then Some t else None)
+abbrev named_by : Option (List ℕ) → Option (List ℕ)
+named_by o = option_and_then (λ t. uri_named t (draft_named t)) o
 
-none_named : (t : List ℕ) (draft : Draft) → draft_named t ≡ Some draft → (b : Bool)
-    → option_and_then (λ u. uri_named u (draft_named u)) (if b then Some t else None) ≡ None
+-- a `$schema` where it counts, by the draft that it names
+abbrev counted : (siblings at_root : Bool) (d : Data) (t : List ℕ) → Option Draft → Option (List ℕ)
+counted siblings at_root d t draft = if at_root || is_some (identifier (standard siblings (or Unknown draft)) d) then Some t else None
+
+none_named : (t : List ℕ) (draft : Draft) → draft_named t ≡ Some draft → (b : Bool) → named_by (if b then Some t else None) ≡ None
 none_named t draft e true = ap (uri_named t) e
 none_named t draft e false = refl
 
 named_alike : (a b at_root : Bool) (d : Data) (t : List ℕ) (draft : Option Draft) → draft_named t ≡ draft
-    → named a at_root d t draft ≡ named b at_root d t draft
+    → named_by (counted a at_root d t draft) ≡ named_by (counted b at_root d t draft)
 named_alike a b at_root d t None e = refl
 named_alike a b at_root d t (Some draft) e =
-    none_named t draft e (at_root || is_some (identifier (standard a draft) d)) ∙ sym (none_named t draft e (at_root || is_some (identifier (standard b draft) d)))
+    none_named t draft e (at_root || is_some (identifier (standard a draft) d))
+    ∙ sym (none_named t draft e (at_root || is_some (identifier (standard b draft) d)))
 
 text_alike : (a b at_root : Bool) (d : Data) (o : Option (List ℕ))
-    → option_and_then (λ u. uri_named u (draft_named u)) (option_and_then (λ t. if at_root || is_some (identifier (standard a (draft_beside t)) d) then Some t else None) o)
-    ≡ option_and_then (λ u. uri_named u (draft_named u)) (option_and_then (λ t. if at_root || is_some (identifier (standard b (draft_beside t)) d) then Some t else None) o)
+    → named_by (option_and_then (λ t. counted a at_root d t (draft_named t)) o) ≡ named_by (option_and_then (λ t. counted b at_root d t (draft_named t)) o)
 text_alike a b at_root d None = refl
 text_alike a b at_root d (Some t) = named_alike a b at_root d t (draft_named t) refl
 

@@ -1,5 +1,6 @@
--- A command of five arguments, of which the first is required, has a value of that one in each parse.
-use Rattle.std.proofs.Common.{◌≡◌, zero, suc, [], ◌∷◌, true, false, refl, arith, codes}
+-- A command of six arguments, of which the first is required, has a value of that one in each parse.
+use Rattle.std.proofs.Common.{◌≡◌, ◌∙◌, ◌<◌, ℕ, zero, suc, List, [], ◌∷◌, Decides, true, false, refl, sym, ap, arith, codes, bytes_eq, slice_index_or, if◌then◌else◌}
+use Rattle.std.proofs.lemmas.Slice.Eq.{bytes_eq-Decides}
 use Rattle.std.specs.List.{All}
 use Rattle.clap.specs.Built.{AddsArg, AddsInTurn, FitsChain, TakesValue, HasDistinctIds}
 use Rattle.clap.specs.Facts.{args_of, groups_of}
@@ -9,55 +10,62 @@ use Rattle.clap.specs.declared.builder.command.Command.TheViews.{out-Command}
 use Rattle.clap.proofs.CallerLemmas.{required_in_chain}
 use Rattle.program_inputs.specs.Program.{HasSchema}
 
--- the ids of the five arguments
-record Ids (a b c e u : Arg) : Type 0 where
-  first : a.id.now ≡ codes "schema"
-  second : b.id.now ≡ codes "files"
-  third : c.id.now ≡ codes "base"
-  fourth : e.id.now ≡ codes "draft"
-  fifth : u.id.now ≡ codes "meta"
+-- the position of an argument by its id
+abbrev position_of : List ℕ → ℕ
+position_of id =
+    if bytes_eq id (codes "schema") then 0
+    else (if bytes_eq id (codes "files") then 1
+    else (if bytes_eq id (codes "base") then 2
+    else (if bytes_eq id (codes "draft") then 3
+    else (if bytes_eq id (codes "meta") then 4 else 5))))
 
-distinct : (a b c e u : Arg) → Ids a b c e u → HasDistinctIds (a ∷ b ∷ c ∷ e ∷ u ∷ [])
-distinct a b c e u i zero zero d g l r same = refl
-distinct a b c e u i zero (suc zero) d g l r same = let bad : false ≡ true = rw (i.first, i.second) at same in absurd cc
-distinct a b c e u i zero (suc (suc zero)) d g l r same = let bad : false ≡ true = rw (i.first, i.third) at same in absurd cc
-distinct a b c e u i zero (suc (suc (suc zero))) d g l r same = let bad : false ≡ true = rw (i.first, i.fourth) at same in absurd cc
-distinct a b c e u i zero (suc (suc (suc (suc zero)))) d g l r same = let bad : false ≡ true = rw (i.first, i.fifth) at same in absurd cc
-distinct a b c e u i (suc zero) zero d g l r same = let bad : false ≡ true = rw (i.second, i.first) at same in absurd cc
-distinct a b c e u i (suc zero) (suc zero) d g l r same = refl
-distinct a b c e u i (suc zero) (suc (suc zero)) d g l r same = let bad : false ≡ true = rw (i.second, i.third) at same in absurd cc
-distinct a b c e u i (suc zero) (suc (suc (suc zero))) d g l r same = let bad : false ≡ true = rw (i.second, i.fourth) at same in absurd cc
-distinct a b c e u i (suc zero) (suc (suc (suc (suc zero)))) d g l r same = let bad : false ≡ true = rw (i.second, i.fifth) at same in absurd cc
-distinct a b c e u i (suc (suc zero)) zero d g l r same = let bad : false ≡ true = rw (i.third, i.first) at same in absurd cc
-distinct a b c e u i (suc (suc zero)) (suc zero) d g l r same = let bad : false ≡ true = rw (i.third, i.second) at same in absurd cc
-distinct a b c e u i (suc (suc zero)) (suc (suc zero)) d g l r same = refl
-distinct a b c e u i (suc (suc zero)) (suc (suc (suc zero))) d g l r same = let bad : false ≡ true = rw (i.third, i.fourth) at same in absurd cc
-distinct a b c e u i (suc (suc zero)) (suc (suc (suc (suc zero)))) d g l r same = let bad : false ≡ true = rw (i.third, i.fifth) at same in absurd cc
-distinct a b c e u i (suc (suc (suc zero))) zero d g l r same = let bad : false ≡ true = rw (i.fourth, i.first) at same in absurd cc
-distinct a b c e u i (suc (suc (suc zero))) (suc zero) d g l r same = let bad : false ≡ true = rw (i.fourth, i.second) at same in absurd cc
-distinct a b c e u i (suc (suc (suc zero))) (suc (suc zero)) d g l r same = let bad : false ≡ true = rw (i.fourth, i.third) at same in absurd cc
-distinct a b c e u i (suc (suc (suc zero))) (suc (suc (suc zero))) d g l r same = refl
-distinct a b c e u i (suc (suc (suc zero))) (suc (suc (suc (suc zero)))) d g l r same = let bad : false ≡ true = rw (i.fourth, i.fifth) at same in absurd cc
-distinct a b c e u i (suc (suc (suc (suc zero)))) zero d g l r same = let bad : false ≡ true = rw (i.fifth, i.first) at same in absurd cc
-distinct a b c e u i (suc (suc (suc (suc zero)))) (suc zero) d g l r same = let bad : false ≡ true = rw (i.fifth, i.second) at same in absurd cc
-distinct a b c e u i (suc (suc (suc (suc zero)))) (suc (suc zero)) d g l r same = let bad : false ≡ true = rw (i.fifth, i.third) at same in absurd cc
-distinct a b c e u i (suc (suc (suc (suc zero)))) (suc (suc (suc zero))) d g l r same = let bad : false ≡ true = rw (i.fifth, i.fourth) at same in absurd cc
-distinct a b c e u i (suc (suc (suc (suc zero)))) (suc (suc (suc (suc zero)))) d g l r same = refl
-distinct a b c e u i (suc (suc (suc (suc (suc j))))) k d g l r same = absurd (omega arith)
-distinct a b c e u i j (suc (suc (suc (suc (suc k))))) d g l r same = absurd (omega arith)
+module _ (a b c e u f : Arg) where
+  abbrev pub all_six : List Arg
+  all_six = a ∷ b ∷ c ∷ e ∷ u ∷ f ∷ []
 
-all_five : (a b c e u : Arg) → FitsChain a → FitsChain b → FitsChain c → FitsChain e → FitsChain u → All FitsChain (a ∷ b ∷ c ∷ e ∷ u ∷ [])
-all_five a b c e u f g h i m zero d l = f
-all_five a b c e u f g h i m (suc zero) d l = g
-all_five a b c e u f g h i m (suc (suc zero)) d l = h
-all_five a b c e u f g h i m (suc (suc (suc zero))) d l = i
-all_five a b c e u f g h i m (suc (suc (suc (suc zero)))) d l = m
-all_five a b c e u f g h i m (suc (suc (suc (suc (suc k))))) d l = absurd (omega arith)
+  -- the ids of the six arguments
+  pub record Ids : Type 0 where
+    pub first : a.id.now ≡ codes "schema"
+    pub second : b.id.now ≡ codes "files"
+    pub third : c.id.now ≡ codes "base"
+    pub fourth : e.id.now ≡ codes "draft"
+    pub fifth : u.id.now ≡ codes "meta"
+    pub sixth : f.id.now ≡ codes "ref-siblings"
 
-pub has_schema : (start cmd : Command) (a b c e u : Arg) → AddsInTurn AddsArg start (a ∷ b ∷ c ∷ e ∷ u ∷ []) cmd
-    → args_of start ≡ [] → groups_of start ≡ [] → (out-Command start).has_globals ≡ false → (out-Command start).subcommand_negates_reqs ≡ false
-    → FitsChain a → FitsChain b → FitsChain c → FitsChain e → FitsChain u → TakesValue a
-    → a.id.now ≡ codes "schema" → b.id.now ≡ codes "files" → c.id.now ≡ codes "base" → e.id.now ≡ codes "draft" → u.id.now ≡ codes "meta" → HasSchema cmd
-has_schema start cmd a b c e u chain args groups globals negates f g h i m value first second third fourth fifth = λ x p.
-    rw (← first) (required_in_chain start cmd (a ∷ b ∷ c ∷ e ∷ u ∷ []) 0 a x chain args groups globals negates
-    (all_five a b c e u f g h i m) (distinct a b c e u (record { first = first; second = second; third = third; fourth = fourth; fifth = fifth })) (omega arith) value p)
+  pub record Fit : Type 0 where
+    pub first : FitsChain a
+    pub second : FitsChain b
+    pub third : FitsChain c
+    pub fourth : FitsChain e
+    pub fifth : FitsChain u
+    pub sixth : FitsChain f
+
+  placed : Ids → (k : ℕ) (d : Arg) → k < 6 → position_of (slice_index_or all_six k d).id.now ≡ k
+  placed i zero d l = rw i.first refl
+  placed i (suc zero) d l = rw i.second refl
+  placed i (suc (suc zero)) d l = rw i.third refl
+  placed i (suc (suc (suc zero))) d l = rw i.fourth refl
+  placed i (suc (suc (suc (suc zero)))) d l = rw i.fifth refl
+  placed i (suc (suc (suc (suc (suc zero))))) d l = rw i.sixth refl
+  placed i (suc (suc (suc (suc (suc (suc k)))))) d l = absurd (omega arith)
+
+  distinct : Ids → HasDistinctIds all_six
+  distinct i j k d g l r same =
+      sym (placed i j g (omega arith))
+      ∙ ap position_of ((bytes_eq-Decides (slice_index_or all_six j g).id.now (slice_index_or all_six k d).id.now).0 same)
+      ∙ placed i k d (omega arith)
+
+  fits : Fit → All FitsChain all_six
+  fits f zero d l = f.first
+  fits f (suc zero) d l = f.second
+  fits f (suc (suc zero)) d l = f.third
+  fits f (suc (suc (suc zero))) d l = f.fourth
+  fits f (suc (suc (suc (suc zero)))) d l = f.fifth
+  fits f (suc (suc (suc (suc (suc zero))))) d l = f.sixth
+  fits f (suc (suc (suc (suc (suc (suc k)))))) d l = absurd (omega arith)
+
+  pub has_schema : (start cmd : Command) → AddsInTurn AddsArg start all_six cmd
+      → args_of start ≡ [] → groups_of start ≡ [] → (out-Command start).has_globals ≡ false → (out-Command start).subcommand_negates_reqs ≡ false
+      → Fit → TakesValue a → Ids → HasSchema cmd
+  has_schema start cmd chain args groups globals negates f value ids = λ x p.
+      rw (← ids.first) (required_in_chain start cmd all_six 0 a x chain args groups globals negates (fits f) (distinct ids) (omega arith) value p)

@@ -4,7 +4,7 @@ use Rattle.clap.specs.Lexer.{usize_max}
 use Rattle.clap.specs.Built.{IsParsedFrom}
 use Rattle.clap.specs.Words.{App, Rule, new_app, new_rule, with_rule, first_value, found_of}
 use Rattle.clap.specs.Simple.{on_top}
-use Rattle.clap.specs.declared.builder.action.ArgAction.TheVariants.{Set, Append}
+use Rattle.clap.specs.declared.builder.action.ArgAction.TheVariants.{Set, Append, SetTrue}
 use Rattle.clap.specs.declared.builder.command.Command.{Command}
 use Rattle.clap.specs.declared.parser.matches.ArgMatches.{ArgMatches}
 
@@ -32,10 +32,14 @@ draft_rule = record (new_rule (codes "draft")) { long = Some (codes "draft"); va
 abbrev pub meta_rule : Rule
 meta_rule = record (new_rule (codes "meta")) { long = Some (codes "meta"); value_names = 1; action = Some Set }
 
--- no name of the program among the words, a version, and the five arguments
+-- `--ref-siblings`
+abbrev pub siblings_rule : Rule
+siblings_rule = record (new_rule (codes "ref-siblings")) { long = Some (codes "ref-siblings"); action = Some SetTrue }
+
+-- no name of the program among the words, a version, and the six arguments
 abbrev pub program_app : App
-program_app = with_rule (with_rule (with_rule (with_rule (with_rule (on_top (λ s. record s { no_binary_name = true; has_version = true })
-    (new_app (codes "cribhemlock"))) schema_rule) files_rule) base_rule) draft_rule) meta_rule
+program_app = with_rule (with_rule (with_rule (with_rule (with_rule (with_rule (on_top (λ s. record s { no_binary_name = true; has_version = true })
+    (new_app (codes "cribhemlock"))) schema_rule) files_rule) base_rule) draft_rule) meta_rule) siblings_rule
 
 -- each parse of the command that succeeds has a schema
 abbrev pub HasSchema : Command → Type 0

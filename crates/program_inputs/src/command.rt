@@ -3,7 +3,7 @@
 ghost use Rattle.std.specs.Prelude.{◌≡◌, IfOk};
 ghost use Rattle.clap.specs.Built.{FitsChain, TakesValue};
 ghost use Rattle.clap.specs.Words.{app_of, rule_of};
-ghost use Rattle.program_inputs.specs.Program.{program_app, schema_rule, files_rule, base_rule, draft_rule, meta_rule, HasSchema};
+ghost use Rattle.program_inputs.specs.Program.{program_app, schema_rule, files_rule, base_rule, draft_rule, meta_rule, siblings_rule, HasSchema};
 
 use clap::{Arg, ArgAction, Command};
 use std::alloc::{AllocError, Global};
@@ -85,6 +85,17 @@ fn meta<'a>(alloc: Global) -> Arg<'a>
         .help("A file with a list of meta-schemas, each under its own identifier")
 }
 
+/// `--ref-siblings`
+fn ref_siblings<'a>(alloc: Global) -> Arg<'a>
+    ensures rule { rule_of result ≡ siblings_rule }
+    ensures fits { FitsChain result }
+{
+    Arg::new(alloc, "ref-siblings")
+        .long("ref-siblings")
+        .action(ArgAction::SetTrue)
+        .help("Reads what stands beside $ref in Drafts 6 and 7, where it is ignored else")
+}
+
 /// The command line. Each parse of it that succeeds has a schema.
 pub(crate) fn program_command<'a>(alloc: Global) -> Result<Command<'a>, AllocError>
     ensures app { IfOk result (λ c. app_of c ≡ program_app) }
@@ -99,5 +110,6 @@ pub(crate) fn program_command<'a>(alloc: Global) -> Result<Command<'a>, AllocErr
         .arg(files(alloc))?
         .arg(base(alloc))?
         .arg(draft(alloc))?
-        .arg(meta(alloc))
+        .arg(meta(alloc))?
+        .arg(ref_siblings(alloc))
 }

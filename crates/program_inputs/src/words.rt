@@ -1,10 +1,10 @@
 //! The words that the program was given.
 
-ghost use Rattle.std.specs.Prelude.{◌≡◌, IfOk, IfErr, IsSome, codes, map, true};
+ghost use Rattle.std.specs.Prelude.{◌≡◌, IfOk, IfErr, IsSome, codes, map, option_map, true};
 ghost use Rattle.clap.specs.Words.{kind_of, takes, fault_of, FailsBy, matches_of, first_value, found_of, rows_of};
 ghost use Rattle.clap.specs.Walk.{texts};
 ghost use Rattle.program_inputs.specs.Program.{program_app};
-ghost use Rattle.program_inputs.specs.Read.{HasWordsOf};
+ghost use Rattle.program_inputs.specs.Read.{HasWordsOf, says_true};
 
 use crate::command::program_command;
 use clap::error::ErrorKind;
@@ -24,6 +24,18 @@ pub struct ProgramWords<'a> {
     pub draft: Option<&'a str>,
     /// The file of the meta-schemas, where one was given.
     pub meta: Option<&'a str>,
+    /// Whether what stands beside `$ref` is read in Drafts 6 and 7.
+    pub ref_siblings: bool,
+}
+
+// Whether the value of a flag says that it was given.
+fn says_true(text: Option<&str>) -> bool
+    ensures { result ≡ says_true (option_map (λ s. s.now) text.entry) }
+{
+    match text {
+        Some(text) => text == "true",
+        None => false,
+    }
 }
 
 impl<'a> ProgramWords<'a> {
@@ -51,6 +63,7 @@ impl<'a> ProgramWords<'a> {
             base: matches.get_str("base"),
             draft: matches.get_str("draft"),
             meta: matches.get_str("meta"),
+            ref_siblings: says_true(matches.get_str("ref-siblings")),
         })
     }
 }

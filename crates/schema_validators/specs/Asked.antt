@@ -4,7 +4,7 @@ use Rattle.serde_json.specs.Data.{Data}
 use Rattle.schema_drafts.specs.declared.draft.Draft.{Draft}
 use Rattle.schema_drafts.specs.declared.draft.Draft.TheVariants.{Draft4, Draft6, Draft7, Draft201909, Draft202012, Unknown}
 use Rattle.schema_definitions.specs.Words.{or_else, has_text}
-use Rattle.schema_definitions.specs.Bearers.{is_root}
+use Rattle.schema_definitions.specs.Bearers.{is_root, uri_in}
 use Rattle.schema_definitions.specs.Lookup.{Target}
 use Rattle.schema_definitions.specs.Places.{schema_in_force, meta_schema_uri}
 use Rattle.schema_meaning.specs.Readings.{verdicts}
@@ -26,7 +26,7 @@ schema_of_draft Unknown = None
 
 -- the text of the `$schema` that counts at a root, or else the URI by its draft
 abbrev pub schema_text : Target → Option (List ℕ)
-schema_text t = or_else (schema_in_force (is_root t.path) t.contents) (schema_of_draft t.dialect.draft)
+schema_text t = or_else (schema_in_force t.dialect.siblings (is_root t.path) t.contents) (schema_of_draft t.dialect.draft)
 
 abbrev pub meta_schema_of : Target → Option (List ℕ)
 meta_schema_of t = option_and_then meta_schema_uri (schema_text t)
@@ -39,7 +39,7 @@ meta_root p uri = root_of (documents_shared p) (codes "json-schema:///") uri
 pub record IsHandedIn (p : SharedRegistry) (uri : List ℕ) : Type 0 where
   pub target : Target
   pub found : Finds (meta_root p uri) target
-  pub not_retrieved : has_text target.document (retrieved_shared p) ≡ false
+  pub not_retrieved : has_text (uri_in target.document) (retrieved_shared p) ≡ false
 
 pub record IsAsked (p : SharedRegistry) (t : Target) (uri : List ℕ) : Type 0 where
   pub named : meta_schema_of t ≡ Some uri

@@ -1,5 +1,5 @@
 -- Validators of one schema, by the options that stand until it is said otherwise.
-use Rattle.std.specs.Prelude.{◌≡◌, ◌⊎◌, ℕ, List, [], ◌∷◌, None, codes}
+use Rattle.std.specs.Prelude.{◌≡◌, ◌⊎◌, ℕ, List, [], ◌∷◌, None, codes, false}
 use Rattle.serde_json.specs.Data.{Data}
 use Rattle.schema_drafts.specs.Drafts.{newest}
 use Rattle.document_sources.specs.Given.{Given}
@@ -15,9 +15,11 @@ use Rattle.schema_validators.specs.declared.error.BuildError.TheVariants as erro
 use Rattle.schema_validators.specs.declared.options.ValidationOptions.{ValidationOptions}
 use Rattle.schema_validators.specs.declared.validator.Validator.{Validator}
 
--- the newest draft, the base of schemas that have none, at most 256 documents retrieved, at most 65,536 compile keys, and no meta-schemas
+-- the newest draft, siblings of `$ref` not read where a draft ignores them, the base of schemas that have none, at most 256 documents
+-- retrieved, at most 65,536 compile keys, and no meta-schemas
 pub record AreDefault {P R : Type 0} (o : ValidationOptions P R) : Type 0 where
   pub draft : o.draft ≡ newest
+  pub siblings : o.siblings ≡ false
   pub base : o.base ≡ codes "json-schema:///"
   pub limit : o.limit ≡ 256
   pub node_limit : o.node_limit ≡ 65536

@@ -1,8 +1,7 @@
 -- Which error comes when. Each but want of memory names a cause.
 use Rattle.std.specs.Prelude.{◌≡◌, ◌⊎◌, ℕ, List, Option, Some, None, Err, true}
 use Rattle.serde_json.specs.Data.{Data}
-use Rattle.schema_drafts.specs.declared.draft.Draft.{Draft}
-use Rattle.schema_definitions.specs.Bearers.{Document}
+use Rattle.schema_definitions.specs.Bearers.{Document, Layer}
 use Rattle.schema_definitions.specs.Lookup.{Target, LookupCause, lookup}
 use Rattle.schema_definitions.specs.Sites.{root_site}
 use Rattle.schema_definitions.specs.Rows as rows
@@ -22,7 +21,7 @@ use Rattle.schema_registries.specs.Retrieval.{IsPrepared, beside}
 use Rattle.schema_registries.specs.Roots.{Root, Patterns, Finds, IsSound}
 use Rattle.schema_registries.specs.Answers.{IsFault}
 use Rattle.schema_validators.specs.Asked.{IsAsked, meta_root}
-use Rattle.schema_validators.specs.Prepared.{asking_by, meta_schemas_given}
+use Rattle.schema_validators.specs.Prepared.{asking_by, layer_by, layer_beside, meta_schemas_given}
 use Rattle.schema_validators.specs.declared.options.ValidationOptions.{ValidationOptions}
 use Rattle.schema_validators.specs.declared.error.BuildError.{BuildError}
 use Rattle.schema_validators.specs.declared.error.BuildError.TheVariants as error
@@ -34,19 +33,20 @@ abbrev pub RefusesDocuments : Asking → ℕ → List Document → reference.Err
 RefusesDocuments a limit own e = Stops a limit own e ⊎ HasCause a limit own e
 
 -- the meta-schemas were prepared, with all that they want, and the documents beside them are refused
-pub record RefusesBeside (a : Asking) (limit : ℕ) (draft : Draft) (metas given : List Given) (e : reference.Error) : Type 0 where
+pub record RefusesBeside (ask : Layer → Asking) (limit : ℕ) (first : Layer) (metas given : List Given) (e : reference.Error) : Type 0 where
   pub parent : List Document
   pub uris : List (List ℕ)
-  pub prepared : IsPrepared a limit (documents_by draft metas) parent uris
-  pub refused : RefusesDocuments a limit (beside parent draft given) e
+  pub prepared : IsPrepared (ask first) limit (documents_by first metas) parent uris
+  pub refused : RefusesDocuments (ask (layer_beside parent first)) limit (beside parent (layer_beside parent first) given) e
 
-abbrev pub RefusesGiven : Asking → ℕ → Draft → Option (List Given) → List Given → reference.Error → Type 0
-RefusesGiven a limit draft None given e = RefusesDocuments a limit (documents_by draft given) e
-RefusesGiven a limit draft (Some metas) given e = RefusesDocuments a limit (documents_by draft metas) e ⊎ RefusesBeside a limit draft metas given e
+abbrev pub RefusesGiven : (Layer → Asking) → ℕ → Layer → Option (List Given) → List Given → reference.Error → Type 0
+RefusesGiven ask limit first None given e = RefusesDocuments (ask first) limit (documents_by first given) e
+RefusesGiven ask limit first (Some metas) given e =
+    RefusesDocuments (ask first) limit (documents_by first metas) e ⊎ RefusesBeside ask limit first metas given e
 
 abbrev pub RefusesPreparing : {P R : Type 0} → (R → List ℕ → Data → Type 0) → (R → List ℕ → Type 0) → ValidationOptions P R → List Given → BuildError → Type 0
 RefusesPreparing may_answer may_refuse o given (error.Document e) = ⊥
-RefusesPreparing may_answer may_refuse o given (error.Registry e) = RefusesGiven (asking_by may_answer may_refuse o) o.limit o.draft (meta_schemas_given o) given e
+RefusesPreparing may_answer may_refuse o given (error.Registry e) = RefusesGiven (asking_by may_answer may_refuse o) o.limit (layer_by o) (meta_schemas_given o) given e
 RefusesPreparing may_answer may_refuse o given (error.Root e) = ⊥
 RefusesPreparing may_answer may_refuse o given (error.Schema e) = ⊥
 RefusesPreparing may_answer may_refuse o given (error.MetaSchema e) = ⊥

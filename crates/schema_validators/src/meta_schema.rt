@@ -50,7 +50,8 @@ fn schema_of(draft: Draft) -> Option<&'static str>
 fn text_of<'r>(root: &Resolved<'r>) -> Option<&'r str>
     ensures { option_map (λ t. t.now) result ≡ schema_text (target_in root.now) }
 {
-    match schema_in_force(root.path().is_root(), root.contents()) {
+    let siblings = root.dialect().siblings;
+    match schema_in_force(siblings, root.path().is_root(), root.contents()) {
         Some(text) => Some(text),
         None => schema_of(root.draft()),
     }

@@ -1,15 +1,18 @@
 //! How validators are built.
 
-ghost use Rattle.std.specs.Prelude.{◌≡◌, ◌⊎◌, IfOk, IfErr, OnOk, codes, None, Some};
+ghost use Rattle.std.specs.Prelude.{◌≡◌, ◌⊎◌, IfOk, IfErr, OnOk, codes, None, Some, false};
 ghost use Rattle.schema_drafts.specs.Drafts as drafts;
 ghost use Rattle.schema_definitions.specs.Lookup.{Target};
 ghost use Rattle.document_sources.specs.Causes.{IsMemory};
-ghost use Rattle.schema_registries.specs.Seen.{documents_given};
+ghost use Rattle.document_sources.specs.Given.{documents_by};
+ghost use Rattle.schema_registries.specs.Passed.{RefusesRegistry};
+ghost use Rattle.schema_registries.specs.Retrieval.{IsPrepared};
+ghost use Rattle.schema_registries.specs.Seen.{documents_given, documents_shared, retrieved_shared, siblings_shared};
 ghost use Rattle.schema_registries.specs.Roots.{Finds, root_on};
 ghost use Rattle.schema_validators.specs.Counted.{IsWithin};
 ghost use Rattle.schema_validators.specs.Made.{IsMadeBy};
 ghost use Rattle.schema_validators.specs.Asked.{IsMet};
-ghost use Rattle.schema_validators.specs.Prepared.{asking_by, meta_schemas_given, AreDocuments, IsRegistry};
+ghost use Rattle.schema_validators.specs.Prepared.{asking_by, layer_by, meta_schemas_given, AreDocuments, IsRegistry};
 ghost use Rattle.schema_validators.specs.Refused.{RefusesGiven, RefusesPreparing, RefusesRoot};
 ghost use Rattle.schema_validators.specs.Built.{IsBuilt, RefusesBuilding};
 ghost use Rattle.schema_validators.specs.Mapped.{IsMapBuilt, RefusesMapping};
@@ -44,6 +47,7 @@ const DEFAULT_NODE_LIMIT: usize = 65_536;
 pub struct ValidationOptions<P = RegexMaker, R = DefaultRetriever> {
     alloc: Global,
     draft: Draft,
+    siblings: bool,
     base: Uri,
     maker: P,
     retriever: WholeNumbers<R>,
@@ -53,7 +57,7 @@ pub struct ValidationOptions<P = RegexMaker, R = DefaultRetriever> {
 }
 
 impl ValidationOptions {
-    /// The newest draft, the base URI `json-schema:///`, the patterns that `regex` reads, nobody who is asked, at most 256 documents
+    /// The newest draft, siblings of `$ref` not read in Drafts 6 and 7, the base URI `json-schema:///`, the patterns that `regex` reads, nobody who is asked, at most 256 documents
     /// retrieved, at most 65,536 compile keys, and no meta-schemas.
     ///
     /// # Errors
@@ -61,6 +65,7 @@ impl ValidationOptions {
     /// Where memory was refused.
     pub(crate) fn new(alloc: Global) -> Result<ValidationOptions, AllocError>
         ensures draft { IfOk result (λ o. o.draft ≡ drafts.newest) }
+        ensures siblings { IfOk result (λ o. o.siblings ≡ false) }
         ensures base { IfOk result (λ o. o.base ≡ codes "json-schema:///") }
         ensures limit { IfOk result (λ o. o.limit ≡ 256) }
         ensures node_limit { IfOk result (λ o. o.node_limit ≡ 65536) }
@@ -70,6 +75,7 @@ impl ValidationOptions {
             Ok(base) => Ok(ValidationOptions {
                 alloc,
                 draft: Draft::default(),
+                siblings: false,
                 base,
                 maker: RegexMaker,
                 retriever: WholeNumbers::new(DefaultRetriever),
@@ -111,6 +117,15 @@ impl<P: Drop, R: Drop> ValidationOptions<P, R> {
         ValidationOptions { draft, ..self }
     }
 
+    /// Sets whether what stands beside `$ref` is read in Drafts 6 and 7, where it is ignored else: all keywords of the draft then count
+    /// beside it, and the identifier beside it changes the base. It holds for all documents, the meta-schemas among them; the other drafts
+    /// are read as ever.
+    pub fn with_ref_siblings(self, siblings: bool) -> ValidationOptions<P, R>
+        ensures { result ≡ record self { siblings = siblings } }
+    {
+        ValidationOptions { siblings, ..self }
+    }
+
     /// Sets the URI that references to roots are resolved against.
     pub fn with_base(self, base: Uri) -> ValidationOptions<P, R>
         ensures { result ≡ record self { base = base } }
@@ -147,6 +162,7 @@ impl<P: Drop, R: Drop> ValidationOptions<P, R> {
     /// Sets what makes the matchers of patterns. The literal forms of patterns never go to it.
     pub fn with_pattern_maker<Q: PatternMaker>(self, maker: Q) -> ValidationOptions<Q, R>
         ensures draft { result.draft ≡ self.draft }
+        ensures siblings { result.siblings ≡ self.siblings }
         ensures base { result.base ≡ self.base }
         ensures maker { result.maker ≡ maker }
         ensures retriever { result.retriever ≡ self.retriever }
@@ -157,6 +173,7 @@ impl<P: Drop, R: Drop> ValidationOptions<P, R> {
         ValidationOptions {
             alloc: self.alloc,
             draft: self.draft,
+            siblings: self.siblings,
             base: self.base,
             maker,
             retriever: self.retriever,
@@ -169,6 +186,7 @@ impl<P: Drop, R: Drop> ValidationOptions<P, R> {
     /// Sets whom the documents that are wanted are asked of. An answer with a number that is no whole number of 64 bits counts as refused.
     pub fn with_retriever<T: Retrieve>(self, retriever: T) -> ValidationOptions<P, T>
         ensures draft { result.draft ≡ self.draft }
+        ensures siblings { result.siblings ≡ self.siblings }
         ensures base { result.base ≡ self.base }
         ensures maker { result.maker ≡ self.maker }
         ensures retriever { result.retriever.retriever ≡ retriever }
@@ -179,6 +197,7 @@ impl<P: Drop, R: Drop> ValidationOptions<P, R> {
         ValidationOptions {
             alloc: self.alloc,
             draft: self.draft,
+            siblings: self.siblings,
             base: self.base,
             maker: self.maker,
             retriever: WholeNumbers::new(retriever),
@@ -227,22 +246,40 @@ impl<P: PatternMaker + Drop, R: Drop> ValidationOptions<P, R> {
 }
 
 impl<P: Drop, R: Retrieve + Drop> ValidationOptions<P, R> {
+    // Documents with what they want, over no others.
+    fn first(&self, documents: &Documents) -> Result<SharedRegistry, Error>
+        ensures prepared { IfOk result (λ r. IsPrepared (asking_by R.may_answer R.may_refuse self.now (layer_by self.now)) self.now.limit (documents_by (layer_by self.now) (documents_given documents.now)) (documents_shared r) (retrieved_shared r)) }
+        ensures siblings { IfOk result (λ r. siblings_shared r ≡ self.now.siblings) }
+        ensures refused { IfErr result (RefusesRegistry (asking_by R.may_answer R.may_refuse self.now (layer_by self.now)) self.now.limit (documents_by (layer_by self.now) (documents_given documents.now))) }
+    {
+        SharedRegistry::prepare(
+            self.alloc,
+            documents,
+            self.draft,
+            self.siblings,
+            &self.retriever,
+            self.limit,
+        )
+    }
+
     // The documents with what they want, beside those of the meta-schemas with what these want.
     fn gather(&self, documents: &Documents, base: Uri) -> Result<SchemaRegistry, Error>
-        ensures documents { IfOk result (AreDocuments (asking_by R.may_answer R.may_refuse self.now) self.now.limit self.now.draft (meta_schemas_given self.now) (documents_given documents.now)) }
+        ensures documents { IfOk result (AreDocuments (asking_by R.may_answer R.may_refuse self.now) self.now.limit (layer_by self.now) (meta_schemas_given self.now) (documents_given documents.now)) }
+        ensures draft { IfOk result (λ r. r.draft ≡ self.now.draft) }
         ensures base { IfOk result (λ r. r.base ≡ base) }
-        ensures refused { IfErr result (λ e. IsMemory e ⊎ RefusesGiven (asking_by R.may_answer R.may_refuse self.now) self.now.limit self.now.draft (meta_schemas_given self.now) (documents_given documents.now) e) }
+        ensures siblings { IfOk result (λ r. siblings_shared r.own ≡ self.now.siblings) }
+        ensures refused { IfErr result (λ e. IsMemory e ⊎ RefusesGiven (asking_by R.may_answer R.may_refuse self.now) self.now.limit (layer_by self.now) (meta_schemas_given self.now) (documents_given documents.now) e) }
     {
         let (alloc, draft, limit) = (self.alloc, self.draft, self.limit);
         match &self.meta_schemas {
             None => {
-                let own = SharedRegistry::prepare(alloc, documents, draft, &self.retriever, limit)?;
-                Ok(SchemaRegistry::new(own, base, None))
+                let own = self.first(documents)?;
+                Ok(SchemaRegistry::new(own, draft, base, None))
             }
             Some(given) => {
-                let parent = SharedRegistry::prepare(alloc, given, draft, &self.retriever, limit)?;
+                let parent = self.first(given)?;
                 let own = parent.prepare_beside(alloc, documents, draft, &self.retriever, limit)?;
-                Ok(SchemaRegistry::new(own, base, Some(parent)))
+                Ok(SchemaRegistry::new(own, draft, base, Some(parent)))
             }
         }
     }

@@ -1,6 +1,6 @@
 //! Validators.
 
-ghost use Rattle.std.specs.Prelude.{◌≡◌, ◌≤◌, OnOk, ◌∷◌, [], IfOk, IfErr, is_ok, codes, string_bytes, None, true};
+ghost use Rattle.std.specs.Prelude.{◌≡◌, ◌≤◌, OnOk, ◌∷◌, [], IfOk, IfErr, is_ok, codes, string_bytes, None, true, false};
 ghost use Rattle.serde_json.specs.Data.{depth};
 ghost use Rattle.serde_json.specs.View.{view};
 ghost use Rattle.schema_definitions.specs.Plain.{deepest};
@@ -60,6 +60,7 @@ impl Validator {
     /// Where memory was refused.
     pub fn options(alloc: Global) -> Result<ValidationOptions, AllocError>
         ensures draft { IfOk result (λ o. o.draft ≡ drafts.newest) }
+        ensures siblings { IfOk result (λ o. o.siblings ≡ false) }
         ensures base { IfOk result (λ o. o.base ≡ codes "json-schema:///") }
         ensures limit { IfOk result (λ o. o.limit ≡ 256) }
         ensures node_limit { IfOk result (λ o. o.node_limit ≡ 65536) }

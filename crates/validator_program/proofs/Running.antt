@@ -1,7 +1,6 @@
 -- Runs of the validator that the words name.
-use Rattle.std.proofs.Common.{ℕ, List, Option, codes, option_map, if◌then◌else◌, refl, subst}
-use Rattle.clap.specs.Words.{Row, first_of}
-use Rattle.clap.specs.Walk.{texts}
+use Rattle.std.proofs.Common.{◌≡◌, ℕ, List, Option, if◌then◌else◌, refl, subst}
+use Rattle.clap.specs.Words.{Row}
 use Rattle.program_inputs.specs.Read.{HasWordsOf}
 use Rattle.program_inputs.specs.declared.words.ProgramWords.{ProgramWords}
 use Rattle.regex_patterns.specs.Matchers.{finds_by_regex}
@@ -14,20 +13,15 @@ use Rattle.line_runs.specs.Passed.{root_in, IsMadeBy}
 use Rattle.line_runs.specs.Passed.{Root, Patterns}
 use Rattle.program_inputs.specs.Held.{Held}
 use Rattle.line_runs.specs.Passed.{Validator}
+use Rattle.validator_program.specs.Given.{Words, words_of}
 use Rattle.validator_program.specs.Built.{patterns_of_regex, IsBuiltOf}
-use Rattle.validator_program.specs.Answered.{IsNamed, AnswersAll, StopsEarly}
+use Rattle.validator_program.specs.Answered.{words_in, IsNamed, AnswersAll, StopsEarly}
 
 -- what is built of the words that were read is named by them
-pub named_by : (rows : List Row) (held : List ℕ → Held) (w : ProgramWords) (root : Root) → HasWordsOf rows w
-    → IsBuiltOf held w.schema.now (texts w.files.items) (option_map (λ s. s.now) w.base) (option_map (λ s. s.now) w.draft) (option_map (λ s. s.now) w.meta) root → IsNamed rows held root
-named_by rows held w root has built = record {
-  schema = w.schema.now;
-  is_schema = has.schema;
-  built = subst (λ (ws : List (List ℕ)). IsBuiltOf held w.schema.now ws (first_of (codes "base") rows) (first_of (codes "draft") rows) (first_of (codes "meta") rows) root) has.files
-      (subst (λ (b : Option (List ℕ)). IsBuiltOf held w.schema.now (texts w.files.items) b (first_of (codes "draft") rows) (first_of (codes "meta") rows) root) has.base
-      (subst (λ (d : Option (List ℕ)). IsBuiltOf held w.schema.now (texts w.files.items) (option_map (λ s. s.now) w.base) d (first_of (codes "meta") rows) root) has.draft
-      (subst (λ (m : Option (List ℕ)). IsBuiltOf held w.schema.now (texts w.files.items) (option_map (λ s. s.now) w.base) (option_map (λ s. s.now) w.draft) m root) has.meta built)));
-}
+pub named_by : (rows : List Row) (held : List ℕ → Held) (w : ProgramWords) (root : Root) → HasWordsOf rows w → IsBuiltOf held (words_of w) root → IsNamed rows held root
+named_by rows held w root has built =
+    let same : words_of w ≡ words_in w.schema.now rows = rw (has.files, has.base, has.draft, has.meta, has.ref_siblings) refl in
+    record { schema = w.schema.now; is_schema = has.schema; built = subst (λ (words : Words). IsBuiltOf held words root) same built }
 
 module _ (rows : List Row) (held : List ℕ → Held) (v : Validator RegexMatcher) (named : IsNamed rows held (root_in v)) (made : IsMadeBy finds_by_regex patterns_of_regex v)
     (from to before after : Option (List ℕ)) where

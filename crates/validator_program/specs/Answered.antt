@@ -7,13 +7,26 @@ use Rattle.line_cuts.specs.declared.report.RunError.{RunError}
 use Rattle.line_runs.specs.Runs.{IsLineText}
 use Rattle.line_runs.specs.Passed.{Root}
 use Rattle.program_inputs.specs.Held.{Held}
+use Rattle.program_inputs.specs.Read.{says_true}
+use Rattle.validator_program.specs.Given.{Words}
 use Rattle.validator_program.specs.Built.{patterns_of_regex, IsBuiltOf}
+
+-- the words as they were parsed
+abbrev pub words_in : List ℕ → List Row → Words
+words_in schema rows = record {
+  schema = schema;
+  files = unwrap_or (all_of (codes "files") rows) [];
+  base = first_of (codes "base") rows;
+  draft = first_of (codes "draft") rows;
+  meta = first_of (codes "meta") rows;
+  siblings = says_true (first_of (codes "ref-siblings") rows);
+}
 
 -- the root is built of the files that the words name
 pub record IsNamed (rows : List Row) (held : List ℕ → Held) (root : Root) : Type 0 where
   pub schema : List ℕ
   pub is_schema : Some schema ≡ first_of (codes "schema") rows
-  pub built : IsBuiltOf held schema (unwrap_or (all_of (codes "files") rows) []) (first_of (codes "base") rows) (first_of (codes "draft") rows) (first_of (codes "meta") rows) root
+  pub built : IsBuiltOf held (words_in schema rows) root
 
 -- all that the reader had was read, each of its lines was answered by the root that the words name, and the status says whether some answer
 -- was no empty list

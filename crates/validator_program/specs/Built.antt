@@ -1,7 +1,6 @@
 -- The root of the validator that the program builds.
 use Rattle.std.specs.Prelude.{◌≡◌, ℕ, List, [], ◌∷◌, Option, Some, None}
-use Rattle.schema_drafts.specs.declared.draft.Draft.{Draft}
-use Rattle.schema_definitions.specs.Bearers.{Document}
+use Rattle.schema_definitions.specs.Bearers.{Document, Layer}
 use Rattle.schema_definitions.specs.Lookup.{Target}
 use Rattle.schema_definitions.specs.DocumentCauses.{document_causes}
 use Rattle.document_sources.specs.Given.{Given, documents_by}
@@ -13,7 +12,7 @@ use Rattle.schema_validators.specs.Counted.{IsWithin}
 use Rattle.schema_validators.specs.Asked.{IsMet}
 use Rattle.line_runs.specs.Passed.{Root, Patterns, root_of, documents_alone}
 use Rattle.program_inputs.specs.Held.{Held}
-use Rattle.validator_program.specs.Given.{Pair, AreCut, AddsFiles, base_of, draft_of, MayBeMetaSchemas}
+use Rattle.validator_program.specs.Given.{Words, Pair, AreCut, AddsFiles, base_of, draft_of, MayBeMetaSchemas}
 
 -- the patterns of schemas are those that `regex` reads
 abbrev pub patterns_of_regex : Patterns
@@ -30,11 +29,11 @@ pub record HoldsAlone (documents : List Document) (registry : SharedRegistry) : 
   pub accepted : document_causes documents ≡ []
 
 -- so does that of the meta-schemas, where some are given
-abbrev pub AreAlone : Draft → Option (List Given) → Option SharedRegistry → Type 0
-AreAlone draft None None = Unit {0}
-AreAlone draft None (Some parent) = ⊥
-AreAlone draft (Some metas) None = ⊥
-AreAlone draft (Some metas) (Some parent) = HoldsAlone (documents_by draft metas) parent
+abbrev pub AreAlone : Layer → Option (List Given) → Option SharedRegistry → Type 0
+AreAlone first None None = Unit {0}
+AreAlone first None (Some parent) = ⊥
+AreAlone first (Some metas) None = ⊥
+AreAlone first (Some metas) (Some parent) = HoldsAlone (documents_by first metas) parent
 
 -- a root builds, with the registry of the meta-schemas that were handed in
 pub record BuildsWith (parent : Option SharedRegistry) (root : Root) : Type 0 where
@@ -49,17 +48,19 @@ pub record BuildsWith (parent : Option SharedRegistry) (root : Root) : Type 0 wh
 
 -- The schema is added under the base and each further document under its URI, and meta-schemas, where some are given, are prepared first
 -- and by themselves; nothing is retrieved. The root is what the base leads to, and it builds. Documents that name no draft have the one that
--- is given.
-pub record IsBuiltOf (held : List ℕ → Held) (schema : List ℕ) (words : List (List ℕ)) (base draft meta : Option (List ℕ)) (root : Root) : Type 0 where
+-- is given, and what stands beside `$ref` is read in Drafts 6 and 7 where that is asked for.
+pub record IsBuiltOf (held : List ℕ → Held) (words : Words) (root : Root) : Type 0 where
   pub pairs : List Pair
   pub given : List Given
-  pub else_draft : Draft
+  pub first : Layer
   pub meta_schemas : Option (List Given)
   pub parent : Option SharedRegistry
-  pub cut : AreCut words pairs
-  pub is_draft : draft_of draft ≡ Some else_draft
-  pub added : AddsFiles held ((base_of base, schema) ∷ pairs) [] given
-  pub are_meta_schemas : MayBeMetaSchemas held else_draft meta meta_schemas
-  pub are_alone : AreAlone else_draft meta_schemas parent
-  pub is_root : root ≡ root_of (documents_alone meta_schemas else_draft given) (base_of base) []
+  pub cut : AreCut words.files pairs
+  pub is_first : first.number ≡ 0
+  pub is_draft : draft_of words.draft ≡ Some first.draft
+  pub is_option : first.siblings ≡ words.siblings
+  pub added : AddsFiles held ((base_of words.base, words.schema) ∷ pairs) [] given
+  pub are_meta_schemas : MayBeMetaSchemas held first words.meta meta_schemas
+  pub are_alone : AreAlone first meta_schemas parent
+  pub is_root : root ≡ root_of (documents_alone meta_schemas first given) (base_of words.base) []
   pub builds : BuildsWith parent root

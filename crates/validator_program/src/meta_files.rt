@@ -3,14 +3,17 @@
 ghost use Rattle.std.specs.Prelude.{◌≡◌, [], Some, OnOk, IfOk, map};
 ghost use Rattle.serde_json.specs.Data.{array};
 ghost use Rattle.serde_json.specs.View.{view, items_view};
+ghost use Rattle.document_sources.specs.Seen.{layer_of};
 ghost use Rattle.schema_registries.specs.Refused.{text_value};
 ghost use Rattle.schema_registries.specs.Seen.{documents_given};
 ghost use Rattle.validator_program.specs.Given.{AddsOwn, AreMetaSchemas};
 
 use crate::documents::read_file;
 use crate::fault::ProgramFault;
-use line_runs::{Documents, Draft, RunError};
+use document_sources::layer::Layer;
+use line_runs::{Documents, RunError};
 use program_inputs::SchemaFiles;
+use schema_drafts::identifiers::identifier;
 use serde_json::Value;
 use serde_json::error::Category;
 use std::alloc::Global;
@@ -41,15 +44,16 @@ fn read_list<'a>(alloc: Global, name: &'a str, bytes: &[u8]) -> Result<Vec<Value
 // Adds a meta-schema under its own identifier.
 fn add_own<'a>(
     alloc: Global,
-    draft: Draft,
+    layer: Layer,
     documents: &mut Documents,
     name: &'a str,
     value: Value,
 ) -> Result<(), ProgramFault<'a>>
-    ensures { OnOk result (AddsOwn draft (view value)
+    ensures { OnOk result (AddsOwn (layer_of layer) (view value)
         (documents_given documents.old) (documents_given documents.new)) }
 {
-    let uri = match draft.create_resource_ref(&value).id() {
+    let draft = layer.draft.detect(&value);
+    let uri = match identifier(layer.siblings, draft, &value) {
         Some(id) => String::from_str(alloc, id)?,
         None => return Err(ProgramFault::File { name }),
     };
@@ -66,17 +70,17 @@ fn add_own<'a>(
 pub(crate) fn read_meta_schemas<'a, F: SchemaFiles>(
     alloc: Global,
     files: &F,
-    draft: Draft,
+    layer: Layer,
     name: &'a str,
 ) -> Result<Documents, ProgramFault<'a>>
-    ensures { IfOk result (λ d. AreMetaSchemas (F.held files.now) draft
+    ensures { IfOk result (λ d. AreMetaSchemas (F.held files.now) (layer_of layer)
         name.entry.now (documents_given d)) }
 {
     let bytes = read_file(alloc, files, name)?;
     let items = read_list(alloc, name, bytes.as_slice())?;
     let mut documents = Documents::new(alloc);
     for value in items {
-        add_own(alloc, draft, &mut documents, name, value)?;
+        add_own(alloc, layer, &mut documents, name, value)?;
     }
     Ok(documents)
 }

@@ -1,17 +1,18 @@
 //! The validator of some words and files.
 
 ghost use Rattle.std.specs.Prelude.{◌≡◌, IfOk, Some, option_map};
-ghost use Rattle.clap.specs.Walk.{texts};
+ghost use Rattle.document_sources.specs.Seen.{layer_of};
 ghost use Rattle.line_runs.specs.Passed.{meta_schemas_given, root_in, IsMadeBy};
 ghost use Rattle.regex_patterns.specs.Matchers.{finds_by_regex};
 ghost use Rattle.schema_drafts.specs.Drafts.{draft_among};
 ghost use Rattle.schema_registries.specs.Seen.{documents_given};
-ghost use Rattle.validator_program.specs.Given.{MayBeMetaSchemas, base_of, draft_of, draft_words};
+ghost use Rattle.validator_program.specs.Given.{MayBeMetaSchemas, base_of, draft_of, draft_words, words_of};
 ghost use Rattle.validator_program.specs.Built.{patterns_of_regex, default_node_limit, IsBuiltOf};
 
 use crate::documents::{cut_words, read_documents};
 use crate::fault::ProgramFault;
 use crate::meta_files::read_meta_schemas;
+use document_sources::layer::Layer;
 use line_runs::{Documents, Draft, ValidationOptions, Validator};
 use program_inputs::{ProgramWords, SchemaFiles};
 use std::alloc::{AllocError, Global};
@@ -53,18 +54,31 @@ fn read_draft<'a>(draft: Option<&'a str>) -> Result<Draft, ProgramFault<'a>>
     }
 }
 
+// How the documents are read that stand over no others.
+fn read_layer<'a>(draft: Option<&'a str>, siblings: bool) -> Result<Layer, ProgramFault<'a>>
+    ensures number { IfOk result (λ l. l.number ≡ 0) }
+    ensures draft { IfOk result (λ l. draft_of (option_map (λ s. s.now) draft.entry) ≡ Some l.draft) }
+    ensures siblings { IfOk result (λ l. l.siblings ≡ siblings) }
+{
+    Ok(Layer {
+        number: 0,
+        draft: read_draft(draft)?,
+        siblings,
+    })
+}
+
 // The meta-schemas of a file, where one was given.
 fn read_meta<'a, F: SchemaFiles>(
     alloc: Global,
     files: &F,
-    draft: Draft,
+    layer: Layer,
     meta: Option<&'a str>,
 ) -> Result<Option<Documents>, ProgramFault<'a>>
-    ensures { IfOk result (λ d. MayBeMetaSchemas (F.held files.now) draft
+    ensures { IfOk result (λ d. MayBeMetaSchemas (F.held files.now) (layer_of layer)
         (option_map (λ s. s.now) meta.entry) (option_map documents_given d)) }
 {
     match meta {
-        Some(name) => Ok(Some(read_meta_schemas(alloc, files, draft, name)?)),
+        Some(name) => Ok(Some(read_meta_schemas(alloc, files, layer, name)?)),
         None => Ok(None),
     }
 }
@@ -72,17 +86,21 @@ fn read_meta<'a, F: SchemaFiles>(
 // How the validator is built.
 fn options_of(
     alloc: Global,
-    draft: Draft,
+    layer: Layer,
     base: Uri,
     meta_schemas: Option<Documents>,
 ) -> Result<ValidationOptions, AllocError>
-    ensures draft { IfOk result (λ o. o.draft ≡ draft) }
+    ensures draft { IfOk result (λ o. o.draft ≡ layer.draft) }
+    ensures siblings { IfOk result (λ o. o.siblings ≡ layer.siblings) }
     ensures base { IfOk result (λ o. o.base ≡ base) }
     ensures node_limit { IfOk result (λ o. o.node_limit ≡ default_node_limit) }
     ensures meta_schemas { IfOk result (λ o. meta_schemas_given o
         ≡ option_map documents_given meta_schemas) }
 {
-    let options = Validator::options(alloc)?.with_draft(draft).with_base(base);
+    let options = Validator::options(alloc)?
+        .with_draft(layer.draft)
+        .with_ref_siblings(layer.siblings)
+        .with_base(base);
     match meta_schemas {
         Some(documents) => Ok(options.with_meta_schemas(documents)),
         None => Ok(options),
@@ -101,13 +119,10 @@ pub(crate) fn prepare<'a, F: SchemaFiles>(
     files: &F,
 ) -> Result<Validator, ProgramFault<'a>>
     ensures made { IfOk result (IsMadeBy finds_by_regex patterns_of_regex) }
-    ensures built { IfOk result (λ v. IsBuiltOf (F.held files.now) words.now.schema.now
-        (texts words.now.files.items) (option_map (λ s. s.now) words.now.base)
-        (option_map (λ s. s.now) words.now.draft)
-        (option_map (λ s. s.now) words.now.meta) (root_in v)) }
+    ensures built { IfOk result (λ v. IsBuiltOf (F.held files.now) (words_of words.now) (root_in v)) }
 {
     let further = cut_words(alloc, words.files.as_slice())?;
-    let draft = read_draft(words.draft)?;
+    let layer = read_layer(words.draft, words.ref_siblings)?;
     let base = read_base(alloc, words.base)?;
     let documents = read_documents(
         alloc,
@@ -116,8 +131,8 @@ pub(crate) fn prepare<'a, F: SchemaFiles>(
         words.schema,
         further.as_slice(),
     )?;
-    let meta_schemas = read_meta(alloc, files, draft, words.meta)?;
-    let options = options_of(alloc, draft, base, meta_schemas)?;
+    let meta_schemas = read_meta(alloc, files, layer, words.meta)?;
+    let options = options_of(alloc, layer, base, meta_schemas)?;
     let registry = options.prepare(&documents)?;
     Ok(options.build_on(&registry, "")?)
 }

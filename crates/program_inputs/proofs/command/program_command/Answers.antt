@@ -8,19 +8,29 @@ use Rattle.program_inputs.proofs.command.program_command.Goals as goal
 pub returns-clause-app : goal.returns-clause-app
 returns-clause-app c =
     let start : app_of c.no_binary_name.result ≡ on_top (λ s. record s { no_binary_name = true; has_version = true }) (new_app (codes "cribhemlock")) = search rules in
-    IfOk-weaker c.arg-5.result _ _ (λ m h. h.shape c.meta.ensures.fits.1
+    IfOk-weaker c.arg-6.result _ _ (λ m h. h.shape c.ref_siblings.ensures.fits.1
+    ∙ ap₂ with_rule (c.in_ok-arg-5.ensures.shape c.meta.ensures.fits.1
     ∙ ap₂ with_rule (c.in_ok-arg-4.ensures.shape c.draft.ensures.fits.1
     ∙ ap₂ with_rule (c.in_ok-arg-3.ensures.shape c.base.ensures.fits.1
     ∙ ap₂ with_rule (c.in_ok-arg-2.ensures.shape c.files.ensures.fits.1
     ∙ ap₂ with_rule (c.in_ok-arg.ensures.shape c.schema.ensures.fits.1 ∙ ap₂ with_rule start c.schema.ensures.rule) c.files.ensures.rule) c.base.ensures.rule) c.draft.ensures.rule) c.meta.ensures.rule)
-    c.arg-5.ensures
+    c.ref_siblings.ensures.rule)
+    c.arg-6.ensures
 
 pub returns-clause-schema : goal.returns-clause-schema
 returns-clause-schema c =
-    IfOk-weaker c.arg-5.result _ _ (λ m h. has_schema c.no_binary_name.result m c.schema.result c.files.result c.base.result c.draft.result c.meta.result
-    (c.in_ok-arg.field-0, c.in_ok-arg.ensures, (c.in_ok-arg-2.field-0, c.in_ok-arg-2.ensures, (c.in_ok-arg-3.field-0, c.in_ok-arg-3.ensures, (c.in_ok-arg-4.field-0, c.in_ok-arg-4.ensures, (m, h, refl)))))
+    let id = λ (r : Rule). r.id in
+    IfOk-weaker c.arg-6.result _ _ (λ m h. has_schema c.schema.result c.files.result c.base.result c.draft.result c.meta.result c.ref_siblings.result c.no_binary_name.result m
+    (c.in_ok-arg.field-0, c.in_ok-arg.ensures, (c.in_ok-arg-2.field-0, c.in_ok-arg-2.ensures, (c.in_ok-arg-3.field-0, c.in_ok-arg-3.ensures,
+    (c.in_ok-arg-4.field-0, c.in_ok-arg-4.ensures, (c.in_ok-arg-5.field-0, c.in_ok-arg-5.ensures, (m, h, refl))))))
     (search rules) (search rules) (search rules) (search rules)
-    c.schema.ensures.fits c.files.ensures.fits c.base.ensures.fits c.draft.ensures.fits c.meta.ensures.fits c.schema.ensures.value
-    (ap (λ (r : Rule). r.id) c.schema.ensures.rule) (ap (λ (r : Rule). r.id) c.files.ensures.rule) (ap (λ (r : Rule). r.id) c.base.ensures.rule) (ap (λ (r : Rule). r.id) c.draft.ensures.rule)
-    (ap (λ (r : Rule). r.id) c.meta.ensures.rule))
-    c.arg-5.ensures
+    (record {
+      first = c.schema.ensures.fits; second = c.files.ensures.fits; third = c.base.ensures.fits;
+      fourth = c.draft.ensures.fits; fifth = c.meta.ensures.fits; sixth = c.ref_siblings.ensures.fits;
+    })
+    c.schema.ensures.value
+    (record {
+      first = ap id c.schema.ensures.rule; second = ap id c.files.ensures.rule; third = ap id c.base.ensures.rule;
+      fourth = ap id c.draft.ensures.rule; fifth = ap id c.meta.ensures.rule; sixth = ap id c.ref_siblings.ensures.rule;
+    }))
+    c.arg-6.ensures

@@ -3,6 +3,7 @@ use Rattle.std.specs.Option.{option_map, unwrap_or}
 use Rattle.clap.specs.Words.{found_of}
 use Rattle.clap.specs.Walk.{texts}
 use Rattle.clap.proofs.WalkLemmas.{first_value-rows, raw_values-rows}
+use Rattle.program_inputs.specs.Read.{says_true}
 use Rattle.program_inputs.proofs.Given.{texts_or_none}
 use Rattle.program_inputs.proofs.words.ProgramWords.of_matches.Goals as goal
 
@@ -16,4 +17,5 @@ returns c =
       base = c.get_str-2.ensures ∙ first_value-rows f (codes "base");
       draft = c.get_str-3.ensures ∙ first_value-rows f (codes "draft");
       meta = c.get_str-4.ensures ∙ first_value-rows f (codes "meta");
+      ref_siblings = c.says_true.ensures ∙ ap says_true (c.get_str-5.ensures ∙ first_value-rows f (codes "ref-siblings"));
     }
