@@ -63,14 +63,9 @@ last_that-map f test [] = refl
 last_that-map f test (x ∷ xs) =
     ap (λ o. or_else o (if test (f x) then Some (f x) else None)) (last_that-map f test xs) ∙ mapped f x (last_that (λ y. test (f y)) xs) (test (f x))
 
-alone : {X : Type 0} (o : Option X) → or_else o None ≡ o
-alone None = refl
-alone (Some x) = refl
-
-pub last-of-own : (meta : List ℕ → Option Dialect) (test : Standing → Bool) (documents : List Document) → last_standing test meta documents ≡ option_map (λ (l : Located). l.standing) (last_located test (located_standings meta documents))
-last-of-own meta test documents =
-    alone (last_that test (standings meta documents))
-    ∙ ap (last_that test) (sym (standings-located meta documents))
+pub last-of-located : (meta : List ℕ → Option Dialect) (test : Standing → Bool) (documents : List Document) → last_standing test meta documents ≡ option_map (λ (l : Located). l.standing) (last_located test (located_standings meta documents))
+last-of-located meta test documents =
+    ap (last_that test) (sym (standings-located meta documents))
     ∙ last_that-map (λ (l : Located). l.standing) test (located_standings meta documents)
 
 pub settled : {X : Type 0} (o : Option X) (b : Bool) → (not (is_some o) && b) ≡ true → o ≡ None
@@ -88,7 +83,7 @@ pub answers : (meta : List ℕ → Option Dialect) (test : Standing → Bool) (d
     → (o : Option Kept) → o ≡ option_map kept_of (last_located test (located_standings meta documents)) → IsAnswer meta documents o (last_standing test meta documents)
 answers meta test documents knows o e =
     subst (λ p. IsAnswer meta documents p (last_standing test meta documents)) (sym e)
-    (subst (λ p. IsAnswer meta documents (option_map kept_of (last_located test (located_standings meta documents))) p) (sym (last-of-own meta test documents))
+    (subst (λ p. IsAnswer meta documents (option_map kept_of (last_located test (located_standings meta documents))) p) (sym (last-of-located meta test documents))
     (by_last meta test documents knows (last_located test (located_standings meta documents)) refl))
 
 within : {X : Type 0} (P : X → Type 0) (xs : List X) (i : ℕ) → IsSomeAnd (slice_get xs i) P → i < length xs

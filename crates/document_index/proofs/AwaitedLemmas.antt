@@ -1,9 +1,9 @@
 -- Meta-schemas that are awaited, among schema places.
-use Rattle.std.proofs.Common.{◌≡◌, ◌∙◌, ℕ, suc, List, [], ◌∷◌, ◌++◌, Bool, true, false, if◌then◌else◌, Option, Some, None, Bor, option_map, option_and_then, is_some, length, refl, sym, ap, add-zero}
+use Rattle.std.proofs.Common.{◌≡◌, ◌∙◌, ℕ, suc, List, [], ◌∷◌, ◌++◌, Bool, true, false, if◌then◌else◌, Option, Some, None, Bor, option_map, option_and_then, is_some, length, refl, sym, ap}
 use Rattle.std.specs.List.{filter}
 use Rattle.std.specs.Option.{option_copied}
-use Rattle.schema_definitions.specs.Words.{or_else, last_that}
-use Rattle.schema_definitions.specs.Bearers.{Document, Standing, standings, meta}
+use Rattle.schema_definitions.specs.Words.{last_that}
+use Rattle.schema_definitions.specs.Bearers.{Document, Standing}
 use Rattle.schema_definitions.specs.DocumentCauses.{unknown_specification, would_bear, next_awaited, awaited_cause, how_many_await}
 use Rattle.document_index.proofs.LastLemmas.{last_that-push}
 use Rattle.document_index.specs.Awaited.{awaited_among, AwaitedIn}
@@ -26,21 +26,14 @@ pub lent : {X : Type 0} (o : Option (Bor X)) (p : Option X) → option_copied o 
 lent None p e = e
 lent (Some b) p e = e
 
-or_else-none : (o : Option Standing) → or_else o None ≡ o
-or_else-none None = refl
-or_else-none (Some s) = refl
-
 -- ---- under all that documents tell
 
 module _ (own : List Document) (ss : List Standing) (there : AwaitedIn own ss) where
   pub next-among : (uri : List ℕ) → next_awaited own uri ≡ awaited_among ss uri
-  next-among uri =
-      ap (option_and_then (λ s. s.place.awaits)) (or_else-none (last_that (would_bear uri) (standings (meta own) own)) ∙ ap (last_that (would_bear uri)) (sym there))
+  next-among uri = ap (option_and_then (λ s. s.place.awaits)) (ap (last_that (would_bear uri)) (sym there))
 
   pub counted : how_many_await own ≡ length (filter (λ s. is_some s.place.awaits) ss)
-  counted =
-      add-zero (length (filter (λ s. is_some s.place.awaits) (standings (meta own) own)))
-      ∙ sym (ap (λ l. length (filter (λ s. is_some s.place.awaits) l)) there)
+  counted = sym (ap (λ l. length (filter (λ s. is_some s.place.awaits) l)) there)
 
   by_next : (n : ℕ) (uri : List ℕ) (o : Option (List ℕ)) → awaited_among ss uri ≡ o
       → awaited_cause own (suc n) uri ≡ elim o [ None ↦ unknown_specification uri | Some next ↦ awaited_cause own n next ]

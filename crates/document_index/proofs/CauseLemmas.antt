@@ -14,7 +14,7 @@ use Rattle.document_laws.proofs.Alike.{alike_tell}
 use Rattle.document_index.specs.Located.{Located, kept_of, located_standings, last_located}
 use Rattle.document_index.specs.Indexes.{Indexes}
 use Rattle.document_index.specs.declared.index.Index.{Index}
-use Rattle.document_index.proofs.AnswerLemmas.{last-of-own}
+use Rattle.document_index.proofs.AnswerLemmas.{last-of-located}
 use Rattle.document_index.specs.Told.{Tells}
 use Rattle.document_index.specs.Checked.{borne_in, borne_by, unknown_by, wanted_from, wanted_at, of_text, awaited_from, causes_at}
 use Rattle.document_index.proofs.CauseNames.{is_some-map}
@@ -31,11 +31,11 @@ module _ (f g : List ℕ → Bool) (unknown : List ℕ → DocumentCause) (same 
   same_text base (Some t) = same_wanted (cut_at 35 t).0 (resolved base (cut_at 35 t).0)
 
   same_awaited : (s : Standing) (o : Option (List ℕ)) → awaited_from f unknown s o ≡ awaited_from g unknown s o
-  same_awaited s None = ap (λ cs. of_text unless_reference (identifier_text s.place.dialect.draft s.place.contents) ++ cs) (same_text s.place.base (text_at (codes "$ref") s.place.contents))
+  same_awaited s None = ap (λ cs. of_text unless_reference (identifier_text s.place.dialect s.place.contents) ++ cs) (same_text s.place.base (text_at (codes "$ref") s.place.contents))
   same_awaited s (Some uri) = refl
 
   same_at : (s : Standing) → causes_at f unknown s ≡ causes_at g unknown s
-  same_at s = ap (λ cs. of_text unless_reference (schema_in_force (is_root s.place.path) s.place.contents) ++ cs) (same_awaited s s.place.awaits)
+  same_at s = ap (λ cs. of_text unless_reference (schema_in_force s.place.dialect.siblings (is_root s.place.path) s.place.contents) ++ cs) (same_awaited s s.place.awaits)
 
   same_causes : (ss : List Standing) → flat_map (causes_at f unknown) ss ≡ flat_map (causes_at g unknown) ss
   same_causes [] = refl
@@ -58,11 +58,11 @@ wanted docs base (Some t) = append-nil (all.wanted_by docs base (cut_at 35 t).0)
 module _ (own : List Document) where
   by_awaited : (s : Standing) (o : Option (List ℕ))
       → (if is_some o then map (awaited_cause own (suc (how_many_await own))) (listed o)
-      else flat_map unless_reference (listed (identifier_text s.place.dialect.draft s.place.contents))
+      else flat_map unless_reference (listed (identifier_text s.place.dialect s.place.contents))
       ++ flat_map (λ t. all.wanted_by own s.place.base (cut_at 35 t).0) (listed (text_at (codes "$ref") s.place.contents)))
       ≡ awaited_from (borne_by own) (unknown_by own) s o
   by_awaited s None =
-      let identifier = identifier_text s.place.dialect.draft s.place.contents in
+      let identifier = identifier_text s.place.dialect s.place.contents in
       let reference = text_at (codes "$ref") s.place.contents in
       let references = λ (t : List ℕ). all.wanted_by own s.place.base (cut_at 35 t).0 in
       ap (λ cs. cs ++ flat_map references (listed reference)) (one-text unless_reference identifier)
@@ -71,7 +71,7 @@ module _ (own : List Document) where
 
   at_place : (s : Standing) → place_causes own s ≡ causes_at (borne_by own) (unknown_by own) s
   at_place s =
-      let schema = schema_in_force (is_root s.place.path) s.place.contents in
+      let schema = schema_in_force s.place.dialect.siblings (is_root s.place.path) s.place.contents in
       ap (λ cs. flat_map unless_reference (listed schema) ++ cs) (by_awaited s s.place.awaits)
       ∙ ap (λ cs. cs ++ awaited_from (borne_by own) (unknown_by own) s s.place.awaits) (one-text unless_reference schema)
 
@@ -89,7 +89,7 @@ borne-in told index own i uri =
     ap is_some (i.by_uri uri)
     ∙ is_some-map kept_of (last_located (bears uri) (located_standings told own))
     ∙ sym (is_some-map (λ (l : Located). l.standing) (last_located (bears uri) (located_standings told own)))
-    ∙ sym (ap is_some (last-of-own told (bears uri) own))
+    ∙ sym (ap is_some (last-of-located told (bears uri) own))
 
 module _ (known : MetaSchemas) (index : Index) (own : List Document) (told : Tells known (meta own)) (i : Indexes index (located_standings (dialects_in known) own)) where
   pub those_known : standings (dialects_in known) own ≡ standings (meta own) own

@@ -4,11 +4,11 @@ use Rattle.std.specs.List.{flat_map, enumerate_from}
 use Rattle.std.proofs.lemmas.Grind.{flat_map-append}
 use Rattle.std.proofs.lemmas.List.{map-append}
 use Rattle.schema_definitions.specs.Places.{Dialect, SchemaPlace, places}
-use Rattle.schema_definitions.specs.Bearers.{Document, Standing, standing_in, standings}
+use Rattle.schema_definitions.specs.Bearers.{Document, Standing, document_name, standing_in, standings}
 use Rattle.document_index.specs.Located.{Located, standings_at, located_standings}
 
 abbrev pub located_at : ℕ → List ℕ → SchemaPlace → Located
-located_at position uri p = record { document = position; standing = record { document = uri; place = p } }
+located_at position name p = record { document = position; standing = record { document = name; place = p } }
 
 pub map-through : {X Y Z : Type 0} (f : Y → Z) (g : X → Y) (xs : List X) → map f (map g xs) ≡ map (λ x. f (g x)) xs
 map-through f g [] = refl
@@ -19,11 +19,11 @@ no_items [] e = refl
 no_items (x ∷ xs) e = absurd (omega (arith, e))
 
 -- those of a document, from its places
-pub located-places : (meta : List ℕ → Option Dialect) (n : ℕ) (d : Document) (ps : List SchemaPlace) → ps ≡ places meta d.uri d.default d.contents → map (located_at n d.uri) ps ≡ standings_at meta (n, d)
+pub located-places : (meta : List ℕ → Option Dialect) (n : ℕ) (d : Document) (ps : List SchemaPlace) → ps ≡ places meta d.uri d.default d.contents → map (located_at n (document_name d)) ps ≡ standings_at meta (n, d)
 located-places meta n d ps e =
-    let stand : SchemaPlace → Standing = λ p. record { document = d.uri; place = p } in
+    let stand : SchemaPlace → Standing = λ p. record { document = document_name d; place = p } in
     let located : Standing → Located = λ s. record { document = n; standing = s } in
-    ap (map (located_at n d.uri)) e ∙ sym (map-through located stand (places meta d.uri d.default d.contents))
+    ap (map (located_at n (document_name d))) e ∙ sym (map-through located stand (places meta d.uri d.default d.contents))
 
 enumerate-push : {X : Type 0} (n : ℕ) (xs : List X) (x : X) → enumerate_from n (xs ++ x ∷ []) ≡ enumerate_from n xs ++ (n + length xs, x) ∷ []
 enumerate-push n [] x = ap (λ k. (k, x) ∷ []) (sym (add-zero n))

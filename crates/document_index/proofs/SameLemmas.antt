@@ -50,13 +50,13 @@ marks_themselves a [] = bool_itself a
 marks_themselves a (x ∷ xs) = ap₂ (λ b c. b && c) (bool_itself a) (marks_themselves x xs)
 
 with_known : KnownVocabularies → Dialect
-with_known k = record { draft = Unknown; required = Some k }
+with_known k = record { draft = Unknown; required = Some k; siblings = false }
 
 same_known : (k j : KnownVocabularies) → flags k ≡ flags j → k ≡ j
 unfolding with_known
 same_known k j e =
     let required_same : required k ≡ required j = ap (λ bs. marked bs the_known) e in
-    let dialects_same : Some (with_known k) ≡ Some (with_known j) = same_dialects (Some (with_known k)) (Some (with_known j)) (ap (λ vs. Some (record { draft = Unknown; vocabularies = only vs })) required_same) in
+    let dialects_same : Some (with_known k) ≡ Some (with_known j) = same_dialects (Some (with_known k)) (Some (with_known j)) (ap (λ vs. Some (record { draft = Unknown; vocabularies = only vs; siblings = false })) required_same) in
     let one : with_known k ≡ with_known j = cc in
     let held : Some k ≡ Some j = ap (λ (d : Dialect). d.required) one in
     cc

@@ -1,12 +1,12 @@
 -- One stage, and one after another.
-use Rattle.std.proofs.Common.{◌≡◌, ◌∙◌, ◌≤◌, ◌++◌, ℕ, suc, List, [], ◌∷◌, Bool, true, false, not, ◌&&◌, ◌||◌, is_some, if◌then◌else◌, Option, Some, None, option_map, refl, sym, ap, ap₂, append-nil, arith}
+use Rattle.std.proofs.Common.{◌≡◌, ◌∙◌, ◌≤◌, ◌++◌, ℕ, suc, List, [], ◌∷◌, Bool, true, false, not, ◌&&◌, ◌||◌, is_some, if◌then◌else◌, Option, Some, None, option_map, refl, sym, ap, ap₂, arith}
 use Rattle.std.proofs.lemmas.Bool.{false≢true}
 use Rattle.std.specs.Prelude.{Decides, Result, Ok, Err, IfOk, slice_get}
 use Rattle.std.specs.List.{flat_map}
-use Rattle.schema_definitions.specs.Words.{or_else, last_that, listed}
+use Rattle.schema_definitions.specs.Words.{last_that, listed}
 use Rattle.schema_definitions.specs.Places.{named_meta_schema}
 use Rattle.schema_definitions.specs.Places as places
-use Rattle.schema_definitions.specs.Bearers.{Document, Documents, Standing, standings, is_root, bears, dialect_by, dialects}
+use Rattle.schema_definitions.specs.Bearers.{Documents, Standing, standings, is_root, bears, dialect_by, dialects}
 use Rattle.schema_definitions.specs.DocumentCauses.{circular_metaschema, is_told_alike}
 use Rattle.schema_dialects.specs.Dialects.{dialect_of, dialects_in}
 use Rattle.schema_dialects.specs.declared.dialect.Dialect.{Dialect}
@@ -71,33 +71,25 @@ module _ (told told' after after' : List ℕ → Option places.Dialect) (t : (ur
 
   pub anew-alike : (ss : List Standing) → flat_map (anew_at told after) ss ≡ flat_map (anew_at told' after') ss
   anew-alike [] = refl
-  anew-alike (s ∷ ss) = ap₂ (λ cs ds. cs ++ ds) (named-alike (listed (named_meta_schema (is_root s.place.path) s.place.contents))) (anew-alike ss)
+  anew-alike (s ∷ ss) = ap₂ (λ cs ds. cs ++ ds) (named-alike (listed (named_meta_schema s.place.dialect.siblings (is_root s.place.path) s.place.contents))) (anew-alike ss)
 
 -- ---- one stage more
 
-or_else-none : (o : Option Standing) → or_else o None ≡ o
-or_else-none None = refl
-or_else-none (Some s) = refl
+module _ (docs : Documents) (n : ℕ) (told after : MetaSchemas) (ss : List Standing) (tells : Tells told (dialects docs n))
+    (stand : ss ≡ standings (dialects_in told) docs) (borne : (q : List ℕ) → dialects_in after q ≡ option_map dialect_by (last_that (bears q) ss)) where
+  same : ss ≡ standings (dialects docs n) docs
+  same = stand ∙ (alike_tell (dialects_in told) (dialects docs n) tells).standing docs
 
-module _ (ds : List Document) (n : ℕ) (told after : MetaSchemas) (ss : List Standing) (tells : Tells told (dialects (ds ∷ []) n))
-    (stand : ss ≡ standings (dialects_in told) ds) (borne : (q : List ℕ) → dialects_in after q ≡ option_map dialect_by (last_that (bears q) ss)) where
-  same : ss ≡ standings (dialects (ds ∷ []) n) ds
-  same = stand ∙ (alike_tell (dialects_in told) (dialects (ds ∷ []) n) tells).standing ds
-
-  pub next : Tells after (dialects (ds ∷ []) (suc n))
+  pub next : Tells after (dialects docs (suc n))
   unfolding dialects
-  next uri =
-      borne uri
-      ∙ ap (λ l. option_map dialect_by (last_that (bears uri) l)) same
-      ∙ ap (option_map dialect_by) (sym (or_else-none (last_that (bears uri) (standings (dialects (ds ∷ []) n) ds))))
+  next uri = borne uri ∙ ap (λ l. option_map dialect_by (last_that (bears uri) l)) same
 
-  pub anew : flat_map (anew_at (dialects_in told) (dialects_in after)) ss ≡ anew_after (ds ∷ []) n
+  pub anew : flat_map (anew_at (dialects_in told) (dialects_in after)) ss ≡ anew_after docs n
   anew =
-      let told' = dialects (ds ∷ []) n in
-      let after' = dialects (ds ∷ []) (suc n) in
+      let told' = dialects docs n in
+      let after' = dialects docs (suc n) in
       anew-alike (dialects_in told) told' (dialects_in after) after' tells next ss
       ∙ ap (flat_map (anew_at told' after')) same
-      ∙ sym (append-nil (flat_map (anew_at told' after') (standings told' ds)))
 
 -- nothing is told by no stage
 pub none_told : (k : MetaSchemas) (docs : Documents) → ((uri : List ℕ) → dialects_in k uri ≡ None) → Tells k (dialects docs 0)

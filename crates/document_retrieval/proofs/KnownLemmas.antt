@@ -23,7 +23,7 @@ has-put name key old new v text put q =
     ∙ some-if (bytes_eq key q) v (get_by_text old q)
     ∙ ap (λ t. is_some (get_by_text old q) || bytes_eq t q) text
 
-pub or-empty : (b : Bool) → b ≡ (b || false)
+or-empty : (b : Bool) → b ≡ (b || false)
 or-empty true = refl
 or-empty false = refl
 

@@ -1,61 +1,14 @@
 -- No URI is asked for twice.
 use Rattle.std.proofs.Common.{◌≡◌, ℕ, List, [], ◌∷◌, ◌++◌, map, Bool, true, false, not, ◌&&◌, ◌||◌, if◌then◌else◌, is_some, refl, sym, ap, subst, ◌∙◌, bytes_eq}
 use Rattle.std.specs.List.{list_any, flat_map}
-use Rattle.std.proofs.lemmas.Slice.Eq.{bytes_eq-Decides}
 use Rattle.std.proofs.lemmas.List.Folds.{list_any-append}
 use Rattle.schema_definitions.specs.Words.{has_text}
 use Rattle.schema_definitions.specs.Bearers.{Document, Documents, standings, meta, bearer_under}
-use Rattle.schema_definitions.specs.Rounds.{Want, wanted_at, further, is_added, is_at_hand, wants_under, wanted_by, Asking, AreRounds, retrieved, none_twice}
+use Rattle.schema_definitions.specs.Rounds.{Want, wanted_at, further, is_added, is_at_hand, wants, wants_under, Asking, AreRounds, retrieved, none_twice}
+use Rattle.document_retrieval.proofs.Truths.{same, self, left-false, right-false, neither, both, not-true, clash, or-elim, or-left, or-right, and-left, and-right}
 
 abbrev uris : List Want → List (List ℕ)
 uris ws = map (λ (w : Want). w.uri) ws
-
-same : (a b : List ℕ) → bytes_eq a b ≡ true → a ≡ b
-same a b e = (bytes_eq-Decides a b).0 e
-
-self : (a : List ℕ) → bytes_eq a a ≡ true
-self a = (bytes_eq-Decides a a).1 refl
-
-left-false : (a b : Bool) → (a || b) ≡ false → a ≡ false
-left-false true b e = e
-left-false false b e = refl
-
-right-false : (a b : Bool) → (a || b) ≡ false → b ≡ false
-right-false true b e = absurd (cc (e))
-right-false false b e = e
-
--- what is found in neither of two is not found in both together
-neither : (a b : Bool) → a ≡ false → b ≡ false → (a || b) ≡ false
-neither a b e f = ap (λ c. c || b) e ∙ f
-
-both : (a b : Bool) → a ≡ false → b ≡ true → (not a && b) ≡ true
-both a b e f = ap (λ c. not c && b) e ∙ f
-
-not-true : (b : Bool) → (b ≡ true → b ≡ false) → b ≡ false
-not-true true h = h refl
-not-true false h = refl
-
-clash : {P : Type 0} (b : Bool) → b ≡ true → b ≡ false → P
-clash b e f = absurd (cc (sym e ∙ f))
-
-or-elim : {P : Type 0} (a b : Bool) → (a || b) ≡ true → (a ≡ true → P) → (b ≡ true → P) → P
-or-elim true b h p q = p refl
-or-elim false b h p q = q h
-
-or-left : (a b : Bool) → a ≡ true → (a || b) ≡ true
-or-left a b e = ap (λ c. c || b) e
-
-or-right : (a b : Bool) → b ≡ true → (a || b) ≡ true
-or-right true b e = refl
-or-right false b e = e
-
-and-left : (a b : Bool) → (not a && b) ≡ true → a ≡ false
-and-left true b e = sym e
-and-left false b e = refl
-
-and-right : (a b : Bool) → (not a && b) ≡ true → b ≡ true
-and-right true b e = absurd (cc (e))
-and-right false b e = e
 
 -- ---- what is left of wants
 
@@ -101,57 +54,47 @@ twice-both (x ∷ xs) ys a b apart =
     (list_any-append (bytes_eq x) xs ys ∙ neither (has_text x xs) (has_text x ys) (and-left (has_text x xs) (none_twice xs) a) beside)
     (twice-both xs ys (and-right (has_text x xs) (none_twice xs) a) b (λ u h. right-false (bytes_eq u x) (has_text u xs) (apart u h)))
 
-abbrev uris_of : List Document → List (List ℕ)
+abbrev uris_of : Documents → List (List ℕ)
 uris_of ds = map (λ (d : Document). d.uri) ds
 
-abbrev has_document : List Document → List ℕ → Bool
-has_document ds u = list_any (λ (d : Document). bytes_eq d.uri u) ds
-
-document-by-uri : (ds : List Document) (u : List ℕ) → has_text u (uris_of ds) ≡ true → has_document ds u ≡ true
-document-by-uri [] u h = h
-document-by-uri (d ∷ ds) u h =
+pub added-by-uri : (ds : Documents) (u : List ℕ) → has_text u (uris_of ds) ≡ true → is_added ds u ≡ true
+added-by-uri [] u h = h
+added-by-uri (d ∷ ds) u h =
     or-elim (bytes_eq u d.uri) (has_text u (uris_of ds)) h
-    (λ e. or-left (bytes_eq d.uri u) (has_document ds u) (subst (λ v. bytes_eq d.uri v ≡ true) (sym (same u d.uri e)) (self d.uri)))
-    (λ e. or-right (bytes_eq d.uri u) (has_document ds u) (document-by-uri ds u e))
+    (λ e. or-left (bytes_eq d.uri u) (is_added ds u) (subst (λ v. bytes_eq d.uri v ≡ true) (sym (same u d.uri e)) (self d.uri)))
+    (λ e. or-right (bytes_eq d.uri u) (is_added ds u) (added-by-uri ds u e))
 
-module _ (parents : Documents) (own answers : List Document) (u : List ℕ) where
-  abbrev elsewhere : Bool
-  elsewhere = is_added parents u
-
-  added-now : has_text u (uris_of answers) ≡ true → is_added ((own ++ answers) ∷ parents) u ≡ true
+module _ (docs answers : Documents) (u : List ℕ) where
+  added-now : has_text u (uris_of answers) ≡ true → is_added (docs ++ answers) u ≡ true
   added-now h =
-      or-left (has_document (own ++ answers) u) elsewhere
-      (list_any-append (λ (d : Document). bytes_eq d.uri u) own answers ∙ or-right (has_document own u) (has_document answers u) (document-by-uri answers u h))
+      list_any-append (λ (d : Document). bytes_eq d.uri u) docs answers
+      ∙ or-right (is_added docs u) (is_added answers u) (added-by-uri answers u h)
 
-  added-before : is_added ((own ++ answers) ∷ parents) u ≡ false → is_added (own ∷ parents) u ≡ false
-  added-before h =
-      neither (has_document own u) elsewhere
-      (left-false (has_document own u) (has_document answers u) (sym (list_any-append (λ (d : Document). bytes_eq d.uri u) own answers) ∙ left-false (has_document (own ++ answers) u) elsewhere h))
-      (right-false (has_document (own ++ answers) u) elsewhere h)
+  added-before : is_added (docs ++ answers) u ≡ false → is_added docs u ≡ false
+  added-before h = left-false (is_added docs u) (is_added answers u) (sym (list_any-append (λ (d : Document). bytes_eq d.uri u) docs answers) ∙ h)
 
 pub record Once (docs : Documents) (texts : List (List ℕ)) : Type 0 where
   pub once : none_twice texts ≡ true
   pub new : (u : List ℕ) → has_text u texts ≡ true → is_added docs u ≡ false
 
-asked-now : (a : Asking) (own answers : List Document) → uris_of answers ≡ uris (wanted_by a own) → Once (own ∷ a.parents) (uris_of answers)
+asked-now : (docs answers : Documents) → uris_of answers ≡ uris (wants docs) → Once docs (uris_of answers)
 unfolding wants_under
-asked-now a own answers asked =
-    let docs = own ∷ a.parents in
+asked-now docs answers asked =
     let at_hand = is_at_hand (meta docs) docs in
-    let all = flat_map wanted_at (standings (meta docs) own) in
+    let all = flat_map wanted_at (standings (meta docs) docs) in
     record {
       once = ap none_twice asked ∙ further-once at_hand all;
       new = λ u h. right-false (is_some (bearer_under (meta docs) docs u)) (is_added docs u) (further-new at_hand all u (sym (ap (has_text u) asked) ∙ h));
     }
 
-pub asked-once : (a : Asking) (own : List Document) (rounds : List (List Document)) → AreRounds a own rounds → Once (own ∷ a.parents) (retrieved rounds)
-asked-once a own [] are = record { once = refl; new = λ u h. absurd (cc (h)) }
-asked-once a own (r ∷ rounds) are =
-    let now = asked-now a own r are.0.asked in
-    let rest = asked-once a (own ++ r) rounds are.1 in
+pub asked-once : (a : Asking) (docs : Documents) (rounds : List Documents) → AreRounds a docs rounds → Once docs (retrieved rounds)
+asked-once a docs [] are = record { once = refl; new = λ u h. absurd (cc (h)) }
+asked-once a docs (r ∷ rounds) are =
+    let now = asked-now docs r are.0.asked in
+    let rest = asked-once a (docs ++ r) rounds are.1 in
     let first = uris_of r in
     let after = retrieved rounds in
     record {
-      once = twice-both first after now.once rest.once (λ u h. not-true (has_text u first) (λ m. clash (is_added ((own ++ r) ∷ a.parents) u) (added-now a.parents own r u m) (rest.new u h)));
-      new = λ u h. or-elim (has_text u first) (has_text u after) (sym (list_any-append (bytes_eq u) first after) ∙ h) (now.new u) (λ m. added-before a.parents own r u (rest.new u m));
+      once = twice-both first after now.once rest.once (λ u h. not-true (has_text u first) (λ m. clash (is_added (docs ++ r) u) (added-now docs r u m) (rest.new u h)));
+      new = λ u h. or-elim (has_text u first) (has_text u after) (sym (list_any-append (bytes_eq u) first after) ∙ h) (now.new u) (λ m. added-before docs r u (rest.new u m));
     }

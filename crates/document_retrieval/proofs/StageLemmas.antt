@@ -3,7 +3,7 @@ use Rattle.std.proofs.Common.{◌≡◌, ◌+◌, ◌⊎◌, inl, inr, Result, O
 use Rattle.std.specs.List.{AllByRecursion}
 use Rattle.std.proofs.lemmas.List.{map-append, length-append, length-map}
 use Rattle.schema_meaning.specs.Members.{In, first, later}
-use Rattle.schema_definitions.specs.Bearers.{Document}
+use Rattle.schema_definitions.specs.Bearers.{Document, Documents}
 use Rattle.document_sources.specs.Causes.{IsMemory}
 use Rattle.document_sources.specs.declared.error.Error.{Error}
 use Rattle.schema_definitions.specs.Rounds.{Want, Asking, IsRound, AreRounds, gathered, retrieved}
@@ -57,35 +57,35 @@ how-many a ws old new all =
 
 -- ---- one round more
 
-pub rounds-push : (a : Asking) (own : List Document) (rounds : List (List Document)) (answers : List Document)
-    → AreRounds a own rounds → IsRound a (gathered own rounds) answers → AreRounds a own (rounds ++ answers ∷ [])
-rounds-push a own [] answers are is = (is, tt)
-rounds-push a own (r ∷ rounds) answers are is = (are.0, rounds-push a (own ++ r) rounds answers are.1 is)
+pub rounds-push : (a : Asking) (docs : Documents) (rounds : List Documents) (answers : Documents)
+    → AreRounds a docs rounds → IsRound a (gathered docs rounds) answers → AreRounds a docs (rounds ++ answers ∷ [])
+rounds-push a docs [] answers are is = (is, tt)
+rounds-push a docs (r ∷ rounds) answers are is = (are.0, rounds-push a (docs ++ r) rounds answers are.1 is)
 
-pub gathered-push : (own : List Document) (rounds : List (List Document)) (answers : List Document) → gathered own (rounds ++ answers ∷ []) ≡ gathered own rounds ++ answers
-gathered-push own [] answers = refl
-gathered-push own (r ∷ rounds) answers = gathered-push (own ++ r) rounds answers
+pub gathered-push : (docs : Documents) (rounds : List Documents) (answers : Documents) → gathered docs (rounds ++ answers ∷ []) ≡ gathered docs rounds ++ answers
+gathered-push docs [] answers = refl
+gathered-push docs (r ∷ rounds) answers = gathered-push (docs ++ r) rounds answers
 
-pub retrieved-push : (rounds : List (List Document)) (answers : List Document) → retrieved (rounds ++ answers ∷ []) ≡ retrieved rounds ++ map (λ d. d.uri) answers
+pub retrieved-push : (rounds : List Documents) (answers : Documents) → retrieved (rounds ++ answers ∷ []) ≡ retrieved rounds ++ map (λ d. d.uri) answers
 retrieved-push [] answers = append-nil (map (λ (d : Document). d.uri) answers)
 retrieved-push (r ∷ rounds) answers =
     ap (λ l. map (λ (d : Document). d.uri) r ++ l) (retrieved-push rounds answers) ∙ sym (append_assoc (map (λ (d : Document). d.uri) r) (retrieved rounds) (map (λ (d : Document). d.uri) answers))
 
 -- ---- where nothing may be answered
 
-none-answered : (a : Asking) (answers : List Document) → AnswersNothing a → AllByRecursion (MayAnswer a) answers → answers ≡ []
+none-answered : (a : Asking) (answers : Documents) → AnswersNothing a → AllByRecursion (MayAnswer a) answers → answers ≡ []
 none-answered a [] nothing answered = refl
 none-answered a (d ∷ answers) nothing answered = absurd (nothing d.uri d.contents answered.0.0)
 
-pub gathered-alone : (a : Asking) (own : List Document) (rounds : List (List Document)) → AnswersNothing a → AreRounds a own rounds → gathered own rounds ≡ own
-gathered-alone a own [] nothing are = refl
-gathered-alone a own (answers ∷ rounds) nothing are =
-    gathered-alone a (own ++ answers) rounds nothing are.1 ∙ ap (λ l. own ++ l) (none-answered a answers nothing are.0.answered) ∙ append-nil own
+pub gathered-alone : (a : Asking) (docs : Documents) (rounds : List Documents) → AnswersNothing a → AreRounds a docs rounds → gathered docs rounds ≡ docs
+gathered-alone a docs [] nothing are = refl
+gathered-alone a docs (answers ∷ rounds) nothing are =
+    gathered-alone a (docs ++ answers) rounds nothing are.1 ∙ ap (λ l. docs ++ l) (none-answered a answers nothing are.0.answered) ∙ append-nil docs
 
-pub retrieved-alone : (a : Asking) (own : List Document) (rounds : List (List Document)) → AnswersNothing a → AreRounds a own rounds → retrieved rounds ≡ []
-retrieved-alone a own [] nothing are = refl
-retrieved-alone a own (answers ∷ rounds) nothing are =
-    ap (λ l. map (λ (d : Document). d.uri) l ++ retrieved rounds) (none-answered a answers nothing are.0.answered) ∙ retrieved-alone a (own ++ answers) rounds nothing are.1
+pub retrieved-alone : (a : Asking) (docs : Documents) (rounds : List Documents) → AnswersNothing a → AreRounds a docs rounds → retrieved rounds ≡ []
+retrieved-alone a docs [] nothing are = refl
+retrieved-alone a docs (answers ∷ rounds) nothing are =
+    ap (λ l. map (λ (d : Document). d.uri) l ++ retrieved rounds) (none-answered a answers nothing are.0.answered) ∙ retrieved-alone a (docs ++ answers) rounds nothing are.1
 
 -- ---- errors
 

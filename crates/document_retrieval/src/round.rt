@@ -69,7 +69,7 @@ fn keep<'a>(
     document: Document<'a>,
     uri: Rc<Uri>,
 ) -> Result<(), AllocError>
-    ensures documents { OnOk result (documents_in gathered.new ≡ documents_in gathered.old ++ document_of document.entry) }
+    ensures documents { OnOk result (documents_in gathered.new ≡ documents_in gathered.old ++ document_of document.entry ∷ []) }
     ensures uris { OnOk result (uris_in gathered.new ≡ uris_in gathered.old ++ uri.value ∷ []) }
 {
     gathered.documents.push(document)?;

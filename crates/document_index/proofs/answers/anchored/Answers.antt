@@ -1,4 +1,4 @@
-use Rattle.std.proofs.Common.{◌∙◌, ◌∷◌, [], map, None, Some}
+use Rattle.std.proofs.Common.{◌∙◌, map, None, Some}
 use Rattle.std.specs.Cmp.{first_so}
 use Rattle.std.proofs.lemmas.List.{length-map}
 use Rattle.schema_definitions.specs.Identifiers.{anchors}
@@ -23,5 +23,5 @@ document_of_bearer-requires c =
     let test = bears_anchor anchors c.args.base.now c.args.name.now in
     let documents = map document_of c.args.documents.now in
     let answer = answers c.requires.0 test documents (λ s e. settled _ _ (first_so _ _ e)) (Some (bearer_of c.in_ok-bearer.bearer.now)) (c.in_ok-bearer.ensures ∙ c.requires.1.by_anchor c.args.base.now c.args.name.now) in
-    let below = answer-within c.requires.0 documents (bearer_of c.in_ok-bearer.bearer.now) (last_standing test c.requires.0 (documents ∷ [])) answer in
+    let below = answer-within c.requires.0 documents (bearer_of c.in_ok-bearer.bearer.now) (last_standing test c.requires.0 documents) answer in
     rw length-map at below

@@ -1,4 +1,4 @@
-use Rattle.std.proofs.Common.{◌∙◌, ◌∷◌, [], map, None, Some}
+use Rattle.std.proofs.Common.{◌∙◌, map, None, Some}
 use Rattle.std.proofs.lemmas.List.{length-map}
 use Rattle.schema_definitions.specs.Bearers.{bears, last_standing}
 use Rattle.document_index.specs.Seen.{document_of}
@@ -21,5 +21,5 @@ document_of_bearer-requires c =
     let test = bears c.args.uri.now in
     let documents = map document_of c.args.documents.now in
     let answer = answers c.requires.0 test documents (λ s e. settled _ _ e) (Some (bearer_of c.in_ok-bearer.bearer.now)) (c.in_ok-bearer.ensures ∙ c.requires.1.by_uri c.args.uri.now) in
-    let below = answer-within c.requires.0 documents (bearer_of c.in_ok-bearer.bearer.now) (last_standing test c.requires.0 (documents ∷ [])) answer in
+    let below = answer-within c.requires.0 documents (bearer_of c.in_ok-bearer.bearer.now) (last_standing test c.requires.0 documents) answer in
     rw length-map at below

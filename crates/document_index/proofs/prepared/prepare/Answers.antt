@@ -1,4 +1,4 @@
-use Rattle.std.proofs.Common.{◌∷◌, [], map}
+use Rattle.std.proofs.Common.{map}
 use Rattle.std.specs.List.{flat_map}
 use Rattle.schema_definitions.specs.Bearers.{standings, meta}
 use Rattle.schema_definitions.specs.DocumentCauses.{told_anew, place_causes}

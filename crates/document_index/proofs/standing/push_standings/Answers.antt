@@ -1,5 +1,6 @@
 use Rattle.std.proofs.Common.{◌≡◌, ◌∙◌, ◌++◌, [], map, ap, sym, append-nil}
 use Rattle.schema_definitions.specs.Places.{places}
+use Rattle.schema_definitions.specs.Bearers.{document_name}
 use Rattle.schema_dialects.specs.Dialects.{dialects_in}
 use Rattle.schema_places.specs.declared.place.Place.{Place}
 use Rattle.schema_places.specs.Seen.{place_of}
@@ -16,9 +17,9 @@ returns c =
     let found = map located_of c.loop-place.found.items in
     let old = map located_of c.args.found.now.items in
     let items = c.in_ok-place-items.place-items.items in
-    let f = λ (p : Place). located_at c.args.position d.uri (place_of p) in
+    let f = λ (p : Place). located_at c.args.position (document_name d) (place_of p) in
     let empty : it.rest.items ≡ [] = no_items it.rest.items (sym it.rest.ok.0 ∙ c.in-None.ensures.steps.0) in
     let begun : c.into_iter-place-iterator.result.rest.items ≡ items = c.into_iter-place-iterator.ensures.into_iter_gives.0 in
     let all : map place_of items ≡ places meta d.uri d.default d.contents = c.in_ok-place-items.ensures ∙ ap (places meta d.uri d.default) c.value.ensures in
-    let through : map f items ≡ standings_at meta (c.args.position, d) = sym (map-through (located_at c.args.position d.uri) place_of items) ∙ located-places meta c.args.position d (map place_of items) all in
+    let through : map f items ≡ standings_at meta (c.args.position, d) = sym (map-through (located_at c.args.position (document_name d)) place_of items) ∙ located-places meta c.args.position d (map place_of items) all in
     sym (append-nil found) ∙ ap (λ xs. found ++ map f xs) (sym empty) ∙ c.loop-place.invariant ∙ ap (λ xs. old ++ xs) (ap (map f) begun ∙ through)

@@ -11,13 +11,13 @@ use Rattle.document_index.proofs.told.told_after.Goals as goal
 
 pub loop-stage-init : goal.loop-stage-init
 loop-stage-init c =
-    let docs = map document_of c.args.documents.now ∷ [] in
+    let docs = map document_of c.args.documents.now in
     let none = none_told c.none.result docs c.none.ensures in
     record { within = omega arith; told = c.in_ok-next.ensures.next 0 none; anew = c.in_ok-next.ensures.anew 0 none }
 
 pub loop-stage-preserved : goal.loop-stage-preserved
 loop-stage-preserved c =
-    let docs = map document_of c.args.documents.now ∷ [] in
+    let docs = map document_of c.args.documents.now in
     let n : ℕ = c.loop-stage.stage + 1 in
     let k = c.loop-stage.next.meta_schemas in
     let one : suc c.loop-stage.stage ≡ n = omega arith in
@@ -26,7 +26,7 @@ loop-stage-preserved c =
 
 pub returns-clause-told : goal.returns-clause-told
 returns-clause-told c =
-    let docs = map document_of c.args.documents.now ∷ [] in
+    let docs = map document_of c.args.documents.now in
     let n = c.loop-stage.stage in
     let m = c.args.stages in
     let next = c.loop-stage.next in
@@ -40,7 +40,7 @@ returns-clause-told c =
 
 pub returns-clause-anew : goal.returns-clause-anew
 returns-clause-anew c =
-    let docs = map document_of c.args.documents.now ∷ [] in
+    let docs = map document_of c.args.documents.now in
     let n = c.loop-stage.stage in
     let m = c.args.stages in
     let next = c.loop-stage.next in

@@ -9,7 +9,7 @@ use Rattle.document_index.proofs.told.told_after.Given as goal
 
 abbrev pub invariant-loop-stage : goal.invariant-loop-stage
 invariant-loop-stage l =
-    let docs = map document_of l.documents ∷ [] in
+    let docs = map document_of l.documents in
     record {
       within : l.stage ≤ l.stages;
       told : Tells l.next.meta_schemas (dialects docs (suc l.stage));

@@ -1,7 +1,8 @@
 use Rattle.std.proofs.Common.{◌≡◌, ◌∙◌, ◌++◌, ◌∷◌, [], map, sym, ap}
 use Rattle.schema_definitions.specs.Bearers.{Document}
 use Rattle.document_index.specs.Seen.{document_of}
-use Rattle.schema_definitions.specs.Rounds.{Want, wants, wanted_by, gathered, none_twice}
+use Rattle.document_sources.specs.Seen.{layer_of}
+use Rattle.schema_definitions.specs.Rounds.{Want, wants, gathered, none_twice}
 use Rattle.document_retrieval.specs.Known.{want_of}
 use Rattle.document_retrieval.specs.Stages.{asking, uris_in}
 use Rattle.document_retrieval.proofs.StageLemmas.{rounds-push, gathered-push, retrieved-push, gathered-alone, retrieved-alone}
@@ -10,30 +11,30 @@ use Rattle.document_retrieval.proofs.rounds.retrieve_wanted.Goals as goal
 
 pub loop-gathered-preserved : goal.loop-gathered-preserved
 loop-gathered-preserved g c =
-    let a = asking g.R.Retrieve.may_answer g.R.Retrieve.may_refuse c.args.retriever.now c.args.default in
-    let own = map document_of c.args.documents.items in
+    let a = asking g.R.Retrieve.may_answer g.R.Retrieve.may_refuse c.args.retriever.now (layer_of c.args.layer) in
+    let given = map document_of c.args.documents.items in
     let before = c.loop-gathered.invariant in
     let adds = c.in_ok-push_round.ensures.ok in
     let answers = adds.all.answers in
-    let wanted : map want_of c.deref-in-loop-gathered.result.now ≡ wanted_by a (gathered own before.rounds) =
-    ap (map want_of) c.deref-in-loop-gathered.ensures.value ∙ c.in_ok-wants.ensures ∙ ap (λ ds. wants (ds ∷ [])) (ap (map document_of) c.deref.ensures.value ∙ before.gathers) in
+    let wanted : map want_of c.deref-in-loop-gathered.result.now ≡ wants (gathered given before.rounds) =
+    ap (map want_of) c.deref-in-loop-gathered.ensures.value ∙ c.in_ok-wants.ensures ∙ ap wants (ap (map document_of) c.deref.ensures.value ∙ before.gathers) in
     record {
       rounds = before.rounds ++ answers ∷ [];
-      are = rounds-push a own before.rounds answers before.are (record { asked = adds.all.asked ∙ ap (map (λ (w : Want). w.uri)) wanted; answered = adds.all.answered });
-      gathers = adds.all.documents ∙ ap (λ l. l ++ answers) before.gathers ∙ sym (gathered-push own before.rounds answers);
+      are = rounds-push a given before.rounds answers before.are (record { asked = adds.all.asked ∙ ap (map (λ (w : Want). w.uri)) wanted; answered = adds.all.answered });
+      gathers = adds.all.documents ∙ ap (λ l. l ++ answers) before.gathers ∙ sym (gathered-push given before.rounds answers);
       answers = adds.all.uris ∙ ap (λ l. uris_in c.loop-gathered.gathered ++ l) (sym adds.all.asked) ∙ ap (λ l. l ++ map (λ (d : Document). d.uri) answers) before.answers ∙ sym (retrieved-push before.rounds answers);
       within = adds.within before.within;
     }
 
 pub returns-then-is_empty-clause-once : goal.returns-then-is_empty-clause-once
 returns-then-is_empty-clause-once g c =
-    let a = asking g.R.Retrieve.may_answer g.R.Retrieve.may_refuse c.args.retriever.now c.args.default in
+    let a = asking g.R.Retrieve.may_answer g.R.Retrieve.may_refuse c.args.retriever.now (layer_of c.args.layer) in
     let here = c.loop-gathered.invariant in
     ap none_twice here.answers ∙ (asked-once a (map document_of c.args.documents.items) here.rounds here.are).once
 
 pub returns-then-is_empty-clause-alone : goal.returns-then-is_empty-clause-alone
 returns-then-is_empty-clause-alone g c = λ nothing.
-    let a = asking g.R.Retrieve.may_answer g.R.Retrieve.may_refuse c.args.retriever.now c.args.default in
-    let own = map document_of c.args.documents.items in
+    let a = asking g.R.Retrieve.may_answer g.R.Retrieve.may_refuse c.args.retriever.now (layer_of c.args.layer) in
+    let given = map document_of c.args.documents.items in
     let here = c.loop-gathered.invariant in
-    (here.gathers ∙ gathered-alone a own here.rounds nothing here.are, here.answers ∙ retrieved-alone a own here.rounds nothing here.are)
+    (here.gathers ∙ gathered-alone a given here.rounds nothing here.are, here.answers ∙ retrieved-alone a given here.rounds nothing here.are)
