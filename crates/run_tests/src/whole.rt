@@ -117,9 +117,24 @@ fn failures(rt: HostRuntime) {
     assert_outcomes(&rt, alloc, &[None, Some(1), Some(0)], &UNTOLD);
 }
 
-const DRAFTS: [Row; 5] = [
+const DRAFTS: [Row; 8] = [
     (&["beside.json", "--draft", "7"], "{\"x\":[]}\n", "0 []\n "),
     (&["--draft=4", "beside.json"], "{\"x\":[]}\n", "0 []\n "),
+    (
+        &["beside.json", "--draft", "7", "--ref-siblings"],
+        "{\"x\":[]}\n",
+        "1 [[\"/x\",\"/properties/x/minItems\"]]\n ",
+    ),
+    (
+        &["--ref-siblings", "beside.json", "--draft=6"],
+        "{\"x\":[1,2,3]}\n",
+        "0 []\n ",
+    ),
+    (
+        &["beside.json", "--draft", "4", "--ref-siblings"],
+        "{\"x\":[]}\n",
+        "0 []\n ",
+    ),
     (
         &["beside.json"],
         "{\"x\":[]}\n",

@@ -33,17 +33,24 @@ fn in_any_order(rt: HostRuntime) {
     assert_eq!(rt; read.files.as_slice(), ["b=c", "d=e"].as_slice());
     assert_eq!(rt; read.draft, Some("none"));
     assert_eq!(rt; read.meta, Some("m"));
+    assert!(rt; !read.ref_siblings);
     let words = ["a"];
     let read = ProgramWords::read(rt.alloc(), &words).expect(&rt, "words");
     assert!(rt; read.files.is_empty());
     assert!(rt; read.base.is_none());
     assert!(rt; read.draft.is_none());
     assert!(rt; read.meta.is_none());
+    assert!(rt; !read.ref_siblings);
+    let words = ["--ref-siblings", "a", "b=c"];
+    let read = ProgramWords::read(rt.alloc(), &words).expect(&rt, "words");
+    assert_eq!(rt; read.schema, "a");
+    assert_eq!(rt; read.files.as_slice(), ["b=c"].as_slice());
+    assert!(rt; read.ref_siblings);
 }
 
 #[test]
 fn refused(rt: HostRuntime) {
-    let cases: [(&[&str], ErrorKind); 8] = [
+    let cases: [(&[&str], ErrorKind); 9] = [
         (&[], ErrorKind::MissingRequiredArgument),
         (&["--base", "u:/"], ErrorKind::MissingRequiredArgument),
         (&["a", "--drafts", "7"], ErrorKind::UnknownArgument),
@@ -53,6 +60,10 @@ fn refused(rt: HostRuntime) {
             ErrorKind::ArgumentConflict,
         ),
         (&["a", "--base"], ErrorKind::InvalidValue),
+        (
+            &["a", "--ref-siblings", "--ref-siblings"],
+            ErrorKind::ArgumentConflict,
+        ),
         (&["--help"], ErrorKind::DisplayHelp),
         (&["a", "--version"], ErrorKind::DisplayVersion),
     ];
@@ -72,6 +83,7 @@ fn help(rt: HostRuntime) {
         "--base <URI>",
         "--draft <DRAFT>",
         "--meta <FILE>",
+        "--ref-siblings",
     ] {
         assert!(rt; text.contains(part), "{text}");
     }

@@ -322,4 +322,4 @@ refused-there p own other uri refs ks limit d e b same texts are named of r =
     (subst (λ (u : List ℕ). RefusesEach own p.makes (sites_from own u (map reference_to (pointers_of own d))) limit e) (sym named)
     (subst (λ (x : List (List ℕ)). RefusesEach own p.makes (sites_from own uri (map reference_to x)) limit e) are
     (subst (λ (x : List (List ℕ)). RefusesEach own p.makes (sites_from own uri x) limit e) texts
-    (subst (λ (ds : List Document). RefusesEach (ds ∷ []) p.makes (sites_from ds uri refs) limit e) same r))))
+    (subst (λ (ds : List Document). RefusesEach ds p.makes (sites_from ds uri refs) limit e) same r))))

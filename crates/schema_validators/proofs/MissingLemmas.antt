@@ -1,19 +1,21 @@
 -- One application of `required` tells each name that is missing once.
-use Rattle.std.proofs.Common.{◌≡◌, ◌∙◌, ℕ, List, [], ◌∷◌, ◌++◌, map, Bool, true, false, not, ◌&&◌, ◌||◌, cond, codes, bytes_eq, Option, Some, None, option_and_then, refl, sym, ap, subst}
+use Rattle.std.proofs.Common.{◌≡◌, ◌∙◌, ℕ, List, [], ◌∷◌, ◌++◌, map, Bool, true, false, not, ◌&&◌, ◌||◌, cond, codes, bytes_eq, Option, Some, None, option_map, option_and_then, refl, sym, ap, subst}
 use Rattle.std.specs.Prelude.{if◌then◌else◌}
 use Rattle.std.specs.List.{filter, flat_map}
 use Rattle.std.proofs.lemmas.Slice.Eq.{bytes_eq-Decides}
 use Rattle.serde_json.specs.Data.{Data, null, boolean, number, string, array, object, Members, member}
 use Rattle.serde_json.specs.Find.{get, as_array}
 use Rattle.json_values.specs.Parts.{Part, name}
-use Rattle.schema_meaning.specs.Members.{In, first, later, is_listed, all_known}
+use Rattle.schema_meaning.specs.Members.{In, first, later, is_listed, known_too, all_known}
 use Rattle.schema_meaning.specs.Places.{Spot, whole}
-use Rattle.schema_meaning.specs.Faults.{Fault, fault, Faults, none, also, joined, join, Required}
+use Rattle.schema_meaning.specs.Faults.{Fault, fault, Faults, none, also, joined, join, is_none, Required}
 use Rattle.schema_meaning.specs.Keywords.{Shape, asserts, required, missing, if_object, none_there, rule}
 use Rattle.schema_meaning.specs.Questions.{Question, at, asked_at}
-use Rattle.schema_meaning.specs.Rules.{Note, Rule, every, own_faults, faults, asks}
-use Rattle.schema_meaning.specs.Readings.{Reading, rules, bags, tell_one, told, IsTold}
+use Rattle.schema_meaning.specs.Rules.{Note, Rule, every, conditional, consequents, chosen, if_same, own_faults, faults, asks}
+use Rattle.schema_meaning.specs.Readings.{Reading, rules, bags, verdicts, tell_one, told, IsTold}
 use Rattle.meaning_laws.proofs.Known.{option_map-some, all_known-in}
+use Rattle.meaning_laws.proofs.Verdicts.{told_agrees}
+use Rattle.meaning_laws.proofs.Refuses.{told_once}
 use Rattle.meaning_laws.proofs.Stays.{told-asks}
 use Rattle.meaning_laws.proofs.Obliged.{in_map}
 use Rattle.schema_definitions.specs.Bearers.{Documents}
@@ -25,7 +27,7 @@ use Rattle.schema_registries.specs.Roots.{Root, Patterns}
 use Rattle.schema_registries.specs.Answers.{IsAnswer}
 use Rattle.document_laws.proofs.Inside.{HoldsMember, here, behind, held_found}
 use Rattle.document_laws.proofs.Listed.{in_flat_map}
-use Rattle.schema_validators.specs.Missing.{Requires, lacks, IsToldAt, itself, below, AreAmong, nothing, taken, passed, missing_faults, TellsMissing, TellsEachMissing}
+use Rattle.schema_validators.specs.Missing.{Requires, lacks, IsToldAt, itself, below, beside, AreAmong, nothing, taken, passed, missing_faults, TellsMissing, TellsEachMissing}
 
 -- ---- names
 
@@ -128,6 +130,35 @@ among_each [] fs i = elim i [ ]
 among_each (gs ∷ rest) fs first = among_first gs (join rest)
 among_each (gs ∷ rest) fs (later i) = among_by (among_each rest fs i) (among_last gs (join rest))
 
+-- ---- what stands beside an answer
+
+known_too-some : {A : Type 0} (o : Option A) (os : Option (List A)) (zs : List A) → known_too o os ≡ Some zs
+    → (x : A) × (xs : List A) × (o ≡ Some x) × (os ≡ Some xs) × (zs ≡ x ∷ xs)
+known_too-some None os zs e = cc
+known_too-some (Some x) None zs e = cc
+known_too-some (Some x) (Some xs) zs e = (x, xs, refl, refl, cc)
+
+if_same_first : {A : Type 0} (b : Bool) (x : A) (xs : List A) → In x (if_same b b x xs)
+if_same_first true x xs = first
+if_same_first false x xs = first
+
+if_same_later : {A : Type 0} (b c : Bool) (y x : A) (xs : List A) → In y xs → In y (if_same b c x xs)
+if_same_later true true y x xs i = later i
+if_same_later true false y x xs i = i
+if_same_later false true y x xs i = i
+if_same_later false false y x xs i = later i
+
+chosen_known : {S A : Type 0} (ask : Question S → Option A) (b : Bool) (cs : List (Bool × Question S)) (ys : List A) → all_known (map ask (consequents cs)) ≡ Some ys
+    → (c : Question S) → In (b, c) cs → (y : A) × (ask c ≡ Some y) × In y (chosen b cs ys)
+chosen_known ask b [] ys e c i = elim i [ ]
+chosen_known ask b (_ ∷ cs) ys e c first =
+    let k = known_too-some (ask c) (all_known (map ask (consequents cs))) ys e in
+    (k.0, k.2, subst (λ zs. In k.0 (chosen b ((b, c) ∷ cs) zs)) (sym k.4) (if_same_first b k.0 (chosen b cs k.1)))
+chosen_known ask b (d ∷ cs) ys e c (later i) =
+    let k = known_too-some (ask d.1) (all_known (map ask (consequents cs))) ys e in
+    let rest = chosen_known ask b cs k.1 k.3 c i in
+    (rest.0, rest.1, subst (λ zs. In rest.0 (chosen b (d ∷ cs) zs)) (sym k.4) (if_same_later b d.0 rest.0 k.0 (chosen b cs k.1) rest.2))
+
 -- ---- where faults are told as they are
 
 module _ {S : Type 0} (r : Reading S) (n : ℕ) where
@@ -150,6 +181,18 @@ module _ {S : Type 0} (r : Reading S) (n : ℕ) where
       let of = keyword_told x v a.0 a.1 (every p notes qs) i in
       let known = all_known-in ask qs of.0 of.1 q j in
       (known.0, known.1, among_by (among_each of.0 known.0 known.2) (among_by (among_last (own_faults v (r.schema_path x) p notes) (join of.0)) (among_by of.2 a.2)))
+
+  told_there from start fs e s w (beside {s = x} {w = v} t q cs i b yes c j) =
+      let a = told_there from start fs e x v t in
+      let ask : Question S → Option Faults = λ q. told bags r n q.site (asked_at v q) in
+      let of = keyword_told x v a.0 a.1 (conditional q cs) i in
+      let k = known_too-some (ask q) (all_known (map ask (consequents cs))) of.0 of.1 in
+      let verdict : told verdicts r n q.site (asked_at v q) ≡ Some (is_none k.0) = sym (told_agrees r n q.site (asked_at v q)) ∙ ap (option_map is_none) k.2 in
+      let same : is_none k.0 ≡ b = told_once verdicts r n yes.unfoldings q.site (asked_at v q) (is_none k.0) b verdict yes.is in
+      let one = chosen_known ask b cs k.1 k.3 c j in
+      let among : AreAmong (join (chosen (is_none k.0) cs k.1)) a.0 =
+          subst (λ answers. AreAmong (faults (conditional q cs) v (r.schema_path x) answers) a.0) k.4 of.2 in
+      (one.0, one.1, among_by (among_each (chosen b cs k.1) one.0 one.2) (among_by (subst (λ o. AreAmong (join (chosen o cs k.1)) a.0) same among) a.2))
 
   pub missing_told : (from : S) (start : Spot) (fs : Faults) → told bags r n from start ≡ Some fs → (s : S) (w : Spot) → IsToldAt r from start s w
       → (names : List (List ℕ)) → none_twice names ≡ true → In (asserts (required names)) (r.keywords s) → TellsMissing names w (r.schema_path s) fs

@@ -2,7 +2,7 @@
 use Rattle.std.specs.Prelude.{◌≡◌, ◌↔◌, ◌⊎◌, ℕ, List, [], ◌∷◌, ◌++◌, map, Bool, true, false, Option, Some, is_some, string_bytes}
 use Rattle.std.specs.HashMap.{get_by_text}
 use Rattle.schema_meaning.specs.Members.{In}
-use Rattle.schema_definitions.specs.Bearers.{Document}
+use Rattle.schema_definitions.specs.Bearers.{Document, uri_in}
 use Rattle.schema_definitions.specs.Lookup.{Target}
 use Rattle.schema_patterns.specs.declared.table.PatternTable.{PatternTable}
 use Rattle.schema_registries.specs.Pointers.{pointers_of, reference_to, IsDocumentAt}
@@ -78,12 +78,12 @@ pub data Enters {M : Type 0} (own : List Document) (document : List ℕ) (table 
 
 -- ---- of a root
 
--- a map of the document in which a root lies
+-- a map of the document under whose URI a root lies, an own one before a parent's
 pub record IsMapAt {M : Type 0} (finds : M → List ℕ → Option Bool) (p : Patterns) (r : SchemaRegistry) (reference : List ℕ) (limit : ℕ) (m : ValidatorMap M) : Type 0 where
   pub target : Target
   pub found : Finds (root_on r reference) target
   pub document : Document
-  pub is_at : IsDocumentAt (documents_in_registry r) target.document document
+  pub is_at : IsDocumentAt (documents_in_registry r) (uri_in target.document) document
   pub is_map : IsMapOf finds p (documents_in_registry r) document limit m
 
 -- from the schema places of a document more compile keys are reached than a limit
@@ -95,12 +95,12 @@ ArePlacesExceeded p own d limit (error.Schema e) = AreExceeded own p.makes (site
 ArePlacesExceeded p own d limit (error.MetaSchema e) = ⊥
 ArePlacesExceeded p own d limit error.Memory = Unit {0}
 
--- the same of the document in which a root lies
+-- the same of the document under whose URI a root lies
 pub record AreMore (p : Patterns) (r : SchemaRegistry) (reference : List ℕ) (limit : ℕ) (e : BuildError) : Type 0 where
   pub target : Target
   pub found : Finds (root_on r reference) target
   pub document : Document
-  pub is_at : IsDocumentAt (documents_in_registry r) target.document document
+  pub is_at : IsDocumentAt (documents_in_registry r) (uri_in target.document) document
   pub exceeded : ArePlacesExceeded p (documents_in_registry r) document limit e
 
 abbrev pub RefusesMapAt : Patterns → SchemaRegistry → List ℕ → ℕ → BuildError → Type 0

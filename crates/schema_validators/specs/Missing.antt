@@ -8,8 +8,8 @@ use Rattle.schema_meaning.specs.Places.{Spot, whole}
 use Rattle.schema_meaning.specs.Faults.{Fault, fault, Faults, none, also, Required}
 use Rattle.schema_meaning.specs.Keywords.{none_there}
 use Rattle.schema_meaning.specs.Questions.{Question, asked_at}
-use Rattle.schema_meaning.specs.Rules.{Note, every}
-use Rattle.schema_meaning.specs.Readings.{Reading, rules}
+use Rattle.schema_meaning.specs.Rules.{Note, every, conditional}
+use Rattle.schema_meaning.specs.Readings.{Reading, rules, IsTold, verdicts}
 use Rattle.schema_definitions.specs.Bearers.{Documents}
 use Rattle.schema_definitions.specs.Lookup.{Target}
 use Rattle.schema_definitions.specs.Plain.{plain}
@@ -37,11 +37,14 @@ lacks (string s) k = false
 lacks (array ds) k = false
 lacks (object ms) k = none_there (get k (object ms))
 
--- Where chains of questions lead of which each is asked by a keyword that tells what its questions tell, as it is told.
+-- Where chains of questions lead of which each is asked by a keyword that tells what its questions tell, as it is told, or stands beside the
+-- answer of an `if` (Core 10.2.2).
 pub data IsToldAt {S : Type 0} (r : Reading S) (from : S) (at : Spot) : S → Spot → Type 0 where
   itself : IsToldAt r from at from at
   below : {s : S} {w : Spot} → IsToldAt r from at s w → (p : List Part) (notes : List Note) (qs : List (Question S)) → In (every p notes qs) (rules r s w.value)
       → (q : Question S) → In q qs → IsToldAt r from at q.site (asked_at w q)
+  beside : {s : S} {w : Spot} → IsToldAt r from at s w → (q : Question S) (cs : List (Bool × Question S)) → In (conditional q cs) (rules r s w.value)
+      → (b : Bool) → IsTold verdicts r q.site (asked_at w q) b → (c : Question S) → In (b, c) cs → IsToldAt r from at c.site (asked_at w c)
 
 -- some faults are among others, in their order, each as often at most
 pub data AreAmong : Faults → Faults → Type 0 where

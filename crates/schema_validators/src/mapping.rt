@@ -126,7 +126,7 @@ fn map_of<P: PatternMaker>(
     Ok(map)
 }
 
-/// The validators of the schema places of the document in which a root lies.
+/// The validators of the schema places of the document under whose URI a root lies, an own one before a parent's.
 ///
 /// # Errors
 ///
@@ -143,10 +143,7 @@ pub(crate) fn map_at<P: PatternMaker>(
 {
     let resolver = registry.registry().resolver(registry.base().clone()?)?;
     match resolver.lookup(root) {
-        Ok(found) => {
-            registry.own().documents_are_apart();
-            map_of(alloc, registry.own(), found.document(), maker, node_limit)
-        }
+        Ok(found) => map_of(alloc, registry.own(), found.document(), maker, node_limit),
         Err(error) => Err(BuildError::of_reference(error)),
     }
 }

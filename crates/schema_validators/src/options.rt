@@ -325,7 +325,7 @@ impl<P: PatternMaker + Drop, R: Retrieve + Drop> ValidationOptions<P, R> {
         self.build_on(&registry, root)
     }
 
-    /// A validator for each schema of the document in which a root lies, by its JSON Pointer: those of its schema places at which nothing is wrong
+    /// A validator for each schema of the document under whose URI a root lies, an own one before a parent's, by its JSON Pointer: those of its schema places at which nothing is wrong
     /// and from which nothing wrong is reached. Each begins where looking its pointer up, as a fragment, leads from the document's URI.
     ///
     /// All that is reached from the places is walked once. The patterns are made once for all of them, and each validator reads the matches of all.

@@ -208,7 +208,8 @@ impl<M: PatternMatcher> Validator<M> {
     /// The faults of a value, in the order in which they are met.
     ///
     /// Its numbers are whole numbers of 64 bits, as `has_only_whole` tells. All faults are gathered before the first is given, each with its
-    /// three paths written out. Each application of `required` tells each name that is missing once, and no name that is there.
+    /// three paths written out. Each application of `required` at the root, below keywords that tell what their subschemas tell, and below the
+    /// `then` or `else` that is asked, tells each name that it lists and the value lacks.
     ///
     /// # Errors
     ///

@@ -6,6 +6,7 @@
 //   base URI                what the root is resolved against
 //   root REFERENCE          where validation begins
 //   dialect URI             the meta-schema of the draft of the documents that name none
+//   siblings read           what stands beside `$ref` is read in Drafts 6 and 7
 //   limit NUMBER            how many schema nodes are reached at most
 //   retrievals NUMBER       how many documents are retrieved at most
 //   match <PATTERN> TEXT    for the script: a pattern and a text in which it matches
@@ -29,13 +30,14 @@ use crate::patterns::scripted;
 use std::alloc::Global;
 use std::process::Abort;
 
-const GIVEN: [&str; 11] = [
+const GIVEN: [&str; 12] = [
     "document <",
     "meta <",
     "retrieved <",
     "base ",
     "root ",
     "dialect ",
+    "siblings ",
     "limit ",
     "retrievals ",
     "match <",

@@ -78,6 +78,9 @@ pub(crate) fn options_of(rt: &impl Abort, alloc: Global, case: &str) -> Validati
     if let Some(uri) = setting(case, "dialect ") {
         options = options.with_draft(Draft::from_schema_uri(uri));
     }
+    if setting(case, "siblings ").is_some() {
+        options = options.with_ref_siblings(true);
+    }
     if let Some(limit) = setting(case, "limit ") {
         options = options.with_node_limit(limit.parse().expect(rt, "a number"));
     }

@@ -20,6 +20,8 @@ mod faults;
 #[cfg(test)]
 mod given;
 #[cfg(test)]
+mod layers;
+#[cfg(test)]
 mod limits;
 #[cfg(test)]
 mod maps;
@@ -31,3 +33,5 @@ mod patterns;
 mod references;
 #[cfg(test)]
 mod retrieving;
+#[cfg(test)]
+mod siblings;

@@ -20,7 +20,7 @@ returns-in-Err-clause-refused g c =
     let resolver = c.in_ok-resolver.resolver in
     let documents : documents_in resolver ≡ documents_shared c.args.registry.now = c.in_ok-resolver.ensures.documents ∙ c.registry.ensures.documents in
     let base : base_of resolver ≡ r.base = c.in_ok-resolver.ensures.base ∙ c.in_ok-clone.ensures.cases in
-    let same : lookup (documents_in resolver ∷ []) (base_of resolver) r.reference ≡ lookup r.documents r.base r.reference = ap₂ (λ ds b. lookup (ds ∷ []) b r.reference) documents base in
+    let same : lookup (documents_in resolver) (base_of resolver) r.reference ≡ lookup r.documents r.base r.reference = ap₂ (λ ds b. lookup ds b r.reference) documents base in
     c.of_root.ensures p c.args.node_limit r (subst (λ x. RefusesLookup x c.in-Err.error) same c.in-Err.ensures.refused)
 
 pub returns-clause-refused : goal.returns-clause-refused
@@ -30,11 +30,11 @@ returns-clause-refused g c =
     let resolver = c.in_ok-resolver.resolver in
     let documents : documents_in resolver ≡ documents_shared c.args.registry.now = c.in_ok-resolver.ensures.documents ∙ c.registry.ensures.documents in
     let base : base_of resolver ≡ r.base = c.in_ok-resolver.ensures.base ∙ c.in_ok-clone.ensures.cases in
-    let same : lookup (documents_in resolver ∷ []) (base_of resolver) r.reference ≡ lookup r.documents r.base r.reference = ap₂ (λ ds b. lookup (ds ∷ []) b r.reference) documents base in
+    let same : lookup (documents_in resolver) (base_of resolver) r.reference ≡ lookup r.documents r.base r.reference = ap₂ (λ ds b. lookup ds b r.reference) documents base in
     let target = target_in c.in-Ok.found in
     let there : documents_in c.in-Ok.found.resolver ≡ documents_shared c.args.registry.now = c.in-Ok.ensures.documents ∙ documents in
     c.of_schema.ensures p c.args.node_limit r target (sym same ∙ c.in-Ok.ensures.ok)
-    (subst (λ own. RefusesWithin (own ∷ []) p.makes (root_site target) c.args.node_limit c.in-Err-check_reached.cause) there c.in-Err-check_reached.ensures.refused)
+    (subst (λ own. RefusesWithin own p.makes (root_site target) c.args.node_limit c.in-Err-check_reached.cause) there c.in-Err-check_reached.ensures.refused)
 
 pub returns-in-Ok-check_reached-clause-made : goal.returns-in-Ok-check_reached-clause-made
 returns-in-Ok-check_reached-clause-made g c =
@@ -43,7 +43,7 @@ returns-in-Ok-check_reached-clause-made g c =
     let own = documents_in c.in-Ok.found.resolver in
     let t = target_in c.in-Ok.found in
     let there : own ≡ documents_shared c.args.registry.now = c.in-Ok.ensures.documents ∙ c.in_ok-resolver.ensures.documents ∙ c.registry.ensures.documents in
-    let found = subst (λ ds. lookup (ds ∷ []) (base_of resolver) c.args.root.now ≡ Ok t) (sym c.in-Ok.ensures.documents) c.in-Ok.ensures.ok in
+    let found = subst (λ ds. lookup ds (base_of resolver) c.args.root.now ≡ Ok t) (sym c.in-Ok.ensures.documents) c.in-Ok.ensures.ok in
     let apart = ap are_apart there ∙ c.documents_are_apart.ensures in
     let rise = ap (list_all contents_rise) (there ∙ sym c.registry-2.ensures.documents) ∙ c.names_rise.ensures in
     let one = one_root there (c.in_ok-resolver.ensures.base ∙ c.in_ok-clone.ensures.cases) refl in
@@ -60,7 +60,7 @@ returns-in-Ok-check_reached-clause-within g c =
     let own = documents_in c.in-Ok.found.resolver in
     let t = target_in c.in-Ok.found in
     let there : own ≡ documents_shared c.args.registry.now = c.in-Ok.ensures.documents ∙ c.in_ok-resolver.ensures.documents ∙ c.registry.ensures.documents in
-    let found = subst (λ ds. lookup (ds ∷ []) (base_of resolver) c.args.root.now ≡ Ok t) (sym c.in-Ok.ensures.documents) c.in-Ok.ensures.ok in
+    let found = subst (λ ds. lookup ds (base_of resolver) c.args.root.now ≡ Ok t) (sym c.in-Ok.ensures.documents) c.in-Ok.ensures.ok in
     let apart = ap are_apart there ∙ c.documents_are_apart.ensures in
     let rise = ap (list_all contents_rise) (there ∙ sym c.registry-2.ensures.documents) ∙ c.names_rise.ensures in
     let one = one_root there (c.in_ok-resolver.ensures.base ∙ c.in_ok-clone.ensures.cases) refl in

@@ -1,9 +1,8 @@
-use Rattle.std.proofs.Common.{◌≡◌, ◌∙◌, [], ◌∷◌, inl, ap, ap₂, sym, subst}
+use Rattle.std.proofs.Common.{◌≡◌, ◌∙◌, inl, ap₂, sym, subst}
 use Rattle.schema_definitions.specs.Lookup.{lookup}
-use Rattle.document_laws.specs.TargetLaws.{are_apart}
 use Rattle.document_sources.specs.Causes.{RefusesLookup}
 use Rattle.reached_sites.specs.Passed.{documents_in, base_of, target_in}
-use Rattle.schema_registries.specs.Seen.{documents_in_registry, documents_shared}
+use Rattle.schema_registries.specs.Seen.{documents_in_registry}
 use Rattle.schema_registries.specs.Roots.{Root, Finds, root_on}
 use Rattle.schema_validators.proofs.Rooting.{map-there, more-there}
 use Rattle.schema_validators.proofs.mapping.map_at.Goals as goal
@@ -16,9 +15,8 @@ returns-in-Ok-clause-built g c =
     let t = target_in c.in-Ok.found in
     let documents : documents_in resolver ≡ documents_in_registry registry = c.in_ok-resolver.ensures.documents ∙ c.registry.ensures in
     let base : base_of resolver ≡ r.base = c.in_ok-resolver.ensures.base ∙ c.in_ok-clone.ensures.cases ∙ c.base.ensures in
-    let found : Finds r t = sym (ap₂ (λ ds b. lookup (ds ∷ []) b c.args.root.now) documents base) ∙ c.in-Ok.ensures.ok in
-    let apart = ap (λ o. are_apart (documents_shared o)) (sym c.own.ensures) ∙ c.documents_are_apart.ensures in
-    map-there g.P.Matcher.PatternMatcher.finds (g.P.PatternMaker.patterns c.args.maker.now) registry c.args.root.now c.args.node_limit t found apart c.own-in-Ok.result.now c.own-in-Ok.ensures
+    let found : Finds r t = sym (ap₂ (λ ds b. lookup ds b c.args.root.now) documents base) ∙ c.in-Ok.ensures.ok in
+    map-there g.P.Matcher.PatternMatcher.finds (g.P.PatternMaker.patterns c.args.maker.now) registry c.args.root.now c.args.node_limit t found c.own-in-Ok.result.now c.own-in-Ok.ensures
     c.document.result.now c.document.ensures c.map_of.result c.map_of.ensures.built
 
 pub returns-in-Ok-clause-refused : goal.returns-in-Ok-clause-refused
@@ -29,9 +27,8 @@ returns-in-Ok-clause-refused g c =
     let t = target_in c.in-Ok.found in
     let documents : documents_in resolver ≡ documents_in_registry registry = c.in_ok-resolver.ensures.documents ∙ c.registry.ensures in
     let base : base_of resolver ≡ r.base = c.in_ok-resolver.ensures.base ∙ c.in_ok-clone.ensures.cases ∙ c.base.ensures in
-    let found : Finds r t = sym (ap₂ (λ ds b. lookup (ds ∷ []) b c.args.root.now) documents base) ∙ c.in-Ok.ensures.ok in
-    let apart = ap (λ o. are_apart (documents_shared o)) (sym c.own.ensures) ∙ c.documents_are_apart.ensures in
-    more-there (g.P.PatternMaker.patterns c.args.maker.now) registry c.args.root.now c.args.node_limit t found apart c.own-in-Ok.result.now c.own-in-Ok.ensures
+    let found : Finds r t = sym (ap₂ (λ ds b. lookup ds b c.args.root.now) documents base) ∙ c.in-Ok.ensures.ok in
+    more-there (g.P.PatternMaker.patterns c.args.maker.now) registry c.args.root.now c.args.node_limit t found c.own-in-Ok.result.now c.own-in-Ok.ensures
     c.document.result.now c.document.ensures c.map_of.result c.map_of.ensures.refused
 
 pub returns-clause-refused : goal.returns-clause-refused
@@ -41,5 +38,5 @@ returns-clause-refused g c =
     let resolver = c.in_ok-resolver.resolver in
     let documents : documents_in resolver ≡ documents_in_registry registry = c.in_ok-resolver.ensures.documents ∙ c.registry.ensures in
     let base : base_of resolver ≡ r.base = c.in_ok-resolver.ensures.base ∙ c.in_ok-clone.ensures.cases ∙ c.base.ensures in
-    let same : lookup (documents_in resolver ∷ []) (base_of resolver) r.reference ≡ lookup r.documents r.base r.reference = ap₂ (λ ds b. lookup (ds ∷ []) b c.args.root.now) documents base in
+    let same : lookup (documents_in resolver) (base_of resolver) r.reference ≡ lookup r.documents r.base r.reference = ap₂ (λ ds b. lookup ds b c.args.root.now) documents base in
     inl (c.of_reference.ensures r (subst (λ x. RefusesLookup x c.in-Err.error) same c.in-Err.ensures.refused))

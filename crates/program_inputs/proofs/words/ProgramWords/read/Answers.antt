@@ -1,6 +1,7 @@
 use Rattle.std.proofs.Common.{◌≡◌, ◌∙◌, ap, sym, subst, refl, true}
 use Rattle.std.proofs.lemmas.Result.{err_from_is_err_and}
 use Rattle.clap.specs.Words.{App, is_simple, is_simple_and_free, matches_of, takes, fault_of, kind_of}
+use Rattle.clap.specs.Kinds.{HasKind}
 use Rattle.clap.specs.Walk.{texts}
 use Rattle.program_inputs.specs.Program.{program_app}
 use Rattle.program_inputs.specs.Read.{HasWordsOf}
@@ -23,3 +24,11 @@ pub returns-clause-kinds : goal.returns-clause-kinds
 returns-clause-kinds c =
     sym (ap (λ (a : App). fault_of a (texts c.args.words.now)) c.in_ok-program_command.ensures.app)
     ∙ c.in_ok-matches.ensures.kinds (ap is_simple_and_free c.in_ok-program_command.ensures.app ∙ refl)
+
+pub returns-in_err-matches-clause-kinds : goal.returns-in_err-matches-clause-kinds
+returns-in_err-matches-clause-kinds c =
+    let app = c.in_ok-program_command.ensures.app in
+    let got = err_from_is_err_and c.from_residual-in_err-matches.result c.from_residual-in_err-matches.ensures.1 in
+    let words = texts c.args.words.now in
+    rw got.1 (subst (HasKind (fault_of program_app words)) (sym got.2)
+    (subst (λ (a : App). HasKind (fault_of a words) c.in_err-matches.field-0.0) app (c.in_err-matches.ensures.kinds (ap is_simple_and_free app ∙ refl))))

@@ -17,9 +17,9 @@ pub tell_at-requires : goal.tell_at-requires
 tell_at-requires g c =
     let resolver = c.in_ok-resolver.resolver in
     let target = target_in c.in-Ok.root in
-    let shallow : depth target.contents ≤ deepest (documents_in resolver ∷ []) =
-    (lookups_lie (documents_in resolver ∷ []) (base_of resolver) c.as_str.result.now target c.in-Ok.ensures.ok).shallow in
-    record { shallow = subst (λ own. depth target.contents ≤ deepest (own ∷ [])) (sym c.in-Ok.ensures.documents) shallow }
+    let shallow : depth target.contents ≤ deepest (documents_in resolver) =
+    (lookups_lie (documents_in resolver) (base_of resolver) c.as_str.result.now target c.in-Ok.ensures.ok).shallow in
+    record { shallow = subst (λ own. depth target.contents ≤ deepest own) (sym c.in-Ok.ensures.documents) shallow }
 
 pub returns-in-Ok-clause-heard : goal.returns-in-Ok-clause-heard
 returns-in-Ok-clause-heard g c =
@@ -31,9 +31,9 @@ returns-in-Ok-clause-heard g c =
     let base : base_of resolver ≡ r.base = c.in_ok-resolver.ensures.base ∙ c.in_ok-clone.ensures.cases in
     let there : documents_in root.resolver ≡ documents_of v.registry.value = c.in-Ok.ensures.documents ∙ documents in
     let found : Finds r (target_in root) =
-    sym (ap₂ (λ ds b. lookup (ds ∷ []) b r.reference) documents base) ∙ ap (lookup (documents_in resolver ∷ []) (base_of resolver)) (sym c.as_str.ensures.value) ∙ c.in-Ok.ensures.ok in
+    sym (ap₂ (λ ds b. lookup ds b r.reference) documents base) ∙ ap (lookup (documents_in resolver) (base_of resolver)) (sym c.as_str.ensures.value) ∙ c.in-Ok.ensures.ok in
     λ p made.
-    heard r (view c.args.value.now) c.args.observer _ (target_in root) c.in_ok-matches-in-Ok.matches (documents_in root.resolver ∷ []) (ap (λ own. own ∷ []) there) found
+    heard r (view c.args.value.now) c.args.observer _ (target_in root) c.in_ok-matches-in-Ok.matches (documents_in root.resolver) (there) found
     c.in_ok-tell_at-in-Ok.ensures p made.sound
     (record { patterns = texts_of_table v.table.value; hold = made.patterns; read = read_by g.M.PatternMatcher.finds p.finished v.table.value c.deref-in-Ok.result.now _ c.in_ok-matches-in-Ok.matches c.deref-in-Ok.ensures c.in_ok-matches-in-Ok.ensures made.made })
 
@@ -47,6 +47,6 @@ returns-in-Ok-clause-kept g c =
     let base : base_of resolver ≡ r.base = c.in_ok-resolver.ensures.base ∙ c.in_ok-clone.ensures.cases in
     let there : documents_in root.resolver ≡ documents_of v.registry.value = c.in-Ok.ensures.documents ∙ documents in
     let found : Finds r (target_in root) =
-    sym (ap₂ (λ ds b. lookup (ds ∷ []) b r.reference) documents base) ∙ ap (lookup (documents_in resolver ∷ []) (base_of resolver)) (sym c.as_str.ensures.value) ∙ c.in-Ok.ensures.ok in
-    keeps r (view c.args.value.now) c.args.observer _ (target_in root) c.in_ok-matches-in-Ok.matches (documents_in root.resolver ∷ []) (ap (λ own. own ∷ []) there) found
+    sym (ap₂ (λ ds b. lookup ds b r.reference) documents base) ∙ ap (lookup (documents_in resolver) (base_of resolver)) (sym c.as_str.ensures.value) ∙ c.in-Ok.ensures.ok in
+    keeps r (view c.args.value.now) c.args.observer _ (target_in root) c.in_ok-matches-in-Ok.matches (documents_in root.resolver) (there) found
     c.in_ok-tell_at-in-Ok.ensures v.sound
