@@ -4,7 +4,7 @@ use Rattle.std.specs.Prelude.{IsSomeAnd, slice_get, Contains}
 use Rattle.std.specs.List.{flat_map, enumerate_from, AllByRecursion}
 use Rattle.std.proofs.lemmas.List.Elements.{Contains-append_right}
 use Rattle.schema_definitions.specs.Words.{or_else, last_that}
-use Rattle.schema_definitions.specs.Bearers.{Document, Standing, standing_in, standings, last_standing}
+use Rattle.schema_definitions.specs.Bearers.{Document, Standing, standing_in, last_standing}
 use Rattle.schema_definitions.specs.Places.{Dialect}
 use Rattle.document_index.specs.Located.{Located, standings_at, located_standings, last_located, Kept, kept_of}
 use Rattle.document_index.specs.Answers.{IsAnswer}

@@ -3,7 +3,7 @@ use Rattle.std.proofs.Common.{◌≡◌, ◌∙◌, ℕ, suc, List, [], ◌∷�
 use Rattle.std.specs.List.{filter}
 use Rattle.std.specs.Option.{option_copied}
 use Rattle.schema_definitions.specs.Words.{last_that}
-use Rattle.schema_definitions.specs.Bearers.{Document, Standing}
+use Rattle.schema_definitions.specs.Bearers.{Documents, Standing}
 use Rattle.schema_definitions.specs.DocumentCauses.{unknown_specification, would_bear, next_awaited, awaited_cause, how_many_await}
 use Rattle.document_index.proofs.LastLemmas.{last_that-push}
 use Rattle.document_index.specs.Awaited.{awaited_among, AwaitedIn}
@@ -28,19 +28,19 @@ lent (Some b) p e = e
 
 -- ---- under all that documents tell
 
-module _ (own : List Document) (ss : List Standing) (there : AwaitedIn own ss) where
-  pub next-among : (uri : List ℕ) → next_awaited own uri ≡ awaited_among ss uri
+module _ (docs : Documents) (ss : List Standing) (there : AwaitedIn docs ss) where
+  pub next-among : (uri : List ℕ) → next_awaited docs uri ≡ awaited_among ss uri
   next-among uri = ap (option_and_then (λ s. s.place.awaits)) (ap (last_that (would_bear uri)) (sym there))
 
-  pub counted : how_many_await own ≡ length (filter (λ s. is_some s.place.awaits) ss)
+  pub counted : how_many_await docs ≡ length (filter (λ s. is_some s.place.awaits) ss)
   counted = sym (ap (λ l. length (filter (λ s. is_some s.place.awaits) l)) there)
 
   by_next : (n : ℕ) (uri : List ℕ) (o : Option (List ℕ)) → awaited_among ss uri ≡ o
-      → awaited_cause own (suc n) uri ≡ elim o [ None ↦ unknown_specification uri | Some next ↦ awaited_cause own n next ]
-  by_next n uri o e = ap (λ p. elim p [ None ↦ unknown_specification uri | Some next ↦ awaited_cause own n next ]) (next-among uri ∙ e)
+      → awaited_cause docs (suc n) uri ≡ elim o [ None ↦ unknown_specification uri | Some next ↦ awaited_cause docs n next ]
+  by_next n uri o e = ap (λ p. elim p [ None ↦ unknown_specification uri | Some next ↦ awaited_cause docs n next ]) (next-among uri ∙ e)
 
-  pub at_end : (n : ℕ) (uri : List ℕ) → awaited_among ss uri ≡ None → awaited_cause own (suc n) uri ≡ unknown_specification uri
+  pub at_end : (n : ℕ) (uri : List ℕ) → awaited_among ss uri ≡ None → awaited_cause docs (suc n) uri ≡ unknown_specification uri
   at_end n uri e = by_next n uri None e
 
-  pub one_up : (n : ℕ) (uri next : List ℕ) → awaited_among ss uri ≡ Some next → awaited_cause own (suc n) uri ≡ awaited_cause own n next
+  pub one_up : (n : ℕ) (uri next : List ℕ) → awaited_among ss uri ≡ Some next → awaited_cause docs (suc n) uri ≡ awaited_cause docs n next
   one_up n uri next e = by_next n uri (Some next) e

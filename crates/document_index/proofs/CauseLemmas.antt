@@ -5,7 +5,7 @@ use Rattle.uri_grammar.specs.Texts.{cut_at}
 use Rattle.schema_definitions.specs.Words.{listed, text_at}
 use Rattle.schema_definitions.specs.Identifiers.{resolved, identifier_text}
 use Rattle.schema_definitions.specs.Places.{Dialect, schema_in_force}
-use Rattle.schema_definitions.specs.Bearers.{Document, Documents, Standing, standings, is_root, bears, bearer_under, meta}
+use Rattle.schema_definitions.specs.Bearers.{Documents, Standing, standings, is_root, bears, bearer_under, meta}
 use Rattle.schema_definitions.specs.DocumentCauses as all
 use Rattle.schema_definitions.specs.DocumentCauses.{DocumentCause, unretrieved, unless_reference, awaited_cause, how_many_await, place_causes}
 use Rattle.schema_dialects.specs.Dialects.{dialects_in}
@@ -55,50 +55,50 @@ wanted : (docs : Documents) (base : List ℕ) (o : Option (List ℕ)) → flat_m
 wanted docs base None = refl
 wanted docs base (Some t) = append-nil (all.wanted_by docs base (cut_at 35 t).0) ∙ from-target docs (cut_at 35 t).0 (resolved base (cut_at 35 t).0)
 
-module _ (own : List Document) where
+module _ (docs : Documents) where
   by_awaited : (s : Standing) (o : Option (List ℕ))
-      → (if is_some o then map (awaited_cause own (suc (how_many_await own))) (listed o)
+      → (if is_some o then map (awaited_cause docs (suc (how_many_await docs))) (listed o)
       else flat_map unless_reference (listed (identifier_text s.place.dialect s.place.contents))
-      ++ flat_map (λ t. all.wanted_by own s.place.base (cut_at 35 t).0) (listed (text_at (codes "$ref") s.place.contents)))
-      ≡ awaited_from (borne_by own) (unknown_by own) s o
+      ++ flat_map (λ t. all.wanted_by docs s.place.base (cut_at 35 t).0) (listed (text_at (codes "$ref") s.place.contents)))
+      ≡ awaited_from (borne_by docs) (unknown_by docs) s o
   by_awaited s None =
       let identifier = identifier_text s.place.dialect s.place.contents in
       let reference = text_at (codes "$ref") s.place.contents in
-      let references = λ (t : List ℕ). all.wanted_by own s.place.base (cut_at 35 t).0 in
+      let references = λ (t : List ℕ). all.wanted_by docs s.place.base (cut_at 35 t).0 in
       ap (λ cs. cs ++ flat_map references (listed reference)) (one-text unless_reference identifier)
-      ∙ ap (λ cs. of_text unless_reference identifier ++ cs) (wanted own s.place.base reference)
+      ∙ ap (λ cs. of_text unless_reference identifier ++ cs) (wanted docs s.place.base reference)
   by_awaited s (Some uri) = refl
 
-  at_place : (s : Standing) → place_causes own s ≡ causes_at (borne_by own) (unknown_by own) s
+  at_place : (s : Standing) → place_causes docs s ≡ causes_at (borne_by docs) (unknown_by docs) s
   at_place s =
       let schema = schema_in_force s.place.dialect.siblings (is_root s.place.path) s.place.contents in
       ap (λ cs. flat_map unless_reference (listed schema) ++ cs) (by_awaited s s.place.awaits)
-      ∙ ap (λ cs. cs ++ awaited_from (borne_by own) (unknown_by own) s s.place.awaits) (one-text unless_reference schema)
+      ∙ ap (λ cs. cs ++ awaited_from (borne_by docs) (unknown_by docs) s s.place.awaits) (one-text unless_reference schema)
 
-  at_places : (ss : List Standing) → flat_map (place_causes own) ss ≡ flat_map (causes_at (borne_by own) (unknown_by own)) ss
+  at_places : (ss : List Standing) → flat_map (place_causes docs) ss ≡ flat_map (causes_at (borne_by docs) (unknown_by docs)) ss
   at_places [] = refl
   at_places (s ∷ ss) =
-      ap (λ cs. cs ++ flat_map (place_causes own) ss) (at_place s) ∙ ap (λ cs. causes_at (borne_by own) (unknown_by own) s ++ cs) (at_places ss)
+      ap (λ cs. cs ++ flat_map (place_causes docs) ss) (at_place s) ∙ ap (λ cs. causes_at (borne_by docs) (unknown_by docs) s ++ cs) (at_places ss)
 
 -- ---- by an index
 
 -- somebody bears a URI where the index has a bearer
-borne-in : (told : List ℕ → Option Dialect) (index : Index) (own : List Document) → Indexes index (located_standings told own) → (uri : List ℕ)
-    → borne_in index uri ≡ is_some (bearer_under told own uri)
-borne-in told index own i uri =
+borne-in : (told : List ℕ → Option Dialect) (index : Index) (docs : Documents) → Indexes index (located_standings told docs) → (uri : List ℕ)
+    → borne_in index uri ≡ is_some (bearer_under told docs uri)
+borne-in told index docs i uri =
     ap is_some (i.by_uri uri)
-    ∙ is_some-map kept_of (last_located (bears uri) (located_standings told own))
-    ∙ sym (is_some-map (λ (l : Located). l.standing) (last_located (bears uri) (located_standings told own)))
-    ∙ sym (ap is_some (last-of-located told (bears uri) own))
+    ∙ is_some-map kept_of (last_located (bears uri) (located_standings told docs))
+    ∙ sym (is_some-map (λ (l : Located). l.standing) (last_located (bears uri) (located_standings told docs)))
+    ∙ sym (ap is_some (last-of-located told (bears uri) docs))
 
-module _ (known : MetaSchemas) (index : Index) (own : List Document) (told : Tells known (meta own)) (i : Indexes index (located_standings (dialects_in known) own)) where
-  pub those_known : standings (dialects_in known) own ≡ standings (meta own) own
-  those_known = (alike_tell (dialects_in known) (meta own) told).standing own
+module _ (known : MetaSchemas) (index : Index) (docs : Documents) (told : Tells known (meta docs)) (i : Indexes index (located_standings (dialects_in known) docs)) where
+  pub those_known : standings (dialects_in known) docs ≡ standings (meta docs) docs
+  those_known = (alike_tell (dialects_in known) (meta docs) told).standing docs
 
-  pub causes_by : flat_map (causes_at (borne_in index) (unknown_by own)) (standings (dialects_in known) own) ≡ flat_map (place_causes own) (standings (meta own) own)
+  pub causes_by : flat_map (causes_at (borne_in index) (unknown_by docs)) (standings (dialects_in known) docs) ≡ flat_map (place_causes docs) (standings (meta docs) docs)
   causes_by =
-      same_causes (borne_in index) (borne_by own) (unknown_by own)
-      (λ uri. borne-in (dialects_in known) index own i uri ∙ ap is_some ((alike_tell (dialects_in known) (meta own) told).bearers own uri))
-      (standings (dialects_in known) own)
-      ∙ ap (flat_map (causes_at (borne_by own) (unknown_by own))) those_known
-      ∙ sym (at_places own (standings (meta own) own))
+      same_causes (borne_in index) (borne_by docs) (unknown_by docs)
+      (λ uri. borne-in (dialects_in known) index docs i uri ∙ ap is_some ((alike_tell (dialects_in known) (meta docs) told).bearers docs uri))
+      (standings (dialects_in known) docs)
+      ∙ ap (flat_map (causes_at (borne_by docs) (unknown_by docs))) those_known
+      ∙ sym (at_places docs (standings (meta docs) docs))

@@ -1,7 +1,7 @@
 -- Meta-schemas that are awaited, among schema places.
-use Rattle.std.specs.Prelude.{◌≡◌, ℕ, List, [], ◌∷◌, Option, option_and_then}
+use Rattle.std.specs.Prelude.{◌≡◌, ℕ, List, Option, option_and_then}
 use Rattle.schema_definitions.specs.Words.{last_that}
-use Rattle.schema_definitions.specs.Bearers.{Document, Standing, standings, meta}
+use Rattle.schema_definitions.specs.Bearers.{Documents, Standing, standings, meta}
 use Rattle.schema_definitions.specs.DocumentCauses.{DocumentCause, unknown_specification, circular_metaschema, would_bear}
 use Rattle.document_index.specs.declared.awaited.Unsettled.{Unsettled}
 use Rattle.document_index.specs.declared.awaited.Unsettled.TheVariants.{Unknown, Circular}
@@ -15,5 +15,5 @@ abbrev pub awaited_among : List Standing → List ℕ → Option (List ℕ)
 awaited_among ss uri = option_and_then (λ s. s.place.awaits) (last_that (would_bear uri) ss)
 
 -- these are the schema places of documents under all of which they tell
-abbrev pub AwaitedIn : List Document → List Standing → Type 0
-AwaitedIn own ss = ss ≡ standings (meta own) own
+abbrev pub AwaitedIn : Documents → List Standing → Type 0
+AwaitedIn docs ss = ss ≡ standings (meta docs) docs

@@ -4,7 +4,7 @@ use Rattle.uri_grammar.specs.Texts.{cut_at}
 use Rattle.schema_definitions.specs.Words.{text_at}
 use Rattle.schema_definitions.specs.Identifiers.{resolved, identifier_text}
 use Rattle.schema_definitions.specs.Places.{schema_in_force}
-use Rattle.schema_definitions.specs.Bearers.{Document, Documents, Standing, is_root, bearer}
+use Rattle.schema_definitions.specs.Bearers.{Documents, Standing, is_root, bearer}
 use Rattle.schema_definitions.specs.DocumentCauses.{DocumentCause, no_reference, unretrieved, unless_reference, awaited_cause, how_many_await}
 use Rattle.document_index.specs.Indexes.{bearer_in}
 use Rattle.document_index.specs.declared.index.Index.{Index}
@@ -17,8 +17,8 @@ abbrev pub borne_by : Documents → List ℕ → Bool
 borne_by docs uri = is_some (bearer docs uri)
 
 -- why a meta-schema that is awaited is not known, by documents
-abbrev pub unknown_by : List Document → List ℕ → DocumentCause
-unknown_by own uri = awaited_cause own (suc (how_many_await own)) uri
+abbrev pub unknown_by : Documents → List ℕ → DocumentCause
+unknown_by docs uri = awaited_cause docs (suc (how_many_await docs)) uri
 
 -- the causes of a reference by the part before its `#`
 abbrev pub unless_borne : (List ℕ → Bool) → List ℕ → List DocumentCause

@@ -101,7 +101,7 @@ pub fn awaited_cause(
     standings: &[Standing<'_>],
     uri: Uri,
 ) -> Result<Unsettled, AllocError>
-    ensures { IfOk result (λ c. (own : List bearers.Document) → AwaitedIn own (map standing_of standings.now) → cause_of c ≡ causes.awaited_cause own (suc (causes.how_many_await own)) uri) }
+    ensures { IfOk result (λ c. (docs : bearers.Documents) → AwaitedIn docs (map standing_of standings.now) → cause_of c ≡ causes.awaited_cause docs (suc (causes.how_many_await docs)) uri) }
 {
     let mut awaited = uri;
     let mut left = how_many_await(standings);

@@ -2,7 +2,7 @@
 
 ghost use Rattle.std.specs.Prelude.{◌≡◌, List, [], map, option_map, OnOk, IfErr, codes};
 ghost use Rattle.std.specs.List.{flat_map};
-ghost use Rattle.schema_definitions.specs.Bearers.{Document};
+ghost use Rattle.schema_definitions.specs.Bearers.{Documents};
 ghost use Rattle.schema_definitions.specs.DocumentCauses.{unless_reference};
 ghost use Rattle.document_index.specs.Seen.{standing_of};
 ghost use Rattle.document_index.specs.Awaited.{AwaitedIn, cause_of};
@@ -98,7 +98,7 @@ fn unsettled(alloc: Global, why: Unsettled) -> Error
 
 // Why the meta-schema of a URI is not known that one of these schema places awaits.
 fn refuse_awaited(alloc: Global, standings: &[Standing<'_>], uri: &Uri) -> Error
-    ensures { (own : List Document) → AwaitedIn own (map standing_of standings.now) → NamesCause (unknown_by own uri.now) result }
+    ensures { (docs : Documents) → AwaitedIn docs (map standing_of standings.now) → NamesCause (unknown_by docs uri.now) result }
 {
     let Ok(uri) = uri.clone() else {
         return Error::Memory;
@@ -115,8 +115,8 @@ fn check_awaited(
     standings: &[Standing<'_>],
     standing: &Standing<'_>,
 ) -> Result<(), Error>
-    ensures ok { OnOk result ((own : List Document) → AwaitedIn own (map standing_of standings.now) → spec.awaited_causes (borne_in index.now) (unknown_by own) (standing_of standing.now) ≡ []) }
-    ensures refused { IfErr result (λ e. (own : List Document) → AwaitedIn own (map standing_of standings.now) → NamesOne (spec.awaited_causes (borne_in index.now) (unknown_by own) (standing_of standing.now)) e) }
+    ensures ok { OnOk result ((docs : Documents) → AwaitedIn docs (map standing_of standings.now) → spec.awaited_causes (borne_in index.now) (unknown_by docs) (standing_of standing.now) ≡ []) }
+    ensures refused { IfErr result (λ e. (docs : Documents) → AwaitedIn docs (map standing_of standings.now) → NamesOne (spec.awaited_causes (borne_in index.now) (unknown_by docs) (standing_of standing.now)) e) }
 {
     match &standing.place.awaits {
         Some(uri) => Err(refuse_awaited(alloc, standings, uri)),
@@ -130,8 +130,8 @@ fn check_place(
     standings: &[Standing<'_>],
     standing: &Standing<'_>,
 ) -> Result<(), Error>
-    ensures ok { OnOk result ((own : List Document) → AwaitedIn own (map standing_of standings.now) → spec.causes_at (borne_in index.now) (unknown_by own) (standing_of standing.now) ≡ []) }
-    ensures refused { IfErr result (λ e. (own : List Document) → AwaitedIn own (map standing_of standings.now) → NamesOne (spec.causes_at (borne_in index.now) (unknown_by own) (standing_of standing.now)) e) }
+    ensures ok { OnOk result ((docs : Documents) → AwaitedIn docs (map standing_of standings.now) → spec.causes_at (borne_in index.now) (unknown_by docs) (standing_of standing.now) ≡ []) }
+    ensures refused { IfErr result (λ e. (docs : Documents) → AwaitedIn docs (map standing_of standings.now) → NamesOne (spec.causes_at (borne_in index.now) (unknown_by docs) (standing_of standing.now)) e) }
 {
     let place = &standing.place;
     let siblings = place.dialect.siblings;
@@ -147,8 +147,8 @@ pub(crate) fn check_places(
     index: &Index,
     standings: &[Standing<'_>],
 ) -> Result<(), Error>
-    ensures ok { OnOk result ((own : List Document) → AwaitedIn own (map standing_of standings.now) → flat_map (spec.causes_at (borne_in index.now) (unknown_by own)) (map standing_of standings.now) ≡ []) }
-    ensures refused { IfErr result (λ e. (own : List Document) → AwaitedIn own (map standing_of standings.now) → NamesOne (flat_map (spec.causes_at (borne_in index.now) (unknown_by own)) (map standing_of standings.now)) e) }
+    ensures ok { OnOk result ((docs : Documents) → AwaitedIn docs (map standing_of standings.now) → flat_map (spec.causes_at (borne_in index.now) (unknown_by docs)) (map standing_of standings.now) ≡ []) }
+    ensures refused { IfErr result (λ e. (docs : Documents) → AwaitedIn docs (map standing_of standings.now) → NamesOne (flat_map (spec.causes_at (borne_in index.now) (unknown_by docs)) (map standing_of standings.now)) e) }
 {
     for standing in standings {
         check_place(alloc, index, standings, standing)?;

@@ -6,6 +6,6 @@ use Rattle.document_index.proofs.CauseNames.{named-one}
 use Rattle.document_index.proofs.causes.check_awaited.Goals as goal
 
 pub returns-in-Some-clause-refused : goal.returns-in-Some-clause-refused
-returns-in-Some-clause-refused c = λ own there.
+returns-in-Some-clause-refused c = λ docs there.
     let e = c.refuse_awaited.result in
-    subst (λ o. NamesOne (awaited_from (borne_in c.args.index.now) (unknown_by own) (standing_of c.args.standing.now) o) e) (sym c.in-Some.is) (named-one (unknown_by own c.in-Some.uri) e (c.refuse_awaited.ensures own there))
+    subst (λ o. NamesOne (awaited_from (borne_in c.args.index.now) (unknown_by docs) (standing_of c.args.standing.now) o) e) (sym c.in-Some.is) (named-one (unknown_by docs c.in-Some.uri) e (c.refuse_awaited.ensures docs there))

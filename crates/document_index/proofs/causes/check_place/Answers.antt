@@ -14,18 +14,18 @@ returns-in_err-check_text-clause-refused c =
     let s = standing_of c.args.standing.now in
     let e = c.in_err-check_text.field-0.0 in
     let named = subst (λ o. NamesOne (of_text unless_reference o) e) (c.schema_in_force-text.ensures ∙ ap (λ b. schema_in_force s.place.dialect.siblings b s.place.contents) (c.is_root.ensures ∙ root-length s.place.path)) c.in_err-check_text.ensures.refused in
-    kept c.from_residual.result e _ c.from_residual.ensures.1 (λ own there.
-    named-before (of_text unless_reference (schema_in_force s.place.dialect.siblings (is_root s.place.path) s.place.contents)) (awaited_causes (borne_in c.args.index.now) (unknown_by own) s) e named)
+    kept c.from_residual.result e _ c.from_residual.ensures.1 (λ docs there.
+    named-before (of_text unless_reference (schema_in_force s.place.dialect.siblings (is_root s.place.path) s.place.contents)) (awaited_causes (borne_in c.args.index.now) (unknown_by docs) s) e named)
 
 pub returns-clause-ok : goal.returns-clause-ok
 returns-clause-ok c =
     let s = standing_of c.args.standing.now in
     let here = of_text unless_reference (schema_in_force s.place.dialect.siblings (is_root s.place.path) s.place.contents) in
     let none : here ≡ [] = sym (ap (of_text unless_reference) (c.schema_in_force-text.ensures ∙ ap (λ b. schema_in_force s.place.dialect.siblings b s.place.contents) (c.is_root.ensures ∙ root-length s.place.path))) ∙ c.in_ok-check_text.ensures.ok in
-    on_ok_weaker c.check_awaited.result (λ h own there. nothing-before here (awaited_causes (borne_in c.args.index.now) (unknown_by own) s) none (h own there)) c.check_awaited.ensures.ok
+    on_ok_weaker c.check_awaited.result (λ h docs there. nothing-before here (awaited_causes (borne_in c.args.index.now) (unknown_by docs) s) none (h docs there)) c.check_awaited.ensures.ok
 
 pub returns-clause-refused : goal.returns-clause-refused
 returns-clause-refused c =
     let s = standing_of c.args.standing.now in
     let here = of_text unless_reference (schema_in_force s.place.dialect.siblings (is_root s.place.path) s.place.contents) in
-    if-err _ _ c.check_awaited.result (λ e h own there. named-behind here (awaited_causes (borne_in c.args.index.now) (unknown_by own) s) e (h own there)) c.check_awaited.ensures.refused
+    if-err _ _ c.check_awaited.result (λ e h docs there. named-behind here (awaited_causes (borne_in c.args.index.now) (unknown_by docs) s) e (h docs there)) c.check_awaited.ensures.refused

@@ -14,21 +14,21 @@ use Rattle.document_index.proofs.prepared.checked_index.Goals as goal
 pub returns-in_err-check_places-clause-refused : goal.returns-in_err-check_places-clause-refused
 returns-in_err-check_places-clause-refused c =
     let e = c.in_err-check_places.field-0.0 in
-    let own = map document_of c.args.documents.now in
+    let docs = map document_of c.args.documents.now in
     let known = c.args.known.now in
     let index = c.in_ok-index.index in
-    let indexed : Indexes index (located_standings (dialects_in known) own) = subst (Indexes index) (ap (map located_of) c.deref.ensures.value ∙ c.in_ok-places.ensures.located) c.in_ok-index.ensures in
-    let found : map standing_of c.deref-2.result.now ≡ standings (dialects_in known) own = ap (map standing_of) c.deref-2.ensures.value ∙ c.in_ok-places.ensures.stand in
-    let named = c.in_err-check_places.ensures.refused own (found ∙ those_known known index own c.requires indexed) in
-    let same = ap (flat_map (causes_at (borne_in index) (unknown_by own))) found ∙ causes_by known index own c.requires indexed in
+    let indexed : Indexes index (located_standings (dialects_in known) docs) = subst (Indexes index) (ap (map located_of) c.deref.ensures.value ∙ c.in_ok-places.ensures.located) c.in_ok-index.ensures in
+    let found : map standing_of c.deref-2.result.now ≡ standings (dialects_in known) docs = ap (map standing_of) c.deref-2.ensures.value ∙ c.in_ok-places.ensures.stand in
+    let named = c.in_err-check_places.ensures.refused docs (found ∙ those_known known index docs c.requires indexed) in
+    let same = ap (flat_map (causes_at (borne_in index) (unknown_by docs))) found ∙ causes_by known index docs c.requires indexed in
     kept c.from_residual-in_err-check_places.result e _ c.from_residual-in_err-check_places.ensures.1 (subst (λ cs. NamesOne cs e) same named)
 
 pub returns-clause-ok : goal.returns-clause-ok
 returns-clause-ok c =
-    let own = map document_of c.args.documents.now in
+    let docs = map document_of c.args.documents.now in
     let known = c.args.known.now in
     let index = c.in_ok-index.index in
-    let indexed : Indexes index (located_standings (dialects_in known) own) = subst (Indexes index) (ap (map located_of) c.deref.ensures.value ∙ c.in_ok-places.ensures.located) c.in_ok-index.ensures in
-    let found : map standing_of c.deref-2.result.now ≡ standings (dialects_in known) own = ap (map standing_of) c.deref-2.ensures.value ∙ c.in_ok-places.ensures.stand in
-    let none = c.in_ok-check_places.ensures.ok own (found ∙ those_known known index own c.requires indexed) in
-    sym (ap (flat_map (causes_at (borne_in index) (unknown_by own))) found ∙ causes_by known index own c.requires indexed) ∙ none
+    let indexed : Indexes index (located_standings (dialects_in known) docs) = subst (Indexes index) (ap (map located_of) c.deref.ensures.value ∙ c.in_ok-places.ensures.located) c.in_ok-index.ensures in
+    let found : map standing_of c.deref-2.result.now ≡ standings (dialects_in known) docs = ap (map standing_of) c.deref-2.ensures.value ∙ c.in_ok-places.ensures.stand in
+    let none = c.in_ok-check_places.ensures.ok docs (found ∙ those_known known index docs c.requires indexed) in
+    sym (ap (flat_map (causes_at (borne_in index) (unknown_by docs))) found ∙ causes_by known index docs c.requires indexed) ∙ none

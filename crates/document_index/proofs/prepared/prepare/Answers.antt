@@ -8,7 +8,7 @@ use Rattle.document_index.proofs.prepared.prepare.Goals as goal
 
 pub returns-in_err-known-clause-refused : goal.returns-in_err-known-clause-refused
 returns-in_err-known-clause-refused c =
-    let own = map document_of c.args.documents.now in
+    let docs = map document_of c.args.documents.now in
     let e = c.in_err-known.field-0.0 in
     kept c.from_residual.result e _ c.from_residual.ensures.1
-    (named-before (told_anew own) (flat_map (place_causes own) (standings (meta own) own)) e c.in_err-known.ensures.refused)
+    (named-before (told_anew docs) (flat_map (place_causes docs) (standings (meta docs) docs)) e c.in_err-known.ensures.refused)

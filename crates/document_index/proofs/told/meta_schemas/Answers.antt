@@ -1,4 +1,4 @@
-use Rattle.std.proofs.Common.{◌≡◌, ◌∙◌, ◌∷◌, [], ℕ, map, option_map, ap, sym}
+use Rattle.std.proofs.Common.{◌≡◌, ◌∙◌, ℕ, map, option_map, ap, sym}
 use Rattle.std.specs.Prelude.{slice_get}
 use Rattle.schema_definitions.specs.Bearers.{how_many}
 use Rattle.schema_definitions.specs.DocumentCauses.{circular_metaschema, told_anew}

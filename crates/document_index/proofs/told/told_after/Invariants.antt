@@ -1,4 +1,4 @@
-use Rattle.std.proofs.Common.{◌≡◌, ◌≤◌, ◌-◌, suc, [], ◌∷◌, map, option_map}
+use Rattle.std.proofs.Common.{◌≡◌, ◌≤◌, ◌-◌, suc, map, option_map}
 use Rattle.std.specs.Prelude.{slice_get}
 use Rattle.schema_definitions.specs.Bearers.{dialects}
 use Rattle.schema_definitions.specs.DocumentCauses.{circular_metaschema}
