@@ -5,5 +5,5 @@ use Rattle.referencing.proofs.dynamic.end_of_run.Given as goal
 
 abbrev pub invariant-loop-resource : goal.invariant-loop-resource
 invariant-loop-resource l =
-    end_of_run (documents_of l.registry ∷ []) l.last.value (map (λ u. u.value) l.rest)
-    ≡ end_of_run (documents_of l.registry ∷ []) l.present.value (map (λ u. u.value) l.scope)
+    end_of_run (documents_of l.registry) l.last.value (map (λ u. u.value) l.rest)
+    ≡ end_of_run (documents_of l.registry) l.present.value (map (λ u. u.value) l.scope)

@@ -10,7 +10,7 @@ use Rattle.referencing.proofs.dynamic.outermost.Goals as goal
 
 pub returns-in-None-clause-refused : goal.returns-in-None-clause-refused
 returns-in-None-clause-refused c =
-    let documents = documents_of c.args.registry.now ∷ [] in
+    let documents = documents_of c.args.registry.now in
     let k = c.args.name.now in
     let resources = c.args.innermost.now ∷ map (λ u. u.value) c.args.scope.now in
     refused-one (outermost documents k resources) (no_such_anchor k) c.no_such_anchor.result

@@ -7,7 +7,7 @@ use Rattle.referencing.proofs.dynamic.outermost_standing.Goals as goal
 
 pub returns : goal.returns
 returns c =
-    let documents = documents_of c.args.registry.now ∷ [] in
+    let documents = documents_of c.args.registry.now in
     let found = λ (u : List ℕ). dynamically_anchored documents u c.args.name.now in
     let scope = map (λ u. u.value) c.args.scope.now in
     let rest : c.loop-resource.rest ≡ [] = search rules in

@@ -7,5 +7,5 @@ use Rattle.referencing.proofs.dynamic.outermost_standing.Given as goal
 
 abbrev pub invariant-loop-resource : goal.invariant-loop-resource
 invariant-loop-resource l =
-    outer_all (λ u. dynamically_anchored (documents_of l.registry ∷ []) u l.name) (option_map standing_of l.found) (map (λ u. u.value) l.rest)
-    ≡ outer_all (λ u. dynamically_anchored (documents_of l.registry ∷ []) u l.name) (option_map standing_of l.initial.found) (map (λ u. u.value) l.scope)
+    outer_all (λ u. dynamically_anchored (documents_of l.registry) u l.name) (option_map standing_of l.found) (map (λ u. u.value) l.rest)
+    ≡ outer_all (λ u. dynamically_anchored (documents_of l.registry) u l.name) (option_map standing_of l.initial.found) (map (λ u. u.value) l.scope)

@@ -6,6 +6,6 @@ use Rattle.referencing.proofs.following.follow.Given as goal
 
 abbrev pub invariant-loop-step : goal.invariant-loop-step
 invariant-loop-step l = record {
-  along : followed (documents_of l.registry ∷ []) (stand_of l.chain) (drop l.step-index l.steps) ≡ followed (documents_of l.registry ∷ []) (begun l.fn.base) l.steps;
+  along : followed (documents_of l.registry) (stand_of l.chain) (drop l.step-index l.steps) ≡ followed (documents_of l.registry) (begun l.fn.base) l.steps;
   over : IsOver (documents_of l.registry) l.chain;
 }

@@ -9,7 +9,7 @@ use Rattle.referencing.proofs.resolving.by_anchor.Goals as goal
 
 pub returns-then-has_slash-clause-refused : goal.returns-then-has_slash-clause-refused
 returns-then-has_slash-clause-refused c =
-    let documents = documents_of c.args.registry.now ∷ [] in
+    let documents = documents_of c.args.registry.now in
     let s = standing_of c.args.standing.now in
     let k = c.args.name.now in
     let rest = result_map target_of (ok_or (no_such_anchor k) (anchored documents s.place.base k)) in
@@ -18,7 +18,7 @@ returns-then-has_slash-clause-refused c =
 
 pub returns-in-None-clause-refused : goal.returns-in-None-clause-refused
 returns-in-None-clause-refused c =
-    let documents = documents_of c.args.registry.now ∷ [] in
+    let documents = documents_of c.args.registry.now in
     let s = standing_of c.args.standing.now in
     let k = c.args.name.now in
     let rest = λ (o : Option Standing). result_map target_of (ok_or (no_such_anchor k) o) in

@@ -9,7 +9,7 @@ use Rattle.referencing.proofs.resolving.by_fragment.Goals as goal
 pub returns-clause-ok : goal.returns-clause-ok
 returns-clause-ok c =
     let registry = c.args.registry.now in
-    let docs = documents_of registry ∷ [] in
+    let docs = documents_of registry in
     let s = standing_of c.args.standing in
     let f = c.args.fragment.now in
     let some : 1 ≤ length f = subst (λ bs. 1 ≤ length bs) c.as_bytes.ensures.value c.in-len1-up.len_at_least in
@@ -19,7 +19,7 @@ returns-clause-ok c =
 pub returns-clause-refused : goal.returns-clause-refused
 returns-clause-refused c =
     let registry = c.args.registry.now in
-    let docs = documents_of registry ∷ [] in
+    let docs = documents_of registry in
     let s = standing_of c.args.standing in
     let f = c.args.fragment.now in
     let some : 1 ≤ length f = subst (λ bs. 1 ≤ length bs) c.as_bytes.ensures.value c.in-len1-up.len_at_least in

@@ -25,7 +25,7 @@ returns-clause-refused c =
     let text = c.args.text.now in
     let uri = c.in-Some.uri in
     let some : resolved base text ≡ Some uri = sym c.in_ok-uri.ensures ∙ c.in-Some.is in
-    let nobody : bearer (documents ∷ []) uri ≡ None = ap (bearer (documents ∷ [])) (sym c.as_str.ensures.value) ∙ sym c.in_ok-bearer.ensures ∙ ap (option_map standing_of) c.in-None.is in
+    let nobody : bearer documents uri ≡ None = ap (bearer documents) (sym c.as_str.ensures.value) ∙ sym c.in_ok-bearer.ensures ∙ ap (option_map standing_of) c.in-None.is in
     let e = c.not_borne.result in
     refused-one (bearer_wanted documents base text) (unretrievable uri) e
     (ap (λ o. and_then (ok_or (invalid_uri text) o) (bearer_at documents)) some ∙ ap (ok_or (unretrievable uri)) nobody)

@@ -24,7 +24,7 @@ returns c =
     let documents = documents_of registry in
     let uri = c.args.uri.now in
     let kept = option_map (λ r. bearer_of r.1.now) c.bearer.result in
-    let answer = subst (λ ds. Indexes registry.index (located_standings known (map document_of ds)) → IsAnswer known (map document_of ds) kept (bearer_under known (map document_of ds ∷ []) uri)) c.deref.ensures.value (c.bearer.ensures.answer known) registry.stands.indexed in
+    let answer = subst (λ ds. Indexes registry.index (located_standings known (map document_of ds)) → IsAnswer known (map document_of ds) kept (bearer_under known (map document_of ds) uri)) c.deref.ensures.value (c.bearer.ensures.answer known) registry.stands.indexed in
     c.is_some.ensures
     ∙ sym (is_some-map (λ r. bearer_of r.1.now) c.bearer.result)
     ∙ some-answered known documents kept _ answer

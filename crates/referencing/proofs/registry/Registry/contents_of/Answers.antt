@@ -24,7 +24,7 @@ returns-in_err-document c =
     let known = dialects_in registry.known in
     let documents = documents_of registry in
     let uri = c.args.uri.now in
-    let answer = subst (λ ds. Indexes registry.index (located_standings known (map document_of ds)) → IsAnswer known (map document_of ds) None (bearer_under known (map document_of ds ∷ []) uri)) c.deref.ensures.value (c.in_err-document.ensures.answer known) registry.stands.indexed in
+    let answer = subst (λ ds. Indexes registry.index (located_standings known (map document_of ds)) → IsAnswer known (map document_of ds) None (bearer_under known (map document_of ds) uri)) c.deref.ensures.value (c.in_err-document.ensures.answer known) registry.stands.indexed in
     let nobody = sym (told-bearer registry.known documents registry.stands.told uri) ∙ none-answered known documents _ answer in
     ap (option_map (λ v. view v.now)) c.from_residual.ensures ∙ sym (ap (option_map (λ (s : Standing). s.place.contents)) nobody)
 
@@ -37,7 +37,7 @@ returns c =
     let d = c.in_ok-document.document.now in
     let b = c.in_ok-document.bearer.now in
     let k = bearer_of b in
-    let answer = subst (λ ds. Indexes registry.index (located_standings known (map document_of ds)) → IsAnswer known (map document_of ds) (Some k) (bearer_under known (map document_of ds ∷ []) uri)) c.deref.ensures.value (c.in_ok-document.ensures.answer known) registry.stands.indexed in
+    let answer = subst (λ ds. Indexes registry.index (located_standings known (map document_of ds)) → IsAnswer known (map document_of ds) (Some k) (bearer_under known (map document_of ds) uri)) c.deref.ensures.value (c.in_ok-document.ensures.answer known) registry.stands.indexed in
     let there = got-mapped document_of registry.documents.items b.document d (subst (λ ds. slice_get ds b.document ≡ Some d) c.deref.ensures.value c.in_ok-document.ensures.document) in
     let same = kept-same known documents k _ (document_of d) answer there registry.stands.rising in
     c.find_in.ensures

@@ -20,5 +20,5 @@ returns c = λ name.
     let kept = option_and_then (λ names. named names.now name) c.dynamic_anchors.result in
     let answer = answers known (bears_anchor dynamic_anchors base name) own (λ s e. settled _ _ (first_so _ _ e)) kept
     (c.dynamic_anchors.ensures name ∙ registry.stands.indexed.by_dynamic_anchor base name) in
-    some-answered known own kept (dynamically_anchored_under known (own ∷ []) base name) answer
+    some-answered known own kept (dynamically_anchored_under known own base name) answer
     ∙ ap is_some (told-dynamic registry.known own registry.stands.told base name)

@@ -11,11 +11,11 @@ returns-in_err-found-clause-refused c =
     let self = c.args.self.now in
     let reference = c.args.reference.now in
     let e = c.in_err-found.field-0.0 in
-    kept c.from_residual.result e _ c.from_residual.ensures.1 (subst (λ b. RefusesLookup (lookup (documents_in self ∷ []) b reference) e) c.deref.ensures c.in_err-found.ensures.refused)
+    kept c.from_residual.result e _ c.from_residual.ensures.1 (subst (λ b. RefusesLookup (lookup (documents_in self) b reference) e) c.deref.ensures c.in_err-found.ensures.refused)
 
 pub returns-clause-ok : goal.returns-clause-ok
 returns-clause-ok c =
     let self = c.args.self.now in
     let reference = c.args.reference.now in
-    subst (λ b. lookup (documents_in self ∷ []) b reference ≡ Ok (found_target c.in_ok-found.found)) c.deref.ensures c.in_ok-found.ensures.ok
+    subst (λ b. lookup (documents_in self) b reference ≡ Ok (found_target c.in_ok-found.found)) c.deref.ensures c.in_ok-found.ensures.ok
     ∙ ap Ok (sym c.in_ok-arrived.ensures.target)

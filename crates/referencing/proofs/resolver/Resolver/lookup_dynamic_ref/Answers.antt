@@ -13,7 +13,7 @@ use Rattle.referencing.proofs.resolver.Resolver.lookup_dynamic_ref.Goals as goal
 pub returns-in_err-found-clause-refused : goal.returns-in_err-found-clause-refused
 returns-in_err-found-clause-refused c =
     let self = c.args.self.now in
-    let docs = documents_in self ∷ [] in
+    let docs = documents_in self in
     let reference = c.args.reference.now in
     let e = c.in_err-found.field-0.0 in
     let refused = subst (λ b. RefusesLookup (lookup docs b reference) e) c.deref.ensures c.in_err-found.ensures.refused in
@@ -22,7 +22,7 @@ returns-in_err-found-clause-refused c =
 pub returns-in_err-found-2-clause-refused : goal.returns-in_err-found-2-clause-refused
 returns-in_err-found-2-clause-refused c =
     let self = c.args.self.now in
-    let docs = documents_in self ∷ [] in
+    let docs = documents_in self in
     let reference = c.args.reference.now in
     let e = c.in_err-found-2.field-0.0 in
     let fragment = c.fragment_or_empty.ensures ∙ ap (or []) c.split_fragment.ensures.after in
@@ -35,7 +35,7 @@ returns-in_err-found-2-clause-refused c =
 pub returns-clause-ok : goal.returns-clause-ok
 returns-clause-ok c =
     let self = c.args.self.now in
-    let docs = documents_in self ∷ [] in
+    let docs = documents_in self in
     let reference = c.args.reference.now in
     let fragment = c.fragment_or_empty.ensures ∙ ap (or []) c.split_fragment.ensures.after in
     let there = found_target c.in_ok-found.found in

@@ -7,7 +7,7 @@ use Rattle.referencing.proofs.resolver.Resolver.scope_key.Goals as goal
 pub returns-clause-alike : goal.returns-clause-alike
 returns-clause-alike c = λ scope there same.
     let self = c.args.self.now in
-    let docs = documents_in self ∷ [] in
+    let docs = documents_in self in
     let run : c.in_ok-clone.field-0.value ≡ run_end docs (base_of self) (scope_of self) = search rules in
     let own = ap₂ (λ us u. record { resources = us; run = u }) (c.in_ok-first_occurrences.ensures ∙ ap (first_ones []) c.in_ok-resources.ensures) run in
     keys_decide docs (base_of self) (scope_of self) scope self.present there (subst (λ k. k ≡ scope_key docs (base_of self) scope) own same)
