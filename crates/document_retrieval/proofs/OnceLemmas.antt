@@ -57,7 +57,7 @@ twice-both (x ∷ xs) ys a b apart =
 abbrev uris_of : Documents → List (List ℕ)
 uris_of ds = map (λ (d : Document). d.uri) ds
 
-pub added-by-uri : (ds : Documents) (u : List ℕ) → has_text u (uris_of ds) ≡ true → is_added ds u ≡ true
+added-by-uri : (ds : Documents) (u : List ℕ) → has_text u (uris_of ds) ≡ true → is_added ds u ≡ true
 added-by-uri [] u h = h
 added-by-uri (d ∷ ds) u h =
     or-elim (bytes_eq u d.uri) (has_text u (uris_of ds)) h
