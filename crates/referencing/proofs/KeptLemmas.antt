@@ -4,7 +4,7 @@ use Rattle.std.specs.List.{list_all}
 use Rattle.serde_json.specs.Data.{Data}
 use Rattle.json_values.specs.Pointers.{value_at}
 use Rattle.schema_definitions.specs.Places.{Dialect, SchemaPlace, places}
-use Rattle.schema_definitions.specs.Bearers.{Document, Standing, standing_in}
+use Rattle.schema_definitions.specs.Bearers.{Document, document_name, Standing, standing_in}
 use Rattle.document_index.specs.Located.{Kept}
 use Rattle.document_index.specs.Answers.{IsAnswer}
 use Rattle.document_laws.specs.PlaceLaws.{Leads}
@@ -33,17 +33,17 @@ held f Q (x ∷ xs) zero y lt e a = subst Q e (a 0 x (omega arith))
 held f Q (x ∷ xs) (suc k) y lt e a = held f Q xs k y (omega (arith, lt)) e (λ i z l. a (suc i) z (omega (arith, l)))
 
 abbrev Lies : Document → Standing → Type 0
-Lies d s = (s.document ≡ d.uri) × Leads d.contents s.place
+Lies d s = (s.document ≡ document_name d) × Leads d.contents s.place
 
 lies : (meta : List ℕ → Option Dialect) (d : Document) (s : Standing) → contents_rise d ≡ true → Contains (standing_in meta d) s → Lies d s
 lies meta d s rises there =
-    held (λ (p : SchemaPlace). record { document = d.uri; place = p }) (Lies d) (places meta d.uri d.default d.contents) there.0 s there.1 there.2
+    held (λ (p : SchemaPlace). record { document = document_name d; place = p }) (Lies d) (places meta d.uri d.default d.contents) there.0 s there.1 there.2
     (λ i p lt. (refl, places_lead d.contents rises meta d.uri d.default i p lt))
 
 -- the place, put together again
-again : (d : Document) (kept : Kept) (s : Standing) → kept.path ≡ s.place.path → kept.base ≡ s.place.base → kept.dialect ≡ s.place.dialect → s.place.awaits ≡ None → s.document ≡ d.uri
+again : (d : Document) (kept : Kept) (s : Standing) → kept.path ≡ s.place.path → kept.base ≡ s.place.base → kept.dialect ≡ s.place.dialect → s.place.awaits ≡ None → s.document ≡ document_name d
     → kept_at d kept s.place.contents ≡ s
-again d kept s path base dialect awaits uri = rw (path, base, dialect, sym awaits, sym uri) refl
+again d kept s path base dialect awaits name = rw (path, base, dialect, sym awaits, sym name) refl
 
 pub kept-same : (meta : List ℕ → Option Dialect) (documents : List Document) (kept : Kept) (o : Option Standing) (d : Document) → IsAnswer meta documents (Some kept) o → slice_get documents kept.document ≡ Some d
     → list_all contents_rise documents ≡ true → kept_standing d kept ≡ o

@@ -1,5 +1,5 @@
 -- What documents tell of meta-schemas, and what references lead to under it.
-use Rattle.std.proofs.Common.{◌≡◌, ◌∙◌, sym, ap, ℕ, List, [], ◌∷◌, Option, Ok, if◌then◌else◌, Err}
+use Rattle.std.proofs.Common.{◌≡◌, ◌∙◌, sym, ap, ℕ, List, [], Option, Ok, if◌then◌else◌, Err}
 use Rattle.std.specs.Str.{is_utf8}
 use Rattle.uri_grammar.specs.Texts.{cut_at, pieces}
 use Rattle.schema_definitions.specs.Words.{or, result_map, ok_or, and_then}

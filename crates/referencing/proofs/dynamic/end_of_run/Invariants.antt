@@ -1,4 +1,4 @@
-use Rattle.std.proofs.Common.{◌≡◌, [], ◌∷◌, map}
+use Rattle.std.proofs.Common.{◌≡◌, map}
 use Rattle.schema_definitions.specs.Scopes.{end_of_run}
 use Rattle.referencing.specs.Seen.{documents_of}
 use Rattle.referencing.proofs.dynamic.end_of_run.Given as goal

@@ -1,4 +1,4 @@
-use Rattle.std.proofs.Common.{◌∙◌, sym, ap, [], ◌∷◌, map, Option, option_map}
+use Rattle.std.proofs.Common.{◌∙◌, sym, ap, ◌∷◌, map, Option, option_map}
 use Rattle.schema_definitions.specs.Words.{result_map, ok_or}
 use Rattle.schema_definitions.specs.Bearers.{Standing}
 use Rattle.schema_definitions.specs.Lookup.{no_such_anchor, target_of}

@@ -1,4 +1,4 @@
-use Rattle.std.proofs.Common.{rules, ◌≡◌, ◌∙◌, sym, ap, [], ◌∷◌, map, List, ℕ, option_map}
+use Rattle.std.proofs.Common.{rules, ◌≡◌, ◌∙◌, sym, ap, [], map, List, ℕ, option_map}
 use Rattle.schema_definitions.specs.Bearers.{dynamically_anchored}
 use Rattle.document_index.specs.Seen.{standing_of}
 use Rattle.referencing.specs.Seen.{documents_of}

@@ -1,4 +1,4 @@
-use Rattle.std.proofs.Common.{◌≡◌, ◌∙◌, sym, ap, [], ◌∷◌, Option, None, Err, option_map, if◌then◌else◌}
+use Rattle.std.proofs.Common.{◌≡◌, ◌∙◌, sym, ap, Option, None, Err, option_map, if◌then◌else◌}
 use Rattle.schema_definitions.specs.Words.{result_map, ok_or}
 use Rattle.schema_definitions.specs.Bearers.{Standing, anchored}
 use Rattle.schema_definitions.specs.Lookup.{by_anchor, invalid_anchor, no_such_anchor, target_of}

@@ -1,4 +1,4 @@
-use Rattle.std.proofs.Common.{◌≡◌, ◌∙◌, ◌≤◌, ◌∷◌, [], sym, subst, length, get_or}
+use Rattle.std.proofs.Common.{◌≡◌, ◌∙◌, ◌≤◌, sym, subst, length, get_or}
 use Rattle.document_index.specs.Seen.{standing_of}
 use Rattle.document_sources.specs.Causes.{RefusesLookup}
 use Rattle.referencing.specs.Seen.{documents_of, told_by}

@@ -1,4 +1,4 @@
-use Rattle.std.proofs.Common.{◌≡◌, ◌∙◌, sym, ap, subst, [], ◌∷◌, Ok}
+use Rattle.std.proofs.Common.{◌≡◌, ◌∙◌, sym, ap, subst, [], Ok}
 use Rattle.uri_grammar.specs.Texts.{cut_at}
 use Rattle.schema_definitions.specs.Words.{or, and_then}
 use Rattle.schema_definitions.specs.Bearers.{Standing}

@@ -1,4 +1,4 @@
-use Rattle.std.proofs.Common.{◌≡◌, ◌∙◌, sym, ap, subst, [], ◌∷◌, Some, None, option_map, ◌⊎◌}
+use Rattle.std.proofs.Common.{◌≡◌, ◌∙◌, sym, ap, subst, Some, None, option_map, ◌⊎◌}
 use Rattle.schema_definitions.specs.Words.{ok_or, and_then}
 use Rattle.schema_definitions.specs.Identifiers.{resolved}
 use Rattle.schema_definitions.specs.Bearers.{bearer}

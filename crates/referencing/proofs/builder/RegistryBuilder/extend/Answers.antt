@@ -2,7 +2,7 @@ use Rattle.std.proofs.Common.{◌≡◌, ◌∙◌, ap, rules, subst, sym, true,
 use Rattle.std.specs.Result.{IsErrAnd}
 use Rattle.document_sources.specs.Given.{with_given}
 use Rattle.document_sources.specs.Uris.{is_document_uri, RefusesUri}
-use Rattle.referencing.specs.Built.{given_in, given_by, AsksAlike}
+use Rattle.referencing.specs.Built.{given_in, given_by, AsksAlike, BeginsAlike}
 use Rattle.referencing.proofs.Extending.{givens_by-more, are_document_uris-more}
 use Rattle.referencing.proofs.builder.RegistryBuilder.extend.Goals as goal
 
@@ -42,6 +42,7 @@ loop-uri-preserved g c =
     let added : given_in new ≡ with_given built (given_by contents draft t r) = search rules in
     let same : new.draft ≡ c.loop-uri.builder.draft = search rules in
     let alike : AsksAlike c.loop-uri.builder new = search rules in
+    let begun : BeginsAlike c.loop-uri.builder new = search rules in
     record {
       adds = (
         are_document_uris-more text before u r c.loop-uri.invariant.adds.0 (ap is_document_uri (sym c.as_str.ensures) ∙ accepted),
@@ -49,4 +50,5 @@ loop-uri-preserved g c =
       );
       draft = same ∙ c.loop-uri.invariant.draft;
       retrieval = (alike.0 ∙ c.loop-uri.invariant.retrieval.0, alike.1 ∙ c.loop-uri.invariant.retrieval.1);
+      beginning = (begun.0 ∙ c.loop-uri.invariant.beginning.0, begun.1 ∙ c.loop-uri.invariant.beginning.1);
     }

@@ -1,4 +1,4 @@
-use Rattle.std.proofs.Common.{◌≡◌, ◌∙◌, sym, subst, map, [], ◌∷◌, Some, None, slice_get}
+use Rattle.std.proofs.Common.{◌≡◌, ◌∙◌, sym, subst, map, Some, None, slice_get}
 use Rattle.schema_definitions.specs.Bearers.{bearer_under}
 use Rattle.schema_dialects.specs.Dialects.{dialects_in}
 use Rattle.document_index.specs.Seen.{document_of}

@@ -1,4 +1,4 @@
-use Rattle.std.proofs.Common.{◌∙◌, sym, subst, ap, map, [], ◌∷◌, option_map, is_some}
+use Rattle.std.proofs.Common.{◌∙◌, sym, subst, ap, map, option_map, is_some}
 use Rattle.schema_definitions.specs.Bearers.{bearer_under}
 use Rattle.schema_dialects.specs.Dialects.{dialects_in}
 use Rattle.document_index.specs.Seen.{document_of}

@@ -1,4 +1,4 @@
-use Rattle.std.proofs.Common.{◌≡◌, ◌∙◌, ap, sym, subst, map, [], ◌∷◌, Some, None, slice_get, option_map, reverse}
+use Rattle.std.proofs.Common.{◌≡◌, ◌∙◌, ap, sym, subst, map, Some, None, slice_get, option_map, reverse}
 use Rattle.serde_json.specs.View.{view}
 use Rattle.json_values.specs.Pointers.{value_at}
 use Rattle.schema_definitions.specs.Bearers.{Standing, bearer_under}

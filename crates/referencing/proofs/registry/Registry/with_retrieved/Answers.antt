@@ -1,4 +1,4 @@
-use Rattle.std.proofs.Common.{subst, map, [], ◌∷◌}
+use Rattle.std.proofs.Common.{subst, map}
 use Rattle.schema_definitions.specs.DocumentCauses.{document_causes}
 use Rattle.document_index.specs.Seen.{document_of}
 use Rattle.document_index.specs.Named.{NamesOne}

@@ -1,4 +1,4 @@
-use Rattle.std.proofs.Common.{◌∙◌, ap, [], ◌∷◌, is_some, option_and_then}
+use Rattle.std.proofs.Common.{◌∙◌, ap, is_some, option_and_then}
 use Rattle.std.specs.Cmp.{first_so}
 use Rattle.schema_definitions.specs.Identifiers.{dynamic_anchors}
 use Rattle.schema_definitions.specs.Bearers.{bears_anchor}

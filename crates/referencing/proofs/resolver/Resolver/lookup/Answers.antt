@@ -1,4 +1,4 @@
-use Rattle.std.proofs.Common.{◌≡◌, ◌∙◌, sym, ap, subst, [], ◌∷◌, Ok}
+use Rattle.std.proofs.Common.{◌≡◌, ◌∙◌, sym, ap, subst, Ok}
 use Rattle.schema_definitions.specs.Lookup.{lookup}
 use Rattle.document_sources.specs.Causes.{RefusesLookup}
 use Rattle.referencing.specs.Found.{found_target}

@@ -1,4 +1,4 @@
-use Rattle.std.proofs.Common.{◌≡◌, ◌∙◌, sym, ap, subst, Some, None, Ok, ◌⊎◌, [], ◌∷◌, option_map}
+use Rattle.std.proofs.Common.{◌≡◌, ◌∙◌, sym, ap, subst, Some, None, Ok, ◌⊎◌, option_map}
 use Rattle.schema_definitions.specs.Lookup.{unretrievable}
 use Rattle.schema_definitions.specs.Scopes.{recursive_lookup}
 use Rattle.schema_definitions.specs.CompileKeys.{run_end}
