@@ -1,6 +1,8 @@
 -- What a builder has, and what it is given.
 use Rattle.std.specs.Prelude.{◌≡◌, ℕ, List, [], ◌++◌, map, Bool, true, false, IsTrue, Option, Some, None, is_some}
 use Rattle.std.specs.List.{list_all}
+use Rattle.std.specs.declared.alloc.Global.{Global}
+use Rattle.std.specs.declared.vec.Vec.{Vec}
 use Rattle.serde_json.specs.Data.{Data}
 use Rattle.schema_drafts.specs.Drafts.{newest}
 use Rattle.schema_drafts.specs.declared.draft.Draft.{Draft}
@@ -22,7 +24,7 @@ given_in b = givens_of b.list
 
 -- ---- the documents of a parent, and the layer above them
 
-abbrev pub parents_among : Option (Vec code.Document) → List Document
+abbrev pub parents_among : Option (Vec code.Document Global) → List Document
 parents_among None = []
 parents_among (Some documents) = map document_of documents.items
 

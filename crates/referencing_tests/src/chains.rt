@@ -2,7 +2,7 @@
 // The steps of a chain are `recursive`, `dynamic` and a reference, `enter` and a reference to a subschema, `itself` for the empty
 // reference, or any other.
 
-ghost use Rattle.std.specs.Prelude.{◌≡◌, IfOk};
+ghost use Rattle.std.specs.Prelude.{◌≡◌, false, IfOk};
 ghost use Rattle.referencing.specs.Seen.{documents_of};
 ghost use Rattle.referencing_tests.specs.Alone.{alone_by};
 
@@ -127,7 +127,8 @@ fn alone<'a, D: IntoRegistryResource<'a> + Drop>(
     uri: &str,
     document: D,
 ) -> Prepared<'a>
-    ensures { IfOk result (λ r. documents_of r ≡ alone_by D.contents D.draft uri.now document) }
+    ensures documents { IfOk result (λ r. documents_of r ≡ alone_by D.contents D.draft uri.now document) }
+    ensures siblings { IfOk result (λ r. r.siblings ≡ false) }
 {
     Registry::new(alloc).add(uri, document)?.prepare()
 }

@@ -10,6 +10,8 @@ mod chains;
 #[cfg(test)]
 mod indexes;
 #[cfg(test)]
+mod layers;
+#[cfg(test)]
 mod lookups;
 #[cfg(test)]
 mod refusals;

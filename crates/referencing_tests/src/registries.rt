@@ -25,7 +25,7 @@ pub(crate) fn prepared_with<'a, R: Retrieve + Drop>(
     builder.extend(documents)?.prepare()
 }
 
-fn prepared_alone<'a>(rt: &impl Abort, alloc: Global, topic: &str) -> Prepared<'a> {
+pub(crate) fn prepared_alone<'a>(rt: &impl Abort, alloc: Global, topic: &str) -> Prepared<'a> {
     let documents = set_by(rt, alloc, topic, "document");
     Registry::new(alloc).extend(documents)?.prepare()
 }

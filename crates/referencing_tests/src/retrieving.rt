@@ -3,6 +3,7 @@ use crate::registries::{Prepared, assert_asked, assert_retrieved, assert_rows, p
 use crate::scripts::{assert_last_row, documents_of, limit, set_by, text_of, topics};
 use document_retrieval::rounds::retrieve_wanted;
 use document_sources::error::RetrieveError;
+use document_sources::layer::Layer;
 use document_sources::{DefaultRetriever, MapRetriever, Retrieve};
 use referencing::registry::Registry;
 use schema_drafts::draft::Draft;
@@ -40,7 +41,12 @@ pub(crate) fn assert_gathered<R: Retrieve>(
 ) {
     let documents = documents_of(rt, alloc, topic);
     let limit = limit(rt, topic);
-    let told = match retrieve_wanted(alloc, documents, Draft::Draft202012, retriever, limit) {
+    let layer = Layer {
+        number: 0,
+        draft: Draft::Draft202012,
+        siblings: false,
+    };
+    let told = match retrieve_wanted(alloc, documents, layer, retriever, limit) {
         Ok(retrieved) => uris(rt, alloc, &retrieved.uris),
         Err(error) => text_of(rt, alloc, &error),
     };

@@ -1,6 +1,7 @@
 // Scripts: topics with an empty line between two. A row of a topic is a question and, behind `::`, the answer that is wanted; its other
 // lines set what is asked, each by a word, a URI and a text.
-use document_index::document::{Contents, Document};
+use document_index::document::{Contents, Document, DocumentName};
+use schema_dialects::Dialect;
 use schema_drafts::draft::Draft;
 use serde_json::Value;
 use std::alloc::Global;
@@ -89,10 +90,11 @@ pub(crate) fn document<'a>(
     contents: Contents<'a>,
 ) -> Document<'a> {
     let uri = from_str(alloc, uri).expect(rt, uri);
+    let uri = Rc::new(alloc, uri).expect(rt, "memory");
     Document {
-        uri: Rc::new(alloc, uri).expect(rt, "memory"),
+        name: DocumentName { layer: 0, uri },
         contents,
-        default: Draft::Draft202012,
+        default: Dialect::standard(false, Draft::Draft202012),
     }
 }
 

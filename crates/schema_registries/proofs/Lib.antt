@@ -1,7 +1,5 @@
 mod Trees
 mod Nearer
-mod Apart
-mod Gathered
 mod Texts
 pub mod Found
 pub mod Matched
@@ -10,4 +8,4 @@ mod PlacesApart
 mod Levels
 mod Children
 pub mod Distinct
-pub mod PlacesFound
+mod PlacesFound

@@ -1,15 +1,29 @@
--- The first document of a URI.
-use Rattle.std.proofs.Common.{◌≡◌, ◌∙◌, ◌||◌, not, ℕ, List, [], ◌∷◌, Bool, true, false, Option, Some, None, map, option_map, find, refl, ap, subst}
-use Rattle.std.proofs.lemmas.Bool.{false_from_ne_true}
-use Rattle.std.proofs.lemmas.Slice.Eq.{bytes_eq-Decides}
+-- The last document of a URI.
+use Rattle.std.proofs.Common.{◌≡◌, ◌∙◌, ◌++◌, List, [], ◌∷◌, Bool, true, false, Option, Some, None, map, reverse, option_map, option_or, find, refl, sym, ap}
+use Rattle.std.proofs.lemmas.List.{map-append, reverse-append}
+use Rattle.std.proofs.lemmas.List.Folds.{find-append}
 use Rattle.std.specs.Cmp.{first_so, second_so}
-use Rattle.std.specs.List.{list_all, list_any}
-use Rattle.std.specs.Prelude.{bytes_eq, if◌then◌else◌}
-use Rattle.schema_meaning.specs.Members.{In, first, later}
+use Rattle.std.specs.List.{list_all}
+use Rattle.std.specs.Prelude.{ℕ, bytes_eq, if◌then◌else◌}
+use Rattle.schema_definitions.specs.Words.{or_else, last_that}
 use Rattle.schema_definitions.specs.Bearers.{Document}
 use Rattle.json_values.specs.Rising.{rises}
-use Rattle.document_laws.specs.TargetLaws.{are_apart, contents_rise}
+use Rattle.document_laws.specs.TargetLaws.{contents_rise}
 use Rattle.schema_registries.specs.Pointers.{document_at, IsDocumentAt}
+
+-- ---- the last that passes is the first from the end
+
+or_same : {X : Type 0} (o p : Option X) → option_or o p ≡ or_else o p
+or_same None p = refl
+or_same (Some x) p = refl
+
+from_end : {X : Type 0} (test : X → Bool) (xs : List X) → find test (reverse xs) ≡ last_that test xs
+from_end test [] = refl
+from_end test (x ∷ xs) =
+    ap (find test) (reverse-append (x ∷ []) xs)
+    ∙ find-append test (reverse xs) (x ∷ [])
+    ∙ or_same (find test (reverse xs)) (find test (x ∷ []))
+    ∙ ap (λ o. or_else o (find test (x ∷ []))) (from_end test xs)
 
 -- ---- what is found through a function
 
@@ -26,48 +40,37 @@ moved : {B C : Type 0} (f : B → C) (test : C → Bool) (xs : List B) → optio
 moved f test [] = refl
 moved f test (x ∷ xs) = moved_by f (test (f x)) x (find (λ y. test (f y)) xs) (find test (map f xs)) (moved f test xs)
 
-pub found_through : {A B C : Type 0} (f : B → C) (g : A → B) (test : C → Bool) (o : Option A) (xs : List B) → option_map g o ≡ find (λ x. test (f x)) xs
-    → option_map (λ x. f (g x)) o ≡ find test (map f xs)
-found_through f g test o xs e = mapped f g o ∙ ap (option_map f) e ∙ moved f test xs
+turned : {B C : Type 0} (f : B → C) (xs : List B) → map f (reverse xs) ≡ reverse (map f xs)
+turned f [] = refl
+turned f (x ∷ xs) =
+    ap (map f) (reverse-append (x ∷ []) xs)
+    ∙ map-append f (reverse xs) (x ∷ [])
+    ∙ ap (λ ys. ys ++ f x ∷ []) (turned f xs)
+    ∙ sym (reverse-append (f x ∷ []) (map f xs))
+
+pub found_through : {A B C : Type 0} (f : B → C) (g : A → B) (test : C → Bool) (o : Option A) (xs : List B) → option_map g o ≡ find (λ x. test (f x)) (reverse xs)
+    → option_map (λ x. f (g x)) o ≡ last_that test (map f xs)
+found_through f g test o xs e =
+    mapped f g o ∙ ap (option_map f) e ∙ moved f test (reverse xs) ∙ ap (find test) (turned f xs) ∙ from_end test (map f xs)
 
 -- ---- documents
 
-rises_by : (b : Bool) (e d : Document) (o : Option Document) → rises e.contents ≡ true → (o ≡ Some d → rises d.contents ≡ true)
-    → (if b then Some e else o) ≡ Some d → rises d.contents ≡ true
-rises_by true e d o r rest h = (let same : d ≡ e = cc in ap (λ (x : Document). rises x.contents) same ∙ r)
-rises_by false e d o r rest h = rest h
+abbrev Rises : Option Document → Type 0
+Rises o = (d : Document) → o ≡ Some d → rises d.contents ≡ true
+
+either_rises : (o p : Option Document) → Rises o → Rises p → Rises (or_else o p)
+either_rises (Some e) p r s = r
+either_rises None p r s = s
+
+one_rises : (b : Bool) (e : Document) → rises e.contents ≡ true → Rises (if b then Some e else None)
+one_rises true e r d h = (let same : d ≡ e = cc in ap (λ (x : Document). rises x.contents) same ∙ r)
+one_rises false e r d h = absurd (cc (h))
 
 -- a document that is found has names that rise, where those of each do
 pub found_rises : (documents : List Document) (uri : List ℕ) (d : Document) → list_all contents_rise documents ≡ true → IsDocumentAt documents uri d
     → rises d.contents ≡ true
-found_rises [] uri d r h = absurd (let no : None ≡ Some d = h in cc)
+found_rises [] uri d r h = absurd (cc (h))
 found_rises (e ∷ documents) uri d r h =
-    rises_by (bytes_eq e.uri uri) e d (document_at documents uri) (first_so (contents_rise e) (list_all contents_rise documents) r)
-    (found_rises documents uri d (second_so (contents_rise e) (list_all contents_rise documents) r)) h
-
-uri_among : (d e : Document) (documents : List Document) → In e documents → d.uri ≡ e.uri → list_any (λ x. bytes_eq d.uri x.uri) documents ≡ true
-uri_among d e [] i same = elim i [ ]
-uri_among d e (x ∷ documents) first same = (let here = (bytes_eq-Decides d.uri e.uri).1 same in rw here refl)
-uri_among d e (x ∷ documents) (later i) same = or_true (bytes_eq d.uri x.uri) (list_any (λ y. bytes_eq d.uri y.uri) documents) (uri_among d e documents i same)
-  where
-    or_true : (a b : Bool) → b ≡ true → (a || b) ≡ true
-    or_true true b h = refl
-    or_true false b h = h
-
-other_uri : (e d : Document) (documents : List Document) → are_apart (e ∷ documents) ≡ true → In d documents → bytes_eq e.uri d.uri ≡ false
-other_uri e d documents apart i =
-    false_from_ne_true (bytes_eq e.uri d.uri) (λ same.
-    let among = uri_among e d documents i ((bytes_eq-Decides e.uri d.uri).0 same) in
-    let lacks : not (list_any (λ x. bytes_eq e.uri x.uri) documents) ≡ true = first_so (not (list_any (λ x. bytes_eq e.uri x.uri) documents)) (are_apart documents) apart in
-    let no : false ≡ true = subst (λ b. not b ≡ true) among lacks in cc)
-
-first_of_its_own : (documents : List Document) (d : Document) → are_apart documents ≡ true → In d documents → IsDocumentAt documents d.uri d
-first_of_its_own [] d apart i = elim i [ ]
-first_of_its_own (e ∷ documents) d apart first = (let here = (bytes_eq-Decides d.uri d.uri).1 refl in rw here refl)
-first_of_its_own (e ∷ documents) d apart (later i) =
-    (let other = other_uri e d documents apart i in
-    rw other (first_of_its_own documents d (second_so (not (list_any (λ x. bytes_eq e.uri x.uri) documents)) (are_apart documents) apart) i))
-
--- of documents whose URIs are apart each is the first of its own
-pub is_document_at : (documents : List Document) (uri : List ℕ) (d : Document) → are_apart documents ≡ true → In d documents → d.uri ≡ uri → IsDocumentAt documents uri d
-is_document_at documents uri d apart i same = subst (λ u. IsDocumentAt documents u d) same (first_of_its_own documents d apart i)
+    either_rises (document_at documents uri) (if bytes_eq e.uri uri then Some e else None)
+    (λ x. found_rises documents uri x (second_so (contents_rise e) (list_all contents_rise documents) r))
+    (one_rises (bytes_eq e.uri uri) e (first_so (contents_rise e) (list_all contents_rise documents) r)) d h

@@ -144,7 +144,8 @@ fn assert_holds(rt: &impl Abort, registry: &SchemaRegistry) {
     assert!(rt; other.contains_resource("http://a.test/main"));
     assert!(rt; registry.registry().contains_resource("http://a.test/part"));
     assert!(rt; !registry.registry().contains_resource("http://a.test/other"));
-    assert!(rt; registry.parent().is_none());
+    assert!(rt; registry.parent().is_none() && registry.draft() == Draft::Draft7);
+    assert!(rt; !registry.reads_ref_siblings());
 }
 
 // The base of a registry of documents, with what they want.
@@ -154,10 +155,10 @@ fn prepared<R: Retrieve>(
     documents: &Documents,
     retriever: &R,
 ) -> String {
-    match SharedRegistry::prepare(alloc, documents, Draft::Draft7, retriever, 1) {
+    match SharedRegistry::prepare(alloc, documents, Draft::Draft7, false, retriever, 1) {
         Ok(own) => {
             let base = from_str(alloc, "http://a.test/main").expect(rt, "a URI");
-            let registry = SchemaRegistry::new(own, base, None);
+            let registry = SchemaRegistry::new(own, Draft::Draft7, base, None);
             assert_holds(rt, &registry);
             String::from_str(alloc, registry.base().as_str()).expect(rt, "memory")
         }
@@ -210,8 +211,8 @@ fn registries(rt: HostRuntime) {
 fn shown_prepared(rt: &impl Abort, alloc: Global, shared: &SharedRegistry) -> String {
     let mut output = String::new(alloc);
     for document in shared.registry().documents() {
-        let contents = document.contents.value();
-        write!(output, "{} {contents};", document.uri.as_str()).expect(rt, "memory");
+        let (name, contents) = (&document.name, document.contents.value());
+        write!(output, "{} {} {contents};", name.layer, name.uri.as_str()).expect(rt, "memory");
     }
     output
 }
@@ -229,7 +230,7 @@ const SECOND: [(&str, &str, &str); 2] = [
 fn of_first(rt: &impl Abort, alloc: Global) -> SharedRegistry {
     let mut documents = Documents::new(alloc);
     give(rt, alloc, &mut documents, &FIRST);
-    SharedRegistry::prepare(alloc, &documents, Draft::Draft7, &DefaultRetriever, 0).expect(
+    SharedRegistry::prepare(alloc, &documents, Draft::Draft7, true, &DefaultRetriever, 0).expect(
         rt,
         "a registry",
     )
@@ -247,7 +248,9 @@ fn beside_first(rt: &impl Abort, alloc: Global, first: &SharedRegistry) -> Share
 fn documents_beside_others(rt: HostRuntime) {
     let first = of_first(&rt, rt.alloc());
     let both = beside_first(&rt, rt.alloc(), &first);
-    let want = r#"http://a.test/part 3;http://a.test/old 2;http://a.test/main {"$ref":"old"};"#;
+    let want =
+        r#"0 http://a.test/part 1;0 http://a.test/old 2;1 http://a.test/main {"$ref":"old"};1 http://a.test/part 3;"#;
     assert_text(&rt, &"both", shown_prepared(&rt, rt.alloc(), &both), want);
     assert!(rt; first.registry().documents().len() == 2);
+    assert!(rt; first.reads_ref_siblings() && both.reads_ref_siblings());
 }

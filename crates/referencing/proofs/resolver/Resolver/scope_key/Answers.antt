@@ -1,4 +1,4 @@
-use Rattle.std.proofs.Common.{rules, ◌≡◌, ◌∙◌, [], ◌∷◌, ap, ap₂, subst}
+use Rattle.std.proofs.Common.{rules, ◌≡◌, ◌∙◌, [], ap, ap₂, subst}
 use Rattle.schema_definitions.specs.CompileKeys.{first_ones, run_end, scope_key}
 use Rattle.document_laws.proofs.Keys.{keys_decide}
 use Rattle.referencing.specs.Resolved.{base_of, scope_of, documents_in}
