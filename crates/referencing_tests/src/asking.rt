@@ -157,7 +157,7 @@ fn builders_printed(rt: HostRuntime) {
         &rt,
         alloc,
         &builder,
-        "RegistryBuilder { draft: Draft202012, documents: 1, retriever: DefaultRetriever, limit: 256 }",
+        "RegistryBuilder { draft: Draft202012, siblings: false, documents: 1, retriever: DefaultRetriever, limit: 256 }",
     );
     assert_printed(
         &rt,
@@ -165,6 +165,6 @@ fn builders_printed(rt: HostRuntime) {
         &builder
             .retriever(MapRetriever::new(alloc))
             .retrieval_limit(2),
-        "RegistryBuilder { draft: Draft202012, documents: 1, retriever: MapRetriever { documents: {} }, limit: 2 }",
+        "RegistryBuilder { draft: Draft202012, siblings: false, documents: 1, retriever: MapRetriever { documents: {} }, limit: 2 }",
     );
 }
