@@ -446,7 +446,12 @@ fn read_target<'r, 'i>(
     ensures { OnOk result (TargetTells reading.now keyword text.now target.entry observer.old observer.new) }
 {
     let instance = reading.roads.instance;
-    if is_in_progress(reading.progress, target.document_name(), target.path(), instance) {
+    if is_in_progress(
+        reading.progress,
+        target.document_name(),
+        target.path(),
+        instance,
+    ) {
         return Ok(());
     }
     let inner = at_target(&target, reading.site.matches)?;

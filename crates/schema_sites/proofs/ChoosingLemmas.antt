@@ -8,8 +8,7 @@ use Rattle.applicators.specs.Applied.{Applicator}
 use Rattle.applicators.specs.Asks.{form_by, leads_by, patterns_among}
 use Rattle.applicators.specs.Forms.{shape_by}
 use Rattle.applicators.specs.Lent.{Asks}
-use Rattle.applicators.specs.Made.{AreMade, patterns_in}
-use Rattle.applicators.specs.Shapes.{shape_of, leads_of}
+use Rattle.applicators.specs.Made.{AreMade}
 use Rattle.applicators.specs.declared.asks.AsksOf.TheVariants as asked
 use Rattle.applicators.specs.declared.combining.Combining.{Combining}
 use Rattle.applicators.specs.declared.combining.Combining.TheVariants as combining

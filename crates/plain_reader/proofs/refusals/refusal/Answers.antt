@@ -1,4 +1,4 @@
-use Rattle.std.proofs.Common.{◌∙◌, sym, ap, subst, arith}
+use Rattle.std.proofs.Common.{◌∙◌, sym, subst, arith}
 use Rattle.serde_json.specs.View.{view}
 use Rattle.schema_patterns.specs.Read.{reads}
 use Rattle.applicators.specs.Asks.{kind_asked}
