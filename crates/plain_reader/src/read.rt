@@ -446,18 +446,15 @@ fn read_target<'r, 'i>(
     ensures { OnOk result (TargetTells reading.now keyword text.now target.entry observer.old observer.new) }
 {
     let instance = reading.roads.instance;
-    if is_in_progress(
-        reading.progress,
-        target.document_name(),
-        target.path(),
-        instance,
-    ) {
+    let document = target.document_name();
+    let path = target.path();
+    if is_in_progress(reading.progress, document, path, instance) {
         return Ok(());
     }
     let inner = at_target(&target, reading.site.matches)?;
     let entered = Progress::Target {
-        document: target.document_name(),
-        path: target.path(),
+        document,
+        path,
         at: instance,
         before: reading.progress,
     };

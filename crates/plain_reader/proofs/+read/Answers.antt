@@ -187,8 +187,8 @@ read::read_target-returns-then-is_in_progress t c =
     let t = target_in c.args.target in
     let at = instance_in r.roads in
     let progress = keys_in r.progress.now in
-    let document : seen.name_of c.document_name.result.now ≡ t.document = c.document_name.ensures in
-    let path : c.path.result.now ≡ t.path = c.path.ensures in
+    let document : seen.name_of c.document_name-document.result.now ≡ t.document = c.document_name-document.ensures in
+    let path : c.path-path.result.now ≡ t.path = c.path-path.ensures in
     let known : c.is_in_progress.result ≡ is_in_progress (key t.document t.path at) progress =
     c.is_in_progress.ensures ∙ ap₂ (λ (u : List ℕ) (p : List Part). is_in_progress (key u p at) progress) document path in
     target_back r.site.now (spots_of r.whole) (view r.value.now) r.roads progress (name_of c.args.keyword) c.args.text.now t c.is_in_progress.result c.args.observer.now known c.if-is_in_progress.true
@@ -204,8 +204,8 @@ read::read_target-read_site-requires t c =
     let t = target_in c.args.target in
     let at = instance_in r.roads in
     let progress = keys_in r.progress.now in
-    let document : seen.name_of c.document_name.result.now ≡ t.document = c.document_name.ensures in
-    let path : c.path.result.now ≡ t.path = c.path.ensures in
+    let document : seen.name_of c.document_name-document.result.now ≡ t.document = c.document_name-document.ensures in
+    let path : c.path-path.result.now ≡ t.path = c.path-path.ensures in
     let known : c.is_in_progress.result ≡ is_in_progress (key t.document t.path at) progress =
     c.is_in_progress.ensures ∙ ap₂ (λ (u : List ℕ) (p : List Part). is_in_progress (key u p at) progress) document path in
     let lies = looked_up_lies c.args.keyword (documents_at r.site.now) (base_of r.site.now.resolver) (scope_of r.site.now.resolver) c.args.text.now t c.requires.1.1.found in
@@ -213,7 +213,7 @@ read::read_target-read_site-requires t c =
     let contents : t.contents ≡ view c.in_ok-inner.inner.contents.now = sym c.in_ok-inner.ensures.contents in
     let docs : documents_at c.in_ok-inner.inner ≡ documents_at r.site.now = c.in_ok-inner.ensures.documents ∙ c.requires.1.1.documents in
     let less = target_deeper (documents_at r.site.now) (spots_of r.whole) (view r.value.now) (view r.site.now.contents.now) t at progress lies r.within new in
-    let falls = falls_by_target (documents_at r.site.now) (documents_at c.in_ok-inner.inner) (spots_of r.whole) t (seen.name_of c.document_name-2.result.now) c.path-2.result.now at progress (view c.in_ok-inner.inner.contents.now) (view r.site.now.contents.now) c.document_name-2.ensures c.path-2.ensures docs contents less in
+    let falls = falls_by_target (documents_at r.site.now) (documents_at c.in_ok-inner.inner) (spots_of r.whole) t (seen.name_of c.document_name-document.result.now) c.path-path.result.now at progress (view c.in_ok-inner.inner.contents.now) (view r.site.now.contents.now) c.document_name-document.ensures c.path-path.ensures docs contents less in
     omega (arith, falls)
 
 pub read::read_target-invariant_of-followed : goal.read::read_target-invariant_of-followed
@@ -231,8 +231,8 @@ read::read_target-returns t c =
     let t = target_in c.args.target in
     let at = instance_in r.roads in
     let progress = keys_in r.progress.now in
-    let document : seen.name_of c.document_name.result.now ≡ t.document = c.document_name.ensures in
-    let path : c.path.result.now ≡ t.path = c.path.ensures in
+    let document : seen.name_of c.document_name-document.result.now ≡ t.document = c.document_name-document.ensures in
+    let path : c.path-path.result.now ≡ t.path = c.path-path.ensures in
     let known : c.is_in_progress.result ≡ is_in_progress (key t.document t.path at) progress =
     c.is_in_progress.ensures ∙ ap₂ (λ (u : List ℕ) (p : List Part). is_in_progress (key u p at) progress) document path in
     let lies = looked_up_lies c.args.keyword (documents_at r.site.now) (base_of r.site.now.resolver) (scope_of r.site.now.resolver) c.args.text.now t c.requires.1.1.found in
@@ -243,7 +243,7 @@ read::read_target-returns t c =
     (λ s. c.in_ok-inner.ensures.stands s c.args.text.now)
     (λ s b scope. ap₂ (λ (u : List ℕ) (us : List (List ℕ)). entered_scope t.base u us) b scope ∙ sym c.requires.1.1.scope ∙ sym c.in_ok-inner.ensures.scope)
     refl (c.push_name-evaluation.ensures ∙ ap (λ (k : List ℕ). name k ∷ evaluation_in r.roads) c.as_str.ensures) (ap₂ (λ (ps : List Part) (r : List ℕ). ps ++ path_of_reference r) c.new-start.ensures c.followed.ensures)
-    (at_target_told c.in_ok-inner.inner (spots_of r.whole) (view r.value.now) _ t (seen.name_of c.document_name-2.result.now) c.path-2.result.now at progress c.args.observer.now c.read_site.new.observer c.document_name-2.ensures c.path-2.ensures told))
+    (at_target_told c.in_ok-inner.inner (spots_of r.whole) (view r.value.now) _ t (seen.name_of c.document_name-document.result.now) c.path-path.result.now at progress c.args.observer.now c.read_site.new.observer c.document_name-document.ensures c.path-path.ensures told))
     c.read_site.ensures
 
 pub read::read_member-returns-after-refusal : goal.read::read_member-returns-after-refusal
