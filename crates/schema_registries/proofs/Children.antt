@@ -72,7 +72,7 @@ module _ (meta : List ℕ → Option Dialect) (p : SchemaPlace) where
   placed_inside path d (awaited uri) r = record { parts = []; is = refl; rising = r }
 
   entered_inside : (path : List Part) (d : Data) → rises d ≡ true → Inside path (entered meta p.base p.dialect path d)
-  entered_inside path d r = placed_inside path d (by_schema meta p.dialect (schema_in_force false d)) r
+  entered_inside path d r = placed_inside path d (by_schema meta p.dialect (schema_in_force p.dialect.siblings false d)) r
 
   schema_inside : (path : List Part) (d : Data) → rises d ≡ true → AllByRecursion (Inside path) (if_schema meta p path d)
   schema_inside path null r = tt
