@@ -72,7 +72,7 @@ module _ (meta : List ℕ → Option Dialect) (p : SchemaPlace) where
   placed_inside path d (awaited uri) r = record { parts = []; is = refl; rising = r }
 
   entered_inside : (path : List Part) (d : Data) → rises d ≡ true → Inside path (entered meta p.base p.dialect path d)
-  entered_inside path d r = placed_inside path d (by_schema meta p.dialect (schema_in_force false d)) r
+  entered_inside path d r = placed_inside path d (by_schema meta p.dialect (schema_in_force p.dialect.siblings false d)) r
 
   schema_inside : (path : List Part) (d : Data) → rises d ≡ true → AllByRecursion (Inside path) (if_schema meta p path d)
   schema_inside path null r = tt
@@ -163,7 +163,7 @@ module _ (meta : List ℕ → Option Dialect) (p : SchemaPlace) where
   contents_inside (number n) r = tt
   contents_inside (string s) r = tt
   contents_inside (array ds) r = tt
-  contents_inside (object ms) r = children_inside (is_hidden p.dialect.draft (object ms)) ms (second_so (are_rising ms) (members_rise ms) r)
+  contents_inside (object ms) r = children_inside (is_hidden p.dialect (object ms)) ms (second_so (are_rising ms) (members_rise ms) r)
 
   pub all_inside : Rises p → AllByRecursion (IsChild path_of Rises p) (children meta p)
   all_inside s = unless (IsChild path_of Rises p) (is_some p.awaits) (children_in meta p p.contents) (contents_inside p.contents s.rising)
@@ -253,7 +253,7 @@ module _ (meta : List ℕ → Option Dialect) (p : SchemaPlace) where
   contents_apart (number n) r = tt
   contents_apart (string s) r = tt
   contents_apart (array ds) r = tt
-  contents_apart (object ms) r = each_apart (is_hidden p.dialect.draft (object ms)) ms (first_so (are_rising ms) (members_rise ms) r) (second_so (are_rising ms) (members_rise ms) r)
+  contents_apart (object ms) r = each_apart (is_hidden p.dialect (object ms)) ms (first_so (are_rising ms) (members_rise ms) r) (second_so (are_rising ms) (members_rise ms) r)
 
   pub all_apart : Rises p → PathsApart path_of (children meta p)
   all_apart s = none_if (is_some p.awaits) (children_in meta p p.contents) (contents_apart p.contents s.rising)

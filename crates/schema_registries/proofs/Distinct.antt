@@ -12,8 +12,7 @@ use Rattle.serde_json.specs.Find.{unescape}
 use Rattle.json_values.specs.Parts.{Part, name, index}
 use Rattle.json_values.specs.Pointers.{escape, part_text, pointer_text, value_in, value_at, PartFits, PathFits}
 use Rattle.json_pointers.proofs.EscapeLemmas.{unescape-escape}
-use Rattle.schema_drafts.specs.declared.draft.Draft.{Draft}
-use Rattle.schema_definitions.specs.Places.{Dialect, SchemaPlace, Named, settled, awaited, standard, by_schema, schema_in_force, placed, root_place, children, places}
+use Rattle.schema_definitions.specs.Places.{Dialect, SchemaPlace, Named, settled, awaited, by_schema, schema_in_force, placed, root_place, children, places}
 use Rattle.schema_definitions.specs.Bearers.{Document}
 use Rattle.certificate_laws.proofs.Cuts.{NotSlash, escape_no_slash, index_no_slash, rest_of, cuts_first, cut_is}
 use Rattle.json_values.specs.Rising.{rises}
@@ -25,15 +24,15 @@ use Rattle.schema_registries.proofs.Children.{path_of, Rises, all_inside, all_ap
 
 -- ---- the paths
 
-root_rises : (uri : List ℕ) (default : Draft) (d : Data) (n : Named) → rises d ≡ true → Rises (placed uri (standard default) [] d n)
+root_rises : (uri : List ℕ) (default : Dialect) (d : Data) (n : Named) → rises d ≡ true → Rises (placed uri default [] d n)
 root_rises uri default d (settled dialect) r = record { rising = r }
 root_rises uri default d (awaited other) r = record { rising = r }
 
-paths_distinct : (meta : List ℕ → Option Dialect) (uri : List ℕ) (default : Draft) (d : Data) → rises d ≡ true → PathsDistinct path_of (places meta uri default d)
+paths_distinct : (meta : List ℕ → Option Dialect) (uri : List ℕ) (default : Dialect) (d : Data) → rises d ≡ true → PathsDistinct path_of (places meta uri default d)
 unfolding places
 paths_distinct meta uri default d r =
     levels_distinct path_of Rises (children meta) (all_inside meta) (all_apart meta) (suc (depth d)) (root_place meta uri default d ∷ [])
-    (root_rises uri default d (by_schema meta (standard default) (schema_in_force true d)) r, tt) (tt, tt)
+    (root_rises uri default d (by_schema meta default (schema_in_force default.siblings true d)) r, tt) (tt, tt)
 
 -- ---- the texts of paths that lead somewhere
 

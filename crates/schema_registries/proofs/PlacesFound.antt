@@ -1,9 +1,10 @@
 -- The last document of a URI.
-use Rattle.std.proofs.Common.{◌≡◌, ◌∙◌, ◌++◌, List, [], ◌∷◌, Bool, true, false, Option, Some, None, map, reverse, option_map, option_or, find, refl, sym, ap}
+use Rattle.std.proofs.Common.{◌≡◌, ◌∙◌, ◌++◌, List, [], ◌∷◌, Bool, true, false, Option, Some, None, map, reverse, option_map, find, refl, sym, ap}
 use Rattle.std.proofs.lemmas.List.{map-append, reverse-append}
 use Rattle.std.proofs.lemmas.List.Folds.{find-append}
 use Rattle.std.specs.Cmp.{first_so, second_so}
 use Rattle.std.specs.List.{list_all}
+use Rattle.std.specs.Option.{option_or}
 use Rattle.std.specs.Prelude.{ℕ, bytes_eq, if◌then◌else◌}
 use Rattle.schema_definitions.specs.Words.{or_else, last_that}
 use Rattle.schema_definitions.specs.Bearers.{Document}
