@@ -1,5 +1,5 @@
 -- What references lead to.
-use Rattle.std.specs.Prelude.{ℕ, List, [], ◌∷◌, ◌&&◌, if◌then◌else◌, Result, Ok}
+use Rattle.std.specs.Prelude.{ℕ, List, ◌∷◌, ◌&&◌, if◌then◌else◌, Result, Ok}
 use Rattle.schema_definitions.specs.Words.{ok_or, and_then, has_text}
 use Rattle.schema_definitions.specs.Identifiers.{resolved, is_name, dynamic_anchors}
 use Rattle.schema_definitions.specs.Bearers.{Document, Documents, Standing, bearer}

@@ -1,5 +1,5 @@
 -- What the code's registries stand for.
-use Rattle.std.specs.Prelude.{ℕ, List, [], ◌∷◌, map, Option}
+use Rattle.std.specs.Prelude.{ℕ, List, map, Option}
 use Rattle.schema_definitions.specs.Places.{Dialect}
 use Rattle.schema_definitions.specs.Bearers.{Document, meta}
 use Rattle.document_index.specs.Seen.{document_of}

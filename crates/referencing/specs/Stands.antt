@@ -1,5 +1,5 @@
 -- What a registry keeps of its documents.
-use Rattle.std.specs.Prelude.{◌≡◌, ℕ, List, [], ◌∷◌, Bool, true}
+use Rattle.std.specs.Prelude.{◌≡◌, ℕ, List, Bool, true}
 use Rattle.std.specs.List.{list_all}
 use Rattle.schema_meaning.specs.Members.{is_empty}
 use Rattle.schema_definitions.specs.Bearers.{Document, meta}

@@ -1,5 +1,5 @@
 -- The vocabularies by which a registry's documents let a schema's keywords count.
-use Rattle.std.specs.Prelude.{ℕ, List, true, false, codes, Option, Some, None, option_map, option_and_then}
+use Rattle.std.specs.Prelude.{true, false, codes, Option, Some, None, option_map, option_and_then}
 use Rattle.serde_json.specs.Data.{Data}
 use Rattle.serde_json.specs.Find.{get}
 use Rattle.schema_drafts.specs.Vocabularies.{Vocabularies, all_of_draft}

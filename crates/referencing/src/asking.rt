@@ -1,6 +1,6 @@
 //! URIs resolved, and vocabularies found.
 
-ghost use Rattle.std.specs.Prelude.{◌≡◌, ◌∷◌, [], IfOk, IfErr, OnOk, IsTrue, option_map};
+ghost use Rattle.std.specs.Prelude.{◌≡◌, IfOk, IfErr, OnOk, IsTrue, option_map};
 ghost use Rattle.serde_json.specs.View.{view};
 ghost use Rattle.uri_grammar.specs.Parts.{split};
 ghost use Rattle.uri_grammar.specs.Grammar.{is_reference};

@@ -1,6 +1,6 @@
 //! Who bears a URI or an anchor.
 
-ghost use Rattle.std.specs.Prelude.{◌≡◌, ◌∷◌, [], IfOk, option_map, option_and_then, is_some, false, codes};
+ghost use Rattle.std.specs.Prelude.{◌≡◌, IfOk, option_map, option_and_then, is_some, false, codes};
 ghost use Rattle.serde_json.specs.View.{view};
 ghost use Rattle.serde_json.specs.Find.{get, as_bool};
 ghost use Rattle.schema_definitions.specs.Words as words;

@@ -1,6 +1,6 @@
 //! Chains of references.
 
-ghost use Rattle.std.specs.Prelude.{◌≡◌, IfOk, IfErr, IfSome, Ok, Some, None, option_map};
+ghost use Rattle.std.specs.Prelude.{◌≡◌, IfOk, IfErr, IfSome, Ok, Some, option_map};
 ghost use Rattle.document_sources.specs.Causes.{RefusesLookup};
 ghost use Rattle.referencing.specs.Resolved.{base_of, scope_of, documents_in, siblings_in};
 ghost use Rattle.referencing.specs.Followed.{one_step, followed, begun, last_of_chain, answer_in};

@@ -1,6 +1,6 @@
 //! What a reference leads to from a base.
 
-ghost use Rattle.std.specs.Prelude.{◌≡◌, ◌∷◌, [], MatchOption, IfOk, IfErr, Ok, option_map};
+ghost use Rattle.std.specs.Prelude.{◌≡◌, [], MatchOption, IfOk, IfErr, Ok, option_map};
 ghost use Rattle.percent_encoding.specs.Percent.{percent_decode};
 ghost use Rattle.uri_grammar.specs.Texts.{has};
 ghost use Rattle.schema_definitions.specs.Words as words;

@@ -1,6 +1,6 @@
 //! Scope keys: what of a scope dynamic and recursive references depend on.
 
-ghost use Rattle.std.specs.Prelude.{◌≡◌, ◌∷◌, [], ◌||◌, ℕ, List, IfOk, OnOk, map, bytes_eq};
+ghost use Rattle.std.specs.Prelude.{◌≡◌, [], ◌||◌, ℕ, List, IfOk, OnOk, map, bytes_eq};
 ghost use Rattle.std.specs.BTreeSet.{contains_text};
 ghost use Rattle.schema_definitions.specs.CompileKeys as spec;
 ghost use Rattle.document_laws.specs.ScopeLaws.{IsPresent, Alike};

@@ -5,7 +5,6 @@ ghost use Rattle.std.specs.Iterator.{IsFiniteIterable, Drains, YieldsThen};
 ghost use Rattle.schema_definitions.specs.DocumentCauses.{document_causes};
 ghost use Rattle.document_sources.specs.Uris.{RefusesUri};
 ghost use Rattle.document_index.specs.Named.{NamesOne};
-ghost use Rattle.document_sources.specs.Causes.{IsMemory};
 ghost use Rattle.referencing.specs.Built.{are_document_uris, specified_by};
 ghost use Rattle.referencing.specs.Seen.{documents_of, retrieved_by};
 

@@ -1,5 +1,5 @@
 -- The schema places of a document as JSON Pointers, and the references that lead to them.
-use Rattle.std.specs.Prelude.{ℕ, ◌≡◌, List, [], ◌∷◌, ◌++◌, map, reverse, codes, bytes_eq, Option, Some}
+use Rattle.std.specs.Prelude.{ℕ, ◌≡◌, List, ◌++◌, map, reverse, codes, bytes_eq, Option, Some}
 use Rattle.json_values.specs.Pointers.{pointer_text}
 use Rattle.json_pointers.specs.Fragments.{fragment_text}
 use Rattle.schema_definitions.specs.Words.{last_that}

@@ -1,5 +1,5 @@
 -- What is retrieved: values with whole numbers alone, and documents with those that they want.
-use Rattle.std.specs.Prelude.{◌≡◌, ◌⊎◌, ℕ, List, [], ◌++◌, true, false, Option, Some, None}
+use Rattle.std.specs.Prelude.{◌≡◌, ◌⊎◌, ℕ, List, [], ◌++◌, true, false}
 use Rattle.serde_json.specs.Data.{Data}
 use Rattle.schema_definitions.specs.Bearers.{Document, Layer}
 use Rattle.schema_definitions.specs.DocumentCauses.{document_causes}

@@ -1,5 +1,5 @@
 -- Roots: where validation begins.
-use Rattle.std.specs.Prelude.{◌≡◌, ℕ, List, [], ◌∷◌, Bool, true, Option, Ok, is_ok}
+use Rattle.std.specs.Prelude.{◌≡◌, ℕ, List, true, Ok, is_ok}
 use Rattle.schema_definitions.specs.Bearers.{Documents}
 use Rattle.schema_definitions.specs.Lookup.{Target, lookup}
 use Rattle.schema_definitions.specs.Sites.{root_site}

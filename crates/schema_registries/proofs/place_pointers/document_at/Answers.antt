@@ -1,4 +1,4 @@
-use Rattle.std.proofs.Common.{bytes_eq, rules, tests, reverse}
+use Rattle.std.proofs.Common.{bytes_eq, rules, tests}
 use Rattle.std.proofs.lemmas.Iterator.Adapters.{YieldsList-from_rev_slice}
 use Rattle.std.proofs.lemmas.Iterator.Search.{find_from_yields_List}
 use Rattle.document_index.specs.Seen.{document_of}

@@ -1,4 +1,4 @@
-use Rattle.std.proofs.Common.{◌≡◌, ◌∙◌, map, ap}
+use Rattle.std.proofs.Common.{◌∙◌, map, ap}
 use Rattle.document_index.specs.Seen.{document_of}
 use Rattle.referencing.specs.Seen.{documents_of}
 use Rattle.document_laws.specs.TargetLaws.{are_apart}
