@@ -4,6 +4,7 @@ use Rattle.serde_json.specs.Data.{Data}
 use Rattle.schema_meaning.specs.Faults.{Fault, fault, Faults, none, also, instance_path, evaluation_path}
 use Rattle.schema_meaning.specs.Order.{SameFault, same_fault, same_kind, SameFaults, same_none, same_also}
 use Rattle.schema_meaning.specs.Readings.{Telling, verdicts, bags}
+use Rattle.schema_definitions.specs.Bearers.{uri_in}
 use Rattle.schema_definitions.specs.Lookup.{Target}
 use Rattle.schema_definitions.specs.PathTexts.{path_text}
 use Rattle.schema_definitions.specs.Sites.{Site}
@@ -102,7 +103,7 @@ asked_alike q o t uri h a = record {
   handed_in = record {
     target = a.handed_in.target;
     found = subst (λ (r : Root). Finds r a.handed_in.target) (sym (meta_alike q o uri h)) a.handed_in.found;
-    not_retrieved = ap (has_text a.handed_in.target.document) h.retrieved ∙ a.handed_in.not_retrieved;
+    not_retrieved = ap (has_text (uri_in a.handed_in.target.document)) h.retrieved ∙ a.handed_in.not_retrieved;
   };
 }
 

@@ -2,6 +2,7 @@
 use Rattle.std.proofs.Common.{◌≡◌, ◌∙◌, ◌⊎◌, inl, inr, ap, codes, ℕ, List, Bool, true, false, not, Option, Some, Result, Ok, Err, OnOk, IfErr, IsErrAnd, sym, subst}
 use Rattle.serde_json.specs.Data.{Data}
 use Rattle.schema_definitions.specs.Words.{has_text}
+use Rattle.schema_definitions.specs.Bearers.{uri_in}
 use Rattle.schema_definitions.specs.Lookup.{Target}
 use Rattle.schema_registries.specs.declared.registry.SharedRegistry.{SharedRegistry}
 use Rattle.schema_registries.specs.declared.registry.SchemaRegistry.{SchemaRegistry}
@@ -17,7 +18,7 @@ use Rattle.schema_validators.specs.Seen.{root_of}
 use Rattle.schema_validators.specs.declared.error.BuildError.{BuildError}
 use Rattle.schema_validators.specs.declared.error.BuildError.TheVariants as error
 
-pub handed_in : (p : SharedRegistry) (uri : List ℕ) (t : Target) (r : Bool) → Finds (meta_root p uri) t → r ≡ has_text t.document (retrieved_shared p) → not r ≡ true → IsHandedIn p uri
+pub handed_in : (p : SharedRegistry) (uri : List ℕ) (t : Target) (r : Bool) → Finds (meta_root p uri) t → r ≡ has_text (uri_in t.document) (retrieved_shared p) → not r ≡ true → IsHandedIn p uri
 handed_in p uri t true found is e = absurd (cc e)
 handed_in p uri t false found is e = record { target = t; found = found; not_retrieved = sym is }
 

@@ -7,6 +7,7 @@ use Rattle.std.specs.Prelude.{if◌then◌else◌}
 use Rattle.std.proofs.lemmas.Bool.{false≢true, false_from_ne_true}
 use Rattle.std.proofs.lemmas.Slice.Eq.{bytes_eq-Decides}
 use Rattle.schema_meaning.specs.Members.{In, first, later}
+use Rattle.schema_definitions.specs.Words.{or_else}
 use Rattle.schema_definitions.specs.Bearers.{Document}
 use Rattle.schema_registries.specs.Pointers.{pointers_of, reference_to, document_at, IsDocumentAt}
 use Rattle.reached_sites.specs.Passed.{AreWithin}
@@ -248,9 +249,10 @@ module _ {M : Type 0} (finds : M → List ℕ → Option Bool) (p : Patterns) (o
 
 -- ---- the document of a URI
 
-uri-by : (b : Bool) (x d : Document) (o : Option Document) (uri : List ℕ) → bytes_eq x.uri uri ≡ b → (if b then Some x else o) ≡ Some d → (o ≡ Some d → d.uri ≡ uri) → d.uri ≡ uri
-uri-by true x d o uri t e rest = (let same : x ≡ d = cc in ap (λ (y : Document). y.uri) (sym same) ∙ (bytes_eq-Decides x.uri uri).0 t)
-uri-by false x d o uri t e rest = rest e
+uri-by : (b : Bool) (x d : Document) (o : Option Document) (uri : List ℕ) → bytes_eq x.uri uri ≡ b → or_else o (if b then Some x else None) ≡ Some d → (o ≡ Some d → d.uri ≡ uri) → d.uri ≡ uri
+uri-by b x d (Some y) uri t e rest = rest e
+uri-by true x d None uri t e rest = (let same : x ≡ d = cc in ap (λ (y : Document). y.uri) (sym same) ∙ (bytes_eq-Decides x.uri uri).0 t)
+uri-by false x d None uri t e rest = absurd (cc (e))
 
 pub uri-of : (own : List Document) (uri : List ℕ) (d : Document) → IsDocumentAt own uri d → d.uri ≡ uri
 uri-of [] uri d e = absurd (cc (e))
@@ -316,7 +318,7 @@ places-refused p own d limit e b (inr n) (inl x) = subst (λ (y : BuildError). A
 places-refused p own d limit e b (inr n) (inr m) = absurd (n.0 m)
 
 pub refused-there : (p : Patterns) (own other : List Document) (uri : List ℕ) (refs ks : List (List ℕ)) (limit : ℕ) (d : Document) (e : BuildCause) (b : BuildError) → other ≡ own → refs ≡ map reference_to ks
-    → ks ≡ pointers_of own d → d.uri ≡ uri → IsOfPlaces e b → RefusesEach (other ∷ []) p.makes (sites_from other uri refs) limit e → ArePlacesExceeded p own d limit b
+    → ks ≡ pointers_of own d → d.uri ≡ uri → IsOfPlaces e b → RefusesEach other p.makes (sites_from other uri refs) limit e → ArePlacesExceeded p own d limit b
 refused-there p own other uri refs ks limit d e b same texts are named of r =
     places-refused p own d limit e b of
     (subst (λ (u : List ℕ). RefusesEach own p.makes (sites_from own u (map reference_to (pointers_of own d))) limit e) (sym named)

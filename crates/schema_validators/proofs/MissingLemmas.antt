@@ -182,13 +182,13 @@ module _ {S : Type 0} (r : Reading S) (n : ℕ) where
       let known = all_known-in ask qs of.0 of.1 q j in
       (known.0, known.1, among_by (among_each of.0 known.0 known.2) (among_by (among_last (own_faults v (r.schema_path x) p notes) (join of.0)) (among_by of.2 a.2)))
 
-  told_there from start fs e s w (beside {s = x} {w = v} t q cs i b yes c j) =
+  told_there from start fs e s w (beside {s = x} {w = v} t q cs i b decided c j) =
       let a = told_there from start fs e x v t in
       let ask : Question S → Option Faults = λ q. told bags r n q.site (asked_at v q) in
       let of = keyword_told x v a.0 a.1 (conditional q cs) i in
       let k = known_too-some (ask q) (all_known (map ask (consequents cs))) of.0 of.1 in
       let verdict : told verdicts r n q.site (asked_at v q) ≡ Some (is_none k.0) = sym (told_agrees r n q.site (asked_at v q)) ∙ ap (option_map is_none) k.2 in
-      let same : is_none k.0 ≡ b = told_once verdicts r n yes.unfoldings q.site (asked_at v q) (is_none k.0) b verdict yes.is in
+      let same : is_none k.0 ≡ b = told_once verdicts r n decided.unfoldings q.site (asked_at v q) (is_none k.0) b verdict decided.is in
       let one = chosen_known ask b cs k.1 k.3 c j in
       let among : AreAmong (join (chosen (is_none k.0) cs k.1)) a.0 =
           subst (λ answers. AreAmong (faults (conditional q cs) v (r.schema_path x) answers) a.0) k.4 of.2 in

@@ -1,5 +1,5 @@
 -- The document in which a root lies.
-use Rattle.std.proofs.Common.{◌≡◌, inr, ℕ, List, [], ◌∷◌, true, Option, Some, None, Result, Ok, Err, IfOk, IfErr, bytes_eq, refl, sym, ap, subst}
+use Rattle.std.proofs.Common.{◌≡◌, inr, ℕ, List, [], ◌∷◌, Bool, true, Option, Some, None, Result, Ok, Err, IfOk, IfErr, bytes_eq, refl, sym, ap, subst}
 use Rattle.std.proofs.lemmas.Slice.Eq.{bytes_eq-Decides}
 use Rattle.schema_definitions.specs.Words.{or_else}
 use Rattle.schema_definitions.specs.Bearers.{Document, uri_in}
