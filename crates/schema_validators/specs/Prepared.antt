@@ -3,7 +3,9 @@ use Rattle.std.specs.Prelude.{◌≡◌, ℕ, List, Option, Some, None, option_m
 use Rattle.serde_json.specs.Data.{Data}
 use Rattle.schema_definitions.specs.Bearers.{Document, Layer}
 use Rattle.document_sources.specs.Given.{Given, documents_by}
-use Rattle.schema_registries.specs.Passed.{Asking, asking, first_layer, layer_above}
+use Rattle.document_retrieval.specs.Layers.{layer_above}
+use Rattle.referencing.specs.Built.{first_layer}
+use Rattle.schema_registries.specs.Passed.{Asking, asking}
 use Rattle.schema_registries.specs.declared.registry.SharedRegistry.{SharedRegistry}
 use Rattle.schema_registries.specs.declared.registry.SchemaRegistry.{SchemaRegistry}
 use Rattle.schema_registries.specs.Retrieval.{may_answer_whole, may_refuse_whole, IsPrepared, beside}

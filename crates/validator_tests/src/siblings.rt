@@ -83,7 +83,8 @@ told {"x":"a"} => #/x #/properties/x/$ref/type
 "##;
 
 // A meta-schema of Draft 7 that is read by the option too.
-const META: &str = r##"meta <http://a.test/m> {"$schema":"http://json-schema.org/draft-07/schema#","$id":"http://a.test/m","properties":{"title":{"$ref":"#/definitions/s","minLength":2}},"definitions":{"s":{"type":"string"}}}
+const META: &str =
+    r##"meta <http://a.test/m> {"$schema":"http://json-schema.org/draft-07/schema#","$id":"http://a.test/m","properties":{"title":{"$ref":"#/definitions/s","minLength":2}},"definitions":{"s":{"type":"string"}}}
 "##;
 
 const BY_META: &str = r##"document <http://a.test/r> {"$schema":"http://a.test/m","title":"a"}
@@ -120,8 +121,9 @@ fn meta_schemas_are_read_by_it(rt: HostRuntime) {
 
 // What is said of the path through a sibling.
 fn assert_checked(rt: &impl Abort, alloc: Global, given: &str, want: CheckAnswer) {
-    let case = format!(in alloc; "{given}document <http://a.test/r> {{\"properties\":{{\"x\":{{\"$ref\":\"#/definitions/s\",\"minimum\":10}}}},\"definitions\":{{\"s\":{{\"type\":\"integer\"}}}}}}\n")
-        .expect(rt, "memory");
+    let case = format!(in alloc;
+        "{given}document <http://a.test/r> {{\"properties\":{{\"x\":{{\"$ref\":\"#/definitions/s\",\"minimum\":10}}}},\"definitions\":{{\"s\":{{\"type\":\"integer\"}}}}}}\n"
+    ).expect(rt, "memory");
     let documents = documents_of(rt, alloc, case.as_str(), "document <");
     let registry = options_of(rt, alloc, case.as_str())
         .prepare(&documents)
