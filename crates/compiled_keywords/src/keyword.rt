@@ -1,5 +1,5 @@
 //! The keywords of compiled schemas.
-ghost use Rattle.std.specs.Prelude.{◌≡◌, ℕ, List, [], ◌∷◌, OnOk, map};
+ghost use Rattle.std.specs.Prelude.{◌≡◌, ℕ, List, [], ◌∷◌, OnOk, map, true};
 ghost use Rattle.serde_json.specs.View.{view};
 ghost use Rattle.schema_meaning.specs.Keywords.{rule, reference_name};
 ghost use Rattle.schema_meaning.specs.Members.{is_empty};

@@ -22,7 +22,6 @@ use schema_engine::matching::Matching;
 use schema_engine::place::Place;
 use schema_engine::situation::Situation;
 use schema_reports::{Observer, ValidationErrorKind};
-use serde_json::Value;
 use std::alloc::AllocError;
 use value_checks::equality::equal;
 
@@ -112,9 +111,10 @@ fn tell_missing<'o>(
 ) -> Result<(), AllocError>
     ensures { OnOk result (TellsEach situation.now keyword.now (missing (map string_bytes names.now) (view situation.now.value.now)) observer.old observer.new) }
 {
-    match situation.value {
-        Value::Object(_) => tell_each_lacking(situation, keyword, names, observer),
-        _ => Ok(()),
+    if situation.value.is_object() {
+        tell_each_lacking(situation, keyword, names, observer)
+    } else {
+        Ok(())
     }
 }
 
