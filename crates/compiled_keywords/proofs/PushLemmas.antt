@@ -11,7 +11,8 @@ use Rattle.schema_meaning.specs.Places.{to_member}
 use Rattle.schema_meaning.specs.Questions.{question, at, at_name, items_from, item_by_item, each_member, Declared, is_declared}
 use Rattle.schema_engine.specs.declared.place.Question.{Question}
 use Rattle.schema_engine.proofs.Pushing.{LeavesAs, seen_nothing, seen_start, seen_next, seen_done}
-use Rattle.compiled_keywords.specs.Forms.{Asked, alone}
+use Rattle.compiled_keywords.specs.Forms.{Asked, alone, form_of, added_in, asked_beside}
+use Rattle.compiled_keywords.specs.Owned.{Asks}
 use Rattle.compiled_keywords.specs.Members.{matching_of, others_among}
 use Rattle.compiled_keywords.specs.Seen.{seen_by, Puts}
 
@@ -70,3 +71,8 @@ module _ (reads : List ℕ → List ℕ → Bool) (k : List ℕ) where
   pub other_next : (w : Declared) (s : ℕ) (n : List ℕ) (e : Data) (ms more : List (List ℕ × Data)) → ms ≡ (n, e) ∷ more → is_declared reads w n ≡ false
       → map alone (each_member k s (others_among reads w ms)) ≡ alone (question s (to_member n e) (at k)) ∷ map alone (each_member k s (others_among reads w more))
   other_next w s n e ms more is other = ap (λ xs. map alone (each_member k s (others_among reads w xs))) is ∙ rw other refl
+
+-- by the form that a keyword's asking has
+pub as_asked : (reads : List ℕ → List ℕ → Bool) (k : List ℕ) (d : Data) (old new : List Question) (f g : Asks) → f ≡ g → Puts (added_in k (form_of g)) old new (asked_beside reads k d (form_of g))
+    → Puts (added_in k (form_of f)) old new (asked_beside reads k d (form_of f))
+as_asked reads k d old new f g is puts = subst (λ a. Puts (added_in k (form_of a)) old new (asked_beside reads k d (form_of a))) (sym is) puts

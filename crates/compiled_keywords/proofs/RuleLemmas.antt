@@ -1,5 +1,5 @@
 -- The rule of each compiled keyword that applies subschemas, by how it combines and what it asks.
-use Rattle.std.proofs.Common.{◌≡◌, ◌∙◌, ℕ, List, [], ◌∷◌, map, Bool, true, false, Option, None, Some, codes, refl, sym, ap, subst}
+use Rattle.std.proofs.Common.{◌≡◌, ◌∙◌, ℕ, List, [], Bool, true, false, Option, Vec, Global, codes, refl}
 use Rattle.serde_json.specs.Data.{Data, null, boolean, number, string, array, object, item}
 use Rattle.serde_json.specs.Data as data_of
 use Rattle.json_values.specs.Parts.{Part}
@@ -23,6 +23,7 @@ use Rattle.applicators.proofs.FormLemmas.{IsKeyword, a_keyword, from_start, from
 use Rattle.compiled_keywords.specs.Forms.{form_of, asked_beside}
 use Rattle.compiled_keywords.specs.Owned.{Asks, Applicator}
 use Rattle.compiled_keywords.specs.Rules.{combination_by}
+use Rattle.compiled_keywords.specs.declared.subschemas.NamedDependency.{NamedDependency}
 use Rattle.compiled_keywords.specs.Seen.{beside_in}
 
 -- ---- each is a keyword of its name
@@ -233,3 +234,8 @@ module _ (matches : List ℕ → List ℕ → Bool) where
 pub right_unless : (b : Bool) (kind : Kind) (d : Data) → is_empty (unless b kind d) ≡ b
 right_unless true kind d = refl
 right_unless false kind d = refl
+
+-- only `dependencies` notes something of the value itself
+pub nothing_noted : (asks : Asks) (d : Data) → ((es : Vec NamedDependency Global) → asks ≡ asking.Dependencies es → ⊥) → noted (form_of asks) d ≡ []
+nothing_noted (asking.Dependencies es) d other = absurd (other es refl)
+nothing_noted asks d other = refl

@@ -16,7 +16,7 @@ loop-name-preserved c = λ new told.
     let xs = c.args.names.now in
     let i = c.loop-name.name-index in
     let next = next_of i xs c.name-item.result c.loop-name-test.true c.name-item.is in
-    let both = tells_both s k (lacking d (string_bytes c.name-item.result)) (flat_map (lacking d) (map string_bytes (drop (i + 1) xs))) c.loop-name.observer c.tell_lacking.new.observer new c.in_ok-tell_lacking.ensures told in
+    let both = tells_both s k (lacking d (string_bytes c.name-item.result)) (flat_map (lacking d) (map string_bytes (drop (i + 1) xs))) c.loop-name.observer c.tell_lacking.new.observer new (subst (λ n. TellsEach s k (lacking d n) c.loop-name.observer c.tell_lacking.new.observer) c.as_str.ensures.value c.in_ok-tell_lacking.ensures) told in
     c.loop-name.invariant new (subst (λ zs. TellsEach s k (flat_map (lacking d) (map string_bytes zs)) c.loop-name.observer new) (sym next) both)
 
 pub returns : goal.returns
