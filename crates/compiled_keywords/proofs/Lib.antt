@@ -5,3 +5,5 @@ pub mod AcceptLemmas
 pub mod MemberLemmas
 pub mod TellLemmas
 pub mod PushLemmas
+pub mod LeadLemmas
+pub mod CheckLemmas

@@ -12,7 +12,7 @@ use Rattle.schema_meaning.specs.Questions.{question, at, at_name, items_from, it
 use Rattle.schema_engine.specs.declared.place.Question.{Question}
 use Rattle.schema_engine.proofs.Pushing.{LeavesAs, seen_nothing, seen_start, seen_next, seen_done}
 use Rattle.compiled_keywords.specs.Forms.{Asked, alone, form_of, added_in, asked_beside}
-use Rattle.compiled_keywords.specs.Owned.{Asks}
+use Rattle.compiled_keywords.specs.declared.asks.Asks.{Asks}
 use Rattle.compiled_keywords.specs.Members.{matching_of, others_among}
 use Rattle.compiled_keywords.specs.Seen.{seen_by, Puts}
 

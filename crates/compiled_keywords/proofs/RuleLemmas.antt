@@ -1,5 +1,5 @@
 -- The rule of each compiled keyword that applies subschemas, by how it combines and what it asks.
-use Rattle.std.proofs.Common.{◌≡◌, ◌∙◌, ℕ, List, [], Bool, true, false, Option, Vec, Global, codes, refl}
+use Rattle.std.proofs.Common.{◌≡◌, ℕ, List, [], Bool, true, false, Option, Vec, Global, codes, refl}
 use Rattle.serde_json.specs.Data.{Data, null, boolean, number, string, array, object, item}
 use Rattle.serde_json.specs.Data as data_of
 use Rattle.json_values.specs.Parts.{Part}
@@ -12,35 +12,24 @@ use Rattle.schema_meaning.specs.Rules.{own_faults}
 use Rattle.schema_engine.specs.Refusals.{own_notes, IsRefusedUnder, IsNote, IsReason}
 use Rattle.schema_engine.specs.Rules.{combination_of, is_right}
 use Rattle.schema_engine.specs.declared.reason.Reason.{Reason}
-use Rattle.applicators.specs.Applied.{name_of, combining_of, asks_of}
-use Rattle.applicators.specs.Bare.{bare}
+use Rattle.compiled_keywords.specs.Applied.{name_of, combining_of, asks_of}
 use Rattle.applicators.specs.Combining.{refused_under}
-use Rattle.applicators.specs.Forms.{Form, each_from, shape_by, stands, noted, kind_in, value_in}
-use Rattle.applicators.specs.declared.asks.AsksOf.TheVariants as asking
+use Rattle.applicators.specs.Forms.{Form, each_from, shape_by, noted, kind_in, value_in}
+use Rattle.compiled_keywords.specs.declared.asks.Asks.TheVariants as asking
 use Rattle.applicators.specs.declared.combining.Combining.{Combining}
 use Rattle.applicators.specs.declared.combining.Combining.TheVariants as combining
 use Rattle.applicators.proofs.FormLemmas.{IsKeyword, a_keyword, from_start, from_the_list, as_list, as_prefix, declared_members, matching_members, other_ones, triggered, depending, every_branch, no_items, no_others, no_members, no_names, each_name_of, one_or_more, only_one, refused, counted_items, chosen_by}
 use Rattle.compiled_keywords.specs.Forms.{form_of, asked_beside}
-use Rattle.compiled_keywords.specs.Owned.{Asks, Applicator}
+use Rattle.compiled_keywords.specs.declared.applicator.Applicator.{Applicator}
+use Rattle.compiled_keywords.specs.declared.asks.Asks.{Asks}
 use Rattle.compiled_keywords.specs.Rules.{combination_by}
 use Rattle.compiled_keywords.specs.declared.subschemas.NamedDependency.{NamedDependency}
 use Rattle.compiled_keywords.specs.Seen.{beside_in}
 
 -- ---- each is a keyword of its name
 
-stands_so : (k : List ℕ) (c : Combining) (f : Asks) → stands k c (form_of f) ≡ stands k c (bare f)
-stands_so k combining.Every (asking.ItemsFrom start node) = refl
-stands_so k combining.Together (asking.ItemsFrom start node) = refl
-stands_so k combining.EachNamed (asking.ItemsFrom start node) = refl
-stands_so k combining.SomeBranch (asking.ItemsFrom start node) = refl
-stands_so k combining.OneBranch (asking.ItemsFrom start node) = refl
-stands_so k combining.Refusal (asking.ItemsFrom start node) = refl
-stands_so k (combining.Counted least most) (asking.ItemsFrom start node) = refl
-stands_so k combining.Conditional (asking.ItemsFrom start node) = refl
-stands_so k c f = refl
-
 pub is_keyword : (a : Applicator) → IsKeyword (name_of a) (combining_of a) (form_of (asks_of a))
-is_keyword a = a_keyword (name_of a) (combining_of a) (form_of (asks_of a)) (stands_so (name_of a) (combining_of a) (asks_of a) ∙ a.stands)
+is_keyword a = a_keyword (name_of a) (combining_of a) (form_of (asks_of a)) a.stands
 
 -- ---- its rule at a value
 

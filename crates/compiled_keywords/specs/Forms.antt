@@ -6,10 +6,11 @@ use Rattle.json_values.specs.Parts.{Part}
 use Rattle.schema_meaning.specs.Questions.{Question, at, at_name, at_index, here}
 use Rattle.schema_meaning.specs.Keywords.{consequent}
 use Rattle.applicators.specs.Forms.{Form, each_from, by_index, by_name, by_pattern, of_others, of_members, of_names, of_triggered, of_dependencies, of_branches, of_value, of_condition, asked}
-use Rattle.applicators.specs.declared.asks.AsksOf.TheVariants as code
+use Rattle.compiled_keywords.specs.declared.asks.Asks.TheVariants as code
 use Rattle.compiled_keywords.specs.Owned as owned
+use Rattle.compiled_keywords.specs.declared.asks.Asks.{Asks}
 
-abbrev pub form_of : owned.Asks → Form ℕ
+abbrev pub form_of : Asks → Form ℕ
 form_of (code.ItemsFrom start node) = each_from start node
 form_of (code.ItemByItem nodes) = by_index nodes.items
 form_of (code.DeclaredMembers nodes) = by_name (map owned.named nodes.items)

@@ -5,10 +5,11 @@ use Rattle.json_values.specs.Parts.{Part}
 use Rattle.schema_meaning.specs.Questions.{at}
 use Rattle.schema_meaning.specs.Keywords as told
 use Rattle.assertions.specs.Shapes as plain
-use Rattle.applicators.specs.Applied.{name_of, combining_of, asks_of}
+use Rattle.compiled_keywords.specs.Applied.{name_of, combining_of, asks_of}
 use Rattle.applicators.specs.Forms.{shape_by}
-use Rattle.applicators.specs.declared.asks.AsksOf.TheVariants as code
-use Rattle.compiled_keywords.specs.Owned.{Asks, Applicator, text_of, needed_by, IsNumbered, AreNumbered, AreNumberedIn}
+use Rattle.compiled_keywords.specs.declared.asks.Asks.TheVariants as code
+use Rattle.compiled_keywords.specs.Owned.{text_of, needed_by, IsNumbered, AreNumbered, AllNumbered}
+use Rattle.compiled_keywords.specs.declared.asks.Asks.{Asks}
 use Rattle.compiled_keywords.specs.Forms.{form_of, added_in, whole_at}
 use Rattle.compiled_keywords.specs.declared.assertion.Assertion.{Assertion}
 use Rattle.compiled_keywords.specs.declared.assertion.Assertion.TheVariants as assertion
@@ -39,7 +40,7 @@ shape_of (keyword.Reference r node) = told.reference (reference_of r) node
 -- its numbers of patterns name its patterns
 abbrev pub KnowsAsked : Asks → (ℕ → List ℕ) → Type 0
 KnowsAsked (code.MatchingMembers nodes) table = AreNumbered table nodes.items
-KnowsAsked (code.OtherMembers declared node) table = AreNumberedIn table declared.patterns
+KnowsAsked (code.OtherMembers declared node) table = AllNumbered table declared.patterns.items
 KnowsAsked asks table = Unit {0}
 
 abbrev pub Knows : Keyword → (ℕ → List ℕ) → Type 0

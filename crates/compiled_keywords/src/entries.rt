@@ -4,7 +4,7 @@ ghost use Rattle.schema_engine.specs.Entries.{parts_of};
 ghost use Rattle.compiled_keywords.specs.Forms.{form_of, added_in, condition_at, name_at};
 ghost use Rattle.compiled_keywords.specs.Owned.{named, by_pattern, depending};
 
-use crate::applicator::Asks;
+use crate::asks::Asks;
 use crate::subschemas::{NamedDependency, NamedNode, PatternNode};
 use schema_engine::entry::Entry;
 

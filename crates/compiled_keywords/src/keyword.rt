@@ -12,7 +12,8 @@ ghost use Rattle.compiled_keywords.specs.Seen.{Puts, beside_in};
 ghost use Rattle.compiled_keywords.specs.Shapes.{shape_of, added_by, reference_of, Knows, KnowsAsked};
 ghost use Rattle.compiled_keywords.specs.Told.{TellsEach};
 
-use crate::applicator::{Applicator, Asks};
+use crate::applicator::Applicator;
+use crate::asks::Asks;
 use crate::asking::{push_branches, push_condition, push_here, push_item_list, push_items};
 use crate::assertion::{Assertion, has_dependencies};
 use crate::entries::entry_of;
@@ -23,7 +24,7 @@ use crate::members::{
 use crate::notes::{tell_assertion, tell_dependencies, tell_never, tell_pattern};
 use crate::patterns::is_matched;
 use crate::reasons::reason_of;
-use crate::rules::combination_at;
+use crate::rules::{combination_at, refused_under};
 use crate::subschemas::Pattern;
 use schema_engine::combination::Combination;
 use schema_engine::entry::Entry;
@@ -113,12 +114,12 @@ fn push_asked<'i, T: Matching>(
         (asked_beside (T.matches matching.old).reads k (value_at place.entry) (form_of asks.now))) }
 {
     match asks {
-        Asks::ItemsFrom { start, schema } => push_items(*start, *schema, place, into),
+        Asks::ItemsFrom { start, node } => push_items(*start, *node, place, into),
         Asks::ItemByItem(nodes) => push_item_list(nodes, place, into),
         Asks::DeclaredMembers(nodes) => push_declared(nodes, place, into),
         Asks::MatchingMembers(nodes) => push_matching(nodes, place, matching, into),
-        Asks::OtherMembers { declared, schema } => {
-            push_others(declared, *schema, place, matching, into)
+        Asks::OtherMembers { declared, node } => {
+            push_others(declared, *node, place, matching, into)
         }
         Asks::Members(node) => push_members(*node, place, into),
         Asks::Names(node) => push_names(*node, place, into),
@@ -128,9 +129,9 @@ fn push_asked<'i, T: Matching>(
         Asks::Value(shown) => push_here(shown.node, into),
         Asks::Condition {
             condition,
-            then_schema,
-            else_schema,
-        } => push_condition(*condition, *then_schema, *else_schema, into),
+            then_node,
+            else_node,
+        } => push_condition(*condition, *then_node, *else_node, into),
     }
 }
 
@@ -179,7 +180,7 @@ impl Validate for Keyword {
 
     fn combination(&self, place: Place<'_>) -> Combination {
         match self {
-            Keyword::Applicator(applicator) => combination_at(applicator.combining(), place),
+            Keyword::Applicator(applicator) => combination_at(applicator.combining, place),
             _ => Combination::Every,
         }
     }
@@ -210,7 +211,7 @@ impl Validate for Keyword {
     fn entry(&self, entry: usize) -> Entry<'_> {
         match self {
             Keyword::Applicator(applicator) => {
-                entry_of(applicator.name(), &applicator.asks, entry)
+                entry_of(applicator.keyword, &applicator.asks, entry)
             }
             Keyword::Reference { kind, .. } => Entry::Whole {
                 keyword: kind.name(),
@@ -221,7 +222,7 @@ impl Validate for Keyword {
 
     fn refused_name(&self, accepted: usize) -> &str {
         match self {
-            Keyword::Applicator(applicator) => applicator.refused_name(accepted),
+            Keyword::Applicator(applicator) => refused_under(applicator.keyword, applicator.combining, accepted),
             _ => "",
         }
     }
@@ -237,7 +238,7 @@ impl Validate for Keyword {
             Keyword::Assertion { assertion, .. } => tell_assertion(situation, assertion, observer),
             Keyword::Pattern(pattern) => tell_pattern(situation, pattern, matching, observer),
             Keyword::Applicator(applicator) => {
-                tell_asked(situation, applicator.name(), &applicator.asks, observer)
+                tell_asked(situation, applicator.keyword, &applicator.asks, observer)
             }
             Keyword::Reference { .. } => Ok(()),
         }

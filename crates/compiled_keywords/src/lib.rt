@@ -4,12 +4,16 @@
 
 pub mod applicator;
 mod asking;
+pub mod asks;
 pub mod assertion;
+pub mod checked;
 mod entries;
 pub mod keyword;
 mod kinds;
+pub mod leads;
 mod members;
 mod notes;
+pub mod numbering;
 mod patterns;
 mod reasons;
 mod rules;

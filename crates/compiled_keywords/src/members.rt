@@ -9,10 +9,10 @@ ghost use Rattle.schema_engine.specs.Places.{value_at};
 ghost use Rattle.applicators.specs.Questions.{each_dependency};
 ghost use Rattle.compiled_keywords.specs.Forms.{alone, whole_at, name_at};
 ghost use Rattle.compiled_keywords.specs.Members.{listed, members_in, matching_of, others_among, applied_node};
-ghost use Rattle.compiled_keywords.specs.Owned.{named, by_pattern, depending, declared_by, IsNumbered, AreNumbered, AreNumberedIn};
+ghost use Rattle.compiled_keywords.specs.Owned.{named, by_pattern, depending, declared_by, IsNumbered, AreNumbered, AllNumbered};
 ghost use Rattle.compiled_keywords.specs.Seen.{Puts};
 
-use crate::applicator::Declared;
+use crate::asks::Declared;
 use crate::patterns::is_declared;
 use crate::subschemas::{Dependency, NamedDependency, NamedNode, PatternNode};
 use schema_engine::matching::Matching;
@@ -260,7 +260,7 @@ fn push_others_of<'i, T: Matching>(
     matching: &mut T,
     into: &mut Vec<Question<'i>>,
 ) -> Result<(), AllocError>
-    requires { AreNumberedIn (T.matches matching.old).pattern declared.now.patterns }
+    requires { AllNumbered (T.matches matching.old).pattern declared.now.patterns.items }
     ensures same { OnOk result (T.matches matching.new ≡ T.matches matching.old) }
     ensures put { OnOk result ((k : List ℕ) → Puts (whole_at k) into.old.items into.new.items
         (map alone (each_member k node (others_among (T.matches matching.old).reads (declared_by declared.now) (listed members.now))))) }
@@ -288,7 +288,7 @@ pub(crate) fn push_others<'i, T: Matching>(
     matching: &mut T,
     into: &mut Vec<Question<'i>>,
 ) -> Result<(), AllocError>
-    requires { AreNumberedIn (T.matches matching.old).pattern declared.now.patterns }
+    requires { AllNumbered (T.matches matching.old).pattern declared.now.patterns.items }
     ensures same { OnOk result (T.matches matching.new ≡ T.matches matching.old) }
     ensures put { OnOk result ((k : List ℕ) → Puts (whole_at k) into.old.items into.new.items
         (map alone (each_member k node (other_members (T.matches matching.old).reads (declared_by declared.now) (value_at place.entry))))) }

@@ -6,10 +6,10 @@ ghost use Rattle.schema_meaning.specs.Keywords.{text_is};
 ghost use Rattle.schema_meaning.specs.Members.{is_listed};
 ghost use Rattle.schema_meaning.specs.Questions.{is_declared as is_among};
 ghost use Rattle.schema_engine.specs.Places.{value_at};
-ghost use Rattle.compiled_keywords.specs.Owned.{text_of, names_in, patterns_in, declared_by, IsNumbered, AreNumbered, AreNumberedIn};
+ghost use Rattle.compiled_keywords.specs.Owned.{text_of, declared_by, IsNumbered, AllNumbered};
 
-use crate::applicator::Declared;
-use crate::subschemas::{NamedNode, Pattern, PatternNode};
+use crate::asks::Declared;
+use crate::subschemas::Pattern;
 use schema_engine::matching::Matching;
 use schema_engine::place::Place;
 use serde_json::Value;
@@ -38,56 +38,32 @@ pub(crate) fn is_matched<T: Matching>(
     }
 }
 
-fn is_named_among(names: &[NamedNode], name: &str) -> bool
-    ensures { result ≡ is_listed name.now (map (λ n. string_bytes n.name) names.now) }
+fn is_named(names: &[String], name: &str) -> bool
+    ensures { result ≡ is_listed name.now (map string_bytes names.now) }
 {
-    for named in names {
-        if name == named.name.as_str() {
+    for other in names {
+        if name == other.as_str() {
             return true;
         }
     }
     false
 }
 
-fn is_named(names: &Option<Vec<NamedNode>>, name: &str) -> bool
-    ensures { result ≡ is_listed name.now (names_in names.now) }
-{
-    match names {
-        Some(names) => is_named_among(names, name),
-        None => false,
-    }
-}
-
-fn is_matched_by_some<T: Matching>(
-    patterns: &[PatternNode],
+fn is_matched_by<T: Matching>(
+    patterns: &[Pattern],
     name: &str,
     matching: &mut T,
 ) -> Result<bool, AllocError>
-    requires { AreNumbered (T.matches matching.old).pattern patterns.now }
+    requires { AllNumbered (T.matches matching.old).pattern patterns.now }
     ensures same { OnOk result (T.matches matching.new ≡ T.matches matching.old) }
-    ensures read { IfOk result (λ b. b ≡ list_any (λ p. matched (T.matches matching.old).reads p name.now) (map (λ p. text_of p.pattern) patterns.now)) }
+    ensures read { IfOk result (λ b. b ≡ list_any (λ p. matched (T.matches matching.old).reads p name.now) (map text_of patterns.now)) }
 {
-    for node in patterns {
-        if matching.is_match(node.pattern.number, name)? {
+    for pattern in patterns {
+        if matching.is_match(pattern.number, name)? {
             return Ok(true);
         }
     }
     Ok(false)
-}
-
-fn is_matched_by<T: Matching>(
-    patterns: &Option<Vec<PatternNode>>,
-    name: &str,
-    matching: &mut T,
-) -> Result<bool, AllocError>
-    requires { AreNumberedIn (T.matches matching.old).pattern patterns.now }
-    ensures same { OnOk result (T.matches matching.new ≡ T.matches matching.old) }
-    ensures read { IfOk result (λ b. b ≡ list_any (λ p. matched (T.matches matching.old).reads p name.now) (patterns_in patterns.now)) }
-{
-    match patterns {
-        Some(patterns) => is_matched_by_some(patterns, name, matching),
-        None => Ok(false),
-    }
 }
 
 /// Whether a name is declared, or a pattern that is declared matches it.
@@ -100,7 +76,7 @@ pub(crate) fn is_declared<T: Matching>(
     name: &str,
     matching: &mut T,
 ) -> Result<bool, AllocError>
-    requires { AreNumberedIn (T.matches matching.old).pattern declared.now.patterns }
+    requires { AllNumbered (T.matches matching.old).pattern declared.now.patterns.items }
     ensures same { OnOk result (T.matches matching.new ≡ T.matches matching.old) }
     ensures read { IfOk result (λ b. b ≡ is_among (T.matches matching.old).reads (declared_by declared.now) name.now) }
 {

@@ -8,10 +8,10 @@ ghost use Rattle.schema_engine.specs.Refusals.{IsNote};
 ghost use Rattle.applicators.specs.Forms.{kind_in, value_in};
 ghost use Rattle.compiled_keywords.specs.Forms.{form_of};
 ghost use Rattle.compiled_keywords.specs.Members.{listed, others_among};
-ghost use Rattle.compiled_keywords.specs.Owned.{declared_by, AreNumberedIn};
+ghost use Rattle.compiled_keywords.specs.Owned.{declared_by, AllNumbered};
 ghost use Rattle.compiled_keywords.specs.Shapes.{KnowsAsked};
 
-use crate::applicator::{Asks, Declared};
+use crate::asks::{Asks, Declared};
 use crate::members::object_at;
 use crate::patterns::is_declared;
 use schema_engine::matching::Matching;
@@ -47,7 +47,7 @@ fn undeclared_among<T: Matching>(
     members: &Map<String, Value>,
     matching: &mut T,
 ) -> Result<Vec<String>, AllocError>
-    requires { AreNumberedIn (T.matches matching.old).pattern declared.now.patterns }
+    requires { AllNumbered (T.matches matching.old).pattern declared.now.patterns.items }
     ensures same { OnOk result (T.matches matching.new ≡ T.matches matching.old) }
     ensures listed { IfOk result (λ names. map string_bytes names.items ≡ map (λ m. m.0) (others_among (T.matches matching.old).reads (declared_by declared.now) (listed members.now))) }
 {
@@ -67,7 +67,7 @@ fn undeclared<T: Matching>(
     value: &Value,
     matching: &mut T,
 ) -> Result<Vec<String>, AllocError>
-    requires { AreNumberedIn (T.matches matching.old).pattern declared.now.patterns }
+    requires { AllNumbered (T.matches matching.old).pattern declared.now.patterns.items }
     ensures same { OnOk result (T.matches matching.new ≡ T.matches matching.old) }
     ensures listed { IfOk result (λ names. map string_bytes names.items ≡ map (λ m. m.0) (other_members (T.matches matching.old).reads (declared_by declared.now) (view value.now))) }
 {

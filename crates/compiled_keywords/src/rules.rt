@@ -1,5 +1,7 @@
 //! The rules that compiled keywords follow.
 ghost use Rattle.std.specs.Prelude.{◌≡◌, is_some};
+ghost use Rattle.schema_meaning.specs.Rules.{count_refused_at as refused_at};
+ghost use Rattle.applicators.specs.Combining.{refused_under as under};
 ghost use Rattle.serde_json.specs.Find.{as_array};
 ghost use Rattle.schema_engine.specs.Places.{value_at};
 ghost use Rattle.schema_engine.specs.Rules.{or_one};
@@ -58,5 +60,37 @@ pub(crate) fn combination_at(combining: Combining, place: Place<'_>) -> Combinat
             }
         }
         Combining::Conditional => Combination::Conditional,
+    }
+}
+
+// The name of the bound that a number of items does not keep.
+const fn count_refused_at(least: Option<u64>, most: Option<u64>, accepted: usize) -> &'static str
+    ensures { result.now ≡ refused_at least most accepted }
+{
+    match (least, most) {
+        (None, None) => "contains",
+        (Some(_), None) => "minContains",
+        (None, Some(_)) => "maxContains",
+        (Some(_), Some(most)) => {
+            if accepted as u64 > most {
+                "maxContains"
+            } else {
+                "minContains"
+            }
+        }
+    }
+}
+
+// The name under which a keyword refuses, where so many answers are yes.
+pub(crate) const fn refused_under(
+    keyword: &'static str,
+    combining: Combining,
+    accepted: usize,
+) -> &'static str
+    ensures { result.now ≡ under keyword.now combining accepted }
+{
+    match combining {
+        Combining::Counted { least, most } => count_refused_at(least, most, accepted),
+        _ => keyword,
     }
 }

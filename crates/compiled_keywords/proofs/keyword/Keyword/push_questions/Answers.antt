@@ -2,7 +2,7 @@ use Rattle.std.proofs.Common.{sym, subst}
 use Rattle.std.proofs.lemmas.Result.{on_ok_weaker}
 use Rattle.schema_meaning.specs.Keywords.{rule}
 use Rattle.schema_engine.specs.Places.{value_at}
-use Rattle.applicators.specs.Applied.{name_of, combining_of, asks_of}
+use Rattle.compiled_keywords.specs.Applied.{name_of, combining_of, asks_of}
 use Rattle.compiled_keywords.specs.Forms.{form_of, added_in}
 use Rattle.compiled_keywords.specs.Seen.{Puts, beside_in}
 use Rattle.compiled_keywords.specs.Shapes.{shape_of, added_by}

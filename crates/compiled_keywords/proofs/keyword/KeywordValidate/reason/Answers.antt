@@ -3,7 +3,7 @@ use Rattle.std.proofs.lemmas.Result.{IfOk-weaker}
 use Rattle.serde_json.specs.View.{view}
 use Rattle.schema_meaning.specs.Keywords.{rule}
 use Rattle.schema_engine.specs.Refusals.{IsReason}
-use Rattle.applicators.specs.Applied.{name_of, combining_of, asks_of}
+use Rattle.compiled_keywords.specs.Applied.{name_of, combining_of, asks_of}
 use Rattle.compiled_keywords.specs.Forms.{form_of}
 use Rattle.compiled_keywords.specs.Shapes.{shape_of}
 use Rattle.compiled_keywords.specs.declared.keyword.Keyword.{Keyword}
