@@ -42,7 +42,7 @@ module _ (added : ℕ → List Part) where
         pushed = so.pushed ++ last;
         behind = sym (take-append-drop (length mid) new) ∙ ap (λ qs. qs ++ last) (puts.kept ∙ so.behind) ∙ append_assoc old so.pushed last;
         rest = ap (λ ys. ys ++ more) (map-append (seen_by added) so.pushed last ∙ ap (λ ys. map (seen_by added) so.pushed ++ ys) puts.pushed) ∙ append_assoc (map (seen_by added) so.pushed) xs more
-        ∙ ap (λ ys. map (seen_by added) so.pushed ++ ys) (sym is) ∙ so.rest;
+            ∙ ap (λ ys. map (seen_by added) so.pushed ++ ys) (sym is) ∙ so.rest;
       }
 
 pub drop_items : (start : ℕ) (vs : List Value) → items_from start (items_view vs) ≡ items_view (drop start vs)

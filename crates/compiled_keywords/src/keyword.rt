@@ -13,8 +13,8 @@ ghost use Rattle.compiled_keywords.specs.Shapes.{shape_of, added_by, reference_o
 ghost use Rattle.compiled_keywords.specs.Told.{TellsEach};
 
 use crate::applicator::Applicator;
-use crate::asks::Asks;
 use crate::asking::{push_branches, push_condition, push_here, push_item_list, push_items};
+use crate::asks::Asks;
 use crate::assertion::{Assertion, has_dependencies};
 use crate::entries::entry_of;
 use crate::members::{
@@ -63,16 +63,10 @@ pub enum Keyword {
     /// The schema `false`.
     Never,
     /// One that only asserts, with where memory is taken to look at a value.
-    Assertion {
-        alloc: Global,
-        assertion: Assertion,
-    },
+    Assertion { alloc: Global, assertion: Assertion },
     Pattern(Pattern),
     Applicator(Applicator),
-    Reference {
-        kind: ReferenceKind,
-        node: usize,
-    },
+    Reference { kind: ReferenceKind, node: usize },
 }
 
 // Whether nothing is wrong with the value itself by what is asked: `dependencies` wants names.
@@ -222,7 +216,11 @@ impl Validate for Keyword {
 
     fn refused_name(&self, accepted: usize) -> &str {
         match self {
-            Keyword::Applicator(applicator) => refused_under(applicator.keyword, applicator.combining, accepted),
+            Keyword::Applicator(applicator) => refused_under(
+                applicator.keyword,
+                applicator.combining,
+                accepted,
+            ),
             _ => "",
         }
     }

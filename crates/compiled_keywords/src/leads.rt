@@ -49,10 +49,7 @@ fn push_applied(dependency: &Dependency, into: &mut Vec<usize>) -> Result<(), Al
     Ok(())
 }
 
-fn push_dependencies(
-    entries: &[NamedDependency],
-    into: &mut Vec<usize>,
-) -> Result<(), AllocError>
+fn push_dependencies(entries: &[NamedDependency], into: &mut Vec<usize>) -> Result<(), AllocError>
     ensures { OnOk result (into.new.items ≡ into.old.items ++ flat_map (λ p. if_applies p.1) (map depending entries.now)) }
 {
     for entry in entries {

@@ -212,11 +212,23 @@ pub(crate) fn tell_assertion<'o>(
         Assertion::Plain(assertion) => tell_plain(situation, assertion, observer),
         Assertion::Enumeration(options) => {
             let accepted = is_among(options, value);
-            tell_unless(situation, "enum", accepted, Wrong::Enumeration(options), observer)
+            tell_unless(
+                situation,
+                "enum",
+                accepted,
+                Wrong::Enumeration(options),
+                observer,
+            )
         }
         Assertion::Constant(expected) => {
             let accepted = equal(value, expected);
-            tell_unless(situation, "const", accepted, Wrong::Constant(expected), observer)
+            tell_unless(
+                situation,
+                "const",
+                accepted,
+                Wrong::Constant(expected),
+                observer,
+            )
         }
         Assertion::Required(names) => tell_missing(situation, "required", names, observer),
         Assertion::DependentRequired(entries) => {
@@ -275,9 +287,5 @@ pub(crate) fn tell_never<'o>(
 ) -> Result<(), AllocError>
     ensures { OnOk result (TellsUnder situation.now [] (record { kind = faults.FalseSchema; value = view situation.now.value.now } ∷ []) observer.old observer.new) }
 {
-    situation.tell_of_schema(
-        ValidationErrorKind::FalseSchema,
-        situation.value,
-        observer,
-    )
+    situation.tell_of_schema(ValidationErrorKind::FalseSchema, situation.value, observer)
 }

@@ -121,8 +121,8 @@ pub(crate) fn reason_of<'o, T: Matching>(
     requires { KnowsAsked asks.now (T.matches matching.old).pattern }
     ensures same { OnOk result (T.matches matching.new ≡ T.matches matching.old) }
     ensures noted { IfOk result (λ r. IsNote r (record {
-        kind = kind_in (T.matches matching.old).reads (form_of asks.now) (view situation.now.value.now);
-        value = value_in (form_of asks.now) (view situation.now.value.now);
+      kind = kind_in (T.matches matching.old).reads (form_of asks.now) (view situation.now.value.now);
+      value = value_in (form_of asks.now) (view situation.now.value.now);
     })) }
 {
     let kind = kind_of(asks, situation, matching)?;

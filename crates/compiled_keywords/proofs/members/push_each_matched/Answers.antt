@@ -28,13 +28,13 @@ loop-index-preserved g c =
       same = c.in_ok-push_matched.ensures.same ∙ same;
       known = (subst (AreNumbered entry.pattern) next c.loop-index.invariant.known).1;
       left = λ k.
-        let added = name_at k (map by_pattern nodes) in
-        let puts = c.in_ok-push_matched.ensures.put k added (name_there k by_pattern nodes i node short is) in
-        put_more added _ _ _ (map alone (matching_of entry.reads k (by_pattern node) ms)) _ (map alone (flat_map (λ p. matching_of entry.reads k p ms) (map by_pattern (drop (i + 1) nodes)))) _
-        (ap (λ ns. map alone (flat_map (λ p. matching_of entry.reads k p ms) (map by_pattern ns))) next
-        ∙ map-append alone (matching_of entry.reads k (by_pattern node) ms) (flat_map (λ p. matching_of entry.reads k p ms) (map by_pattern (drop (i + 1) nodes))))
-        (c.loop-index.invariant.left k)
-        (subst (λ (m : Matches). Puts added c.loop-index.into.items c.push_matched.new.into.items (map alone (matching_of m.reads k (by_pattern node) ms))) same puts);
+          let added = name_at k (map by_pattern nodes) in
+          let puts = c.in_ok-push_matched.ensures.put k added (name_there k by_pattern nodes i node short is) in
+          put_more added _ _ _ (map alone (matching_of entry.reads k (by_pattern node) ms)) _ (map alone (flat_map (λ p. matching_of entry.reads k p ms) (map by_pattern (drop (i + 1) nodes)))) _
+          (ap (λ ns. map alone (flat_map (λ p. matching_of entry.reads k p ms) (map by_pattern ns))) next
+          ∙ map-append alone (matching_of entry.reads k (by_pattern node) ms) (flat_map (λ p. matching_of entry.reads k p ms) (map by_pattern (drop (i + 1) nodes))))
+          (c.loop-index.invariant.left k)
+          (subst (λ (m : Matches). Puts added c.loop-index.into.items c.push_matched.new.into.items (map alone (matching_of m.reads k (by_pattern node) ms))) same puts);
     }
 
 pub returns-clause-put : goal.returns-clause-put

@@ -10,7 +10,7 @@ use Rattle.schema_engine.proofs.Pushing.{LeavesAs}
 use Rattle.compiled_keywords.proofs.members.push_each_matched.Given as goal
 
 abbrev pub invariant-loop-index : goal.invariant-loop-index
-invariant-loop-index g l = 
+invariant-loop-index g l =
     let entry = g.T.Matching.matches l.fn.matching in
     record {
       same : g.T.Matching.matches l.matching ≡ entry;

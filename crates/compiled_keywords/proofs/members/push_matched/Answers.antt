@@ -26,9 +26,9 @@ loop-name-preserved-in-Continue-branch-2 g c =
     record {
       same = c.in_ok-is_match.ensures.same ∙ c.loop-name.invariant.same;
       left = λ k added part. put_next added _ _ _ (record { node = node.node; asked = asked.Member c.as_str-name.result c.in-Some.member; follows = false; beside = true; entry = c.args.entry }) _ _ _
-      (matched_next entry.reads k p name e _ more here so
-      ∙ ap (λ (r : List Part). (true, record { site = node.node; step = to_member name e; added = r; follows = false }) ∷ map alone (matching_of entry.reads k p more)) (sym part))
-      (c.loop-name.invariant.left k added part) c.in_ok-push.ensures.items;
+          (matched_next entry.reads k p name e _ more here so
+          ∙ ap (λ (r : List Part). (true, record { site = node.node; step = to_member name e; added = r; follows = false }) ∷ map alone (matching_of entry.reads k p more)) (sym part))
+          (c.loop-name.invariant.left k added part) c.in_ok-push.ensures.items;
     }
 
 pub loop-name-preserved : goal.loop-name-preserved

@@ -10,7 +10,7 @@ use Rattle.schema_engine.proofs.Pushing.{LeavesAs}
 use Rattle.compiled_keywords.proofs.members.push_matched.Given as goal
 
 abbrev pub invariant-loop-name : goal.invariant-loop-name
-invariant-loop-name g l = 
+invariant-loop-name g l =
     let entry = g.T.Matching.matches l.fn.matching in
     record {
       same : g.T.Matching.matches l.matching ≡ entry;

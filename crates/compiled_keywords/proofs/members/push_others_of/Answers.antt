@@ -21,7 +21,7 @@ loop-name-preserved-in_ok-push g c =
     record {
       same = c.in_ok-is_declared.ensures.same ∙ c.loop-name.invariant.same;
       left = λ k. put_next (whole_at k) _ _ _ (record { node = c.args.node; asked = asked.Member c.as_str-name.result c.in-Some.member; follows = false; beside = true; entry = 0 }) _ _ _
-      (other_next entry.reads k w c.args.node name e _ more here other) (c.loop-name.invariant.left k) c.in_ok-push.ensures.items;
+          (other_next entry.reads k w c.args.node name e _ more here other) (c.loop-name.invariant.left k) c.in_ok-push.ensures.items;
     }
 
 pub returns-clause-put : goal.returns-clause-put

@@ -6,7 +6,7 @@ use Rattle.compiled_keywords.specs.Owned.{declared_by}
 use Rattle.compiled_keywords.proofs.reasons.undeclared_among.Given as goal
 
 abbrev pub invariant-loop-name : goal.invariant-loop-name
-invariant-loop-name g l = 
+invariant-loop-name g l =
     let entry = g.T.Matching.matches l.fn.matching in
     record {
       same : g.T.Matching.matches l.matching ≡ entry;
