@@ -1,10 +1,10 @@
 -- Lists of notes that are empty, one after another.
-use Rattle.std.proofs.Common.{◌≡◌, ◌<◌, ◌+◌, ◌∙◌, ◌++◌, ◌&&◌, ℕ, List, [], ◌∷◌, Bool, true, false, drop, map, length, get_or, refl, sym, ap}
+use Rattle.std.proofs.Common.{◌≡◌, ◌<◌, ◌+◌, ◌∙◌, ◌++◌, ℕ, List, [], ◌∷◌, true, false, drop, length, get_or, refl, sym, ap}
 use Rattle.std.proofs.lemmas.List.{drop_more}
 use Rattle.std.specs.List.{flat_map}
-use Rattle.serde_json.specs.Data.{Data, null, boolean, number, string, array, object, Members}
+use Rattle.serde_json.specs.Data.{Data, string}
 use Rattle.serde_json.specs.Find.{get}
-use Rattle.schema_meaning.specs.Keywords.{Dependency, needed, missing, none_there}
+use Rattle.schema_meaning.specs.Keywords.{Dependency, needed}
 use Rattle.schema_meaning.specs.Members.{is_empty}
 use Rattle.schema_meaning.specs.Questions.{if_member}
 use Rattle.schema_meaning.specs.Rules.{Note}

@@ -1,5 +1,5 @@
 -- Entries of compiled keywords, and what is asked of members, one after another.
-use Rattle.std.proofs.Common.{◌≡◌, ◌<◌, ◌+◌, ◌∙◌, ◌++◌, ℕ, List, [], ◌∷◌, map, drop, codes, length, get_or, Bool, true, false, Option, None, Some, is_some, option_map, refl, ap}
+use Rattle.std.proofs.Common.{◌≡◌, ◌<◌, ◌+◌, ◌∙◌, ◌++◌, ℕ, List, [], ◌∷◌, map, drop, codes, length, get_or, true, false, Option, None, Some, is_some, option_map, refl, ap}
 use Rattle.std.proofs.lemmas.Option.{slice_get_read, slice_get-map}
 use Rattle.serde_json.specs.Data.{Data}
 use Rattle.serde_json.specs.Find.{get}

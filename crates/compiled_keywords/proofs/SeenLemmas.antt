@@ -1,9 +1,9 @@
 -- Questions that are seen with their answers beside, as calls and as questions of a rule.
-use Rattle.std.proofs.Common.{◌≡◌, ◌∙◌, ◌++◌, ℕ, List, [], ◌∷◌, map, drop, length, Bool, true, refl, sym, ap, subst}
+use Rattle.std.proofs.Common.{◌≡◌, ◌∙◌, ℕ, List, [], ◌∷◌, map, drop, length, true, refl, sym, ap}
 use Rattle.json_values.specs.Parts.{Part}
 use Rattle.schema_meaning.specs.Questions as told
 use Rattle.schema_meaning.specs.Rules.{Rule, every, together, each_named, some_branch, one_branch, refusal, counted, conditional, asks}
-use Rattle.schema_engine.specs.Questions.{Call, call, call_of, question_by, Pushes, PushesAs, PushesAsked}
+use Rattle.schema_engine.specs.Questions.{Call, call, Pushes, PushesAsked}
 use Rattle.schema_engine.specs.Rules.{questions_of}
 use Rattle.schema_engine.specs.declared.place.Question.{Question}
 use Rattle.compiled_keywords.specs.Forms.{Asked, alone}

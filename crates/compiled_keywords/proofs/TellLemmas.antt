@@ -1,5 +1,5 @@
 -- What is told of a value itself, one note after another.
-use Rattle.std.proofs.Common.{◌≡◌, ◌∙◌, ◌++◌, ℕ, List, [], ◌∷◌, Bool, true, false, Option, None, Some, map, cond, is_some, refl, sym, ap, subst}
+use Rattle.std.proofs.Common.{◌≡◌, ◌∙◌, ◌++◌, ℕ, List, [], ◌∷◌, Bool, true, false, Option, None, Some, map, cond, is_some, refl, ap, subst}
 use Rattle.json_values.specs.Parts.{Part}
 use Rattle.schema_meaning.specs.Faults.{Kind, Required, also, joined}
 use Rattle.schema_meaning.specs.Keywords.{missing, needed, none_there, unless, applies}

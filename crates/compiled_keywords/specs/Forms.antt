@@ -1,5 +1,5 @@
 -- What compiled keywords ask, and the parts that their entries add to a road.
-use Rattle.std.specs.Prelude.{ℕ, zero, suc, List, [], ◌∷◌, ◌++◌, map, Bool, true, false, Option, None, Some, codes, slice_get}
+use Rattle.std.specs.Prelude.{ℕ, zero, suc, List, ◌∷◌, ◌++◌, map, Bool, true, false, Option, None, Some, codes, slice_get}
 use Rattle.serde_json.specs.Data.{Data}
 use Rattle.serde_json.specs.View.{view}
 use Rattle.json_values.specs.Parts.{Part}

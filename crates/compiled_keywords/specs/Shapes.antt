@@ -2,7 +2,6 @@
 use Rattle.std.specs.Prelude.{ℕ, List, [], map, string_bytes}
 use Rattle.serde_json.specs.View.{view, items_view}
 use Rattle.json_values.specs.Parts.{Part}
-use Rattle.schema_meaning.specs.Questions.{at}
 use Rattle.schema_meaning.specs.Keywords as told
 use Rattle.assertions.specs.Shapes as plain
 use Rattle.compiled_keywords.specs.Applied.{name_of, combining_of, asks_of}

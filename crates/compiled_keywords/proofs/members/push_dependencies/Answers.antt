@@ -1,4 +1,4 @@
-use Rattle.std.proofs.Common.{◌≡◌, ◌∙◌, ◌∷◌, ◌+◌, List, ℕ, Some, None, Vec, Global, true, false, map, drop, codes, sym, ap, arith}
+use Rattle.std.proofs.Common.{◌≡◌, ◌∙◌, ◌∷◌, ◌+◌, List, None, Vec, Global, true, false, map, drop, codes, sym, ap}
 use Rattle.json_values.specs.Parts.{Part}
 use Rattle.serde_json.specs.Find.{get}
 use Rattle.schema_meaning.specs.Places.{stay}

@@ -1,4 +1,4 @@
-use Rattle.std.proofs.Common.{◌≡◌, ◌∙◌, ◌∷◌, ◌+◌, List, ℕ, Vec, Global, true, false, map, drop, is_some, sym, ap, arith, string_bytes}
+use Rattle.std.proofs.Common.{◌≡◌, ◌∙◌, ◌∷◌, ◌+◌, List, Vec, Global, true, false, map, drop, is_some, sym, ap, arith, string_bytes}
 use Rattle.std.proofs.lemmas.List.{at_drop_all}
 use Rattle.json_values.specs.Parts.{Part}
 use Rattle.serde_json.specs.Find.{get}
