@@ -1,0 +1,10 @@
+use Rattle.std.proofs.Common.{List, ℕ, map}
+use Rattle.serde_json.specs.View.{members_view}
+use Rattle.schema_meaning.specs.Questions.{listed_members, each_name, at}
+use Rattle.compiled_keywords.specs.Forms.{alone, whole_at}
+use Rattle.compiled_keywords.specs.Seen.{seen_by}
+use Rattle.schema_engine.proofs.Pushing.{LeavesAs}
+use Rattle.compiled_keywords.proofs.members.push_names_of.Given as goal
+
+abbrev pub invariant-loop-name : goal.invariant-loop-name
+invariant-loop-name l = (k : List ℕ) → LeavesAs (seen_by (whole_at k)) l.fn.into.items l.into.items (map alone (each_name (at k) l.node (map (λ m. m.0) (listed_members (members_view l.name-iterator))))) (map alone (each_name (at k) l.node (map (λ m. m.0) (listed_members (members_view l.members.entries)))))

@@ -1,0 +1,11 @@
+pub mod Owned
+pub mod Forms
+pub mod Applied
+pub mod Seen
+pub mod Members
+pub mod Rules
+pub mod Shapes
+pub mod Told
+pub mod Nodes
+pub mod Checks
+pub mod Tables

@@ -1,0 +1,153 @@
+//! Compiled keywords that only assert.
+ghost use Rattle.std.specs.Prelude.{◌≡◌, ℕ, List, Bool, IfOk, map, string_bytes};
+ghost use Rattle.std.specs.List.{filter, flat_map};
+ghost use Rattle.serde_json.specs.Find.{get};
+ghost use Rattle.serde_json.specs.View.{view, items_view};
+ghost use Rattle.json_values.specs.Equality.{is_among as is_equal_to_some};
+ghost use Rattle.schema_meaning.specs.Members.{is_empty};
+ghost use Rattle.schema_meaning.specs.Questions.{if_member};
+ghost use Rattle.schema_meaning.specs.Keywords.{none_there, missing, missing_beside, needed, wrong};
+ghost use Rattle.schema_engine.specs.Places.{value_at};
+ghost use Rattle.compiled_keywords.specs.Owned.{needed_by, depending};
+ghost use Rattle.compiled_keywords.specs.Shapes.{assertion_of};
+
+use crate::subschemas::{Dependency, NamedDependency, NeededNames};
+use assertions::assertion as plain;
+use schema_engine::place::Place;
+use serde_json::Value;
+use std::alloc::{AllocError, Global};
+use value_checks::equality::equal;
+
+/// A keyword that only asserts, `pattern` left aside, with what its value says.
+#[derive(Drop)]
+pub enum Assertion {
+    /// One that needs no part of a schema: types, numbers, counts and items that differ.
+    Plain(plain::Assertion<'static>),
+    /// The values, in the schema's order.
+    Enumeration(Vec<Value>),
+    Constant(Value),
+    Required(Vec<String>),
+    DependentRequired(Vec<NeededNames>),
+}
+
+// Whether a value equals one of these.
+pub(crate) fn is_among(options: &[Value], value: &Value) -> bool
+    ensures { result ≡ is_equal_to_some (view value.now) (items_view options.now) }
+{
+    for option in options {
+        if equal(value, option) {
+            return true;
+        }
+    }
+    false
+}
+
+// Whether a value has no member of a name.
+pub(crate) fn lacks(value: &Value, name: &str) -> bool
+    ensures { result ≡ none_there (get name.now (view value.now)) }
+{
+    match value.get(name) {
+        Some(_) => false,
+        None => true,
+    }
+}
+
+fn lacks_none(names: &[String], value: &Value) -> bool
+    ensures { result ≡ is_empty (filter (λ k. none_there (get k (view value.now))) (map string_bytes names.now)) }
+{
+    for name in names {
+        if lacks(value, name.as_str()) {
+            return false;
+        }
+    }
+    true
+}
+
+// Whether an object has members of all these names. Another value is accepted.
+fn has_all(names: &[String], value: &Value) -> bool
+    ensures { result ≡ is_empty (missing (map string_bytes names.now) (view value.now)) }
+{
+    match value {
+        Value::Object(_) => lacks_none(names, value),
+        _ => true,
+    }
+}
+
+// The same where a name is a member's.
+fn has_all_beside(name: &str, names: &[String], value: &Value) -> bool
+    ensures { result ≡ is_empty (if_member (get name.now (view value.now)) (λ e. missing (map string_bytes names.now) (view value.now))) }
+{
+    if lacks(value, name) {
+        true
+    } else {
+        has_all(names, value)
+    }
+}
+
+fn has_needed(entries: &[NeededNames], value: &Value) -> bool
+    ensures { result ≡ is_empty (missing_beside (map needed_by entries.now) (view value.now)) }
+{
+    for entry in entries {
+        if !has_all_beside(entry.name.as_str(), &entry.needed, value) {
+            return false;
+        }
+    }
+    true
+}
+
+fn has_named(entry: &NamedDependency, value: &Value) -> bool
+    ensures { result ≡ is_empty (if_member (get (depending entry.now).0 (view value.now)) (λ e. needed (view value.now) (depending entry.now).1)) }
+{
+    match &entry.dependency {
+        Dependency::Needs(names) => has_all_beside(entry.name.as_str(), names, value),
+        Dependency::Applies(_) => true,
+    }
+}
+
+// Whether no name is missing beside the names of the entries that list some.
+pub(crate) fn has_dependencies(entries: &[NamedDependency], value: &Value) -> bool
+    ensures { result ≡ is_empty (flat_map (λ p. if_member (get p.0 (view value.now)) (λ e. needed (view value.now) p.1)) (map depending entries.now)) }
+{
+    for entry in entries {
+        if !has_named(entry, value) {
+            return false;
+        }
+    }
+    true
+}
+
+impl Assertion {
+    /// Whether nothing is wrong with a value.
+    ///
+    /// # Errors
+    ///
+    /// Where memory was refused, which `uniqueItems` alone takes.
+    pub fn accept(&self, alloc: Global, value: &Value) -> Result<bool, AllocError>
+        ensures { IfOk result (λ b. (matches : List ℕ → List ℕ → Bool) → b ≡ is_empty (wrong matches (assertion_of self.now) (view value.now))) }
+    {
+        match self {
+            Assertion::Plain(assertion) => assertion.accept(alloc, value),
+            Assertion::Enumeration(options) => Ok(is_among(options, value)),
+            Assertion::Constant(expected) => Ok(equal(value, expected)),
+            Assertion::Required(names) => Ok(has_all(names, value)),
+            Assertion::DependentRequired(entries) => Ok(has_needed(entries, value)),
+        }
+    }
+
+    /// Whether nothing is wrong with what stands at a place. A member's name is copied to be looked at as a text.
+    ///
+    /// # Errors
+    ///
+    /// Where memory was refused.
+    pub(crate) fn accept_at(&self, alloc: Global, place: Place<'_>) -> Result<bool, AllocError>
+        ensures { IfOk result (λ b. (matches : List ℕ → List ℕ → Bool) → b ≡ is_empty (wrong matches (assertion_of self.now) (value_at place.entry))) }
+    {
+        match place {
+            Place::Value(value) => self.accept(alloc, value),
+            Place::Name(name) => {
+                let text = Value::String(String::from_str(alloc, name)?);
+                self.accept(alloc, &text)
+            }
+        }
+    }
+}

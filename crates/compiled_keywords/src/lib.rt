@@ -1,0 +1,20 @@
+//! The keywords of compiled schemas: each owns what it needs, its subschemas by the numbers of their nodes and its patterns by their
+//! numbers in a table.
+#![tactic(auto)]
+
+pub mod applicator;
+mod asking;
+pub mod asks;
+pub mod assertion;
+pub mod checked;
+mod entries;
+pub mod keyword;
+mod kinds;
+pub mod leads;
+mod members;
+mod notes;
+pub mod numbering;
+mod patterns;
+mod reasons;
+mod rules;
+pub mod subschemas;

@@ -1,0 +1,300 @@
+//! The questions of compiled keywords about members.
+ghost use Rattle.std.specs.Prelude.{◌≡◌, ℕ, List, OnOk, map, option_map, codes};
+ghost use Rattle.std.specs.List.{flat_map};
+ghost use Rattle.json_values.specs.Parts.{Part};
+ghost use Rattle.serde_json.specs.Find.{get};
+ghost use Rattle.serde_json.specs.View.{view};
+ghost use Rattle.schema_meaning.specs.Questions.{at, at_name, members_of, names_of, other_members, each_declared, each_member, each_name, each_triggered, each_matching};
+ghost use Rattle.schema_engine.specs.Places.{value_at};
+ghost use Rattle.applicators.specs.Questions.{each_dependency};
+ghost use Rattle.compiled_keywords.specs.Forms.{alone, whole_at, name_at};
+ghost use Rattle.compiled_keywords.specs.Members.{listed, members_in, matching_of, others_among, applied_node};
+ghost use Rattle.compiled_keywords.specs.Owned.{named, by_pattern, depending, declared_by, IsNumbered, AreNumbered, AllNumbered};
+ghost use Rattle.compiled_keywords.specs.Seen.{Puts};
+
+use crate::asks::Declared;
+use crate::patterns::is_declared;
+use crate::subschemas::{Dependency, NamedDependency, NamedNode, PatternNode};
+use schema_engine::matching::Matching;
+use schema_engine::place::{Asked, Place, Question};
+use serde_json::{Map, Value};
+use std::alloc::AllocError;
+
+// The member of a name, where there is one.
+fn member_at<'i>(place: Place<'i>, name: &str) -> Option<&'i Value>
+    ensures { option_map (λ v. view v.now) result ≡ get name.now (value_at place.entry) }
+{
+    match place {
+        Place::Value(value) => value.get(name),
+        Place::Name(_) => None,
+    }
+}
+
+// The members of an object, and nothing of another value.
+pub(crate) fn object_at<'i>(place: Place<'i>) -> Option<&'i Map<String, Value>>
+    ensures { members_in result ≡ members_of (value_at place.entry) }
+{
+    match place {
+        Place::Value(value) => value.as_object(),
+        Place::Name(_) => None,
+    }
+}
+
+// Each declared member that is there, by its node.
+pub(crate) fn push_declared<'i>(
+    nodes: &'i [NamedNode],
+    place: Place<'i>,
+    into: &mut Vec<Question<'i>>,
+) -> Result<(), AllocError>
+    ensures { OnOk result ((k : List ℕ) → Puts (name_at k (map named nodes.now)) into.old.items into.new.items (map alone (each_declared k (value_at place.entry) (map named nodes.now)))) }
+{
+    for (index, named) in nodes.iter().enumerate() {
+        let name = named.name.as_str();
+        if let Some(member) = member_at(place, name) {
+            into.push(Question {
+                node: named.node,
+                asked: Asked::Member { name, member },
+                follows: false,
+                beside: true,
+                entry: index,
+            })?;
+        }
+    }
+    Ok(())
+}
+
+// The place by the node of each of these names that is a member's.
+pub(crate) fn push_triggered<'i>(
+    nodes: &[NamedNode],
+    place: Place<'i>,
+    into: &mut Vec<Question<'i>>,
+) -> Result<(), AllocError>
+    ensures { OnOk result ((k : List ℕ) → Puts (name_at k (map named nodes.now)) into.old.items into.new.items (map alone (each_triggered k (value_at place.entry) (map named nodes.now)))) }
+{
+    for (index, named) in nodes.iter().enumerate() {
+        if member_at(place, named.name.as_str()).is_some() {
+            into.push(Question {
+                node: named.node,
+                asked: Asked::Here,
+                follows: false,
+                beside: true,
+                entry: index,
+            })?;
+        }
+    }
+    Ok(())
+}
+
+// The node of an entry of `dependencies` whose name is a member's, if the entry is a schema.
+fn applied_at(entry: &NamedDependency, place: Place<'_>) -> Option<usize>
+    ensures { result ≡ applied_node (get (depending entry.now).0 (value_at place.entry)) (depending entry.now).1 }
+{
+    match entry.dependency {
+        Dependency::Needs(_) => None,
+        Dependency::Applies(node) => {
+            if member_at(place, entry.name.as_str()).is_some() {
+                Some(node)
+            } else {
+                None
+            }
+        }
+    }
+}
+
+// The place by the node of each of these names that is a member's, if its entry is a schema.
+pub(crate) fn push_dependencies<'i>(
+    entries: &[NamedDependency],
+    place: Place<'i>,
+    into: &mut Vec<Question<'i>>,
+) -> Result<(), AllocError>
+    ensures { OnOk result (Puts (name_at (codes "dependencies") (map depending entries.now)) into.old.items into.new.items (map alone (each_dependency (value_at place.entry) (map depending entries.now)))) }
+{
+    for (index, entry) in entries.iter().enumerate() {
+        if let Some(node) = applied_at(entry, place) {
+            into.push(Question {
+                node,
+                asked: Asked::Here,
+                follows: false,
+                beside: true,
+                entry: index,
+            })?;
+        }
+    }
+    Ok(())
+}
+
+fn push_members_of<'i>(
+    node: usize,
+    members: &'i Map<String, Value>,
+    into: &mut Vec<Question<'i>>,
+) -> Result<(), AllocError>
+    ensures { OnOk result ((k : List ℕ) → Puts (whole_at k) into.old.items into.new.items (map alone (each_member k node (listed members.now)))) }
+{
+    for (name, member) in members.iter() {
+        let name = name.as_str();
+        into.push(Question {
+            node,
+            asked: Asked::Member { name, member },
+            follows: false,
+            beside: true,
+            entry: 0,
+        })?;
+    }
+    Ok(())
+}
+
+// Each member by one node.
+pub(crate) fn push_members<'i>(
+    node: usize,
+    place: Place<'i>,
+    into: &mut Vec<Question<'i>>,
+) -> Result<(), AllocError>
+    ensures { OnOk result ((k : List ℕ) → Puts (whole_at k) into.old.items into.new.items (map alone (each_member k node (members_of (value_at place.entry))))) }
+{
+    match object_at(place) {
+        Some(members) => push_members_of(node, members, into),
+        None => Ok(()),
+    }
+}
+
+fn push_names_of<'i>(
+    node: usize,
+    members: &'i Map<String, Value>,
+    into: &mut Vec<Question<'i>>,
+) -> Result<(), AllocError>
+    ensures { OnOk result ((k : List ℕ) → Puts (whole_at k) into.old.items into.new.items (map alone (each_name (at k) node (map (λ m. m.0) (listed members.now))))) }
+{
+    for (name, _) in members.iter() {
+        into.push(Question {
+            node,
+            asked: Asked::Name(name.as_str()),
+            follows: false,
+            beside: true,
+            entry: 0,
+        })?;
+    }
+    Ok(())
+}
+
+// Each member's name by one node.
+pub(crate) fn push_names<'i>(
+    node: usize,
+    place: Place<'i>,
+    into: &mut Vec<Question<'i>>,
+) -> Result<(), AllocError>
+    ensures { OnOk result ((k : List ℕ) → Puts (whole_at k) into.old.items into.new.items (map alone (each_name (at k) node (names_of (value_at place.entry))))) }
+{
+    match object_at(place) {
+        Some(members) => push_names_of(node, members, into),
+        None => Ok(()),
+    }
+}
+
+// Each member whose name the pattern of an entry matches.
+fn push_matched<'i, T: Matching>(
+    entry: usize,
+    node: &PatternNode,
+    members: &'i Map<String, Value>,
+    matching: &mut T,
+    into: &mut Vec<Question<'i>>,
+) -> Result<(), AllocError>
+    requires { IsNumbered (T.matches matching.old).pattern node.now.pattern }
+    ensures same { OnOk result (T.matches matching.new ≡ T.matches matching.old) }
+    ensures put { OnOk result ((k : List ℕ) (added : ℕ → List Part) → added entry ≡ at_name k (by_pattern node.now).0
+        → Puts added into.old.items into.new.items (map alone (matching_of (T.matches matching.old).reads k (by_pattern node.now) (listed members.now)))) }
+{
+    for (name, member) in members.iter() {
+        let name = name.as_str();
+        if matching.is_match(node.pattern.number, name)? {
+            into.push(Question {
+                node: node.node,
+                asked: Asked::Member { name, member },
+                follows: false,
+                beside: true,
+                entry,
+            })?;
+        }
+    }
+    Ok(())
+}
+
+fn push_each_matched<'i, T: Matching>(
+    nodes: &[PatternNode],
+    members: &'i Map<String, Value>,
+    matching: &mut T,
+    into: &mut Vec<Question<'i>>,
+) -> Result<(), AllocError>
+    requires { AreNumbered (T.matches matching.old).pattern nodes.now }
+    ensures same { OnOk result (T.matches matching.new ≡ T.matches matching.old) }
+    ensures put { OnOk result ((k : List ℕ) → Puts (name_at k (map by_pattern nodes.now)) into.old.items into.new.items
+        (map alone (flat_map (λ p. matching_of (T.matches matching.old).reads k p (listed members.now)) (map by_pattern nodes.now)))) }
+{
+    for (index, node) in nodes.iter().enumerate() {
+        push_matched(index, node, members, matching, into)?;
+    }
+    Ok(())
+}
+
+// Each member by the node of each pattern that matches its name.
+pub(crate) fn push_matching<'i, T: Matching>(
+    nodes: &[PatternNode],
+    place: Place<'i>,
+    matching: &mut T,
+    into: &mut Vec<Question<'i>>,
+) -> Result<(), AllocError>
+    requires { AreNumbered (T.matches matching.old).pattern nodes.now }
+    ensures same { OnOk result (T.matches matching.new ≡ T.matches matching.old) }
+    ensures put { OnOk result ((k : List ℕ) → Puts (name_at k (map by_pattern nodes.now)) into.old.items into.new.items
+        (map alone (each_matching (T.matches matching.old).reads k (value_at place.entry) (map by_pattern nodes.now)))) }
+{
+    match object_at(place) {
+        Some(members) => push_each_matched(nodes, members, matching, into),
+        None => Ok(()),
+    }
+}
+
+fn push_others_of<'i, T: Matching>(
+    declared: &Declared,
+    node: usize,
+    members: &'i Map<String, Value>,
+    matching: &mut T,
+    into: &mut Vec<Question<'i>>,
+) -> Result<(), AllocError>
+    requires { AllNumbered (T.matches matching.old).pattern declared.now.patterns.items }
+    ensures same { OnOk result (T.matches matching.new ≡ T.matches matching.old) }
+    ensures put { OnOk result ((k : List ℕ) → Puts (whole_at k) into.old.items into.new.items
+        (map alone (each_member k node (others_among (T.matches matching.old).reads (declared_by declared.now) (listed members.now))))) }
+{
+    for (name, member) in members.iter() {
+        let name = name.as_str();
+        if !is_declared(declared, name, matching)? {
+            into.push(Question {
+                node,
+                asked: Asked::Member { name, member },
+                follows: false,
+                beside: true,
+                entry: 0,
+            })?;
+        }
+    }
+    Ok(())
+}
+
+// Each member that is not declared by one node.
+pub(crate) fn push_others<'i, T: Matching>(
+    declared: &Declared,
+    node: usize,
+    place: Place<'i>,
+    matching: &mut T,
+    into: &mut Vec<Question<'i>>,
+) -> Result<(), AllocError>
+    requires { AllNumbered (T.matches matching.old).pattern declared.now.patterns.items }
+    ensures same { OnOk result (T.matches matching.new ≡ T.matches matching.old) }
+    ensures put { OnOk result ((k : List ℕ) → Puts (whole_at k) into.old.items into.new.items
+        (map alone (each_member k node (other_members (T.matches matching.old).reads (declared_by declared.now) (value_at place.entry))))) }
+{
+    match object_at(place) {
+        Some(members) => push_others_of(declared, node, members, matching, into),
+        None => Ok(()),
+    }
+}
