@@ -29,6 +29,7 @@ pub mod Vocabularies
 pub mod Neighbours
 pub mod Lines
 pub mod Lookups
+pub mod Siblings
 pub mod Refusals
 pub mod Dialects
 pub mod Pointers

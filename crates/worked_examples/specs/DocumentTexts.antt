@@ -6,6 +6,7 @@ use Rattle.json_values.specs.Parts.{Part}
 use Rattle.json_values.specs.Pointers.{part_text}
 use Rattle.schema_drafts.specs.declared.draft.Draft.{Draft}
 use Rattle.schema_definitions.specs.Words.{or}
+use Rattle.schema_definitions.specs.Places.{Dialect, standard}
 use Rattle.schema_definitions.specs.Bearers.{Document, Documents}
 use Rattle.schema_definitions.specs.Lookup.{LookupCause, Target, lookup}
 use Rattle.schema_meaning.specs.Places.{whole}
@@ -18,12 +19,13 @@ use Rattle.schema_definitions.specs.Plain.{plain}
 abbrev pub json : List ℕ → Data
 json text = or null (read text)
 
-abbrev pub document : Draft → List ℕ × List ℕ → Document
-document draft d = record { uri = d.0; contents = json d.1; default = draft }
+-- a URI and a text, in a layer
+abbrev pub document : ℕ → Dialect → List ℕ × List ℕ → Document
+document layer default d = record { layer = layer; uri = d.0; contents = json d.1; default = default }
 
--- documents without parents, each a URI and a text
+-- documents without parents; what stands beside `$ref` is ignored where the draft says so
 abbrev pub documents : Draft → List (List ℕ × List ℕ) → Documents
-documents draft ds = map (document draft) ds ∷ []
+documents draft ds = map (document 0 (standard false draft)) ds
 
 -- the text of a path that has its last part first
 abbrev pub spelled : List Part → List ℕ

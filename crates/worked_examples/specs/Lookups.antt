@@ -5,7 +5,7 @@ use Rattle.schema_drafts.specs.declared.draft.Draft.TheVariants.{Draft7, Draft20
 use Rattle.schema_definitions.specs.Words.{result_map}
 use Rattle.schema_definitions.specs.Lookup.{LookupCause, unretrievable, pointer_to_nowhere, invalid_percent_encoding, invalid_array_index, no_such_anchor, invalid_anchor, invalid_uri, Target, lookup}
 use Rattle.schema_definitions.specs.Scopes.{dynamic_lookup}
-use Rattle.schema_definitions.specs.Bearers.{Documents}
+use Rattle.schema_definitions.specs.Bearers.{Documents, uri_in}
 use Rattle.schema_definitions.specs.DocumentCauses.{DocumentCause, no_reference, unretrieved, unknown_specification, circular_metaschema, document_causes}
 use Rattle.worked_examples.specs.DocumentTexts.{documents, spelled}
 
@@ -19,7 +19,7 @@ pub record Lookup : Type 0 where
   pub answer : Result (List ℕ × List ℕ × List ℕ) LookupCause
 
 abbrev pub told_of : Target → List ℕ × List ℕ × List ℕ
-told_of t = (t.document, spelled t.path, t.base)
+told_of t = (uri_in t.document, spelled t.path, t.base)
 
 abbrev pub by_scope : Documents → List ℕ → List ℕ → Option (List (List ℕ)) → Result Target LookupCause
 by_scope docs base reference None = lookup docs base reference

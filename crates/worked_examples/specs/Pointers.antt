@@ -1,7 +1,8 @@
 -- Documents, the JSON Pointers of their schema places, and the references by which these are looked up.
-use Rattle.std.specs.Prelude.{◌≡◌, ℕ, List, [], ◌∷◌, map, codes}
+use Rattle.std.specs.Prelude.{◌≡◌, ℕ, List, [], ◌∷◌, false, map, codes}
 use Rattle.schema_drafts.specs.declared.draft.Draft.{Draft}
 use Rattle.schema_drafts.specs.declared.draft.Draft.TheVariants.{Draft7, Draft202012}
+use Rattle.schema_definitions.specs.Places.{standard}
 use Rattle.schema_definitions.specs.Bearers.{Document}
 use Rattle.schema_registries.specs.Pointers.{pointers_of, reference_to}
 use Rattle.worked_examples.specs.DocumentTexts.{document}
@@ -15,7 +16,7 @@ abbrev pub told_of : Document → List (List ℕ × List ℕ)
 told_of d = map (λ k. (k, reference_to k)) (pointers_of (d ∷ []) d)
 
 abbrev pub HasPointers : Pointed → Type 0
-HasPointers p = told_of (document p.draft (codes "http://a.test/d", p.text)) ≡ p.pointers
+HasPointers p = told_of (document 0 (standard false p.draft) (codes "http://a.test/d", p.text)) ≡ p.pointers
 
 abbrev pub pointed : List Pointed
 pointed =

@@ -6,6 +6,7 @@ ghost use Rattle.worked_examples.specs.Lines.{Written, lines, InputsAreCut};
 ghost use Rattle.worked_examples.specs.Lookups.{Answers, lookups, Refuses, refusals};
 ghost use Rattle.worked_examples.specs.Pointers.{HasPointers, pointed};
 ghost use Rattle.worked_examples.specs.Rows.{Holds, references, scopes, vocabularies, neighbours};
+ghost use Rattle.worked_examples.specs.Siblings.{IsRead, besides, LeadsTo, layered};
 
 /// References within a document and between documents.
 pub fn references_hold()
@@ -30,6 +31,16 @@ pub fn dialects_hold()
 /// Keywords that read their neighbours.
 pub fn neighbours_hold()
     ensures { AllByRecursion Holds neighbours }
+{}
+
+/// What stands beside `$ref` in Drafts 4, 6 and 7, ignored, and read by the option.
+pub fn siblings_hold()
+    ensures { AllByRecursion IsRead besides }
+{}
+
+/// Documents of two layers: an own one counts before a parent's, and both are there.
+pub fn layers_hold()
+    ensures { AllByRecursion LeadsTo layered }
 {}
 
 /// References looked up: pointers, anchors, bases, and why others lead nowhere.
