@@ -82,7 +82,7 @@ fn told(rt: &impl Abort, alloc: Global, draft: Draft, schema: &str, name: &str) 
     let members = schema.as_object().expect(rt, "an object");
     let value = members.get(name).expect(rt, "a member");
     let neighbours = Neighbours {
-        dialect: Dialect::standard(draft),
+        dialect: Dialect::standard(false, draft),
         members,
     };
     match read_member(neighbours, name, value) {

@@ -255,7 +255,7 @@ fn sets_are_found(rt: HostRuntime) {
 }
 
 fn dialect_of(rt: &impl Abort, alloc: Global, draft: Draft, text: &str) -> Dialect {
-    Dialect::by_meta_schema(draft, &json(rt, alloc, text))
+    Dialect::standard(false, draft).by_meta_schema(&json(rt, alloc, text))
 }
 
 #[test]
@@ -266,11 +266,11 @@ fn dialects(rt: HostRuntime) {
     assert!(rt; dialect.counts(false, "$ref"));
     assert!(rt; !dialect.counts(false, "minimum"));
     assert!(rt; !dialect.counts(false, "unevaluatedItems"));
-    assert!(rt; dialect != Dialect::standard(Draft::Draft202012));
+    assert!(rt; dialect != Dialect::standard(false, Draft::Draft202012));
     assert!(rt; dialect == dialect_of(&rt, alloc, Draft::Draft202012, ALIKE));
     assert!(rt; dialect != dialect_of(&rt, alloc, Draft::Draft201909, ALIKE));
     let whole = dialect_of(&rt, alloc, Draft::Draft7, r#"{"$vocabulary": true}"#);
-    assert!(rt; whole == Dialect::standard(Draft::Draft7));
+    assert!(rt; whole == Dialect::standard(false, Draft::Draft7));
     assert!(rt; !whole.counts(true, "type"));
     assert!(rt; whole.counts(true, "$ref"));
 }
@@ -285,10 +285,10 @@ fn meta_schemas_by_their_uris(rt: HostRuntime) {
         ("urn:b", Draft::Draft6),
         ("urn:a", Draft::Draft7),
     ] {
-        let dialect = Dialect::standard(draft);
+        let dialect = Dialect::standard(false, draft);
         known.insert(alloc, uri, dialect).expect(&rt, "memory");
     }
-    assert!(rt; known.get("urn:a") == Some(Dialect::standard(Draft::Draft7)));
-    assert!(rt; known.get("urn:b") == Some(Dialect::standard(Draft::Draft6)));
+    assert!(rt; known.get("urn:a") == Some(Dialect::standard(false, Draft::Draft7)));
+    assert!(rt; known.get("urn:b") == Some(Dialect::standard(false, Draft::Draft6)));
     assert!(rt; known.get("urn:c").is_none());
 }

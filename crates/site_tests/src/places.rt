@@ -86,7 +86,8 @@ fn write_place(rt: &impl Abort, lines: &mut String, place: &Place<'_>) {
 fn write_places(rt: &impl Abort, alloc: Global, lines: &mut String, uri: &Rc<Uri>, text: &str) {
     let contents = Value::from_str(alloc, text).expect(rt, "JSON");
     let known = MetaSchemas::none(alloc);
-    let found = places(alloc, &known, uri, Draft::Draft202012, &contents);
+    let default = Dialect::standard(false, Draft::Draft202012);
+    let found = places(alloc, &known, uri, default, &contents);
     for place in &found.expect(rt, "memory") {
         write_place(rt, lines, place);
     }
@@ -110,7 +111,8 @@ fn roots_share_bases(rt: HostRuntime) {
     let contents = Value::from_str(alloc, NESTED).expect(&rt, "JSON");
     let uri = uri_of(&rt, alloc, "http://a.test/");
     let known = MetaSchemas::none(alloc);
-    let whole = root(alloc, &known, &uri, Draft::Draft4, &contents).expect(&rt, "memory");
+    let default = Dialect::standard(false, Draft::Draft4);
+    let whole = root(alloc, &known, &uri, default, &contents).expect(&rt, "memory");
     assert!(rt; Rc::ptr_eq(&uri, &whole.base));
     assert!(rt; whole.dialect.draft == Draft::Draft4);
 }
@@ -133,7 +135,7 @@ pub(crate) fn entered<'d>(
     let uri = uri_of(rt, alloc, "http://a.test/");
     let path = path_of(rt, alloc, names);
     let known = MetaSchemas::none(alloc);
-    let dialect = Dialect::standard(Draft::Draft6);
+    let dialect = Dialect::standard(false, Draft::Draft6);
     enter(alloc, &known, &uri, dialect, path, contents).expect(rt, "memory")
 }
 

@@ -1,7 +1,7 @@
 // What pointers lead to from the root of a document: the pointer of the value, its base, its draft, and whether it is a schema place.
 use crate::places::{entered, uri_of};
 use crate::rows::assert_text;
-use schema_dialects::MetaSchemas;
+use schema_dialects::{Dialect, MetaSchemas};
 use schema_drafts::draft::Draft;
 use schema_places::place::{Place, root};
 use schema_places::reached::{Reached, follow_pointer};
@@ -94,7 +94,8 @@ fn written(rt: &impl Abort, alloc: Global, from: &Place<'_>, fragment: &str) -> 
 fn root_of<'d>(rt: &impl Abort, alloc: Global, contents: &'d Value) -> Place<'d> {
     let uri = uri_of(rt, alloc, "http://a.test/root.json");
     let known = MetaSchemas::none(alloc);
-    root(alloc, &known, &uri, Draft::Draft202012, contents).expect(rt, "memory")
+    let default = Dialect::standard(false, Draft::Draft202012);
+    root(alloc, &known, &uri, default, contents).expect(rt, "memory")
 }
 
 fn assert_leads(rt: &impl Abort, alloc: Global, contents: &Value, rows: &str) {
