@@ -130,3 +130,27 @@ fn no_child_is_behind_the_last(rt: HostRuntime) {
     assert!(rt; children.next().is_none());
     assert!(rt; children.next().is_none());
 }
+
+// The schemas beside a reference, ignored and read.
+const BESIDE: &str = r##"{"$ref":"#/definitions/s","not":{"a":1},"definitions":{"s":{"b":2}}}"##;
+
+const READ: [(Draft, bool, usize); 6] = [
+    (Draft::Draft4, true, 1),
+    (Draft::Draft6, false, 1),
+    (Draft::Draft6, true, 2),
+    (Draft::Draft7, false, 1),
+    (Draft::Draft7, true, 2),
+    (Draft::Draft202012, false, 2),
+];
+
+#[test]
+fn siblings_of_references(rt: HostRuntime) {
+    let schema = Value::from_str(rt.alloc(), BESIDE).expect(&rt, "JSON");
+    for (draft, siblings, want) in READ {
+        let mut count: usize = 0;
+        for _child in draft.subresources_with(&schema, siblings) {
+            count = count.saturating_add(1);
+        }
+        assert_eq!(rt; count, want);
+    }
+}
