@@ -181,7 +181,6 @@ module _ {S : Type 0} (r : Reading S) (n : ℕ) where
       let of = keyword_told x v a.0 a.1 (every p notes qs) i in
       let known = all_known-in ask qs of.0 of.1 q j in
       (known.0, known.1, among_by (among_each of.0 known.0 known.2) (among_by (among_last (own_faults v (r.schema_path x) p notes) (join of.0)) (among_by of.2 a.2)))
-
   told_there from start fs e s w (beside {s = x} {w = v} t q cs i b decided c j) =
       let a = told_there from start fs e x v t in
       let ask : Question S → Option Faults = λ q. told bags r n q.site (asked_at v q) in
@@ -191,7 +190,7 @@ module _ {S : Type 0} (r : Reading S) (n : ℕ) where
       let same : is_none k.0 ≡ b = told_once verdicts r n decided.unfoldings q.site (asked_at v q) (is_none k.0) b verdict decided.is in
       let one = chosen_known ask b cs k.1 k.3 c j in
       let among : AreAmong (join (chosen (is_none k.0) cs k.1)) a.0 =
-          subst (λ answers. AreAmong (faults (conditional q cs) v (r.schema_path x) answers) a.0) k.4 of.2 in
+      subst (λ answers. AreAmong (faults (conditional q cs) v (r.schema_path x) answers) a.0) k.4 of.2 in
       (one.0, one.1, among_by (among_each (chosen b cs k.1) one.0 one.2) (among_by (subst (λ o. AreAmong (join (chosen o cs k.1)) a.0) same among) a.2))
 
   pub missing_told : (from : S) (start : Spot) (fs : Faults) → told bags r n from start ≡ Some fs → (s : S) (w : Spot) → IsToldAt r from start s w

@@ -20,17 +20,35 @@ returns-clause-app c =
 pub returns-clause-schema : goal.returns-clause-schema
 returns-clause-schema c =
     let id = λ (r : Rule). r.id in
-    IfOk-weaker c.arg-6.result _ _ (λ m h. has_schema c.schema.result c.files.result c.base.result c.draft.result c.meta.result c.ref_siblings.result c.no_binary_name.result m
-    (c.in_ok-arg.field-0, c.in_ok-arg.ensures, (c.in_ok-arg-2.field-0, c.in_ok-arg-2.ensures, (c.in_ok-arg-3.field-0, c.in_ok-arg-3.ensures,
-    (c.in_ok-arg-4.field-0, c.in_ok-arg-4.ensures, (c.in_ok-arg-5.field-0, c.in_ok-arg-5.ensures, (m, h, refl))))))
+    IfOk-weaker c.arg-6.result _ _ (λ m h. has_schema c.schema.result c.files.result c.base.result c.draft.result c.meta.result c.ref_siblings.result c.no_binary_name.result m (
+      c.in_ok-arg.field-0,
+      c.in_ok-arg.ensures,
+      (
+        c.in_ok-arg-2.field-0,
+        c.in_ok-arg-2.ensures,
+        (
+          c.in_ok-arg-3.field-0,
+          c.in_ok-arg-3.ensures,
+          (c.in_ok-arg-4.field-0, c.in_ok-arg-4.ensures, (c.in_ok-arg-5.field-0, c.in_ok-arg-5.ensures, (m, h, refl))),
+        ),
+      ),
+    )
     (search rules) (search rules) (search rules) (search rules)
     (record {
-      first = c.schema.ensures.fits; second = c.files.ensures.fits; third = c.base.ensures.fits;
-      fourth = c.draft.ensures.fits; fifth = c.meta.ensures.fits; sixth = c.ref_siblings.ensures.fits;
+      first = c.schema.ensures.fits;
+      second = c.files.ensures.fits;
+      third = c.base.ensures.fits;
+      fourth = c.draft.ensures.fits;
+      fifth = c.meta.ensures.fits;
+      sixth = c.ref_siblings.ensures.fits;
     })
     c.schema.ensures.value
     (record {
-      first = ap id c.schema.ensures.rule; second = ap id c.files.ensures.rule; third = ap id c.base.ensures.rule;
-      fourth = ap id c.draft.ensures.rule; fifth = ap id c.meta.ensures.rule; sixth = ap id c.ref_siblings.ensures.rule;
+      first = ap id c.schema.ensures.rule;
+      second = ap id c.files.ensures.rule;
+      third = ap id c.base.ensures.rule;
+      fourth = ap id c.draft.ensures.rule;
+      fifth = ap id c.meta.ensures.rule;
+      sixth = ap id c.ref_siblings.ensures.rule;
     }))
     c.arg-6.ensures
