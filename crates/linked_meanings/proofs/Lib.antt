@@ -9,3 +9,4 @@ pub mod LinkedPairs
 pub mod CutDiffers
 pub mod Moved
 pub mod RelatedCut
+pub mod Composed
