@@ -1,15 +1,17 @@
 -- Sites that are alike read alike.
-use Rattle.std.proofs.Common.{◌≡◌, ◌∙◌, ℕ, List, Bool, refl, sym, ap, subst}
-use Rattle.std.specs.List.{AllZip}
+use Rattle.std.proofs.Common.{◌≡◌, ◌∙◌, ℕ, List, [], ◌∷◌, Bool, refl, sym, ap, subst}
+use Rattle.std.specs.List.{AllZip, flat_map}
 use Rattle.json_values.specs.Parts.{Part}
 use Rattle.schema_definitions.specs.Bearers.{Documents}
 use Rattle.schema_definitions.specs.CompileKeys.{scope_key}
-use Rattle.schema_definitions.specs.Rows.{rows_at}
+use Rattle.schema_definitions.specs.Rows.{Row, rows_at}
 use Rattle.schema_definitions.specs.Sites.{Site}
 use Rattle.document_laws.proofs.Keys.{keys_decide}
 use Rattle.document_laws.specs.ScopeLaws.{IsPresent}
 use Rattle.reading_laws.proofs.SiteRows.{rows_in_alike}
-use Rattle.reading_laws.specs.SiteLaws.{AreAlike, RowsAgree, ReadAlike, AlikeReadAlike}
+use Rattle.linked_meanings.specs.Related.{RelatedShape}
+use Rattle.reading_laws.proofs.Results.{zip_append}
+use Rattle.reading_laws.specs.SiteLaws.{AreAlike, RowsAgree, ReadAlike, AlikeReadAlike, AlikeHaveKeywords}
 
 -- a site with another scope and another schema path
 abbrev moved : Site → List (List ℕ) → List Part → Site
@@ -36,3 +38,13 @@ module _ (docs : Documents) (makes : List ℕ → Bool) (s t : Site) (a : AreAli
 
 pub alike_read_alike : AlikeReadAlike
 alike_read_alike = read_alike
+
+same_keywords : (docs : Documents) (rs qs : List Row) → AllZip (RowsAgree docs) rs qs → AllZip (RelatedShape (AreAlike docs)) (flat_map (λ r. r.shapes) rs) (flat_map (λ r. r.shapes) qs)
+same_keywords docs [] [] z = tt
+same_keywords docs [] (q ∷ qs) z = absurd z
+same_keywords docs (r ∷ rs) [] z = absurd z
+same_keywords docs (r ∷ rs) (q ∷ qs) z =
+    zip_append (RelatedShape (AreAlike docs)) r.shapes q.shapes (flat_map (λ x. x.shapes) rs) (flat_map (λ x. x.shapes) qs) z.0.shapes (same_keywords docs rs qs z.1)
+
+pub alike_have_keywords : AlikeHaveKeywords
+alike_have_keywords docs makes s t a = same_keywords docs (rows_at docs makes s) (rows_at docs makes t) (read_alike docs makes s t a).rows

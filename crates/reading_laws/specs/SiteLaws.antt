@@ -6,7 +6,9 @@ use Rattle.schema_definitions.specs.Sites.{Site}
 use Rattle.schema_definitions.specs.Rows.{BuildCause, Row, rows_at}
 use Rattle.schema_definitions.specs.BuildCauses.{Reached, IsCauseOf}
 use Rattle.schema_definitions.specs.CompileKeys.{scope_key}
+use Rattle.schema_definitions.specs.Plain.{keywords_at}
 use Rattle.document_laws.specs.ScopeLaws.{IsPresent}
+use Rattle.linked_meanings.specs.Related.{RelatedShape}
 use Rattle.reading_laws.specs.Spelled.{spelled}
 
 -- sites of one place with one base, one dialect, one scope key and schema paths of one text; the rest of their scopes may differ
@@ -28,10 +30,11 @@ AlikeIsEquivalence =
     × ((s t : Site) → AreAlike docs s t → AreAlike docs t s)
     × ((s t u : Site) → AreAlike docs s t → AreAlike docs t u → AreAlike docs s u)
 
--- the same causes, and leads that are alike one by one
+-- the same causes, leads that are alike one by one, and the same keywords over sites that are alike
 pub record RowsAgree (docs : Documents) (r q : Row) : Type 0 where
   pub causes : r.causes ≡ q.causes
   pub leads : AllZip (AreAlike docs) r.leads q.leads
+  pub shapes : AllZip (RelatedShape (AreAlike docs)) r.shapes q.shapes
 
 -- what stands at two sites agrees row by row
 pub record ReadAlike (docs : Documents) (makes : List ℕ → Bool) (s t : Site) : Type 0 where
@@ -48,3 +51,8 @@ AlikeReachAlike = (docs : Documents) (makes : List ℕ → Bool) (s t : Site) �
 abbrev pub AlikeHaveCauses : Type 0
 AlikeHaveCauses = (docs : Documents) (makes : List ℕ → Bool) (s t : Site) → AreAlike docs s t
     → (c : BuildCause) → IsCauseOf docs makes s c → IsCauseOf docs makes t c
+
+-- the same keywords over sites that are alike, in their order
+abbrev pub AlikeHaveKeywords : Type 0
+AlikeHaveKeywords = (docs : Documents) (makes : List ℕ → Bool) (s t : Site) → AreAlike docs s t
+    → AllZip (RelatedShape (AreAlike docs)) (keywords_at docs makes s) (keywords_at docs makes t)

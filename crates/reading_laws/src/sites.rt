@@ -1,12 +1,12 @@
 //! What of a site the schemas reached from it depend on. The functions cost nothing to call.
-ghost use Rattle.reading_laws.specs.SiteLaws.{AlikeIsEquivalence, AlikeReadAlike, AlikeReachAlike, AlikeHaveCauses};
+ghost use Rattle.reading_laws.specs.SiteLaws.{AlikeIsEquivalence, AlikeReadAlike, AlikeReachAlike, AlikeHaveCauses, AlikeHaveKeywords};
 
 /// Being alike is an equivalence of sites whose base is the present resource of their scope.
 pub fn alike_is_equivalence()
     ensures { AlikeIsEquivalence }
 {}
 
-/// Sites that are alike have the same causes and lead to sites that are alike, row by row.
+/// Sites that are alike have the same causes, lead to sites that are alike and have the same keywords over such sites, row by row.
 pub fn alike_read_alike()
     ensures { AlikeReadAlike }
 {}
@@ -19,4 +19,9 @@ pub fn alike_reach_alike()
 /// A cause of a build from one of two sites that are alike is one from the other.
 pub fn alike_have_causes()
     ensures { AlikeHaveCauses }
+{}
+
+/// At two sites that are alike stand the same keywords, in their order, over sites that are alike.
+pub fn alike_have_keywords()
+    ensures { AlikeHaveKeywords }
 {}
