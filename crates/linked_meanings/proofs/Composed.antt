@@ -27,6 +27,9 @@ module _ {S T : Type 0} (P Q : S → T → Type 0) (more : (s : S) (t : T) → P
   named_so : (ps : List (List ℕ × S)) (qs : List (List ℕ × T)) → AllZip (RelatedBeside P) ps qs → AllZip (RelatedBeside Q) ps qs
   named_so = zipped (RelatedBeside P) (RelatedBeside Q) (λ p q h. (h.0, more p.1 q.1 h.1))
 
+  entries_so : (ps : List (List ℕ × Dependency S)) (qs : List (List ℕ × Dependency T)) → AllZip (RelatedEntry P) ps qs → AllZip (RelatedEntry Q) ps qs
+  entries_so = zipped (RelatedEntry P) (RelatedEntry Q) entry_so
+
   pub shape_so : (k : Shape S) (h : Shape T) → RelatedShape P k h → RelatedShape Q k h
   shape_so k h related_never = related_never
   shape_so k h related_asserts = related_asserts
@@ -44,7 +47,7 @@ module _ {S T : Type 0} (P Q : S → T → Type 0) (more : (s : S) (t : T) → P
   shape_so k h (related_property_names {s} {t} l) = related_property_names (more s t l)
   shape_so k h (related_no_property_names {s} {t} l) = related_no_property_names (more s t l)
   shape_so k h (related_dependent_schemas {ps} {qs} l) = related_dependent_schemas (named_so ps qs l)
-  shape_so k h (related_dependencies {ps} {qs} l) = related_dependencies (zipped (RelatedEntry P) (RelatedEntry Q) entry_so ps qs l)
+  shape_so k h (related_dependencies {ps} {qs} l) = related_dependencies (entries_so ps qs l)
   shape_so k h (related_all_of {ss} {ts} l) = related_all_of (sites_so ss ts l)
   shape_so k h (related_any_of {ss} {ts} l) = related_any_of (sites_so ss ts l)
   shape_so k h (related_one_of {ss} {ts} l) = related_one_of (sites_so ss ts l)
@@ -89,6 +92,10 @@ module _ {S T U : Type 0} (P : S → T → Type 0) (Q : T → U → Type 0) (R :
       → AllZip (RelatedBeside R) ps rs
   named_through = zip_through (RelatedBeside P) (RelatedBeside Q) (RelatedBeside R) (λ p q r h g. (h.0 ∙ g.0, through p.1 q.1 r.1 h.1 g.1))
 
+  entries_through : (ps : List (List ℕ × Dependency S)) (qs : List (List ℕ × Dependency T)) (rs : List (List ℕ × Dependency U))
+      → AllZip (RelatedEntry P) ps qs → AllZip (RelatedEntry Q) qs rs → AllZip (RelatedEntry R) ps rs
+  entries_through = zip_through (RelatedEntry P) (RelatedEntry Q) (RelatedEntry R) entry_through
+
   pub shape_through : (k : Shape S) (h : Shape T) (g : Shape U) → RelatedShape P k h → RelatedShape Q h g → RelatedShape R k g
   shape_through k h g related_never related_never = related_never
   shape_through k h g related_asserts related_asserts = related_asserts
@@ -106,7 +113,7 @@ module _ {S T U : Type 0} (P : S → T → Type 0) (Q : T → U → Type 0) (R :
   shape_through k h g (related_property_names {s} {t} l) (related_property_names {t = u} m) = related_property_names (through s t u l m)
   shape_through k h g (related_no_property_names {s} {t} l) (related_no_property_names {t = u} m) = related_no_property_names (through s t u l m)
   shape_through k h g (related_dependent_schemas {ps} {qs} l) (related_dependent_schemas {qs = rs} m) = related_dependent_schemas (named_through ps qs rs l m)
-  shape_through k h g (related_dependencies {ps} {qs} l) (related_dependencies {qs = rs} m) = related_dependencies (zip_through (RelatedEntry P) (RelatedEntry Q) (RelatedEntry R) entry_through ps qs rs l m)
+  shape_through k h g (related_dependencies {ps} {qs} l) (related_dependencies {qs = rs} m) = related_dependencies (entries_through ps qs rs l m)
   shape_through k h g (related_all_of {ss} {ts} l) (related_all_of {ts = us} m) = related_all_of (sites_through ss ts us l m)
   shape_through k h g (related_any_of {ss} {ts} l) (related_any_of {ts = us} m) = related_any_of (sites_through ss ts us l m)
   shape_through k h g (related_one_of {ss} {ts} l) (related_one_of {ts = us} m) = related_one_of (sites_through ss ts us l m)

@@ -39,7 +39,8 @@ module _ (docs : Documents) (makes : List ℕ → Bool) (s t : Site) (a : AreAli
 pub alike_read_alike : AlikeReadAlike
 alike_read_alike = read_alike
 
-same_keywords : (docs : Documents) (rs qs : List Row) → AllZip (RowsAgree docs) rs qs → AllZip (RelatedShape (AreAlike docs)) (flat_map (λ r. r.shapes) rs) (flat_map (λ r. r.shapes) qs)
+same_keywords : (docs : Documents) (rs qs : List Row) → AllZip (RowsAgree docs) rs qs
+    → AllZip (RelatedShape (AreAlike docs)) (flat_map (λ r. r.shapes) rs) (flat_map (λ r. r.shapes) qs)
 same_keywords docs [] [] z = tt
 same_keywords docs [] (q ∷ qs) z = absurd z
 same_keywords docs (r ∷ rs) [] z = absurd z

@@ -109,8 +109,9 @@ module _ (docs : Documents) (makes : List ℕ → Bool) (s : Site) (scope : List
     in_members k no_members = right tt
     in_members k (member l d ns) = both_more Named (one_named k l d) (in_members k ns)
 
-    rows_agree : {A : Type 0} (R : A → A → Type 0) (leads : A → List Site) (shapes more : A → List (Shape Site)) → ((x y : A) → R x y → AllZip (AreAlike docs) (leads x) (leads y))
-        → ((x y : A) → R x y → AllSame (shapes x) (more y)) → {r q : Result A (List BuildCause)} → Both R r q → Agree (row_of leads shapes r) (row_of leads more q)
+    rows_agree : {A : Type 0} (R : A → A → Type 0) (leads : A → List Site) (shapes more : A → List (Shape Site))
+        → ((x y : A) → R x y → AllZip (AreAlike docs) (leads x) (leads y)) → ((x y : A) → R x y → AllSame (shapes x) (more y))
+        → {r q : Result A (List BuildCause)} → Both R r q → Agree (row_of leads shapes r) (row_of leads more q)
     rows_agree R leads shapes more f g (right {x = x} {y = y} h) = record { causes = refl; leads = f x y h; shapes = g x y h }
     rows_agree R leads shapes more f g wrong = record { causes = refl; leads = tt; shapes = tt }
 
@@ -138,12 +139,12 @@ module _ (docs : Documents) (makes : List ℕ → Bool) (s : Site) (scope : List
     judged k word shapes f None = none_read _
     judged k word shapes f (Some x) = none_led (shapes x) (f x)
 
-    assertions : {A : Type 0} (k word : List ℕ) (a : A → Assertion) (o : Option A) → Agree (asserted one k word (λ x. assertion (a x)) o) (asserted other k word (λ x. assertion (a x)) o)
+    assertions : {A : Type 0} (k word : List ℕ) (a : A → Assertion) (o : Option A)
+        → Agree (asserted one k word (λ x. assertion (a x)) o) (asserted other k word (λ x. assertion (a x)) o)
     assertions k word a o = judged k word (λ x. assertion (a x)) (λ x. (related_asserts, tt)) o
 
     strict_limits : (k : List ℕ) (a : ℤ → Assertion) (d : Data) → Agree (strict_limit one k a d) (strict_limit other k a d)
-    strict_limits k a d =
-        either (is_draft_4 s.dialect.draft) _ _ _ _ (none_read []) (assertions k (codes "number") a (whole_number d))
+    strict_limits k a d = either (is_draft_4 s.dialect.draft) _ _ _ _ (none_read []) (assertions k (codes "number") a (whole_number d))
 
     patterns : (k : List ℕ) (o : Option (List ℕ)) → Agree (pattern_row one k o) (pattern_row other k o)
     patterns k None = none_read _
@@ -186,8 +187,12 @@ module _ (docs : Documents) (makes : List ℕ → Bool) (s : Site) (scope : List
 
     other_rows : (k : List ℕ) (d : Data) → Agree (additional_properties_row one k d) (additional_properties_row other k d)
     other_rows k (boolean true) = none_read []
-    other_rows k (boolean false) = ones k (λ x. refuses_others one x ∷ []) (λ x. refuses_others other x ∷ []) (λ x y h. (refused_others (is_alone one) (declared_beside one) x y h, tt)) (boolean false)
-    other_rows k (object ns) = ones k (λ x. additional_properties (declared_beside one) x ∷ []) (λ x. additional_properties (declared_beside other) x ∷ []) (λ x y h. (related_additional_properties h, tt)) (object ns)
+    other_rows k (boolean false) =
+        ones k (λ x. refuses_others one x ∷ []) (λ x. refuses_others other x ∷ [])
+        (λ x y h. (refused_others (is_alone one) (declared_beside one) x y h, tt)) (boolean false)
+    other_rows k (object ns) =
+        ones k (λ x. additional_properties (declared_beside one) x ∷ []) (λ x. additional_properties (declared_beside other) x ∷ [])
+        (λ x y h. (related_additional_properties h, tt)) (object ns)
     other_rows k d = none_read _
 
     with_more : (bs : List BuildCause) (r q : Row) → Agree r q → Agree (with_causes bs r) (with_causes bs q)
@@ -219,7 +224,8 @@ module _ (docs : Documents) (makes : List ℕ → Bool) (s : Site) (scope : List
     abbrev Applied : Entry → Entry → Type 0
     Applied p q = RelatedEntry (AreAlike docs) p q
 
-    needed : (l : List ℕ) (r : Result (List (List ℕ)) (List BuildCause)) → Both Applied (result_map (λ names. (l, needs names)) r) (result_map (λ names. (l, needs names)) r)
+    needed : (l : List ℕ) (r : Result (List (List ℕ)) (List BuildCause))
+        → Both Applied (result_map (λ names. (l, needs names)) r) (result_map (λ names. (l, needs names)) r)
     needed l (Ok names) = right (refl, related_needs)
     needed l (Err causes) = wrong
 
@@ -269,7 +275,8 @@ module _ (docs : Documents) (makes : List ℕ → Bool) (s : Site) (scope : List
     beside_alike k (Some d) = both_right_sites (subschemas (at k) d)
 
     conditions : (x y : Site) → AreAlike docs x y
-        → Same (condition x (schema_beside one (codes "then")) (schema_beside one (codes "else"))) (condition y (schema_beside other (codes "then")) (schema_beside other (codes "else")))
+        → Same (condition x (schema_beside one (codes "then")) (schema_beside one (codes "else")))
+        (condition y (schema_beside other (codes "then")) (schema_beside other (codes "else")))
     conditions x y h =
         related_condition h (beside_alike (codes "then") (beside one (codes "then"))) (beside_alike (codes "else") (beside one (codes "else")))
 
