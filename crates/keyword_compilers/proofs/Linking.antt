@@ -1,8 +1,7 @@
 -- A keyword that is read and what it is compiled to, over sites and the nodes that they are linked with.
-use Rattle.std.proofs.Common.{◌≡◌, ◌∙◌, ap, not, true, false, ℕ, List, [], ◌∷◌, Option, None, Some, option_map, codes, refl}
+use Rattle.std.proofs.Common.{◌≡◌, ◌∙◌, ap, not, true, false, ℕ, List, [], ◌∷◌, Option, None, Some, refl}
 use Rattle.std.specs.List.{AllZip}
 use Rattle.serde_json.specs.Data.{Data, null, boolean, number, string, array, object, Members, no_members, member}
-use Rattle.serde_json.specs.View.{view}
 use Rattle.json_values.specs.Parts.{Part}
 use Rattle.schema_definitions.specs.Bearers.{Documents}
 use Rattle.schema_definitions.specs.Rows.{sites_named, sites_applied, member_names}
@@ -16,7 +15,7 @@ use Rattle.applicators.proofs.Asking.{choosing}
 use Rattle.applicators.specs.Lent as lent
 use Rattle.applicators.specs.Sites.{sites_of_map, dependencies_in}
 use Rattle.applicators.specs.declared.asks.AsksOf.TheVariants as asks
-use Rattle.schema_sites.specs.Read.{leads_of, shapes_of}
+use Rattle.schema_sites.specs.Read.{shapes_of}
 use Rattle.schema_sites.specs.declared.keyword.Keyword.{Keyword}
 use Rattle.schema_sites.specs.declared.keyword.Keyword.TheVariants as reads
 use Rattle.keyword_compilers.specs.Linking.{AreNodesOf, LinkedAsked, LinkedToo}

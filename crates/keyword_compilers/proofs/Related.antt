@@ -1,5 +1,5 @@
 -- What keywords ask, over related places: the same keyword, over these.
-use Rattle.std.proofs.Common.{◌≡◌, ℕ, List, [], ◌∷◌, Bool, true, false, bytes_eq, codes, if◌then◌else◌, Option, None, Some}
+use Rattle.std.proofs.Common.{ℕ, List, Bool, true, false, bytes_eq, codes, if◌then◌else◌, Option, None, Some}
 use Rattle.std.specs.List.{AllZip}
 use Rattle.serde_json.specs.Data.{Data}
 use Rattle.schema_meaning.specs.Questions.{Declared}
