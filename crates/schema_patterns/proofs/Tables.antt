@@ -1,12 +1,14 @@
 -- What a table has once a pattern was found, or added.
-use Rattle.std.proofs.Common.{◌≡◌, ℕ, zero, suc, List, [], ◌∷◌, ◌++◌, Bool, true, false, Option, Some, None, map, length, slice_get, option_map, bytes_eq, string_bytes, String, Global, refl, sym, ap, ◌∙◌, get_or, position, cond, subst, is_some, true≢false}
+use Rattle.std.proofs.Common.{◌≡◌, ℕ, zero, suc, List, [], ◌∷◌, ◌++◌, Bool, true, false, Option, Some, None, map, length, slice_get, option_map, bytes_eq, string_bytes, String, Global, refl, sym, ap, ◌∙◌, get_or, position, cond, subst, is_some, true≢false, ap₂, not, nat_lt, ◌+◌}
+use Rattle.std.specs.List.{position_or_len}
 use Rattle.std.specs.Map.{keys_of, update}
 use Rattle.std.specs.HashMap.{HashMap, get_by_text, get, UpdatesBy}
 use Rattle.std.specs.String.{string_eq}
-use Rattle.std.proofs.lemmas.List.{map-append}
+use Rattle.std.proofs.lemmas.List.{map-append, length-map}
 use Rattle.std.proofs.lemmas.List.Quantifiers.{position-Some}
 use Rattle.std.proofs.lemmas.Option.{slice_get-get_or, same_Some, none-some}
 use Rattle.std.proofs.lemmas.Slice.Eq.{bytes_eq-Decides}
+use Rattle.std.proofs.lemmas.Map.Entries.{length-keys_of}
 use Rattle.std.proofs.lemmas.Map.Text.{hash_map_updates_text}
 use Rattle.indexmap.specs.IndexMap.{insert_entry}
 use Rattle.indexmap.proofs.CallerLemmas.{insert_entry-new}
@@ -35,6 +37,16 @@ module _ {X : Type 0} where
   number_found (x ∷ es) text n e =
       let at = position-Some (λ k. bytes_eq text (string_bytes k)) (keys_of (x ∷ es)) n x.0 e in
       text_at (x ∷ es) n ∙ ap (option_map string_bytes) (slice_get-get_or (keys_of (x ∷ es)) n x.0 at.0) ∙ ap Some (sym ((bytes_eq-Decides text (string_bytes (get_or (keys_of (x ∷ es)) n x.0))).0 at.1))
+
+  -- a text stands where its pattern's key does
+  place_mapped : (es : List (String Global × X)) (text : List ℕ) → position_or_len (λ k. bytes_eq text (string_bytes k)) (keys_of es) ≡ position_or_len (bytes_eq text) (map text_of (map entry es))
+  place_mapped [] text = refl
+  place_mapped (e ∷ es) text = ap (λ n. cond (not (bytes_eq text (string_bytes e.0))) (1 + n) 0) (place_mapped es text)
+
+  pub position_mapped : (es : List (String Global × X)) (text : List ℕ) → position (λ k. bytes_eq text (string_bytes k)) (keys_of es) ≡ position (bytes_eq text) (map text_of (map entry es))
+  position_mapped es text =
+      let lengths : length (keys_of es) ≡ length (map text_of (map entry es)) = length-keys_of es ∙ sym (length-map (map entry es) text_of ∙ length-map es entry) in
+      ap₂ (λ (m n : ℕ). cond (nat_lt m n) (Some m) None) (place_mapped es text) lengths
 
   -- the number of a text that was added
   pub number_added : (es : List (String Global × X)) (text : List ℕ) (x : X) (n : ℕ) → n ≡ length es → option_map text_of (slice_get (map entry es ++ (text, x) ∷ []) n) ≡ Some text

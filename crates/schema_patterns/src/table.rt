@@ -1,8 +1,9 @@
 //! The patterns of a build, each text made once.
 
-ghost use Rattle.std.specs.Prelude.{◌≡◌, ℕ, List, [], Bool, Option, Ok, Err, IsOk, IsSome, IfSome, IfOk, IfErr, OnOk, OnErr, Some, None, false, slice_get, option_map, option_copied, length};
+ghost use Rattle.std.specs.Prelude.{◌≡◌, ℕ, List, [], Bool, Option, Ok, Err, IsOk, IsSome, IfSome, IfOk, IfErr, OnOk, OnErr, Some, None, false, slice_get, option_map, option_copied, length, bytes_eq};
+ghost use Rattle.std.specs.List.{position};
 ghost use Rattle.json_values.specs.Patterns.{literal_of};
-ghost use Rattle.schema_patterns.specs.Tables.{pattern_for, entries_of, AreMadeBy, GrowsBy};
+ghost use Rattle.schema_patterns.specs.Tables.{pattern_for, entries_of, texts_of_table, AreMadeBy, GrowsBy};
 ghost use Rattle.schema_patterns.specs.declared.matcher.PatternError.TheVariants.{BadPattern};
 
 use crate::compiled::CompiledPattern;
@@ -87,6 +88,13 @@ impl<M: PatternMatcher> PatternTable<M> {
         ensures { result ≡ length (entries_of self.now) }
     {
         self.patterns.len()
+    }
+
+    /// The number of the pattern of a text, where it was added.
+    pub fn number(&self, pattern: &str) -> Option<usize>
+        ensures { result ≡ position (bytes_eq pattern.now) (texts_of_table self.now) }
+    {
+        self.patterns.get_index_of(pattern)
     }
 
     /// The pattern of a text that was added.

@@ -1,0 +1,5 @@
+pub mod Related
+pub mod Linking
+pub mod Standing
+pub mod Numbering
+pub mod Places

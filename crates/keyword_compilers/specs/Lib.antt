@@ -1,0 +1,4 @@
+pub mod Numbers
+pub mod Patterns
+pub mod Shapes
+pub mod Linking
