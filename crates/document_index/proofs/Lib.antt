@@ -7,3 +7,4 @@ pub mod StageLemmas
 pub mod AwaitedLemmas
 pub mod CauseNames
 pub mod CauseLemmas
+pub mod NameLemmas

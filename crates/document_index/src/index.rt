@@ -1,7 +1,7 @@
 //! The index of the schema places that bear a URI or an anchor.
 
 ghost use Rattle.std.specs.Prelude.{◌≡◌, ℕ, List, map, IfOk, OnOk, Some, option_map, option_and_then, if◌then◌else◌, bytes_eq, ◌&&◌};
-ghost use Rattle.std.specs.Prelude.{◌||◌, is_some};
+ghost use Rattle.std.specs.Prelude.{◌||◌, is_some, string_bytes};
 ghost use Rattle.serde_json.specs.View.{view};
 ghost use Rattle.schema_definitions.specs.Words as words;
 ghost use Rattle.schema_definitions.specs.Identifiers as identifiers;
@@ -11,6 +11,7 @@ ghost use Rattle.document_index.specs.Seen.{standing_of, located_of};
 ghost use Rattle.document_index.specs.Located.{kept_of};
 ghost use Rattle.document_index.specs.Indexes.{bearer_of, named, anchor_named};
 
+use crate::names::dynamic_names;
 use crate::standing::Standing;
 use schema_dialects::Dialect;
 use schema_places::{anchor, dynamic_anchor, identifier};
@@ -33,12 +34,13 @@ pub struct Bearer {
     pub dialect: Dialect,
 }
 
-/// The last bearer of each URI, and of each anchor and each dynamic anchor under its base.
+/// The last bearer of each URI, and of each anchor and each dynamic anchor under its base, and the names of the dynamic anchors.
 #[derive(Drop)]
 pub struct Index {
     by_uri: BTreeMap<String, Bearer>,
     by_anchor: BTreeMap<String, BTreeMap<String, Bearer>>,
     by_dynamic_anchor: BTreeMap<String, BTreeMap<String, Bearer>>,
+    dynamic_names: Vec<String>,
 }
 
 fn bearer_at(standing: &Standing<'_>) -> Result<Bearer, AllocError>
@@ -175,11 +177,12 @@ fn put_dynamic_anchor(
 }
 
 impl Index {
-    ghost use Rattle.document_index.specs.Indexes.{bearer_in, anchored_in, dynamically_anchored_in, Indexes};
+    ghost use Rattle.document_index.specs.Indexes.{bearer_in, anchored_in, dynamically_anchored_in, dynamic_names_in, Indexes};
 
     /// The index of schema places in the order in which they stand: of several bearers the last counts.
     ///
-    /// It takes a look-up in a map for each URI and each anchor borne, and copies their texts and nothing else.
+    /// It takes a look-up in a map for each URI and each anchor borne, goes over the places once more for the names of dynamic anchors, and
+    /// copies these texts and nothing else.
     ///
     /// # Errors
     ///
@@ -199,6 +202,7 @@ impl Index {
             by_uri,
             by_anchor,
             by_dynamic_anchor,
+            dynamic_names: dynamic_names(alloc, standings)?,
         })
     }
 
@@ -228,5 +232,12 @@ impl Index {
         ensures { (name : List ℕ) → option_and_then (λ names. named names.now name) result ≡ dynamically_anchored_in self.now base.now name }
     {
         self.by_dynamic_anchor.get(base)
+    }
+
+    /// The names that some schema place bears as a dynamic anchor, each once, by their first occurrence.
+    pub fn dynamic_names(&self) -> &[String]
+        ensures { map string_bytes result.now ≡ dynamic_names_in self.now }
+    {
+        self.dynamic_names.as_slice()
     }
 }

@@ -7,6 +7,7 @@ mod causes;
 pub mod counting;
 pub mod document;
 pub mod index;
+pub mod names;
 pub mod prepared;
 mod stages;
 pub mod standing;

@@ -1,92 +1,78 @@
--- Texts by their first occurrence.
-use Rattle.std.proofs.Common.{◌≡◌, ℕ, List, [], ◌∷◌, ◌++◌, Bool, true, false, ◌||◌, ◌⊎◌, inl, inr, if◌then◌else◌, Option, Some, None, refl, sym, ap, ◌∙◌, bytes_eq}
-use Rattle.std.specs.List.{list_any}
+-- Texts by their first occurrence, and the names of dynamic anchors.
+use Rattle.std.proofs.Common.{◌≡◌, ℕ, List, [], ◌∷◌, Bool, true, false, not, ◌&&◌, ◌||◌, if◌then◌else◌, Option, Some, None, is_some, refl, sym, ap, ◌∙◌, bytes_eq}
+use Rattle.std.specs.List.{list_any, flat_map}
+use Rattle.std.proofs.lemmas.List.Folds.{list_any-append}
 use Rattle.std.proofs.lemmas.Slice.Eq.{bytes_eq-Decides}
-use Rattle.schema_definitions.specs.Words.{or_else, last_that}
-use Rattle.schema_definitions.specs.CompileKeys.{first_ones, reversed_onto}
+use Rattle.schema_definitions.specs.Words.{or_else, last_that, has_text}
+use Rattle.schema_definitions.specs.Identifiers.{dynamic_anchors}
+use Rattle.schema_definitions.specs.Bearers.{Standing, Documents, standings, meta, bears_anchor, dynamically_anchored}
+use Rattle.schema_definitions.specs.CompileKeys.{first_ones, names_at, dynamic_names}
 
-abbrev pub first_that : {X : Type 0} → (X → Bool) → List X → Option X
-first_that test [] = None
-first_that test (x ∷ xs) = if test x then Some x else first_that test xs
+neither : (a b : Bool) → a ≡ false → b ≡ false → (a || b) ≡ false
+neither a b e f = ap (λ c. c || b) e ∙ f
 
-either : (a b : Bool) → (a || b) ≡ true → (a ≡ true) ⊎ (b ≡ true)
-either true b e = inl refl
-either false b e = inr e
+-- ---- texts by their first occurrence are all of them
 
-alone : {X : Type 0} (o : Option X) → or_else o None ≡ o
-alone None = refl
-alone (Some x) = refl
+first_or_later : (k u : List ℕ) (us : List (List ℕ)) → (bytes_eq k u || list_any (bytes_eq k) us) ≡ true → (b : Bool) → bytes_eq k u ≡ b → b ≡ false → list_any (bytes_eq k) us ≡ true
+first_or_later k u us e true is f = absurd (cc (f))
+first_or_later k u us e false is f = ap (λ c. c || list_any (bytes_eq k) us) (sym is) ∙ e
 
-module _ (test : List ℕ → Bool) where
-  -- the last of a list is the first from its other end
-  behind : (u : List ℕ) (o p : Option (List ℕ)) (b : Bool) → or_else o (if b then Some u else p) ≡ or_else (or_else o (if b then Some u else None)) p
-  behind u (Some x) p b = refl
-  behind u None p true = refl
-  behind u None p false = refl
+found_first : (k u : List ℕ) (us : List (List ℕ)) → bytes_eq k u ≡ true → has_text k (u ∷ us) ≡ true
+found_first k u us e = ap (λ b. b || list_any (bytes_eq k) us) e
 
-  turned : (us out : List (List ℕ)) → first_that test (reversed_onto us out) ≡ or_else (last_that test us) (first_that test out)
-  turned [] out = refl
-  turned (u ∷ us) out = turned us (u ∷ out) ∙ behind u (last_that test us) (first_that test out) (test u)
+found_later : (k u : List ℕ) (us : List (List ℕ)) (b : Bool) → bytes_eq k u ≡ b → has_text k us ≡ true → has_text k (u ∷ us) ≡ true
+found_later k u us true is e = found_first k u us is
+found_later k u us false is e = ap (λ b. b || list_any (bytes_eq k) us) is ∙ e
 
-  -- one that stands twice is as good as once
-  new_one : (u : List ℕ) (t : Bool) (o p : Option (List ℕ)) → (t ≡ false → o ≡ p) → (if t then Some u else o) ≡ (if t then Some u else p)
-  new_one u true o p same = refl
-  new_one u false o p same = same refl
+-- one that was seen is another
+not_this : (k u : List ℕ) (seen : List (List ℕ)) → has_text k seen ≡ false → has_text u seen ≡ true → (b : Bool) → bytes_eq k u ≡ b → b ≡ false
+not_this k u seen unseen before true is = (let here = ap (λ t. has_text t seen) ((bytes_eq-Decides k u).0 is) in absurd (cc (unseen, before, here)))
+not_this k u seen unseen before false is = refl
 
-  one_of : (u : List ℕ) (b : Bool) (xs ys : List (List ℕ)) (o : Option (List ℕ)) → (b ≡ true → test u ≡ false) → first_that test xs ≡ o → (test u ≡ false → first_that test ys ≡ o)
-      → first_that test (if b then xs else u ∷ ys) ≡ (if test u then Some u else o)
-  one_of u true xs ys o seen old new = old ∙ sym (ap (λ t. if t then Some u else o) (seen refl))
-  one_of u false xs ys o seen old new = new_one u (test u) (first_that test ys) o new
+each_kept : (k : List ℕ) (seen us : List (List ℕ)) → has_text k seen ≡ false → has_text k us ≡ true → has_text k (first_ones seen us) ≡ true
+each_kept k seen [] unseen among = among
+each_kept k seen (u ∷ us) unseen among = by (has_text u seen) refl (bytes_eq k u) refl (each_kept k seen us unseen) (each_kept k (u ∷ seen) us)
+  where
+    by : (b : Bool) → has_text u seen ≡ b → (c : Bool) → bytes_eq k u ≡ c → (has_text k us ≡ true → has_text k (first_ones seen us) ≡ true)
+        → (has_text k (u ∷ seen) ≡ false → has_text k us ≡ true → has_text k (first_ones (u ∷ seen) us) ≡ true)
+        → has_text k (if b then first_ones seen us else u ∷ first_ones (u ∷ seen) us) ≡ true
+    by true before c is old new = old (first_or_later k u us among c is (not_this k u seen unseen before c is))
+    by false unlike true is old new = found_first k u (first_ones (u ∷ seen) us) is
+    by false unlike false is old new =
+        found_later k u (first_ones (u ∷ seen) us) false is
+        (new (neither (bytes_eq k u) (has_text k seen) is unseen) (first_or_later k u us among false is refl))
 
-  abbrev NonePasses : List (List ℕ) → Type 0
-  NonePasses seen = (v : List ℕ) → list_any (bytes_eq v) seen ≡ true → test v ≡ false
+-- ---- a resource bears no other name
 
-  one_more_fails : (u : List ℕ) (seen : List (List ℕ)) → NonePasses seen → test u ≡ false → NonePasses (u ∷ seen)
-  one_more_fails u seen none fails v e = elim (either (bytes_eq v u) (list_any (bytes_eq v) seen) e) [
-    | inl same ↦ ap test ((bytes_eq-Decides v u).0 same) ∙ fails
-    | inr among ↦ none v among
-  ]
+last_of : (a b c : Bool) → (a && b && c) ≡ true → c ≡ true
+last_of true true c e = e
+last_of true false c e = absurd (cc (e))
+last_of false b c e = absurd (cc (e))
 
-  once : (seen us : List (List ℕ)) → NonePasses seen → first_that test (first_ones seen us) ≡ first_that test us
-  once seen [] none = refl
-  once seen (u ∷ us) none =
-      one_of u (list_any (bytes_eq u) seen) (first_ones seen us) (first_ones (u ∷ seen) us) (first_that test us) (none u) (once seen us none)
-      (λ fails. once (u ∷ seen) us (one_more_fails u seen none fails))
+on_left : (a b : Bool) → a ≡ true → (a || b) ≡ true
+on_left a b e = ap (λ c. c || b) e
 
-  pub by_firsts : (us : List (List ℕ)) → last_that test us ≡ first_that test (first_ones [] (reversed_onto us []))
-  by_firsts us = sym (alone (last_that test us)) ∙ sym (turned us []) ∙ sym (once [] (reversed_onto us []) (λ v e. absurd (cc (e))))
+on_right : (a b : Bool) → b ≡ true → (a || b) ≡ true
+on_right true b e = refl
+on_right false b e = e
 
--- ---- one more behind the others
+module _ (u k : List ℕ) where
+  abbrev test : Standing → Bool
+  test s = bears_anchor dynamic_anchors u k s
 
-pub behind_all : (us out more : List (List ℕ)) → reversed_onto us (out ++ more) ≡ reversed_onto us out ++ more
-behind_all [] out more = refl
-behind_all (u ∷ us) out more = behind_all us (u ∷ out) more
+  borne_at : (s : Standing) → test s ≡ true → has_text k (names_at s) ≡ true
+  borne_at s e = last_of (not (is_some s.place.awaits)) (bytes_eq s.place.base u) (has_text k (names_at s)) e
 
-unless : (u : List ℕ) (a : Bool) → (if a then [] else u ∷ []) ≡ (if a || false then [] else u ∷ [])
-unless u true = refl
-unless u false = refl
+  borne_among : (ss : List Standing) → is_some (last_that test ss) ≡ true → has_text k (flat_map names_at ss) ≡ true
+  borne_among [] e = absurd (cc (e))
+  borne_among (s ∷ ss) e = list_any-append (bytes_eq k) (names_at s) (flat_map names_at ss) ∙ by (last_that test ss) refl (test s) refl (borne_among ss) e
+    where
+      by : (o : Option Standing) → last_that test ss ≡ o → (b : Bool) → test s ≡ b → (is_some (last_that test ss) ≡ true → has_text k (flat_map names_at ss) ≡ true)
+          → is_some (or_else o (if b then Some s else None)) ≡ true → (has_text k (names_at s) || has_text k (flat_map names_at ss)) ≡ true
+      by (Some x) later b is others e = on_right (has_text k (names_at s)) (has_text k (flat_map names_at ss)) (others (ap is_some later))
+      by None later true is others e = on_left (has_text k (names_at s)) (has_text k (flat_map names_at ss)) (borne_at s is)
+      by None later false is others e = absurd (cc (e))
 
-moved : (p a f : Bool) → ((p || a) || f) ≡ (a || (p || f))
-moved true true f = refl
-moved true false f = refl
-moved false true f = refl
-moved false false f = refl
-
-abbrev With : List ℕ → Bool → List (List ℕ) → List (List ℕ)
-With u a xs = xs ++ (if a || list_any (bytes_eq u) xs then [] else u ∷ [])
-
-one_in_front : (u x : List ℕ) (a b : Bool) (xs ys xs' ys' : List (List ℕ)) → xs' ≡ With u a xs → ys' ≡ With u (bytes_eq u x || a) ys
-    → (if b then xs' else x ∷ ys') ≡ With u a (if b then xs else x ∷ ys)
-one_in_front u x a true xs ys xs' ys' old new = old
-one_in_front u x a false xs ys xs' ys' old new =
-    ap (λ zs. x ∷ zs) new ∙ ap (λ t. x ∷ (ys ++ (if t then [] else u ∷ []))) (moved (bytes_eq u x) a (list_any (bytes_eq u) ys))
-
-one_behind : (u : List ℕ) (seen xs : List (List ℕ)) → first_ones seen (xs ++ u ∷ []) ≡ With u (list_any (bytes_eq u) seen) (first_ones seen xs)
-one_behind u seen [] = unless u (list_any (bytes_eq u) seen)
-one_behind u seen (x ∷ xs) =
-    one_in_front u x (list_any (bytes_eq u) seen) (list_any (bytes_eq x) seen) (first_ones seen xs) (first_ones (x ∷ seen) xs) (first_ones seen (xs ++ u ∷ [])) (first_ones (x ∷ seen) (xs ++ u ∷ []))
-    (one_behind u seen xs) (one_behind u (x ∷ seen) xs)
-
--- the first occurrences, from the outermost, of resources with one more in front depend on the first occurrences without it
-pub one_inside : (u : List ℕ) (us : List (List ℕ)) → first_ones [] (reversed_onto (u ∷ us) []) ≡ With u false (first_ones [] (reversed_onto us []))
-one_inside u us = ap (first_ones []) (behind_all us [] (u ∷ [])) ∙ one_behind u [] (reversed_onto us [])
+pub borne_are_named : (docs : Documents) (u k : List ℕ) → is_some (dynamically_anchored docs u k) ≡ true → has_text k (dynamic_names docs) ≡ true
+unfolding dynamic_names
+borne_are_named docs u k e = each_kept k [] (flat_map names_at (standings (meta docs) docs)) refl (borne_among u k (standings (meta docs) docs) e)

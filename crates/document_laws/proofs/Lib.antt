@@ -16,7 +16,6 @@ pub mod Resting
 pub mod Told
 pub mod Firsts
 pub mod Keys
-pub mod Anchored
 pub mod Listed
 pub mod Results
 pub mod Inside

@@ -1,52 +1,42 @@
--- Resources by their first occurrence, and scope keys that are equal.
-use Rattle.std.proofs.Common.{◌≡◌, ℕ, List, [], ◌∷◌, ◌++◌, Bool, true, false, ◌&&◌, ◌||◌, cond, if◌then◌else◌, map, reverse, Decides, refl, sym, ap, ap₂, ◌∙◌, bytes_eq}
-use Rattle.std.specs.List.{list_any}
-use Rattle.std.specs.Cmp.Lexicographic.{pointwise, nat_list_eq_equiv}
-use Rattle.std.proofs.lemmas.List.{reverse-append, append_assoc}
+-- Scope keys that are equal.
+use Rattle.std.proofs.Common.{◌≡◌, ◌∙◌, ℕ, List, [], ◌∷◌, Bool, true, false, ◌&&◌, map, Option, Some, None, option_map, Decides, refl, sym, ap, ap₂, bytes_eq}
+use Rattle.std.specs.Option.{option_eq}
+use Rattle.std.specs.Cmp.Lexicographic.{pointwise}
+use Rattle.std.proofs.lemmas.Bool.{false≢true}
 use Rattle.std.proofs.lemmas.Slice.Eq.{slice_eq-Decides, bytes_eq-Decides}
-use Rattle.schema_definitions.specs.CompileKeys.{ScopeKey, first_ones, reversed_onto}
+use Rattle.schema_definitions.specs.Words.{or}
+use Rattle.schema_definitions.specs.CompileKeys.{ScopeKey}
 use Rattle.referencing.specs.Keys.{keys_eq}
-use mathlib.Core.List.{reverse_aux}
 
-turned-onto : {X : Type 0} (f : X → List ℕ) (xs ys : List X) → map f (reverse_aux xs ys) ≡ reversed_onto (map f xs) (map f ys)
-turned-onto f [] ys = refl
-turned-onto f (x ∷ xs) ys = turned-onto f xs (x ∷ ys)
+-- a test through a function, at what is there or not, and at lists of these
+module _ {A B : Type 0} (f : A → B) (E : B → B → Bool) where
+  option_eq-map : (x y : Option A) → option_eq (λ u v. E (f u) (f v)) x y ≡ option_eq E (option_map f x) (option_map f y)
+  option_eq-map None None = refl
+  option_eq-map None (Some v) = refl
+  option_eq-map (Some u) None = refl
+  option_eq-map (Some u) (Some v) = refl
 
-pub turned : {X : Type 0} (f : X → List ℕ) (xs : List X) → map f (reverse xs) ≡ reversed_onto (map f xs) []
-turned f xs = turned-onto f xs []
+  pub options-map : (xs ys : List (Option A)) → pointwise (option_eq (λ u v. E (f u) (f v))) xs ys ≡ pointwise (option_eq E) (map (option_map f) xs) (map (option_map f) ys)
+  options-map [] [] = refl
+  options-map [] (y ∷ ys) = refl
+  options-map (x ∷ xs) [] = refl
+  options-map (x ∷ xs) (y ∷ ys) = ap₂ (λ b c. b && c) (option_eq-map x y) (options-map xs ys)
 
--- one more noted among texts
-or-cond : (b o : Bool) → cond b true o ≡ (b || o)
-or-cond true o = refl
-or-cond false o = refl
+option_eq-Decides : (a b : Option (List ℕ)) → Decides (option_eq bytes_eq a b) (a ≡ b)
+option_eq-Decides None None = (λ h. refl, λ e. refl)
+option_eq-Decides None (Some v) = (λ h. absurd (false≢true h), λ e. absurd (cc (e)))
+option_eq-Decides (Some u) None = (λ h. absurd (false≢true h), λ e. absurd (cc (e)))
+option_eq-Decides (Some u) (Some v) = (λ h. ap Some ((bytes_eq-Decides u v).0 h), λ e. (bytes_eq-Decides u v).1 (ap (or u) e))
 
-pub noted : (t q : List ℕ) (o : Bool) → cond (bytes_eq t q) true o ≡ (bytes_eq q t || o)
-noted t q o = or-cond (bytes_eq t q) o ∙ ap (λ b. b || o) (nat_list_eq_equiv.symm t q)
-
--- one more resource, which was seen before or not
-pub seen_before : (u : List ℕ) (seen us : List (List ℕ)) → list_any (bytes_eq u) seen ≡ true → first_ones seen (u ∷ us) ≡ first_ones seen us
-seen_before u seen us e = ap (λ b. if b then first_ones seen us else u ∷ first_ones (u ∷ seen) us) e
-
-pub not_seen : (u : List ℕ) (seen us : List (List ℕ)) → list_any (bytes_eq u) seen ≡ false → first_ones seen (u ∷ us) ≡ u ∷ first_ones (u ∷ seen) us
-not_seen u seen us e = ap (λ b. if b then first_ones seen us else u ∷ first_ones (u ∷ seen) us) e
-
-pub one_more : (u : List ℕ) (firsts us : List (List ℕ)) → list_any (bytes_eq u) (reverse firsts) ≡ false
-    → (firsts ++ u ∷ []) ++ first_ones (reverse (firsts ++ u ∷ [])) us ≡ firsts ++ first_ones (reverse firsts) (u ∷ us)
-one_more u firsts us e =
-    append_assoc firsts (u ∷ []) (first_ones (reverse (firsts ++ u ∷ [])) us)
-    ∙ ap (λ seen. firsts ++ u ∷ first_ones seen us) (reverse-append firsts (u ∷ []))
-    ∙ ap (λ vs. firsts ++ vs) (sym (not_seen u (reverse firsts) us e))
-
--- keys
 both : (a b : Bool) → (a && b) ≡ true → (a ≡ true) × (b ≡ true)
 both true b e = (refl, e)
 both false b e = absurd (cc (e))
 
 pub keys_eq-Decides : (a b : ScopeKey) (r : Bool) → r ≡ keys_eq a b → Decides r (a ≡ b)
 keys_eq-Decides a b r e =
-    let resources = slice_eq-Decides bytes_eq-Decides a.resources b.resources (pointwise bytes_eq a.resources b.resources) refl in
+    let bearers = slice_eq-Decides option_eq-Decides a.bearers b.bearers (pointwise (option_eq bytes_eq) a.bearers b.bearers) refl in
     let run = bytes_eq-Decides a.run b.run in (
-      λ h. let parts = both (pointwise bytes_eq a.resources b.resources) (bytes_eq a.run b.run) (sym e ∙ h) in
-          ap₂ (λ us u. record { resources = us; run = u }) (resources.0 parts.0) (run.0 parts.1),
-      λ h. e ∙ ap₂ (λ x y. x && y) (resources.1 (ap (λ (k : ScopeKey). k.resources) h)) (run.1 (ap (λ (k : ScopeKey). k.run) h)),
+      λ h. let parts = both (pointwise (option_eq bytes_eq) a.bearers b.bearers) (bytes_eq a.run b.run) (sym e ∙ h) in
+          ap₂ (λ os u. record { bearers = os; run = u }) (bearers.0 parts.0) (run.0 parts.1),
+      λ h. e ∙ ap₂ (λ x y. x && y) (bearers.1 (ap (λ (k : ScopeKey). k.bearers) h)) (run.1 (ap (λ (k : ScopeKey). k.run) h)),
     )

@@ -9,9 +9,13 @@ use Rattle.schema_definitions.specs.Lookup.{Walk, at_place, ended, behind_first,
 use Rattle.schema_definitions.specs.Scopes.{dynamic_lookup, recursive_lookup}
 use Rattle.schema_dialects.specs.Dialects.{dialects_in}
 use Rattle.schema_dialects.specs.declared.meta_schemas.MetaSchemas.{MetaSchemas}
-use Rattle.schema_definitions.specs.CompileKeys.{run_end}
+use Rattle.schema_definitions.specs.CompileKeys.{dynamic_names, run_end}
 use Rattle.document_laws.proofs.Alike.{alike_tell}
 use Rattle.document_index.specs.Answers.{dynamically_anchored_under}
+use Rattle.document_index.specs.Located.{located_standings}
+use Rattle.document_index.specs.Indexes.{Indexes, dynamic_names_in, dynamic_names_among}
+use Rattle.document_index.specs.declared.index.Index.{Index}
+use Rattle.document_index.proofs.LocatedLemmas.{standings-located}
 use Rattle.referencing.specs.Found.{redirect}
 
 -- bearers under the meta-schemas that are known, where these are what the documents tell
@@ -24,6 +28,15 @@ module _ (known : MetaSchemas) (own : List Document) (told : (uri : List ℕ) �
 
   pub told-dynamic : (base k : List ℕ) → dynamically_anchored_under (dialects_in known) own base k ≡ dynamically_anchored own base k
   told-dynamic base k = (alike_tell (dialects_in known) (meta own) told).dynamic own base k
+
+-- the names that an index has are those of the documents
+pub names-told : (known : MetaSchemas) (index : Index) (own : List Document) → ((uri : List ℕ) → dialects_in known uri ≡ meta own uri) → Indexes index (located_standings (dialects_in known) own)
+    → dynamic_names_in index ≡ dynamic_names own
+unfolding dynamic_names
+names-told known index own told indexed =
+    indexed.dynamic_names
+    ∙ ap dynamic_names_among (standings-located (dialects_in known) own)
+    ∙ ap dynamic_names_among ((alike_tell (dialects_in known) (meta own) told).standing own)
 
 -- a pointer leads to the same under two that tell the same
 pub same_pointer : (m n : List ℕ → Option Dialect) → ((uri : List ℕ) → m uri ≡ n uri) → (s : Standing) (written decoded : List ℕ)

@@ -29,19 +29,22 @@ use std::rc::Rc;
 use uri_grammar::components::split_fragment;
 use uri_references::uri::Uri;
 
-// The place of a resource with a dynamic anchor of the name, or of one further in.
-fn outer<'r>(
-    registry: &'r Registry<'_>,
-    resource: &Uri,
+// The outermost resource of a scope with a dynamic anchor of the name.
+pub(crate) fn outermost_bearer<'s>(
+    registry: &Registry<'_>,
     name: &str,
-    inner: Option<Standing<'r>>,
-) -> Result<Option<Standing<'r>>, AllocError>
-    ensures { IfOk result (λ s. option_map standing_of s ≡ words.or_else (bearers.dynamically_anchored (documents_of registry.now) resource.now name.now) (option_map standing_of inner.entry)) }
+    scope: &'s List<Rc<Uri>>,
+) -> Option<&'s Rc<Uri>>
+    ensures { option_map (λ u. u.now.value) result ≡ keys.outermost_bearer (documents_of registry.now) (map (λ u. u.value) scope.now) name.now }
 {
-    match registry.dynamically_anchored(resource.as_str(), name)? {
-        Some(standing) => Ok(Some(standing)),
-        None => Ok(inner),
+    let mut outermost = None;
+    let mut rest = scope.iter();
+    while let Some(resource) = rest.next() {
+        if registry.has_dynamic_anchor(resource.as_str(), name) {
+            outermost = Some(resource);
+        }
     }
+    outermost
 }
 
 // The place of the outermost resource with a dynamic anchor of the name.
@@ -53,12 +56,10 @@ fn outermost_standing<'r>(
 ) -> Result<Option<Standing<'r>>, AllocError>
     ensures { IfOk result (λ s. option_map standing_of s ≡ option_and_then (λ u. bearers.dynamically_anchored (documents_of registry.now) u name.now) (words.last_that (λ u. is_some (bearers.dynamically_anchored (documents_of registry.now) u name.now)) (innermost.now ∷ map (λ u. u.value) scope.now))) }
 {
-    let mut found = registry.dynamically_anchored(innermost.as_str(), name)?;
-    let mut rest = scope.iter();
-    while let Some(resource) = rest.next() {
-        found = outer(registry, resource, name, found)?;
+    match outermost_bearer(registry, name, scope) {
+        Some(resource) => registry.dynamically_anchored(resource.as_str(), name),
+        None => registry.dynamically_anchored(innermost.as_str(), name),
     }
-    Ok(found)
 }
 
 fn outermost<'r>(
@@ -148,7 +149,7 @@ impl<'r> Resolver<'r> {
     /// What a `$dynamicRef` leads to from the base and the scope (Core 8.2.3.2): where the place found has the fragment as a dynamic anchor,
     /// the outermost resource of the scope with one of that name, the resource found innermost; else what the reference leads to.
     ///
-    /// It costs what [`Self::lookup`] costs, and two searches and a path's look-ups for each resource of the scope.
+    /// It costs what [`Self::lookup`] costs, two searches for each resource of the scope, and two and a path's look-ups for the one found.
     ///
     /// # Errors
     ///

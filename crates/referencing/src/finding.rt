@@ -111,6 +111,13 @@ impl<'a> Registry<'a> {
         }
     }
 
+    /// Whether a schema place under a base has a dynamic anchor of the name. Two searches.
+    pub fn has_dynamic_anchor(&self, base: &str, name: &str) -> bool
+        ensures { result ≡ is_some (bearers.dynamically_anchored (documents_of self.now) base.now name.now) }
+    {
+        self.index.dynamically_anchored(base, name).is_some()
+    }
+
     // What the last schema place that bears a URI holds.
     pub(crate) fn contents_of(&self, uri: &str) -> Option<&Value>
         ensures { option_map (λ v. view v.now) result ≡ option_map (λ (s : bearers.Standing). s.place.contents) (bearers.bearer (documents_of self.now) uri.now) }

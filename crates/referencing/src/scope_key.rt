@@ -1,28 +1,29 @@
 //! Scope keys: what of a scope dynamic and recursive references depend on.
 
-ghost use Rattle.std.specs.Prelude.{◌≡◌, [], ◌||◌, ℕ, List, IfOk, OnOk, map, bytes_eq};
-ghost use Rattle.std.specs.BTreeSet.{contains_text};
+ghost use Rattle.std.specs.Prelude.{◌≡◌, ℕ, List, IfOk, map, option_map};
 ghost use Rattle.schema_definitions.specs.CompileKeys as spec;
 ghost use Rattle.document_laws.specs.ScopeLaws.{IsPresent, Alike};
 ghost use Rattle.referencing.specs.Keys.{key_of};
 ghost use Rattle.referencing.specs.Resolved.{base_of, scope_of, documents_in};
+ghost use Rattle.referencing.specs.Seen.{documents_of};
 
+use crate::dynamic::outermost_bearer;
+use crate::registry::Registry;
 use crate::resolver::Resolver;
 use shared_lists::List;
-use std::alloc::{AllocError, Global};
-use std::collections::BTreeSet;
+use std::alloc::AllocError;
 use std::rc::Rc;
 use uri_references::uri::Uri;
 
-/// What of a resolver's scope dynamic and recursive references depend on: the resources from the outermost, each once, and the one that a
-/// recursive reference leads to.
+/// What of a resolver's scope dynamic and recursive references depend on: for each name that is a dynamic anchor of some document the
+/// outermost resource that bears it, and the one that a recursive reference leads to.
 #[derive(Debug, Drop)]
 pub struct ScopeKey {
-    resources: Vec<Rc<Uri>>,
+    bearers: Vec<Option<Rc<Uri>>>,
     run: Rc<Uri>,
 }
 
-/// Keys are equal where they have the same resources in the same order, and the same end of a run.
+/// Keys are equal where they have the same bearer of each name, and the same end of a run.
 impl PartialEq for ScopeKey {
     ghost use Rattle.std.specs.Bool.{Decides};
     ghost use Rattle.std.specs.Cmp.{on_per};
@@ -36,7 +37,7 @@ impl PartialEq for ScopeKey {
         ensures value { result ≡ keys_eq (key_of self.now) (key_of other.now) }
         ensures same { Decides result (key_of self.now ≡ key_of other.now) }
     {
-        self.resources == other.resources && self.run == other.run
+        self.bearers == other.bearers && self.run == other.run
     }
 }
 
@@ -47,45 +48,35 @@ impl Eq for ScopeKey {
     ghost laws = { on_equiv key_of keys_eq_equiv };
 }
 
-fn outermost_first(alloc: Global, scope: &List<Rc<Uri>>) -> Result<Vec<Rc<Uri>>, AllocError>
-    ensures { IfOk result (λ v. map (λ u. u.value) v.items ≡ spec.reversed_onto (map (λ u. u.value) scope.now) []) }
+fn shared(resource: Option<&Rc<Uri>>) -> Result<Option<Rc<Uri>>, AllocError>
+    ensures { IfOk result (λ u. option_map (λ u. u.value) u ≡ option_map (λ u. u.now.value) resource.entry) }
 {
-    let mut resources = Vec::new(alloc);
-    let mut rest = scope.iter();
-    while let Some(resource) = rest.next() {
-        resources.push(resource.clone()?)?;
+    match resource {
+        Some(resource) => Ok(Some(resource.clone()?)),
+        None => Ok(None),
     }
-    resources.reverse();
-    Ok(resources)
 }
 
-fn note(alloc: Global, seen: &mut BTreeSet<String>, text: &str) -> Result<(), AllocError>
-    ensures { OnOk result ((q : List ℕ) → contains_text seen.new q ≡ (bytes_eq q text.now || contains_text seen.old q)) }
+// For each name of a dynamic anchor the outermost resource of a scope that bears it.
+fn outermost_bearers(
+    registry: &Registry<'_>,
+    scope: &List<Rc<Uri>>,
+) -> Result<Vec<Option<Rc<Uri>>>, AllocError>
+    ensures { IfOk result (λ v. map (option_map (λ u. u.value)) v.items ≡ map (spec.outermost_bearer (documents_of registry.now) (map (λ u. u.value) scope.now)) (spec.dynamic_names (documents_of registry.now))) }
 {
-    seen.insert(String::from_str(alloc, text)?)?;
-    Ok(())
-}
-
-fn first_occurrences(alloc: Global, resources: Vec<Rc<Uri>>) -> Result<Vec<Rc<Uri>>, AllocError>
-    ensures { IfOk result (λ v. map (λ u. u.value) v.items ≡ spec.first_ones [] (map (λ u. u.value) resources.items)) }
-{
-    let mut seen = BTreeSet::new(alloc);
-    let mut firsts = Vec::new(alloc);
-    for resource in resources {
-        if !seen.contains(resource.as_str()) {
-            note(alloc, &mut seen, resource.as_str())?;
-            firsts.push(resource)?;
-        }
+    let mut bearers = Vec::new(registry.alloc);
+    for name in registry.index.dynamic_names() {
+        bearers.push(shared(outermost_bearer(registry, name.as_str(), scope))?)?;
     }
-    Ok(firsts)
+    Ok(bearers)
 }
 
 impl<'r> Resolver<'r> {
     /// What of the scope dynamic and recursive references depend on: from one base, resolvers of one registry with equal keys answer every
     /// such reference alike, and have equal keys again after one more entry.
     ///
-    /// It goes over the scope twice, with a look-up in an ordered set for each resource, and costs what the end of the run costs. The
-    /// resources are shared; the text of each is copied once, and freed again.
+    /// For each name that some document has as a dynamic anchor it goes over the scope once, with two searches for each resource, so where no
+    /// document has one it reads nothing of the scope; and it costs what [`Self::run_end`] costs. Resources are shared, and no text is copied.
     ///
     /// # Errors
     ///
@@ -94,10 +85,8 @@ impl<'r> Resolver<'r> {
         ensures key { IfOk result (λ k. key_of k ≡ spec.scope_key (documents_in self.now) (base_of self.now) (scope_of self.now)) }
         ensures alike { IfOk result (λ k. (scope : List (List ℕ)) → IsPresent (base_of self.now) scope → key_of k ≡ spec.scope_key (documents_in self.now) (base_of self.now) scope → Alike (documents_in self.now) (base_of self.now) (scope_of self.now) scope) }
     {
-        let alloc = self.registry.alloc;
-        let resources = outermost_first(alloc, &self.scope)?;
         Ok(ScopeKey {
-            resources: first_occurrences(alloc, resources)?,
+            bearers: outermost_bearers(self.registry, &self.scope)?,
             run: self.run_end().clone()?,
         })
     }

@@ -78,6 +78,8 @@ chain http://a.test/strings list, enter http://a.test/list#/items, dynamic #item
 chain http://a.test/list itself, enter http://a.test/list#/items, dynamic #item :: http://a.test/list#/$defs/d http://a.test/list {"$dynamicAnchor":"item"}
 chain http://a.test/strings list, enter http://a.test/list#/items, dynamic #none :: Anchor 'none' does not exist
 lookup http://a.test/strings list, dynamic #item :: http://a.test/strings#/$defs/s http://a.test/strings {"$dynamicAnchor":"item","type":"string"}
+chain http://a.test/list itself, dynamic #item :: http://a.test/list#/$defs/d http://a.test/list {"$dynamicAnchor":"item"}
+keys http://a.test/strings list | http://a.test/list itself :: false
 
 document http://a.test/tree {"$schema":"https://json-schema.org/draft/2019-09/schema","$id":"http://a.test/tree","$recursiveAnchor":true,"type":"object","properties":{"data":true,"children":{"type":"array","items":{"$recursiveRef":"#"}}}}
 document http://a.test/strict {"$schema":"https://json-schema.org/draft/2019-09/schema","$id":"http://a.test/strict","$recursiveAnchor":true,"$ref":"tree"}
@@ -90,6 +92,8 @@ chain http://a.test/none recursive :: Resource 'http://a.test/none' is not prese
 lookup http://a.test/strict tree, recursive :: http://a.test/strict# http://a.test/strict {"$id":"http://a.test/strict","$recursiveAnchor":true,"$ref":"tree","$schema":"https://json-schema.org/draft/2019-09/schema"}
 keys http://a.test/plain tree, strict, itself | http://a.test/plain tree, plain, strict :: false
 keys http://a.test/plain tree, strict, itself | http://a.test/plain tree, strict, itself :: true
+keys http://a.test/tree plain | http://a.test/strict tree, plain :: true
+keys http://a.test/tree plain | http://a.test/plain itself :: true
 
 document http://b.test/ {"$id":"http://a.test/m/"}
 chain http://b.test/ :: nothing looked up
@@ -114,6 +118,17 @@ document http://a.test/strings {"$id":"http://a.test/strings","$ref":"list","$de
 keys http://a.test/strings list, itself, itself | http://a.test/strings list, strings, list :: true
 keys http://a.test/strings list, itself, itself | http://a.test/list itself, itself, itself :: false
 keys http://a.test/strings list, tree, itself | http://a.test/list strings, tree, itself :: false
+keys http://a.test/strings tree, list | http://a.test/strings list, tree, list :: true
+keys http://a.test/tree strings, list | http://a.test/strings tree, list :: true
+
+document http://a.test/x {"$id":"http://a.test/x","$defs":{"p":{"$dynamicAnchor":"p"}}}
+document http://a.test/y {"$id":"http://a.test/y","$defs":{"p":{"$dynamicAnchor":"p"},"q":{"$dynamicAnchor":"q"}}}
+document http://a.test/z {"$id":"http://a.test/z","$defs":{"q":{"$dynamicAnchor":"q"}}}
+keys http://a.test/x y, z | http://a.test/x y, x, z :: true
+keys http://a.test/x z, y, z | http://a.test/x y, z :: false
+chain http://a.test/x z, y, z, dynamic #q :: http://a.test/z#/$defs/q http://a.test/z {"$dynamicAnchor":"q"}
+chain http://a.test/x y, z, dynamic #q :: http://a.test/y#/$defs/q http://a.test/y {"$dynamicAnchor":"q"}
+keys http://a.test/x z | http://a.test/z itself :: false
 "##;
 
 #[test]

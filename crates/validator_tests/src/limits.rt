@@ -82,12 +82,12 @@ document <http://a.test/t> true
 within 3 => built
 within 2 => More than 2 schema nodes
 
-# each document once from the root alone, and the root's once more from the other
+# without dynamic anchors it makes no difference from where a document is entered
 document <http://a.test/r> {"properties":{"s":{"$ref":"s"}}}
 document <http://a.test/s> {"properties":{"r":{"$ref":"r"}}}
 document <http://a.test/t> true
-within 6 => built
-within 5 => More than 5 schema nodes
+within 4 => built
+within 3 => More than 3 schema nodes
 
 # the list under two dynamic scopes, with a target for each
 document <http://a.test/r> {"properties":{"l":{"$ref":"s"},"t":{"$ref":"t"}}}

@@ -2,9 +2,10 @@ use Rattle.std.proofs.Common.{◌≡◌, ◌∙◌, ◌++◌, ◌∷◌, [], ◌
 use Rattle.std.proofs.lemmas.List.{take_more, take_all, map-append}
 use Rattle.schema_definitions.specs.Identifiers.{anchors, dynamic_anchors}
 use Rattle.schema_definitions.specs.Bearers.{bears, bears_anchor}
-use Rattle.document_index.specs.Located.{kept_of, last_located}
+use Rattle.document_index.specs.Located.{Located, kept_of, last_located}
 use Rattle.document_index.specs.Seen.{located_of}
-use Rattle.document_index.specs.Indexes.{bearer_in, anchored_in, dynamically_anchored_in}
+use Rattle.document_index.specs.Indexes.{bearer_in, anchored_in, dynamically_anchored_in, dynamic_names_in, dynamic_names_among}
+use Rattle.document_index.proofs.LocatedLemmas.{map-through}
 use Rattle.document_index.proofs.NamedLemmas.{last-push}
 use Rattle.document_index.proofs.index.Index.of.Goals as goal
 
@@ -23,11 +24,12 @@ loop-standing-preserved c =
     }
 
 pub returns : goal.returns
-unfolding bearer_in anchored_in dynamically_anchored_in
+unfolding bearer_in anchored_in dynamically_anchored_in dynamic_names_in
 returns c =
     let whole = take_all c.loop-standing.standing-index c.args.standings.now c.loop-standing-test.false in
     record {
       by_uri = λ q. c.loop-standing.invariant.by_uri q ∙ ap (λ l. option_map kept_of (last_located (bears q) (map located_of l))) whole;
       by_anchor = λ b q. c.loop-standing.invariant.by_anchor b q ∙ ap (λ l. option_map kept_of (last_located (bears_anchor anchors b q) (map located_of l))) whole;
       by_dynamic_anchor = λ b q. c.loop-standing.invariant.by_dynamic_anchor b q ∙ ap (λ l. option_map kept_of (last_located (bears_anchor dynamic_anchors b q) (map located_of l))) whole;
+      dynamic_names = c.in_ok-dynamic_names.ensures ∙ ap dynamic_names_among (sym (map-through (λ (l : Located). l.standing) located_of c.args.standings.now));
     }

@@ -1,8 +1,8 @@
 use Rattle.std.proofs.Common.{◌≡◌, ◌∙◌, ◌&&◌, true, false, sym, ap, bytes_eq}
+use Rattle.std.specs.Option.{option_eq}
 use Rattle.std.specs.Cmp.Lexicographic.{pointwise}
-use Rattle.schema_steps.proofs.EqualLemmas.{pointwise-map}
 use Rattle.referencing.specs.Keys.{key_of, keys_eq}
-use Rattle.referencing.proofs.KeyLemmas.{keys_eq-Decides}
+use Rattle.referencing.proofs.KeyLemmas.{options-map, keys_eq-Decides}
 use Rattle.referencing.proofs.scope_key.ScopeKeyPartialEq.eq.Goals.{After-eq-then-eq, Else-eq}
 use Rattle.referencing.proofs.scope_key.ScopeKeyPartialEq.eq.Goals as goal
 
@@ -10,15 +10,15 @@ same : (c : After-eq-then-eq) → c.eq-then-eq.result ≡ keys_eq (key_of c.args
 same c =
     let a = c.args.self.now in
     let b = c.args.other.now in
-    let resources : pointwise bytes_eq (key_of a).resources (key_of b).resources ≡ true = sym (pointwise-map (λ u. u.value) bytes_eq a.resources.items b.resources.items) ∙ sym c.eq.ensures ∙ c.if-eq.true in
-    c.eq-then-eq.ensures ∙ sym (ap (λ r. r && bytes_eq a.run.value b.run.value) resources)
+    let bearers : pointwise (option_eq bytes_eq) (key_of a).bearers (key_of b).bearers ≡ true = sym (options-map (λ u. u.value) bytes_eq a.bearers.items b.bearers.items) ∙ sym c.eq.ensures ∙ c.if-eq.true in
+    c.eq-then-eq.ensures ∙ sym (ap (λ r. r && bytes_eq a.run.value b.run.value) bearers)
 
 apart : (c : Else-eq) → c.eq.result ≡ keys_eq (key_of c.args.self.now) (key_of c.args.other.now)
 apart c =
     let a = c.args.self.now in
     let b = c.args.other.now in
-    let resources : pointwise bytes_eq (key_of a).resources (key_of b).resources ≡ false = sym (pointwise-map (λ u. u.value) bytes_eq a.resources.items b.resources.items) ∙ sym c.eq.ensures ∙ c.if-eq.false in
-    c.if-eq.false ∙ sym (ap (λ r. r && bytes_eq a.run.value b.run.value) resources)
+    let bearers : pointwise (option_eq bytes_eq) (key_of a).bearers (key_of b).bearers ≡ false = sym (options-map (λ u. u.value) bytes_eq a.bearers.items b.bearers.items) ∙ sym c.eq.ensures ∙ c.if-eq.false in
+    c.if-eq.false ∙ sym (ap (λ r. r && bytes_eq a.run.value b.run.value) bearers)
 
 pub returns-then-eq-clause-value : goal.returns-then-eq-clause-value
 returns-then-eq-clause-value c = same c

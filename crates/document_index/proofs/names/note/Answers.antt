@@ -1,8 +1,8 @@
 use Rattle.std.proofs.Common.{◌∙◌, ap, string_bytes, ◌||◌, bytes_eq}
 use Rattle.std.specs.BTreeSet.{contains_text}
 use Rattle.std.proofs.lemmas.Map.Text.{btree_set_updates_text}
-use Rattle.referencing.proofs.KeyLemmas.{noted}
-use Rattle.referencing.proofs.scope_key.note.Goals as goal
+use Rattle.document_index.proofs.NameLemmas.{noted}
+use Rattle.document_index.proofs.names.note.Goals as goal
 
 pub returns : goal.returns
 returns c = λ q.
