@@ -14,7 +14,7 @@ use Rattle.schema_definitions.specs.Scopes.{dynamic_lookup, recursive_lookup}
 use Rattle.schema_meaning.specs.Keywords.{Assertion, Reference, static, dynamic, recursive, Dependency, needs, applies, Shape, item_list, pattern_properties, additional_properties, property_names, no_property_names}
 use Rattle.schema_definitions.specs.Sites.{Site, within, below, target_site}
 use Rattle.schema_definitions.specs.Values.{type_names, whole_number, count_of, positive_of, names_in, if_none_twice, unique_names}
-use Rattle.schema_definitions.specs.Rows.{BuildCause, Row, Context, counts_here, beside, at, expected, subschema, each_subschema, named_result, each_named, row_of, one_schema, schema_list, sites_named, schema_map, asserted, assertion, is_draft_4, strict_limit, is_made, pattern_row, unique_row, takes_list, items_row, behind_items, bound_row, declared_beside, refuses_others, additional_properties_row, patterns_wrong, names_of_object, with_causes, pattern_properties_row, property_names_row, entry_names, required_entry, required_entries, dependent_required_row, dependency_entry, dependency_entries, sites_applied, dependencies_row, if_row, consequent_row, target_causes, no_schema_there, led_to, ref_row, dynamic_row, is_hash, recursive_row, Reader, readers, read_among, row_at, rows_of, no_schema, rows_in}
+use Rattle.schema_definitions.specs.Rows.{BuildCause, Row, Context, counts_here, beside, at, expected, subschema, each_subschema, named_result, each_named, row_of, one_schema, schema_list, sites_named, schema_map, asserted, assertion, is_draft_4, strict_limit, is_made, pattern_row, unique_row, takes_list, items_row, behind_items, bound_row, declared_beside, refuses_others, additional_properties_row, patterns_wrong, names_of_object, with_causes, pattern_properties_row, property_names_row, entry_names, required_entry, required_entries, dependent_required_row, dependency_entry, dependency_entries, sites_applied, dependencies_row, if_row, consequent_row, no_schema_there, led_to, ref_row, dynamic_row, is_hash, recursive_row, Reader, readers, read_among, row_at, rows_of, no_schema, rows_in}
 use Rattle.document_laws.specs.ScopeLaws.{IsPresent, Alike}
 use Rattle.document_laws.proofs.Keys.{entered_is_present}
 use Rattle.reading_laws.specs.SiteLaws.{AreAlike, RowsAgree}
@@ -242,7 +242,7 @@ module _ (docs : Documents) (makes : List ℕ → Bool) (s : Site) (scope : List
 
     led : (k : List ℕ) (r : Reference) (text : List ℕ) (answer : Result Target LookupCause) → Agree (led_to one k r text answer) (led_to other k r text answer)
     led k r text (Err cause) = none_led _ [] []
-    led k r text (Ok t) = with_more (target_causes one k t ++ no_schema_there t) _ _ (record { causes = refl; leads = (target_alike text t, tt) })
+    led k r text (Ok t) = with_more (no_schema_there t) _ _ (record { causes = refl; leads = (target_alike text t, tt) })
 
     led_alike : (k : List ℕ) (r : Reference) (text : List ℕ) (answer answer' : Result Target LookupCause) → answer ≡ answer' → Agree (led_to one k r text answer) (led_to other k r text answer')
     led_alike k r text answer answer' e = subst (λ x. Agree (led_to one k r text answer) (led_to other k r text x)) e (led k r text answer)
