@@ -7,7 +7,7 @@ use Rattle.schema_definitions.specs.Bearers.{Documents}
 use Rattle.schema_definitions.specs.Lookup.{LookupCause, Target, lookup}
 use Rattle.schema_definitions.specs.Sites.{Site, root_site}
 use Rattle.schema_definitions.specs.Rows.{BuildCause, Row, rows_at}
-use Rattle.schema_definitions.specs.BuildCauses.{Reached, at_root, by_keyword, IsCauseOf}
+use Rattle.schema_definitions.specs.BuildCauses.{Reached, at_root, by_keyword, causes_at, IsCauseOf}
 use Rattle.document_laws.proofs.Listed.{in_first, in_second, in_either, in_flat_map}
 use Rattle.added_documents.specs.ReadingLaws.{Builds}
 use Rattle.added_documents.specs.Needed.{root, all_made}
@@ -25,7 +25,7 @@ abbrev pub sites_led : Documents → Site → List Site
 sites_led docs s = flat_map (λ (r : Row). r.leads) (rows_at docs all_made s)
 
 abbrev pub wrong_at : Documents → Site → List BuildCause
-wrong_at docs s = flat_map (λ (r : Row). r.causes) (rows_at docs all_made s)
+wrong_at docs s = causes_at docs all_made s
 
 -- those so many levels below
 abbrev pub far_below : Documents → ℕ → List Site → List Site
@@ -62,8 +62,7 @@ module _ (docs : Documents) where
 
     pub none_wrong : (cause : BuildCause) → IsCauseOf docs all_made start cause → ⊥
     none_wrong cause w =
-        let there = in_flat_map (λ (x : Row). x.causes) w.row (rows_at docs all_made w.site) cause w.stands w.wrong in
-        let among = in_flat_map (wrong_at docs) w.site (levels (sites_led docs) n (start ∷ [])) cause (reached_within w.site w.reached) there in
+        let among = in_flat_map (wrong_at docs) w.site (levels (sites_led docs) n (start ∷ [])) cause (reached_within w.site w.reached) w.wrong in
         let gone : In cause [] = subst (λ (cs : List BuildCause). In cause cs) l.right among in
         elim gone [ ]
 
@@ -92,8 +91,7 @@ module _ (docs : Documents) where
     pub is_cause : (n : ℕ) (cause : BuildCause) → In cause (flat_map (wrong_at docs) (levels (sites_led docs) n (start ∷ []))) → IsCauseOf docs all_made start cause
     is_cause n cause i =
         let at = of_flat_map (wrong_at docs) (levels (sites_led docs) n (start ∷ [])) cause i in
-        let by = of_flat_map (λ (x : Row). x.causes) (rows_at docs all_made at.0) cause at.2 in
-        record { site = at.0; reached = levels_reached n (start ∷ []) only_start at.0 at.1; row = by.0; stands = by.1; wrong = by.2 }
+        record { site = at.0; reached = levels_reached n (start ∷ []) only_start at.0 at.1; wrong = at.2 }
 
 -- what a root leads to in so many levels, told at once
 pub record Levels : Type 0 where

@@ -14,7 +14,7 @@ use Rattle.schema_definitions.specs.Scopes.{entered_scope, dynamic_lookup, recur
 use Rattle.schema_meaning.specs.Keywords.{Assertion, pattern, dependent_required, Reference, static, dynamic, recursive, Dependency, needs, applies, Shape, items, item_list, additional_items, no_additional_items, contains, pattern_properties, additional_properties, property_names, no_property_names, dependencies, condition, reference}
 use Rattle.schema_definitions.specs.Sites.{Site, within, below, target_site}
 use Rattle.schema_definitions.specs.Values.{type_names, whole_number, count_of, positive_of, names_in, unique_names}
-use Rattle.schema_definitions.specs.Rows.{BuildCause, Row, reads, Context, counts_here, beside, at, expected, subschema, and_more, each_subschema, named_result, each_named, row_of, one_schema, schema_list, sites_named, schema_map, asserted, assertion, is_draft_4, strict_limit, is_made, pattern_row, unique_row, length_of_list, takes_list, items_row, is_false, behind_items, contains_row, bound_row, declared_beside, refuses_others, additional_properties_row, patterns_wrong, names_of_object, with_causes, pattern_properties_row, property_names_row, entry_names, required_entry, required_entries, dependent_required_row, dependency_entry, dependency_entries, sites_applied, dependencies_row, schema_beside, if_row, consequent_row, target_causes, no_schema_there, led_to, ref_row, dynamic_row, is_hash, recursive_row, Reader, readers, read_among, row_at, rows_of}
+use Rattle.schema_definitions.specs.Rows.{BuildCause, Row, reads, Context, counts_here, beside, at, expected, subschema, and_more, each_subschema, named_result, each_named, row_of, one_schema, schema_list, sites_named, schema_map, asserted, assertion, is_draft_4, strict_limit, is_made, pattern_row, unique_row, length_of_list, takes_list, items_row, is_false, behind_items, contains_row, bound_row, declared_beside, refuses_others, additional_properties_row, patterns_wrong, names_of_object, with_causes, pattern_properties_row, property_names_row, entry_names, required_entry, required_entries, dependent_required_row, dependency_entry, dependency_entries, sites_applied, dependencies_row, schema_beside, if_row, consequent_row, no_schema_there, led_to, ref_row, dynamic_row, is_hash, recursive_row, Reader, readers, read_among, row_at, rows_of}
 use Rattle.document_laws.proofs.Depths.{placed_contents}
 use Rattle.document_laws.proofs.Results.{ok_map, ok_either, ok_always}
 use Rattle.reading_laws.proofs.Elements.{◌&◌}
@@ -245,7 +245,7 @@ module _ (old more new : Documents) (alone : LeftAlone old more new) (makes : Li
   led k r text (Err cause) answer' h = record { same = λ e. cc; leads = tt }
   led k r text (Ok t) answer' h =
       let there = h t refl in
-      let here = led_rows (target_causes one k t ++ no_schema_there t) r (target_site s text t) (record { is = there.known; scope = refl }) in
+      let here = led_rows (no_schema_there t) r (target_site s text t) (record { is = there.known; scope = refl }) in
       record { same = λ e. ap (led_to other k r text) there.same; leads = here.leads }
 
   static_rows : (k : List ℕ) (o : Option (List ℕ)) → Same (ref_row one k o) (ref_row other k o)

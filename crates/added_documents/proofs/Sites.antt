@@ -1,15 +1,16 @@
 -- The sites reached from a root of documents to which others are added.
-use Rattle.std.proofs.Common.{◌≡◌, ◌∙◌, ℕ, List, [], ◌∷◌, Bool, true, false, bytes_eq, refl, sym, ap, subst}
-use Rattle.std.specs.List.{AllByRecursion, AllZip}
+use Rattle.std.proofs.Common.{◌≡◌, ◌∙◌, ℕ, List, [], ◌∷◌, ◌++◌, Bool, true, false, bytes_eq, refl, sym, ap, subst}
+use Rattle.std.specs.List.{AllByRecursion, AllZip, flat_map}
 use Rattle.std.specs.Prelude.{if◌then◌else◌}
 use Rattle.serde_json.specs.Data.{Data, boolean, object, Members}
 use Rattle.schema_meaning.specs.Members.{In, first, later}
 use Rattle.schema_definitions.specs.Bearers.{Documents, meta}
 use Rattle.schema_definitions.specs.Lookup.{Target}
 use Rattle.schema_definitions.specs.Sites.{Site, root_site}
-use Rattle.schema_definitions.specs.Rows.{BuildCause, Row, Context, rows_of, rows_in, rows_at}
+use Rattle.schema_definitions.specs.Rows.{BuildCause, Row, Context, rows_of, rows_in, rows_at, identifier_causes}
 use Rattle.schema_definitions.specs.BuildCauses.{Reached, at_root, by_keyword}
 use Rattle.reading_laws.proofs.Elements.{each_in}
+use Rattle.reading_laws.proofs.Reaching.{row_cause}
 use Rattle.added_documents.specs.Added.{EachNamedAmong, IsToldAlike, IsFree, LeftAlone}
 use Rattle.added_documents.specs.ReadingLaws.{StandsAlone, SitesStay}
 use Rattle.added_documents.proofs.Targets.{Known, static_same}
@@ -96,7 +97,7 @@ module _ (old more new : Documents) (makes : List ℕ → Bool) (base reference 
     where
       by : (cs : List BuildCause) → row.causes ≡ cs → cs ≡ []
       by [] is = refl
-      by (c ∷ cs) is = absurd (a.builds.right c (record { site = s; reached = r; row = row; stands = i; wrong = subst (λ xs. In c xs) (sym is) first }))
+      by (c ∷ cs) is = absurd (a.builds.right c (record { site = s; reached = r; wrong = row_cause old makes s row c i (subst (λ xs. In c xs) (sym is) first) }))
 
   all_right : (s : Site) → IsReached s → (rows : List Row) → ((row : Row) → In row rows → In row (rows_at old makes s)) → AllByRecursion (λ w. w.causes ≡ []) rows
   all_right s r [] h = tt
@@ -124,9 +125,7 @@ sites_stay old more new makes base reference root a = record {
         a.builds.right cause (record {
           site = w.site;
           reached = r;
-          row = w.row;
-          stands = subst (λ rows. In w.row rows) (rows_stay old more new makes base reference root a w.site r) w.stands;
-          wrong = w.wrong;
+          wrong = subst (λ (rows : List Row). In cause (identifier_causes w.site ++ flat_map (λ (x : Row). x.causes) rows)) (rows_stay old more new makes base reference root a w.site r) w.wrong;
         });
   };
   reached = forth old more new makes base reference root a;

@@ -1,5 +1,5 @@
 -- The shapes of the keywords, by the names under which they refuse.
-use Rattle.std.proofs.Common.{◌≡◌, ◌++◌, ℕ, ℤ, List, [], ◌∷◌, Bool, true, false, ◌||◌, bytes_eq, codes, is_some, Option, Some, None, Result, Ok, Err, refl, sym, ◌∙◌, subst, true≢false}
+use Rattle.std.proofs.Common.{◌≡◌, ℕ, ℤ, List, [], ◌∷◌, Bool, true, false, ◌||◌, bytes_eq, codes, is_some, Option, Some, None, Result, Ok, Err, refl, sym, ◌∙◌, subst, true≢false}
 use Rattle.std.specs.List.{AllByRecursion}
 use Rattle.std.specs.Prelude.{if◌then◌else◌, option_and_then}
 use Rattle.std.proofs.lemmas.Slice.Eq.{bytes_eq-Decides}
@@ -14,7 +14,7 @@ use Rattle.schema_meaning.specs.Members.{In, first, later, is_listed}
 use Rattle.schema_meaning.specs.Keywords.{Assertion, named, types, constant, enumeration, multiple_of, maximum, exclusive_maximum, minimum, exclusive_minimum, maximum_of_draft_4, minimum_of_draft_4, max_length, min_length, pattern, max_items, min_items, max_properties, min_properties, dependent_required, Shape, asserts, items, item_list, prefix_items, properties, dependent_schemas, all_of, any_of, one_of, negation, additional_items, no_additional_items, additional_properties, no_additional_properties, no_properties, Reference, static, dynamic, recursive, reference_name, reference, never, contains, pattern_properties, property_names, no_property_names, dependencies, condition}
 use Rattle.schema_definitions.specs.Sites.{Site, target_site}
 use Rattle.schema_definitions.specs.Values.{type_names, count_of, positive_of, whole_number, unique_names}
-use Rattle.schema_definitions.specs.Rows.{BuildCause, bad_pattern, refused, place_at, is_made, pattern_row, patterns_wrong, names_of_object, pattern_properties_row, behind_items, additional_items_row, is_false, declared_beside, is_alone, refuses_others, additional_properties_row, property_names_row, Row, nothing_read, reads, Context, counts_here, at, bad_value, subschema, each_subschema, each_named, row_of, one_schema, schema_list, sites_named, schema_map, asserted, assertion, length_of_list, beside, takes_list, items_row, with_causes, target_causes, no_schema_there, led_to, ref_row, dynamic_row, is_hash, recursive_row, is_draft_4, is_true, unique_row, unless_empty, required_entries, dependent_required_row, Reader, readers, read_among, row_at, contains_row, bound_row, sites_applied, dependency_entries, dependencies_row, schema_beside, if_row, consequent_row}
+use Rattle.schema_definitions.specs.Rows.{BuildCause, bad_pattern, refused, place_at, is_made, pattern_row, patterns_wrong, names_of_object, pattern_properties_row, behind_items, additional_items_row, is_false, declared_beside, is_alone, refuses_others, additional_properties_row, property_names_row, Row, nothing_read, reads, Context, counts_here, at, bad_value, subschema, each_subschema, each_named, row_of, one_schema, schema_list, sites_named, schema_map, asserted, assertion, length_of_list, beside, takes_list, items_row, with_causes, no_schema_there, led_to, ref_row, dynamic_row, is_hash, recursive_row, is_draft_4, is_true, unique_row, unless_empty, required_entries, dependent_required_row, Reader, readers, read_among, row_at, contains_row, bound_row, sites_applied, dependency_entries, dependencies_row, schema_beside, if_row, consequent_row}
 use Rattle.certificate_laws.specs.Words.{IsOf, IsUnder, member_of, Bears, count_names, choice_names, LeadsBack}
 
 abbrev AreOf : List ℕ → Row → Type 0
@@ -36,7 +36,7 @@ of_led x kind t (Err cause) = tt
 of_led x kind t (Ok target) =
     let site = target_site x.site t target in
     let k = reference_name kind in
-    of_causes k (target_causes x k target ++ no_schema_there target) (reads (site ∷ []) (reference kind site ∷ [])) (refl, tt)
+    of_causes k (no_schema_there target) (reads (site ∷ []) (reference kind site ∷ [])) (refl, tt)
 
 of_ref : (x : Context) (o : Option (List ℕ)) → AreOf (codes "$ref") (ref_row x (codes "$ref") o)
 of_ref x None = tt

@@ -18,6 +18,7 @@ use Rattle.meaning_laws.proofs.Decided.{cut_is_decided}
 use Rattle.meaning_laws.proofs.Obliged.{in_map}
 use Rattle.reading_laws.proofs.Nested.{nested}
 use Rattle.reading_laws.proofs.PlainKeys.{all_keys}
+use Rattle.reading_laws.proofs.Reaching.{row_cause}
 use Rattle.plain_reader.specs.Tellings.{AreRead}
 use Rattle.plain_reader.proofs.Reading.{reached_on}
 use Rattle.certificate_laws.proofs.Straight.{circular_above}
@@ -31,20 +32,20 @@ none_in (x ∷ xs) h = elim (h x first) [ ]
 module _ (x : Scene) where
   pub right_read : (s : Site) → IsRight x s → AreRead x.documents x.makes s
   right_read s r = record {
-    right = λ t reached row i. none_in row.causes (λ cause j. r.none cause (record { site = t; reached = reached; row = row; stands = i; wrong = j }));
+    right = λ t reached row i. none_in row.causes (λ cause j. r.none cause (record { site = t; reached = reached; wrong = row_cause x.documents x.makes t row cause i j }));
   }
 
   cause_above : (s : Site) (row : Row) (t : Site) → In row (rows_at x.documents x.makes s) → In t row.leads → (cause : BuildCause)
       → IsCauseOf x.documents x.makes t cause → IsCauseOf x.documents x.makes s cause
   cause_above s row t i j cause w =
-      record { site = w.site; reached = reached_on x.documents x.makes s t w.site (by_keyword row t at_root i j) w.reached; row = w.row; stands = w.stands; wrong = w.wrong }
+      record { site = w.site; reached = reached_on x.documents x.makes s t w.site (by_keyword row t at_root i j) w.reached; wrong = w.wrong }
 
   -- nothing is wrong below a site that a row leads to
   pub right_on : (s : Site) (row : Row) (t : Site) → IsRight x s → In row (rows_at x.documents x.makes s) → In t row.leads → IsRight x t
   right_on s row t r i j = record { none = λ cause h. r.none cause (cause_above s row t i j cause h) }
 
   pub no_cause : (s : Site) (row : Row) (cause : BuildCause) → IsRight x s → In row (rows_at x.documents x.makes s) → In cause row.causes → ⊥
-  no_cause s row cause r i j = r.none cause (record { site = s; reached = at_root; row = row; stands = i; wrong = j })
+  no_cause s row cause r i j = r.none cause (record { site = s; reached = at_root; wrong = row_cause x.documents x.makes s row cause i j })
 
   -- where no references come back, the cut reading's verdict is the decided one
   pub told_there : (s : Site) (d : Data) → depth s.contents ≤ deepest x.documents → IsStraight x s d

@@ -1,17 +1,18 @@
 -- What a schema that was read leads to.
-use Rattle.std.proofs.Common.{◌≡◌, ◌∙◌, ℕ, List, [], ◌∷◌, Bool, true, false, Option, Some, None, option_map, is_some, refl, sym, ap, ap₂, subst}
+use Rattle.std.proofs.Common.{◌≡◌, ◌∙◌, ℕ, List, [], ◌∷◌, ◌++◌, Bool, true, false, Option, Some, None, option_map, is_some, refl, sym, ap, ap₂, subst}
 use Rattle.std.specs.Prelude.{codes}
 use Rattle.serde_json.specs.Data.{Data, null, boolean, number, string, array, object, Members}
 use Rattle.serde_json.specs.Find.{as_object, as_bool}
 use Rattle.serde_json.specs.View.{view}
 use Rattle.schema_meaning.specs.Members.{In, first}
 use Rattle.schema_definitions.specs.Bearers.{Document, Documents}
-use Rattle.schema_definitions.specs.BuildCauses.{at_root, IsCauseOf}
+use Rattle.schema_definitions.specs.BuildCauses.{at_root, causes_at, IsCauseOf}
 use Rattle.schema_definitions.specs.Sites.{Site}
-use Rattle.schema_definitions.specs.Rows.{Place, Row, keyword_value, rows_at, rows_in, no_schema}
+use Rattle.schema_definitions.specs.Rows.{Place, Row, keyword_value, rows_at, rows_in, no_schema, identifier_causes}
 use Rattle.schema_sites.specs.Seen.{documents_at}
 use Rattle.reached_sites.specs.Led.{Leads, leads_in, causes_in}
 use Rattle.reached_sites.specs.Members.{Rest}
+use Rattle.reading_laws.proofs.Reaching.{same_identifiers, row_cause}
 use Rattle.reading_laws.specs.SiteLaws.{AreAlike}
 use Rattle.reached_sites.specs.Patterns.{written, written_in, written_members}
 use Rattle.reached_sites.specs.Places.{place_in}
@@ -20,19 +21,27 @@ use Rattle.reached_sites.specs.declared.visit.Visit.{Visit}
 use Rattle.reached_sites.proofs.Mirrored.{leads-alike}
 use Rattle.reached_sites.proofs.Walking.{own_of, contexts, rows-of-object}
 
+-- where nothing is wrong with the identifier nor with the keywords
+all-right : (own : List Document) (makes : List ℕ → Bool) (s : Site) → identifier_causes s ≡ [] → causes_in (rows_at own makes s) ≡ [] → causes_at own makes s ≡ []
+all-right own makes s here behind = ap₂ (λ one other. one ++ other) here behind
+
 module _ (v : Visit) (makes : List ℕ → Bool) (leads : List Visit) where
-  object-here : (ms : Members) → view v.site.contents.now ≡ object ms → Rest (own_of v) makes (site_of v) ms ms [] leads → Leads (own_of v) makes (site_of v) leads
-  object-here ms e rest =
+  object-here : (ms : Members) → view v.site.contents.now ≡ object ms → Rest (own_of v) makes (site_of v) ms ms [] leads → identifier_causes (site_of v) ≡ []
+      → Leads (own_of v) makes (site_of v) leads
+  object-here ms e rest named =
       let s = site_of v in
       let rows = rows-of-object (own_of v) makes s ms e in
       record {
-        right = ap causes_in rows ∙ rest.right;
+        right = all-right (own_of v) makes s named (ap causes_in rows ∙ rest.right);
         met = subst (λ (vs : List Visit). Matches (own_of v) vs (leads_in (rows_at (own_of v) makes s))) (sym rest.met.grown)
             (subst (λ (rs : List Row). Matches (own_of v) rest.met.added (leads_in rs)) (sym rows) rest.met.met);
       }
 
-  pub leads-object : (s : Site) (ms : Members) → Met v s → view v.site.contents.now ≡ object ms → Rest (own_of v) makes (site_of v) ms ms [] leads → Leads (own_of v) makes s leads
-  leads-object s ms m e rest = leads-alike (own_of v) makes s (site_of v) leads m.alike (object-here ms e rest)
+  pub leads-object : (s : Site) (ms : Members) → Met v s → view v.site.contents.now ≡ object ms → Rest (own_of v) makes (site_of v) ms ms [] leads → identifier_causes s ≡ []
+      → Leads (own_of v) makes s leads
+  leads-object s ms m e rest named =
+      let named_here = sym (same_identifiers (own_of v) s (site_of v) m.alike) ∙ named in
+      leads-alike (own_of v) makes s (site_of v) leads m.alike (object-here ms e rest named_here)
 
 pub rows-of-boolean : (own : List Document) (makes : List ℕ → Bool) (s : Site) (b : Bool) → s.contents ≡ boolean b
     → (causes_in (rows_at own makes s) ≡ []) × (leads_in (rows_at own makes s) ≡ [])
@@ -41,12 +50,12 @@ rows-of-boolean own makes s true e = (ap (λ d. causes_in (rows_in s (contexts o
 rows-of-boolean own makes s false e = (ap (λ d. causes_in (rows_in s (contexts own makes s) d)) e, ap (λ d. leads_in (rows_in s (contexts own makes s) d)) e)
 
 pub leads-boolean : (v : Visit) (makes : List ℕ → Bool) (s : Site) (b : Bool) (leads : List Visit) → Met v s
-    → view v.site.contents.now ≡ boolean b → leads ≡ [] → Leads (own_of v) makes s leads
-leads-boolean v makes s b leads m e n =
+    → view v.site.contents.now ≡ boolean b → leads ≡ [] → identifier_causes s ≡ [] → Leads (own_of v) makes s leads
+leads-boolean v makes s b leads m e n named =
     let is = m.alike.contents ∙ e in
     let rows = rows-of-boolean (own_of v) makes s b is in
     record {
-      right = rows.0;
+      right = all-right (own_of v) makes s named rows.0;
       met = subst (λ (vs : List Visit). Matches (own_of v) vs (leads_in (rows_at (own_of v) makes s))) (sym n)
           (subst (λ (ss : List Site). Matches (own_of v) [] ss) (sym rows.1) none);
     }
@@ -82,13 +91,8 @@ pub no-schema : (v : Visit) (s : Site) (makes : List ℕ → Bool) (d : Data) �
     → IsCauseOf (documents_at v.site) makes s (keyword_value (place_of s) (codes "schema"))
 no-schema v s makes d e o =
     let row : Row = record { causes = keyword_value (place_of s) (codes "schema") ∷ []; leads = []; shapes = [] } in
-    record {
-      site = s;
-      reached = at_root;
-      row = row;
-      stands = subst (λ (rows : List Row). In row rows) (sym (other-rows (documents_at v.site) makes s d e o)) first;
-      wrong = first;
-    }
+    let stands = subst (λ (rows : List Row). In row rows) (sym (other-rows (documents_at v.site) makes s d e o)) first in
+    record { site = s; reached = at_root; wrong = row_cause (documents_at v.site) makes s row (keyword_value (place_of s) (codes "schema")) stands first }
 
 -- ---- by what the code asks of a value
 

@@ -9,6 +9,7 @@ pub mod Meeting
 pub mod Mirrored
 pub mod Walking
 pub mod Leading
+pub mod Identified
 pub mod Naming
 pub mod Keying
 pub mod Spelling

@@ -1,25 +1,19 @@
 -- What is read at a site holds at those that are alike.
-use Rattle.std.proofs.Common.{◌≡◌, ◌∙◌, ℕ, List, [], ◌∷◌, Bool, refl, sym, ap₂, subst, ◌++◌, inl, inr}
+use Rattle.std.proofs.Common.{◌∙◌, ℕ, List, [], ◌∷◌, Bool, sym, subst, inl, inr}
 use Rattle.std.specs.List.{AllZip}
 use Rattle.schema_definitions.specs.Bearers.{Document, Documents}
 use Rattle.schema_definitions.specs.Rows.{Row, rows_at}
 use Rattle.schema_definitions.specs.Sites.{Site}
-use Rattle.reading_laws.proofs.Reaching.{alike_have_causes}
+use Rattle.reading_laws.proofs.Reaching.{same_causes, alike_have_causes}
 use Rattle.reading_laws.proofs.Reading.{read_alike}
 use Rattle.reading_laws.proofs.Results.{zip_append}
 use Rattle.reading_laws.specs.SiteLaws.{AreAlike, RowsAgree}
 use Rattle.reached_sites.specs.Causes.{RefusesRoot}
-use Rattle.reached_sites.specs.Led.{leads_in, causes_in, Leads}
+use Rattle.reached_sites.specs.Led.{leads_in, Leads}
 use Rattle.reached_sites.specs.Visits.{Belongs, Met, Matches, both}
 use Rattle.reached_sites.specs.declared.cause.BuildCause.{BuildCause}
 use Rattle.reached_sites.specs.declared.visit.Visit.{Visit}
 use Rattle.reached_sites.proofs.Meeting.{met-alike}
-
-pub one-causes : (docs : Documents) (rs qs : List Row) → AllZip (RowsAgree docs) rs qs → causes_in rs ≡ causes_in qs
-one-causes docs [] [] z = refl
-one-causes docs [] (q ∷ qs) z = absurd z
-one-causes docs (r ∷ rs) [] z = absurd z
-one-causes docs (r ∷ rs) (q ∷ qs) z = ap₂ (λ a b. a ++ b) z.0.causes (one-causes docs rs qs z.1)
 
 pub alike-leads : (docs : Documents) (rs qs : List Row) → AllZip (RowsAgree docs) rs qs → AllZip (AreAlike docs) (leads_in rs) (leads_in qs)
 alike-leads docs [] [] z = tt
@@ -43,7 +37,7 @@ module _ (own : List Document) where
       let rs = rows_at own makes s in
       let qs = rows_at own makes t in
       record {
-        right = one-causes own rs qs h.rows ∙ l.right;
+        right = same_causes own makes s t a ∙ l.right;
         met = matches-alike (leads_in rs) (leads_in qs) leads (alike-leads own rs qs h.rows) l.met;
       }
 

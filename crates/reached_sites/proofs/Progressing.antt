@@ -5,7 +5,7 @@ use Rattle.serde_json.specs.View.{view}
 use Rattle.schema_meaning.specs.Members.{In, first}
 use Rattle.schema_definitions.specs.Bearers.{Document, Documents}
 use Rattle.schema_definitions.specs.Lookup.{Target}
-use Rattle.schema_definitions.specs.BuildCauses.{Reached, at_root, by_keyword, IsCauseOf}
+use Rattle.schema_definitions.specs.BuildCauses.{Reached, at_root, by_keyword, causes_at, IsCauseOf}
 use Rattle.schema_definitions.specs.CompileKeys.{CompileKey}
 use Rattle.schema_definitions.specs.Sites.{Site, root_site}
 use Rattle.schema_definitions.specs.Rows as rows
@@ -22,7 +22,7 @@ use Rattle.reading_laws.proofs.Counting.{are-fewer}
 use Rattle.reading_laws.proofs.One.{reached_contents_are_one}
 use Rattle.reached_sites.specs.Growing.{Grows, Apart, none}
 use Rattle.reached_sites.specs.Filed.{Filed}
-use Rattle.reached_sites.specs.Led.{Leads, leads_in, causes_in}
+use Rattle.reached_sites.specs.Led.{Leads, leads_in}
 use Rattle.reached_sites.specs.Roots.{IsPlaced}
 use Rattle.reached_sites.specs.Visits.{site_of, key_at, Met, Belongs, Repeats, Known}
 use Rattle.reached_sites.proofs.Keying.{alike-key, key-in, keys-in, keys-distinct, sites-alike}
@@ -45,7 +45,7 @@ HasVisit vs s = (v : Visit) × In v vs × Met v s
 
 -- nothing is wrong at a site, and those that it leads to have visits
 pub record Checked (own : List Document) (makes : List ℕ → Bool) (vs : List Visit) (s : Site) : Type 0 where
-  pub right : causes_in (rows_at own makes s) ≡ []
+  pub right : causes_at own makes s ≡ []
   pub led : (t : Site) → In t (leads_in (rows_at own makes s)) → HasVisit vs t
 
 abbrev ReachedBy : List Document → (List ℕ → Bool) → Site → Visit → Type 0
@@ -218,7 +218,7 @@ module _ (own : List Document) (makes : List ℕ → Bool) (root : Target) where
 
     pub no-cause : (c : rows.BuildCause) → IsCauseOf own makes start c → ⊥
     no-cause c w =
-        in-none (causes_in (rows_at own makes w.site)) (reached-checked w.site w.reached).right (in-all (λ (r : Row). r.causes) (rows_at own makes w.site) w.stands w.wrong)
+        in-none (causes_at own makes w.site) (reached-checked w.site w.reached).right w.wrong
 
     key-visited : (k : CompileKey) → IsReached own makes (start ∷ []) k → In k (map key_at vs)
     key-visited k r =

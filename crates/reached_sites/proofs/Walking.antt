@@ -12,6 +12,7 @@ use Rattle.applicators.specs.Made.{is_made_by, AreMade}
 use Rattle.schema_sites.specs.Seen.{documents_at}
 use Rattle.schema_sites.specs.Read.{row_of, leads_of, patterns_in, pattern_parts, IsRowOf}
 use Rattle.schema_sites.specs.declared.keyword.Keyword.{Keyword}
+use Rattle.reading_laws.proofs.Reaching.{row_cause}
 use Rattle.reached_sites.specs.Causes.{NamesCause, RefusesRoot}
 use Rattle.reached_sites.specs.Led.{leads_in, causes_in}
 use Rattle.reached_sites.specs.Members.{context_in, Rest}
@@ -144,13 +145,8 @@ rows-of-object docs makes s ms e = ap (rows_in s (λ all. record { documents = d
 among-causes : (v : Visit) (all : Members) (makes : List ℕ → Bool) → (site_of v).contents ≡ object all → (cause : rows.BuildCause) → IsCauseAmong v makes all all cause
     → IsCauseOf (documents_at v.site) makes (site_of v) cause
 among-causes v all makes is cause a =
-    record {
-      site = site_of v;
-      reached = at_root;
-      row = a.0;
-      stands = subst (λ (rows : List Row). In a.0 rows) (sym (rows-of-object (documents_at v.site) makes (site_of v) all is)) a.1;
-      wrong = a.2;
-    }
+    let stands = subst (λ (rows : List Row). In a.0 rows) (sym (rows-of-object (documents_at v.site) makes (site_of v) all is)) a.1 in
+    record { site = site_of v; reached = at_root; wrong = row_cause (documents_at v.site) makes (site_of v) a.0 cause stands a.2 }
 
 pub walk-bad : (v : Visit) (all : Members) (leads : List Visit) (patterns : List Pattern) → Walk v all no_members leads patterns → (makes : List ℕ → Bool) → (site_of v).contents ≡ object all
     → (q : Pattern) → In q patterns → is_made_by makes (text_of q) ≡ false → IsCauseOf (documents_at v.site) makes (site_of v) (bad_pattern (place_in q.place))

@@ -3,6 +3,7 @@ use Rattle.std.specs.Prelude.{◌≡◌, ◌⊎◌, ℕ, List, [], ◌∷◌, Bo
 use Rattle.schema_definitions.specs.Bearers.{Documents}
 use Rattle.schema_definitions.specs.Lookup.{LookupCause}
 use Rattle.document_sources.specs.Causes.{NamesLookup}
+use Rattle.schema_meaning.specs.Members.{In}
 use Rattle.schema_definitions.specs.BuildCauses.{IsCauseOf}
 use Rattle.schema_definitions.specs.Sites.{Site}
 use Rattle.schema_definitions.specs.Rows as rows
@@ -20,6 +21,10 @@ NamesCause cause (Unevaluated place) = cause ≡ left_out (place_in place)
 NamesCause cause (Reference place error) = (why : LookupCause) × NamesLookup why error × (cause ≡ bad_reference (place_in place) why)
 NamesCause cause (NodeLimit limit) = ⊥
 NamesCause cause Memory = ⊥
+
+-- a refusal of an identifier: want of memory, or what is wrong with it
+abbrev pub RefusesIdentifier : Site → BuildCause → Type 0
+RefusesIdentifier s e = (e ≡ Memory) ⊎ ((cause : rows.BuildCause) × NamesCause cause e × In cause (rows.identifier_causes s))
 
 -- a refusal of a root under a way to make patterns: want of memory, or a cause that stands there
 abbrev pub RefusesRoot : Documents → (List ℕ → Bool) → Site → BuildCause → Type 0

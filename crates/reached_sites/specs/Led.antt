@@ -2,6 +2,7 @@
 use Rattle.std.specs.Prelude.{◌≡◌, ℕ, List, [], Bool}
 use Rattle.std.specs.List.{flat_map}
 use Rattle.schema_definitions.specs.Bearers.{Document}
+use Rattle.schema_definitions.specs.BuildCauses.{causes_at}
 use Rattle.schema_definitions.specs.Sites.{Site}
 use Rattle.schema_definitions.specs.Rows.{Row, BuildCause, rows_at}
 use Rattle.reached_sites.specs.Visits.{Matches}
@@ -15,5 +16,5 @@ causes_in rows = flat_map (λ r. r.causes) rows
 
 -- nothing is wrong at a site, and visits stand for the sites that its keywords lead to
 pub record Leads (own : List Document) (makes : List ℕ → Bool) (s : Site) (visits : List Visit) : Type 0 where
-  pub right : causes_in (rows_at own makes s) ≡ []
+  pub right : causes_at own makes s ≡ []
   pub met : Matches own visits (leads_in (rows_at own makes s))

@@ -59,7 +59,7 @@ fn walk<'r, P: PatternMaker>(
 }
 
 /// Walks the places reached from a root, and answers the first cause that it meets: those next to the root come first, and of one schema
-/// those of its members before the patterns that the maker refuses. It hands out each pattern that is reached.
+/// its identifier before its members, and those before the patterns that the maker refuses. It hands out each pattern that is reached.
 ///
 /// A schema is walked once for each compile key with which it is reached: each base, dialect, scope key and schema path. It is found again
 /// by the text of its place. A scope key is made for each reference and where a subschema has a base of its own. The maker is asked once

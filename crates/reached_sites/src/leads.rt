@@ -16,6 +16,7 @@ ghost use Rattle.schema_sites.specs.Seen.{documents_at};
 ghost use Rattle.schema_sites.specs.declared.reference_keyword.ReferenceKeyword.{ReferenceKeyword};
 ghost use Rattle.reading_laws.specs.Spelled.{spelled};
 ghost use Rattle.reached_sites.specs.Causes.{RefusesRoot};
+ghost use Rattle.reached_sites.specs.Found.{LeadsIfNamed, HasWritten, AreBadUnmade, RefusesVisit};
 ghost use Rattle.reached_sites.specs.Led.{Leads};
 ghost use Rattle.reached_sites.specs.Members.{Rest};
 ghost use Rattle.reached_sites.specs.Patterns.{text_of, texts_of, written, written_members};
@@ -24,6 +25,7 @@ ghost use Rattle.reached_sites.specs.Visits.{site_of, Met, Adds};
 ghost use Rattle.reached_sites.specs.declared.pattern.Pattern.{Pattern};
 
 use crate::cause::BuildCause;
+use crate::identifying::check_identifier;
 use crate::pattern::{Pattern, push_patterns};
 use crate::refusing::refused;
 use crate::visit::Visit;
@@ -180,18 +182,12 @@ fn leads_of_members<'r>(
     Ok(Found { leads, patterns })
 }
 
-/// The visits that the keywords of a schema lead to and its patterns, in the order of its members.
-///
-/// It reads each member once, and looks its references up. The patterns have to be made before the visits are.
-///
-/// # Errors
-///
-/// The first cause that a member is, in their order, or want of memory.
-pub(crate) fn leads_of<'r>(alloc: Global, visit: &Visit<'r>) -> Result<Found<'r>, BuildCause>
-    ensures accepted { IfOk result (λ f. (makes : List ℕ → Bool) (s : sites.Site) → Met visit.now s → AreMade makes (texts_of f.patterns.items) → Leads (documents_in visit.now.site.resolver) makes s f.leads.items) }
-    ensures written { IfOk result (λ f. (s : sites.Site) → Met visit.now s → (p : List ℕ) → In p (written s) → In p (texts_of f.patterns.items)) }
-    ensures bad { IfOk result (λ f. (makes : List ℕ → Bool) (s : sites.Site) → Met visit.now s → (q : Pattern) → In q f.patterns.items → is_made_by makes (text_of q) ≡ false → IsCauseOf (documents_at visit.now.site) makes s (bad_pattern (place_in q.place))) }
-    ensures refused { IfErr result (λ e. (makes : List ℕ → Bool) (s : sites.Site) → Met visit.now s → RefusesRoot (documents_at visit.now.site) makes s e) }
+// What the keywords of a schema lead to, where its identifier is right.
+fn leads_of_keywords<'r>(alloc: Global, visit: &Visit<'r>) -> Result<Found<'r>, BuildCause>
+    ensures accepted { IfOk result (LeadsIfNamed visit.now) }
+    ensures written { IfOk result (HasWritten visit.now) }
+    ensures bad { IfOk result (AreBadUnmade visit.now) }
+    ensures refused { IfErr result (RefusesVisit visit.now) }
 {
     let contents = visit.site.contents;
     if let Some(members) = contents.as_object() {
@@ -204,4 +200,21 @@ pub(crate) fn leads_of<'r>(alloc: Global, visit: &Visit<'r>) -> Result<Found<'r>
         place: visit.point.place.shared()?,
         expected: "schema",
     })
+}
+
+/// The visits that the keywords of a schema lead to and its patterns, in the order of its members.
+///
+/// It reads each member once, and looks its references up. The patterns have to be made before the visits are.
+///
+/// # Errors
+///
+/// An identifier that is no URI reference, the first cause that a member is, in their order, or want of memory.
+pub(crate) fn leads_of<'r>(alloc: Global, visit: &Visit<'r>) -> Result<Found<'r>, BuildCause>
+    ensures accepted { IfOk result (λ f. (makes : List ℕ → Bool) (s : sites.Site) → Met visit.now s → AreMade makes (texts_of f.patterns.items) → Leads (documents_in visit.now.site.resolver) makes s f.leads.items) }
+    ensures written { IfOk result (λ f. (s : sites.Site) → Met visit.now s → (p : List ℕ) → In p (written s) → In p (texts_of f.patterns.items)) }
+    ensures bad { IfOk result (λ f. (makes : List ℕ → Bool) (s : sites.Site) → Met visit.now s → (q : Pattern) → In q f.patterns.items → is_made_by makes (text_of q) ≡ false → IsCauseOf (documents_at visit.now.site) makes s (bad_pattern (place_in q.place))) }
+    ensures refused { IfErr result (λ e. (makes : List ℕ → Bool) (s : sites.Site) → Met visit.now s → RefusesRoot (documents_at visit.now.site) makes s e) }
+{
+    check_identifier(alloc, visit)?;
+    leads_of_keywords(alloc, visit)
 }

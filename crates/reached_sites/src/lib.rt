@@ -3,6 +3,7 @@
 
 pub mod cause;
 pub mod checking;
+pub mod identifying;
 pub mod leads;
 pub mod making;
 pub mod pattern;

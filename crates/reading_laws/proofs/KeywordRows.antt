@@ -15,7 +15,7 @@ use Rattle.schema_definitions.specs.Lookup.{LookupCause, Target, lookup}
 use Rattle.schema_definitions.specs.Scopes.{dynamic_lookup, recursive_lookup}
 use Rattle.schema_definitions.specs.Sites.{Site, below, target_site}
 use Rattle.schema_definitions.specs.Values.{type_names, whole_number, count_of, positive_of, names_in, unique_names}
-use Rattle.schema_definitions.specs.Rows.{BuildCause, Row, nothing_read, refused, reads, Context, counts_here, beside, at, expected, subschema, and_more, each_subschema, named_result, each_named, row_of, one_schema, schema_list, sites_named, schema_map, asserted, assertion, is_draft_4, strict_limit, is_made, pattern_row, unique_row, unless_empty, takes_list, items_row, is_false, behind_items, bound_row, declared_beside, is_alone, refuses_others, additional_properties_row, patterns_wrong, names_of_object, with_causes, pattern_properties_row, property_names_row, entry_names, required_entries, dependent_required_row, dependency_entry, dependency_entries, sites_applied, dependencies_row, schema_beside, if_row, consequent_row, target_causes, no_schema_there, led_to, ref_row, dynamic_row, is_hash, recursive_row, Reader, readers, read_among, row_at, rows_of}
+use Rattle.schema_definitions.specs.Rows.{BuildCause, Row, nothing_read, refused, reads, Context, counts_here, beside, at, expected, subschema, and_more, each_subschema, named_result, each_named, row_of, one_schema, schema_list, sites_named, schema_map, asserted, assertion, is_draft_4, strict_limit, is_made, pattern_row, unique_row, unless_empty, takes_list, items_row, is_false, behind_items, bound_row, declared_beside, is_alone, refuses_others, additional_properties_row, patterns_wrong, names_of_object, with_causes, pattern_properties_row, property_names_row, entry_names, required_entries, dependent_required_row, dependency_entry, dependency_entries, sites_applied, dependencies_row, schema_beside, if_row, consequent_row, no_schema_there, led_to, ref_row, dynamic_row, is_hash, recursive_row, Reader, readers, read_among, row_at, rows_of}
 use Rattle.document_laws.specs.TargetLaws.{IsTarget, by_reference, by_scope, by_run}
 use Rattle.document_laws.proofs.Results.{ok_map, ok_either, ok_always}
 use Rattle.document_laws.proofs.Inside.{HoldsMember, here, behind, held_found}
@@ -267,7 +267,7 @@ module _ (c : Context) (P R : Site → Type 0) where
   led k d r text (Err cause) h = wrong _
   led k d r text (Ok t) h =
       let is = is_led text t (h t refl) in
-      with_more (target_causes c k t ++ no_schema_there t) _
+      with_more (no_schema_there t) _
       (record { clear = inl refl; leads = (inr is, tt); shapes = λ there known. (known.led (target_site c.site text t) first is, tt) })
 
   static_rows : (k : List ℕ) (d : Data) (o : Option (List ℕ)) → IsRead k d (ref_row c k o)

@@ -16,7 +16,7 @@ use Rattle.schema_meaning.specs.Questions.{Declared}
 use Rattle.schema_meaning.specs.Keywords.{Assertion, Reference, static, dynamic, recursive, Dependency, needs, applies, Shape, item_list, additional_items, no_additional_items, pattern_properties, additional_properties, no_additional_properties, no_properties, property_names, no_property_names, condition, dependent_required}
 use Rattle.schema_definitions.specs.Sites.{Site, within, below, target_site}
 use Rattle.schema_definitions.specs.Values.{type_names, whole_number, count_of, positive_of, names_in, unique_names}
-use Rattle.schema_definitions.specs.Rows.{BuildCause, Row, Context, refused, reads, counts_here, beside, at, expected, subschema, each_subschema, named_result, each_named, row_of, one_schema, schema_list, sites_named, schema_map, asserted, assertion, is_draft_4, strict_limit, is_made, pattern_row, unique_row, unless_empty, takes_list, items_row, is_false, behind_items, bound_row, declared_beside, is_alone, refuses_others, additional_properties_row, patterns_wrong, names_of_object, with_causes, pattern_properties_row, property_names_row, entry_names, required_entries, dependent_required_row, dependency_entry, dependency_entries, sites_applied, dependencies_row, schema_beside, if_row, consequent_row, target_causes, no_schema_there, led_to, ref_row, dynamic_row, is_hash, recursive_row, Reader, readers, read_among, row_at, rows_of, no_schema, rows_in}
+use Rattle.schema_definitions.specs.Rows.{BuildCause, Row, Context, refused, reads, counts_here, beside, at, expected, subschema, each_subschema, named_result, each_named, row_of, one_schema, schema_list, sites_named, schema_map, asserted, assertion, is_draft_4, strict_limit, is_made, pattern_row, unique_row, unless_empty, takes_list, items_row, is_false, behind_items, bound_row, declared_beside, is_alone, refuses_others, additional_properties_row, patterns_wrong, names_of_object, with_causes, pattern_properties_row, property_names_row, entry_names, required_entries, dependent_required_row, dependency_entry, dependency_entries, sites_applied, dependencies_row, schema_beside, if_row, consequent_row, no_schema_there, led_to, ref_row, dynamic_row, is_hash, recursive_row, Reader, readers, read_among, row_at, rows_of, no_schema, rows_in}
 use Rattle.document_laws.specs.ScopeLaws.{IsPresent, Alike}
 use Rattle.linked_meanings.specs.Related.{RelatedBeside, RelatedIfAny, RelatedDependency, related_needs, related_applies, RelatedEntry, RelatedShape, related_never, related_asserts, related_items, related_item_list, related_prefix_items, related_additional_items, related_no_additional_items, related_contains, related_properties, related_pattern_properties, related_additional_properties, related_no_additional_properties, related_no_properties, related_property_names, related_no_property_names, related_dependent_schemas, related_dependencies, related_all_of, related_any_of, related_one_of, related_negation, related_condition, related_reference}
 use Rattle.document_laws.proofs.Keys.{entered_is_present}
@@ -290,7 +290,7 @@ module _ (docs : Documents) (makes : List ℕ → Bool) (s : Site) (scope : List
 
     led : (k : List ℕ) (r : Reference) (text : List ℕ) (answer : Result Target LookupCause) → Agree (led_to one k r text answer) (led_to other k r text answer)
     led k r text (Err cause) = none_read _
-    led k r text (Ok t) = with_more (target_causes one k t ++ no_schema_there t) _ _ (record { causes = refl; leads = (target_alike text t, tt); shapes = (related_reference (target_alike text t), tt) })
+    led k r text (Ok t) = with_more (no_schema_there t) _ _ (record { causes = refl; leads = (target_alike text t, tt); shapes = (related_reference (target_alike text t), tt) })
 
     led_alike : (k : List ℕ) (r : Reference) (text : List ℕ) (answer answer' : Result Target LookupCause) → answer ≡ answer' → Agree (led_to one k r text answer) (led_to other k r text answer')
     led_alike k r text answer answer' e = subst (λ x. Agree (led_to one k r text answer) (led_to other k r text x)) e (led k r text answer)

@@ -34,8 +34,7 @@ module _ (own : List Document) (makes : List ℕ → Bool) where
 
   own-cause : (s : Site) → HasCause own makes s → HasCauseFrom s
   own-cause s h =
-      let r = in-some (λ (r : Row). r.causes) (rows_at own makes s) h.1 in
-      (h.0, record { site = s; reached = at_root; row = r.0; stands = r.1; wrong = r.2 })
+      (h.0, record { site = s; reached = at_root; wrong = h.1 })
 
   led-cause : (s t : Site) → In t (led_from own makes s) → HasCauseFrom t → HasCauseFrom s
   led-cause s t i h =
@@ -95,8 +94,7 @@ module _ (own : List Document) (makes : List ℕ → Bool) where
       pub no-cause : (c : rows.BuildCause) → IsCauseOf own makes s c → ⊥
       no-cause c w =
           let h = clear-reached w.site w.reached in
-          in-none (wrong_at own makes w.site) ((read-at h.position w.site h.visited).right (λ j. h.clear (here j)))
-          (in-all (λ (r : Row). r.causes) (rows_at own makes w.site) w.stands w.wrong)
+          in-none (wrong_at own makes w.site) ((read-at h.position w.site h.visited).right (λ j. h.clear (here j))) w.wrong
 
       pub all-among : {M : Type 0} (table : PatternTable M) → Notes table vs wrong (length vs) → AreAmong own makes s (texts_of_table table)
       all-among table noted = record {

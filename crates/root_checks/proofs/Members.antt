@@ -1,5 +1,5 @@
 -- What the members of a schema lead to, and what is wrong with them.
-use Rattle.std.proofs.Common.{◌≡◌, ◌∙◌, ◌⊎◌, ℕ, List, [], ◌∷◌, ◌++◌, Bool, true, false, ◌&&◌, true≢false, refl, sym, ap, subst, inl, inr}
+use Rattle.std.proofs.Common.{◌≡◌, ◌∙◌, ◌⊎◌, ℕ, List, [], ◌∷◌, ◌++◌, Bool, true, false, ◌&&◌, true≢false, refl, sym, ap, ap₂, subst, inl, inr}
 use Rattle.std.proofs.lemmas.Bool.{false≢true}
 use Rattle.serde_json.specs.Data.{Data, Members, no_members, member}
 use Rattle.schema_meaning.specs.Members.{In, is_listed}
@@ -39,6 +39,26 @@ tells-right causes e = record { right = λ t. e; wrong = λ f. absurd (true≢fa
 
 pub tells-wrong : (causes : List rows.BuildCause) (c : rows.BuildCause) → In c causes → Tells false causes
 tells-wrong causes c i = record { right = λ t. absurd (false≢true t); wrong = λ f. (c, i) }
+
+pub both-right : (a b : Bool) → (a && b) ≡ true → (a ≡ true) × (b ≡ true)
+both-right true true e = (refl, refl)
+both-right true false e = absurd (false≢true e)
+both-right false b e = absurd (false≢true e)
+
+one-wrong : (a b : Bool) → (a && b) ≡ false → (a ≡ false) ⊎ (b ≡ false)
+one-wrong true b e = inr e
+one-wrong false b e = inl refl
+
+module _ (xs ys : List rows.BuildCause) (a b : Bool) (h : Tells a xs) (g : Tells b ys) where
+  one-of-both : (a ≡ false) ⊎ (b ≡ false) → (c : rows.BuildCause) × In c (xs ++ ys)
+  one-of-both (inl f) = (let w = h.wrong f in (w.0, in-before xs ys w.1))
+  one-of-both (inr f) = (let w = g.wrong f in (w.0, in-behind xs ys w.1))
+
+  pub tells-both : Tells (a && b) (xs ++ ys)
+  tells-both = record {
+    right = λ t. (let both = both-right a b t in ap₂ (λ one other. one ++ other) (h.right both.0) (g.right both.1));
+    wrong = λ f. one-of-both (one-wrong a b f);
+  }
 
 abbrev HasOne : Row → Type 0
 HasOne row = (c : rows.BuildCause) × In c row.causes
@@ -114,15 +134,6 @@ going-begins v makes all leads table e = record {
   wrong = λ f. absurd (true≢false f);
   causes = λ c i. i;
 }
-
-both-right : (a b : Bool) → (a && b) ≡ true → (a ≡ true) × (b ≡ true)
-both-right true true e = (refl, refl)
-both-right true false e = absurd (false≢true e)
-both-right false b e = absurd (false≢true e)
-
-one-wrong : (a b : Bool) → (a && b) ≡ false → (a ≡ false) ⊎ (b ≡ false)
-one-wrong true b e = inr e
-one-wrong false b e = inl refl
 
 module _ {M : Type 0} (v : Visit) (makes : List ℕ → Bool) (all : Members) (k : List ℕ) (d : Data) (rest : Members) (old new : List Visit) (a b : Bool) (table larger : PatternTable M)
     (g : Going v makes all (member k d rest) old a table) (h : MemberLed (own_of v) makes (site_of v) all k d old new b) where

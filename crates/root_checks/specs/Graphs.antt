@@ -2,11 +2,11 @@
 use Rattle.std.specs.Prelude.{◌≡◌, ◌<◌, ℕ, List, [], Bool, Some, slice_get}
 use Rattle.schema_definitions.specs.Bearers.{Document}
 use Rattle.schema_meaning.specs.Members.{In}
-use Rattle.schema_definitions.specs.BuildCauses.{Reached}
+use Rattle.schema_definitions.specs.BuildCauses.{Reached, causes_at}
 use Rattle.schema_definitions.specs.Rows.{BuildCause, rows_at}
 use Rattle.schema_definitions.specs.Sites.{Site}
 use Rattle.marked_nodes.specs.declared.graph.Edge.{Edge}
-use Rattle.reached_sites.specs.Led.{leads_in, causes_in}
+use Rattle.reached_sites.specs.Led.{leads_in}
 use Rattle.reached_sites.specs.Visits.{Met, Belongs}
 use Rattle.reached_sites.specs.declared.visit.Visit.{Visit}
 use Rattle.root_checks.specs.Linked.{edge}
@@ -22,7 +22,7 @@ module _ (own : List Document) (makes : List ℕ → Bool) where
   led_from s = leads_in (rows_at own makes s)
 
   abbrev pub wrong_at : Site → List BuildCause
-  wrong_at s = causes_in (rows_at own makes s)
+  wrong_at s = causes_at own makes s
 
   -- a visit of a site that is reached from one of the roots
   pub record IsReachedFrom (roots : List Site) (v : Visit) : Type 0 where

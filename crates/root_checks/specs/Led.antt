@@ -7,13 +7,14 @@ use Rattle.schema_definitions.specs.Bearers.{Document}
 use Rattle.schema_definitions.specs.Places.{Dialect}
 use Rattle.schema_meaning.specs.Members.{In}
 use Rattle.schema_definitions.specs.Sites.{Site}
-use Rattle.schema_definitions.specs.Rows.{BuildCause, Row, has_reference, row_at, rows_of, rows_at}
+use Rattle.schema_definitions.specs.BuildCauses.{causes_at}
+use Rattle.schema_definitions.specs.Rows.{BuildCause, Row, has_reference, row_at, rows_of, rows_at, identifier_causes}
 use Rattle.referencing.specs.Resolved.{documents_in}
 use Rattle.schema_patterns.specs.Makers.{Patterns}
 use Rattle.schema_patterns.specs.declared.table.PatternTable.{PatternTable}
 use Rattle.reached_sites.specs.Led.{leads_in, causes_in}
 use Rattle.reached_sites.specs.Members.{context_in}
-use Rattle.reached_sites.specs.Patterns.{written_by, written_members, IsFilled, Holds}
+use Rattle.reached_sites.specs.Patterns.{written_by, written_members, written, IsFilled, Holds}
 use Rattle.reached_sites.specs.Visits.{Matches, Adds, Met, site_of}
 use Rattle.reached_sites.specs.declared.visit.Visit.{Visit}
 use Rattle.root_checks.specs.declared.led.Member.{Member}
@@ -43,9 +44,18 @@ pub record MembersLed (own : List Document) (makes : List ℕ → Bool) (s : Sit
   pub tells : Tells b (causes_in (rows_of (context_in own makes s all) all))
 
 -- visits stand for the sites that the keywords of a schema lead to, and whether none of these has a cause
-pub record IsLed (own : List Document) (makes : List ℕ → Bool) (s : Site) (leads : List Visit) (b : Bool) : Type 0 where
+pub record KeywordsLed (own : List Document) (makes : List ℕ → Bool) (s : Site) (leads : List Visit) (b : Bool) : Type 0 where
   pub met : Matches own leads (leads_in (rows_at own makes s))
   pub tells : Tells b (causes_in (rows_at own makes s))
+
+-- the same, and whether the identifier has none either
+pub record IsLed (own : List Document) (makes : List ℕ → Bool) (s : Site) (leads : List Visit) (b : Bool) : Type 0 where
+  pub met : Matches own leads (leads_in (rows_at own makes s))
+  pub tells : Tells b (causes_at own makes s)
+
+-- whether the identifier of a visit's schema has no cause
+abbrev pub TellsIdentifier : Visit → Bool → Type 0
+TellsIdentifier v b = (s : Site) → Met v s → Tells b (identifier_causes s)
 
 -- ---- the same of a visit, where a table is filled
 
@@ -62,6 +72,9 @@ module _ {M : Type 0} (finds : M → List ℕ → Option Bool) (p : Patterns) (t
   abbrev pub MembersLead : Visit → Members → List Visit → Bool → Type 0
   MembersLead v all leads b = IsFilled finds p.finished p.makes table → MembersLed (documents_in v.site.resolver) p.makes (site_of v) all leads b
 
+  abbrev pub KeywordsLead : Visit → List Visit → Bool → Type 0
+  KeywordsLead v leads b = IsFilled finds p.finished p.makes table → (s : Site) → Met v s → KeywordsLed (documents_in v.site.resolver) p.makes s leads b
+
   abbrev pub VisitLeads : Visit → List Visit → Bool → Type 0
   VisitLeads v leads b = IsFilled finds p.finished p.makes table → (s : Site) → Met v s → IsLed (documents_in v.site.resolver) p.makes s leads b
 
@@ -72,3 +85,6 @@ HoldsMember table v m b = b ≡ true → Holds table (written_at (site_of v).dia
 
 abbrev pub HoldsMembers : {M : Type 0} → PatternTable M → Visit → Members → Bool → Type 0
 HoldsMembers table v all b = b ≡ true → Holds table (written_members (site_of v).dialect all all)
+
+abbrev pub HoldsWritten : {M : Type 0} → PatternTable M → Visit → Bool → Type 0
+HoldsWritten table v b = b ≡ true → (s : Site) → Met v s → Holds table (written s)

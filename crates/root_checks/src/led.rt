@@ -10,9 +10,10 @@ ghost use Rattle.reached_sites.specs.Patterns.{text_of, texts_of, written, Holds
 ghost use Rattle.reached_sites.specs.Visits.{Met};
 ghost use Rattle.reached_sites.specs.declared.pattern.Pattern.{Pattern};
 ghost use Rattle.root_checks.specs.Memory as memory;
-ghost use Rattle.root_checks.specs.Led.{StaysFilled, MemberLeads, MembersLead, VisitLeads, HoldsMember, HoldsMembers};
+ghost use Rattle.root_checks.specs.Led.{StaysFilled, MemberLeads, MembersLead, KeywordsLead, VisitLeads, TellsIdentifier, HoldsMember, HoldsMembers, HoldsWritten};
 
 use reached_sites::cause::BuildCause;
+use reached_sites::identifying::check_identifier;
 use reached_sites::leads::push_leads;
 use reached_sites::making::add_patterns;
 use reached_sites::pattern::{Pattern, push_patterns};
@@ -141,7 +142,42 @@ fn led_by_members<'r, P: PatternMaker>(
     Ok((leads, is_right))
 }
 
-/// What the keywords of a schema lead to that have no cause, and whether none has one. The patterns of those are put into the table.
+// Whether the identifier of a schema, if it has one that counts, is a URI reference.
+fn is_named_rightly(alloc: Global, visit: &Visit<'_>) -> Result<bool, AllocError>
+    ensures { IfOk result (TellsIdentifier visit.now) }
+{
+    match check_identifier(alloc, visit) {
+        Ok(()) => Ok(true),
+        Err(cause) => {
+            if wants_memory(&cause) {
+                Err(AllocError)
+            } else {
+                Ok(false)
+            }
+        }
+    }
+}
+
+fn led_by_keywords<'r, P: PatternMaker>(
+    alloc: Global,
+    visit: &Visit<'r>,
+    maker: &P,
+    table: &mut PatternTable<P::Matcher>,
+) -> Result<(Vec<Visit<'r>>, bool), AllocError>
+    ensures led { IfOk result (λ l. KeywordsLead P.Matcher.finds (P.patterns maker.now) table.old visit.now l.0.items l.1) }
+    ensures filled { OnOk result (StaysFilled P.Matcher.finds (P.patterns maker.now) table.old table.new) }
+    ensures kept { OnOk result (Holds table.new (texts_of_table table.old)) }
+    ensures written { IfOk result (λ l. HoldsWritten table.new visit.now l.1) }
+{
+    let contents = visit.site.contents;
+    if let Some(members) = contents.as_object() {
+        return led_by_members(alloc, visit, members, maker, table);
+    }
+    Ok((Vec::new(alloc), contents.is_boolean()))
+}
+
+/// What the keywords of a schema lead to that have no cause, and whether none has one and its identifier is right. The patterns of those
+/// keywords are put into the table.
 ///
 /// It reads each member once, and looks its references up.
 ///
@@ -159,9 +195,7 @@ pub(crate) fn led_by<'r, P: PatternMaker>(
     ensures kept { OnOk result (Holds table.new (texts_of_table table.old)) }
     ensures written { IfOk result (λ l. l.1 ≡ true → (s : sites.Site) → Met visit.now s → Holds table.new (written s)) }
 {
-    let contents = visit.site.contents;
-    if let Some(members) = contents.as_object() {
-        return led_by_members(alloc, visit, members, maker, table);
-    }
-    Ok((Vec::new(alloc), contents.is_boolean()))
+    let is_named = is_named_rightly(alloc, visit)?;
+    let (leads, is_right) = led_by_keywords(alloc, visit, maker, table)?;
+    Ok((leads, are_both(is_named, is_right)))
 }

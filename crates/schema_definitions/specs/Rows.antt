@@ -326,12 +326,6 @@ consequent_row c k d = if is_some (beside c (codes "if")) then one_schema c k (�
 
 -- ---- references
 
--- a target that is no schema place has no identifier, yet one that is no URI reference is wrong
-abbrev pub target_causes : Context → List ℕ → Target → List BuildCause
-target_causes c k t =
-    if t.is_place then []
-    else flat_map (λ i. if is_reference (split i) then [] else bad_reference (place_at c (at k)) (invalid_uri i) ∷ []) (listed (identifier_text t.dialect t.contents))
-
 -- a target that is no schema is wrong there
 abbrev pub no_schema_there : Target → List BuildCause
 no_schema_there t = if is_schema t.contents then [] else keyword_value (record { document = t.document; path = t.path }) (codes "schema") ∷ []
@@ -340,7 +334,7 @@ abbrev pub led_to : Context → List ℕ → Reference → List ℕ → Result T
 led_to c k r reference_text (Err cause) = refused (bad_reference (place_at c (at k)) cause ∷ [])
 led_to c k r reference_text (Ok t) =
     let site = target_site c.site reference_text t in
-    with_causes (target_causes c k t ++ no_schema_there t) (reads (site ∷ []) (reference r site ∷ []))
+    with_causes (no_schema_there t) (reads (site ∷ []) (reference r site ∷ []))
 
 abbrev pub ref_row : Context → List ℕ → Option (List ℕ) → Row
 ref_row c k None = bad_value c k (codes "text")
@@ -357,6 +351,14 @@ is_hash (Some t) = bytes_eq t (codes "#")
 abbrev pub recursive_row : Context → List ℕ → Data → Row
 recursive_row c k d =
     if is_hash (as_str d) then led_to c k recursive (codes "#") (recursive_lookup c.documents c.site.base c.site.scope) else bad_value c k (codes "text #")
+
+-- ---- identifiers
+
+-- One that is no URI reference is wrong where it stands. At a schema place of a document it is wrong of the document already.
+abbrev pub identifier_causes : Site → List BuildCause
+identifier_causes s =
+    flat_map (λ i. if is_reference (split i) then [] else bad_reference (record { document = s.document; path = s.path }) (invalid_uri i) ∷ [])
+    (listed (identifier_text s.dialect s.contents))
 
 -- ---- the table
 

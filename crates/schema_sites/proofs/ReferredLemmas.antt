@@ -1,21 +1,16 @@
 -- What a reference is read as, by its target.
 use Rattle.std.proofs.Common.{◌≡◌, ◌∙◌, refl, sym, ap, subst, ℕ, List, [], ◌∷◌, ◌++◌, Bool, true, false, codes, if◌then◌else◌, Option, Some, Result, Ok, ◌⊎◌, inl, inr}
-use Rattle.std.specs.List.{flat_map}
 use Rattle.serde_json.specs.Data.{Data, Members}
-use Rattle.uri_grammar.specs.Grammar.{is_reference}
-use Rattle.uri_grammar.specs.Parts.{split}
 use Rattle.referencing.specs.Resolved.{base_of, scope_of}
 use Rattle.document_sources.specs.Causes.{IsMemory, NamesLookup, RefusesLookup}
 use Rattle.document_sources.specs.declared.error.Error.{Error}
 use Rattle.schema_definitions.specs.Bearers.{Documents}
-use Rattle.schema_definitions.specs.Identifiers.{identifier_text}
-use Rattle.schema_definitions.specs.Words.{listed}
-use Rattle.schema_definitions.specs.Lookup.{LookupCause, invalid_uri, Target}
+use Rattle.schema_definitions.specs.Lookup.{LookupCause, Target}
 use Rattle.schema_definitions.specs.Scopes.{recursive_lookup}
 use Rattle.schema_definitions.specs.Places.{is_schema}
 use Rattle.schema_meaning.specs.Keywords.{Reference, recursive, reference}
 use Rattle.schema_meaning.specs.Members.{In, first, later}
-use Rattle.schema_definitions.specs.Rows.{Row, BuildCause, keyword_value, bad_reference, Context, place_at, at, bad_value, with_causes, target_causes, no_schema_there, is_hash, led_to, ref_row, dynamic_row, reads}
+use Rattle.schema_definitions.specs.Rows.{Row, BuildCause, keyword_value, bad_reference, Context, place_at, at, bad_value, with_causes, no_schema_there, is_hash, led_to, ref_row, dynamic_row, reads}
 use Rattle.schema_definitions.specs.Sites.{target_site}
 use Rattle.schema_sites.specs.Errors.{IsRefusalOf}
 use Rattle.schema_sites.specs.Read.{Surrounds}
@@ -33,25 +28,12 @@ in-before {x = x} [] ys i = elim i [ ]
 in-before (y ∷ xs) ys first = first
 in-before (y ∷ xs) ys (later i) = later (in-before xs ys i)
 
-in-behind : {A : Type 0} {x : A} (xs ys : List A) → In x ys → In x (xs ++ ys)
-in-behind [] ys i = i
-in-behind (y ∷ xs) ys i = later (in-behind xs ys i)
-
 with-cause : (causes : List BuildCause) (cause : BuildCause) (row : Row) → In cause causes → IsCause cause (with_causes causes row)
 with-cause [] cause row i = elim i [ ]
 with-cause (b ∷ bs) cause row i = record { stands = in-before (b ∷ bs) row.causes i; alone = refl }
 
 abbrev no_schema : Target → BuildCause
 no_schema target = keyword_value (record { document = target.document; path = target.path }) (codes "schema")
-
--- an identifier that is no URI reference
-pub wrong-identifier : (x : Context) (k : List ℕ) (target : Target) (i : List ℕ) → target.is_place ≡ false → identifier_text target.dialect target.contents ≡ Some i → is_reference (split i) ≡ false
-    → target_causes x k target ≡ bad_reference (place_at x (at k)) (invalid_uri i) ∷ []
-wrong-identifier x k target i place text wrong =
-    let causes : List ℕ → List BuildCause = λ t. if is_reference (split t) then [] else bad_reference (place_at x (at k)) (invalid_uri t) ∷ [] in
-    ap (λ (b : Bool). if b then [] else flat_map causes (listed (identifier_text target.dialect target.contents))) place
-    ∙ ap (λ (o : Option (List ℕ)). flat_map causes (listed o)) text
-    ∙ ap (λ (b : Bool). (if b then [] else bad_reference (place_at x (at k)) (invalid_uri i) ∷ []) ++ []) wrong
 
 no-memory : (cause : LookupCause) (e : Error) → NamesLookup cause e → IsMemory e → ⊥
 no-memory cause e n m = subst (NamesLookup cause) m n
@@ -61,20 +43,13 @@ module _ (k : List ℕ) (kind : Reference) (x : Context) where
   abbrev led_row : List ℕ → Target → Row
   led_row t target = reads (target_site x.site t target ∷ []) (reference kind (target_site x.site t target) ∷ [])
 
-  pub led-read : (t : List ℕ) (target : Target) → target_causes x k target ≡ [] → is_schema target.contents ≡ true → led_to x k kind t (Ok target) ≡ led_row t target
-  led-read t target none schema =
-      ap (λ (causes : List BuildCause). with_causes (causes ++ no_schema_there target) (led_row t target)) none
-      ∙ ap (λ (b : Bool). with_causes (if b then [] else no_schema target ∷ []) (led_row t target)) schema
+  pub led-read : (t : List ℕ) (target : Target) → is_schema target.contents ≡ true → led_to x k kind t (Ok target) ≡ led_row t target
+  led-read t target schema = ap (λ (b : Bool). with_causes (if b then [] else no_schema target ∷ []) (led_row t target)) schema
 
   pub led-elsewhere : (t : List ℕ) (target : Target) → is_schema target.contents ≡ false → IsCause (no_schema target) (led_to x k kind t (Ok target))
   led-elsewhere t target other =
       let there = subst (λ (b : Bool). In (no_schema target) (if b then [] else no_schema target ∷ [])) (sym other) first in
-      with-cause (target_causes x k target ++ no_schema_there target) (no_schema target) (led_row t target) (in-behind (target_causes x k target) (no_schema_there target) there)
-
-  led-wrong : (t : List ℕ) (target : Target) (cause : BuildCause) → target_causes x k target ≡ cause ∷ [] → IsCause cause (led_to x k kind t (Ok target))
-  led-wrong t target cause e =
-      let there = subst (λ (causes : List BuildCause). In cause causes) (sym e) first in
-      with-cause (target_causes x k target ++ no_schema_there target) cause (led_row t target) (in-before (target_causes x k target) (no_schema_there target) there)
+      with-cause (no_schema_there target) (no_schema target) (led_row t target) there
 
   refused-with : (d : Data) (row : Row) (cause : LookupCause) (e : Error) (r : Refusal) → IsRefusalOf e r → NamesLookup cause e → IsCause (bad_reference (place_at x (at k)) cause) row
       → Refuses x k d row r
@@ -82,12 +57,6 @@ module _ (k : List ℕ) (kind : Reference) (x : Context) where
 
   without-memory : (d : Data) (row : Row) (e : Error) (r : Refusal) → IsRefusalOf e r → IsMemory e → Refuses x k d row r
   without-memory d row e r is m = subst (Refuses x k d row) (sym (is.memory m)) tt
-
-  pub identifier-refused : (d : Data) (t : List ℕ) (target : Target) (e : Error) (r : Refusal) → IsRefusalOf e r
-      → IsMemory e ⊎ ((i : List ℕ) × NamesLookup (invalid_uri i) e × ((y : Context) (n : List ℕ) → target_causes y n target ≡ bad_reference (place_at y (at n)) (invalid_uri i) ∷ []))
-      → Refuses x k d (led_to x k kind t (Ok target)) r
-  identifier-refused d t target e r is (inl m) = without-memory d _ e r is m
-  identifier-refused d t target e r is (inr n) = refused-with d _ (invalid_uri n.0) e r is n.1 (led-wrong t target _ (n.2 x k))
 
   pub lookup-refused : (d : Data) (t : List ℕ) (answer : Result Target LookupCause) (e : Error) (r : Refusal) → IsRefusalOf e r → RefusesLookup answer e
       → Refuses x k d (led_to x k kind t answer) r

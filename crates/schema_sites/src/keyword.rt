@@ -57,7 +57,7 @@ pub enum Refusal<'r> {
     Target {
         target: Resolved<'r>,
     },
-    /// The reference leads nowhere, or its target's identifier is no URI reference.
+    /// The reference leads nowhere.
     Reference(Error),
     /// The keyword is left out.
     LeftOut,

@@ -75,7 +75,6 @@ fn reference_text(keyword: ReferenceKeyword, value: &Value) -> Result<&str, &'st
 }
 
 fn reference<'r>(
-    alloc: Global,
     site: &Site<'r>,
     keyword: ReferenceKeyword,
     value: &'r Value,
@@ -87,7 +86,7 @@ fn reference<'r>(
     match reference_text(keyword, value) {
         Ok(text) => {
             let target = look_up(&site.resolver, keyword, text)?;
-            led_to(alloc, keyword, text, target)
+            led_to(keyword, text, target)
         }
         Err(expected) => Err(Refusal::Value { expected }),
     }
@@ -169,7 +168,7 @@ pub fn keyword<'r>(
         members,
     };
     match ReferenceKeyword::named(name) {
-        Some(found) => reference(alloc, site, found, value),
+        Some(found) => reference(site, found, value),
         None => counted(alloc, neighbours, name, value),
     }
 }

@@ -1,11 +1,10 @@
 //! What a reference is, from what it leads to.
 
-ghost use Rattle.std.specs.Prelude.{◌≡◌, ◌⊎◌, ◌∷◌, [], List, ℕ, IfOk, IfErr, OnOk, Ok};
+ghost use Rattle.std.specs.Prelude.{◌≡◌, IfOk, IfErr, Ok};
 ghost use Rattle.serde_json.specs.Data.{Data};
-ghost use Rattle.schema_definitions.specs.Lookup.{invalid_uri as no_reference};
 ghost use Rattle.schema_definitions.specs.Scopes.{entered_scope};
 ghost use Rattle.referencing.specs.Resolved.{target_in, base_of, scope_of, documents_in};
-ghost use Rattle.document_sources.specs.Causes.{IsMemory, NamesLookup, RefusesLookup};
+ghost use Rattle.document_sources.specs.Causes.{RefusesLookup};
 ghost use Rattle.schema_definitions.specs.Rows as rows;
 ghost use Rattle.schema_sites.specs.Read.{IsRowOf, Finds, FindsTarget};
 ghost use Rattle.schema_sites.specs.References as references;
@@ -14,12 +13,8 @@ ghost use Rattle.schema_sites.specs.Refused.{Refuses};
 
 use crate::keyword::{Keyword, Refusal};
 use crate::reference_keyword::ReferenceKeyword;
-use document_sources::named::invalid_uri;
 use referencing::{Error, Resolved, Resolver};
-use schema_dialects::identifiers::identifier_text;
 use schema_places::place::is_schema;
-use std::alloc::Global;
-use uri_grammar::grammar::is_uri_reference;
 
 // What a reference leads to, by its keyword.
 pub(crate) fn look_up<'r>(
@@ -39,26 +34,7 @@ pub(crate) fn look_up<'r>(
     }
 }
 
-// A target that is no schema place has no identifier, yet one that is no URI reference is refused.
-fn check_identifier(alloc: Global, target: &Resolved<'_>) -> Result<(), Error>
-    ensures ok { OnOk result ((x : rows.Context) (k : List ℕ) → rows.target_causes x k (target_in target.now) ≡ []) }
-    ensures refused { IfErr result (λ e. IsMemory e ⊎ ((i : List ℕ) × NamesLookup (no_reference i) e × ((x : rows.Context) (k : List ℕ) → rows.target_causes x k (target_in target.now) ≡ rows.bad_reference (rows.place_at x (rows.at k)) (no_reference i) ∷ []))) }
-{
-    if target.is_place() {
-        return Ok(());
-    }
-    let Some(text) = identifier_text(target.dialect(), target.contents()) else {
-        return Ok(());
-    };
-    if is_uri_reference(text) {
-        Ok(())
-    } else {
-        Err(invalid_uri(alloc, text))
-    }
-}
-
 pub(crate) fn led_to<'r>(
-    alloc: Global,
     keyword: ReferenceKeyword,
     text: &'r str,
     target: Resolved<'r>,
@@ -70,7 +46,6 @@ pub(crate) fn led_to<'r>(
     if !is_schema(target.contents()) {
         return Err(Refusal::Target { target });
     }
-    check_identifier(alloc, &target)?;
     Ok(Keyword::Reference {
         keyword,
         text,

@@ -12,6 +12,7 @@ use Rattle.schema_definitions.specs.Plain.{plain}
 use Rattle.schema_definitions.specs.AllKeys.{keys_of}
 use Rattle.plain_reader.specs.Tellings.{AreRead}
 use Rattle.plain_reader.specs.Roots.{TellsRoot}
+use Rattle.reading_laws.proofs.Reaching.{row_cause}
 use Rattle.reading_laws.proofs.Roots.{plain_is_decided}
 use Rattle.meaning_laws.proofs.Verdicts.{cut_agrees}
 use Rattle.schema_reports.specs.Told.{fault_of, faults_of, error_is_proper, are_proper, AreAll}
@@ -44,7 +45,7 @@ none_in (x ∷ xs) h = elim (h x first) [ ]
 pub are_read : (p : Patterns) (r : Root) → IsSound p r → (target : Target) → Finds r target → AreRead r.documents p.makes (root_site target)
 are_read p r sound target found = record {
   right = λ t reached row stands.
-      none_in row.causes (λ cause among. sound.right target found cause (record { site = t; reached = reached; row = row; stands = stands; wrong = among }));
+      none_in row.causes (λ cause among. sound.right target found cause (record { site = t; reached = reached; wrong = row_cause r.documents p.makes t row cause stands among }));
 }
 
 -- ---- what is heard

@@ -1,5 +1,6 @@
 // What is found before any instance: the text of the first cause, next to the root first.
 use crate::rows::assert_text;
+use reached_sites::cause::BuildCause;
 use reached_sites::checking::check_reached;
 use referencing::builder::RegistryBuilder;
 use referencing::registry::Registry;
@@ -116,6 +117,21 @@ const DYNAMIC_CIRCLES: &str = r##"{
     ]
 }"##;
 
+// Identifiers behind references, where no schema place of the document is.
+const IDENTIFIERS: &str = r##"{"rows": [
+    [{"$ref": "#/x", "x": {"$id": "%%"}}, "Invalid URI '%%'"],
+    [{"$ref": "#/x", "x": {"properties": {"a": {"$id": "%%"}}}}, "Invalid URI '%%'"],
+    [{"$ref": "#/x", "x": {"items": {"not": {"$id": "%%", "type": 5}}}}, "Invalid URI '%%'"],
+    [{"$ref": "#/x", "x": {"type": 5, "not": {"$id": "%%"}}},
+        "Keyword value at 'http://a.test/r#/x/type': expected type name"],
+    [{"$ref": "#/x", "x": {"properties": {"a": {"$id": "y"}, "b": {"$id": 5}}}}, "accepted"],
+    [{"$ref": "#/x", "x": true, "y": {"properties": {"a": {"$id": "%%"}}}}, "accepted"],
+    [{"$schema": "http://json-schema.org/draft-07/schema#", "items": {"$ref": "#/x"},
+        "x": {"items": {"$ref": "#/y", "$id": "%%"}}, "y": true}, "accepted"],
+    [{"$schema": "http://json-schema.org/draft-04/schema#", "items": {"$ref": "#/x"}, "x": {"items": {"id": "%%"}}},
+        "Invalid URI '%%'"]
+]}"##;
+
 fn json(rt: &impl Abort, alloc: Global, text: &str) -> Value {
     Value::from_str(alloc, text).expect(rt, "JSON")
 }
@@ -198,6 +214,7 @@ fn roots_are_checked(rt: HostRuntime) {
         BY_DYNAMIC_SCOPE,
         BY_RECURSIVE_ANCHORS,
         DYNAMIC_CIRCLES,
+        IDENTIFIERS,
     ] {
         assert_checked(&rt, rt.alloc(), &json(&rt, rt.alloc(), table));
     }
@@ -222,4 +239,25 @@ fn patterns_stand_once(rt: HostRuntime) {
     let document = json(&rt, rt.alloc(), WITH_PATTERNS);
     let registry = registry_of(&rt, rt.alloc(), &document, None);
     assert_table(&rt, rt.alloc(), &root_of(&rt, &registry));
+}
+
+const BEHIND_A_REFERENCE: &str = r##"{"$ref": "#/x", "x": {"properties": {"a": {"$id": "%%"}}}}"##;
+
+// Where the reference is that a root is refused for.
+fn assert_place(rt: &impl Abort, alloc: Global, root: &Resolved<'_>, want: &str) {
+    match check_reached(alloc, root, &refusing(rt, alloc), 65_536) {
+        Err(BuildCause::Reference { place, .. }) => {
+            let place = format!(in alloc; "{place}").expect(rt, "memory");
+            assert!(rt; place.as_str() == want, "{place}");
+        }
+        _ => panic!(rt; "no reference is refused"),
+    }
+}
+
+#[test]
+fn identifiers_have_places(rt: HostRuntime) {
+    let document = json(&rt, rt.alloc(), BEHIND_A_REFERENCE);
+    let registry = registry_of(&rt, rt.alloc(), &document, None);
+    let root = root_of(&rt, &registry);
+    assert_place(&rt, rt.alloc(), &root, "http://a.test/r#/x/properties/a");
 }

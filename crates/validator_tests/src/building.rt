@@ -68,6 +68,21 @@ document <http://a.test/r> {"$schema":"http://a.test/m"}
 build => Unknown meta-schema 'http://a.test/m'
 "##;
 
+const BY_IDENTIFIERS: &str = r##"
+document <http://a.test/r> {"$ref":"#/x","x":{"$id":"%%"}}
+build => Invalid URI '%%'
+
+document <http://a.test/r> {"$ref":"#/x","x":{"properties":{"a":{"$id":"%%"}}}}
+build => Invalid URI '%%'
+
+document <http://a.test/r> {"$ref":"#/x","x":{"items":{"not":{"$id":"%%"}}}}
+build => Invalid URI '%%'
+
+# nothing leads there
+document <http://a.test/r> {"$ref":"#/y","x":{"properties":{"a":{"$id":"%%"}}},"y":true}
+build => built
+"##;
+
 const BY_OLDER_DRAFTS: &str = r##"
 document <http://a.test/r> {"$schema":"https://json-schema.org/draft/2019-09/schema","$recursiveRef":"#/x"}
 build => Keyword value at 'http://a.test/r#/$recursiveRef': expected text #
@@ -91,6 +106,7 @@ build => built
 #[test]
 fn by_what_documents_have(rt: HostRuntime) {
     assert_cases(&rt, rt.alloc(), BESIDE_TRUE, IN_DOCUMENTS);
+    assert_cases(&rt, rt.alloc(), BESIDE_TRUE, BY_IDENTIFIERS);
     assert_cases(&rt, rt.alloc(), BESIDE_TRUE, BY_OLDER_DRAFTS);
 }
 

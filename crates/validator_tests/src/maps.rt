@@ -89,6 +89,10 @@ keys => <> </$defs/good>
 document <http://a.test/r> {"$defs":{"a":{"not":{"$ref":"#/$defs/b"}},"b":{"not":{"$ref":"#/$defs/a"},"minItems":"1"},"c":{"$ref":"s#/$defs/bad"},"d":{"$ref":"s#/$defs/text"}}}
 keys => <> </$defs/d>
 
+# the schema of `a` leads to an identifier that is no URI reference
+document <http://a.test/r> {"$defs":{"a":{"$ref":"#/x"},"b":true},"x":{"properties":{"y":{"$id":"%%"}}}}
+keys => <> </$defs/b>
+
 document <http://a.test/r> {"properties":{"a/b%":true}}
 keys => <> </properties/a~1b%>
 

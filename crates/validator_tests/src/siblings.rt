@@ -32,6 +32,10 @@ build => built
 document <http://a.test/r> {"$ref":"#/definitions/s","properties":{"x":{"$id":"http://a.test/x"}},"definitions":{"s":true}}
 build => built
 
+# nor is the identifier of a schema behind a reference, even if it is no URI reference
+document <http://a.test/r> {"items":{"$ref":"#/x"},"x":{"properties":{"a":{"$id":"%%","$ref":"#/definitions/s"}}},"definitions":{"s":true}}
+build => built
+
 document <http://a.test/r> {"allOf":[{"$ref":"http://a.test/x"},{"$ref":"#/definitions/s","properties":{"x":{"$id":"http://a.test/x","type":"string"}}}],"definitions":{"s":true}}
 build => Resource 'http://a.test/x' is not present and retrieving it failed
 
@@ -57,6 +61,9 @@ told {"x":1} => #/x #/properties/x/$ref/type
 
 document <http://a.test/r> {"properties":{"x":{"$ref":"#/definitions/s","pattern":5}},"definitions":{"s":true}}
 build => Keyword value at 'http://a.test/r#/properties/x/pattern': expected text
+
+document <http://a.test/r> {"items":{"$ref":"#/x"},"x":{"properties":{"a":{"$id":"%%","$ref":"#/definitions/s"}}},"definitions":{"s":true}}
+build => Invalid URI '%%'
 
 # each schema place beside a reference is one
 document <http://a.test/r> {"allOf":[{"$ref":"http://a.test/x"},{"$ref":"#/definitions/s","properties":{"x":{"$id":"http://a.test/x","type":"string"}}}],"definitions":{"s":true}}

@@ -31,5 +31,6 @@ pub mod Lines
 pub mod Lookups
 pub mod Siblings
 pub mod Refusals
+pub mod Identifiers
 pub mod Dialects
 pub mod Pointers

@@ -26,6 +26,7 @@ pub mod Unfoldings
 pub mod DocumentTexts
 pub mod Rows
 pub mod Lookups
+pub mod Identifiers
 pub mod Siblings
 pub mod Dialects
 pub mod Lines

@@ -2,6 +2,7 @@
 
 ghost use Rattle.std.specs.List.{AllByRecursion};
 ghost use Rattle.worked_examples.specs.Dialects.{Gives, meta_schemas};
+ghost use Rattle.worked_examples.specs.Identifiers.{IsNamed, named};
 ghost use Rattle.worked_examples.specs.Lines.{Written, lines, InputsAreCut};
 ghost use Rattle.worked_examples.specs.Lookups.{Answers, lookups, Refuses, refusals};
 ghost use Rattle.worked_examples.specs.Pointers.{HasPointers, pointed};
@@ -56,6 +57,11 @@ pub fn pointers_hold()
 /// Documents that are no registry, and why.
 pub fn refusals_hold()
     ensures { AllByRecursion Refuses refusals }
+{}
+
+/// Identifiers that are no URI references: behind a reference they are causes of a build, where they are reached and count.
+pub fn identifiers_hold()
+    ensures { AllByRecursion IsNamed named }
 {}
 
 /// Lines and the texts that are written for them.

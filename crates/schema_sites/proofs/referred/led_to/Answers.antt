@@ -3,10 +3,8 @@ use Rattle.serde_json.specs.View.{view}
 use Rattle.serde_json.specs.declared.value.Value.{Value}
 use Rattle.schema_definitions.specs.Places.{is_schema}
 use Rattle.referencing.specs.Resolved.{target_in}
-use Rattle.schema_sites.specs.Errors.{IsRefusalOf}
 use Rattle.schema_sites.specs.References.{kind_of, name_of}
-use Rattle.schema_sites.proofs.ReferredLemmas.{led-elsewhere, identifier-refused}
-use Rattle.schema_sites.proofs.ResultLemmas.{kept}
+use Rattle.schema_sites.proofs.ReferredLemmas.{led-elsewhere}
 use Rattle.schema_sites.proofs.referred.led_to.Goals as goal
 
 pub returns-then-not-is_schema-clause-refused : goal.returns-then-not-is_schema-clause-refused
@@ -14,9 +12,3 @@ returns-then-not-is_schema-clause-refused c = λ x d.
     let target = c.args.target in
     let other : is_schema (view target.contents.now) ≡ false = ap (λ (v : Bor Value). is_schema (view v.now)) (sym c.contents.ensures) ∙ sym c.if-not-is_schema.ensures in
     led-elsewhere (name_of c.args.keyword) (kind_of c.args.keyword) x c.args.text.now (target_in target) other
-
-pub returns-in_err-check_identifier-clause-refused : goal.returns-in_err-check_identifier-clause-refused
-returns-in_err-check_identifier-clause-refused c =
-    let e = c.in_err-check_identifier.field-0.0 in
-    kept c.from_residual.result (IsRefusalOf e) _ c.from_residual.ensures.1
-    (λ r is. λ x d. identifier-refused (name_of c.args.keyword) (kind_of c.args.keyword) x d c.args.text.now (target_in c.args.target) e r is c.in_err-check_identifier.ensures.refused)
