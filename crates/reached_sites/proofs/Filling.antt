@@ -1,5 +1,5 @@
 -- Tables of patterns that grow.
-use Rattle.std.proofs.Common.{◌≡◌, ◌∙◌, ◌⊎◌, ℕ, zero, suc, List, [], ◌∷◌, ◌++◌, map, Bool, true, false, true≢false, ◌||◌, is_some, Option, Some, None, option_map, slice_get, IsSome, String, Global, string_bytes, bytes_eq, refl, sym, ap, subst, inl, inr}
+use Rattle.std.proofs.Common.{◌≡◌, ◌∙◌, ◌⊎◌, ℕ, zero, suc, List, [], ◌∷◌, ◌++◌, map, Bool, true, false, true≢false, ◌||◌, is_some, Option, Some, None, option_map, slice_get, IsSome, String, Global, string_bytes, bytes_eq, refl, sym, ap, subst, inl, inr, append-nil, append_assoc}
 use Rattle.std.specs.Map.{lookup}
 use Rattle.std.specs.Prelude.{if◌then◌else◌}
 use Rattle.std.proofs.lemmas.List.{map-append}
@@ -12,7 +12,7 @@ use Rattle.schema_patterns.specs.Tables.{entries_of, texts_of_table, pattern_for
 use Rattle.schema_patterns.specs.declared.compiled.CompiledPattern.{CompiledPattern}
 use Rattle.schema_patterns.specs.declared.table.PatternTable.{PatternTable}
 use Rattle.certificate_laws.proofs.Named.{listed_in}
-use Rattle.reached_sites.specs.Patterns.{Holds, IsFilled}
+use Rattle.reached_sites.specs.Patterns.{Holds, IsFilled, IsFront}
 use Rattle.reached_sites.proofs.Listing.{in-before, in-either, in-one, none-in}
 
 -- ---- names of a list
@@ -38,6 +38,14 @@ none-some x e = absurd (cc (e))
 -- another answer for one pattern
 abbrev told : List ℕ → Option Bool → (List ℕ → List ℕ → Option Bool) → List ℕ → List ℕ → Option Bool
 told p o finished q t = if bytes_eq p q then o else finished q t
+
+-- ---- fronts of lists
+
+pub same-front : {A : Type 0} (xs ys : List A) → ys ≡ xs → IsFront xs ys
+same-front xs ys e = record { behind = []; is = e ∙ sym (append-nil xs) }
+
+pub further-front : {A : Type 0} {xs ys zs : List A} → IsFront xs ys → IsFront ys zs → IsFront xs zs
+further-front {xs = xs} f g = record { behind = f.behind ++ g.behind; is = g.is ∙ ap (λ l. l ++ g.behind) f.is ∙ append_assoc xs f.behind g.behind }
 
 module _ {M : Type 0} where
   -- ---- patterns by their texts
@@ -126,6 +134,13 @@ module _ {M : Type 0} where
         by None is = subst (λ (ts : List (List ℕ)). In q ts) (sym (texts-grown (grown is))) (in-before (texts_of_table old) (p ∷ []) i)
         by (Some c) is = subst (λ (ts : List (List ℕ)). In q ts) (sym (texts-kept c is)) i
 
+    pub addition-front : IsFront (texts_of_table old) (texts_of_table new)
+    addition-front = by (pattern_for old p) refl
+      where
+        by : (o : Option (CompiledPattern M)) → pattern_for old p ≡ o → IsFront (texts_of_table old) (texts_of_table new)
+        by None is = record { behind = p ∷ []; is = texts-grown (grown is) }
+        by (Some c) is = same-front (texts_of_table old) (texts_of_table new) (texts-kept c is)
+
     pub addition-filled : (finds : M → List ℕ → Option Bool) (finished : List ℕ → List ℕ → Option Bool) (makes : List ℕ → Bool)
         → (AreMadeBy finds finished old → AreMadeBy finds finished new) → (pattern_for old p ≡ None → AreMadeBy finds finished old → is_made_by makes p ≡ true)
         → IsFilled finds finished makes old → IsFilled finds finished makes new
@@ -182,6 +197,9 @@ module _ {M : Type 0} (old new : PatternTable M) (same : entries_of new ≡ entr
 
   pub refused-holds : Holds new (texts_of_table old)
   refused-holds p i = subst (λ (ts : List (List ℕ)). is_listed p ts ≡ true) (sym same-texts) (holds-itself old p i)
+
+  pub refused-front : IsFront (texts_of_table old) (texts_of_table new)
+  refused-front = same-front (texts_of_table old) (texts_of_table new) same-texts
 
   pub refused-filled : (finds : M → List ℕ → Option Bool) (finished : List ℕ → List ℕ → Option Bool) (makes : List ℕ → Bool) → (AreMadeBy finds finished old → AreMadeBy finds finished new)
       → IsFilled finds finished makes old → IsFilled finds finished makes new

@@ -59,6 +59,11 @@ pub record IsFilled {M : Type 0} (finds : M → List ℕ → Option Bool) (finis
   pub made : AreMadeBy finds finished table
   pub each : AreMade makes (texts_of_table table)
 
+-- a list with more behind it
+pub record IsFront {A : Type 0} (front whole : List A) : Type 0 where
+  pub behind : List A
+  pub is : whole ≡ front ++ behind
+
 -- each of these texts is in a table
 abbrev pub Holds : {M : Type 0} → PatternTable M → List (List ℕ) → Type 0
 Holds table texts = (p : List ℕ) → In p texts → is_listed p (texts_of_table table) ≡ true

@@ -109,12 +109,12 @@ fn push_subschemas<'r>(
 fn push_applied<'r>(
     alloc: Global,
     visit: &Visit<'r>,
-    applicator: Applicator<'r>,
+    applicator: &Applicator<'r>,
     leads: &mut Vec<Visit<'r>>,
 ) -> Result<(), AllocError>
-    ensures { OnOk result (Adds (documents_in visit.now.site.resolver) leads.old.items leads.new.items (read.leads_of (documents_at visit.now.site) (site_of visit.now) (Keyword.Applicator applicator.entry))) }
+    ensures { OnOk result (Adds (documents_in visit.now.site.resolver) leads.old.items leads.new.items (read.leads_of (documents_at visit.now.site) (site_of visit.now) (Keyword.Applicator applicator.now))) }
 {
-    let found = subschemas(alloc, &applicator)?;
+    let found = subschemas(alloc, applicator)?;
     push_subschemas(alloc, visit, found.as_slice(), leads)
 }
 
@@ -122,11 +122,11 @@ fn push_target<'r>(
     alloc: Global,
     visit: &Visit<'r>,
     text: &str,
-    target: Resolved<'r>,
+    target: &Resolved<'r>,
     leads: &mut Vec<Visit<'r>>,
 ) -> Result<(), AllocError>
-    requires { (keyword : ReferenceKeyword) × read.FindsTarget visit.now.site keyword text.now target }
-    ensures { OnOk result (Adds (documents_in visit.now.site.resolver) leads.old.items leads.new.items (sites.target_site (site_of visit.now) text.now (target_in target.entry) ∷ [])) }
+    requires { (keyword : ReferenceKeyword) × read.FindsTarget visit.now.site keyword text.now target.now }
+    ensures { OnOk result (Adds (documents_in visit.now.site.resolver) leads.old.items leads.new.items (sites.target_site (site_of visit.now) text.now (target_in target.now) ∷ [])) }
 {
     leads.push(Visit::of_target(alloc, text, target, visit.site.matches)?)?;
     Ok(())
@@ -140,11 +140,11 @@ fn push_target<'r>(
 pub fn push_leads<'r>(
     alloc: Global,
     visit: &Visit<'r>,
-    keyword: Keyword<'r>,
+    keyword: &Keyword<'r>,
     leads: &mut Vec<Visit<'r>>,
 ) -> Result<(), AllocError>
-    requires { (d : Data) × read.Finds visit.now.site d keyword }
-    ensures { OnOk result (Adds (documents_in visit.now.site.resolver) leads.old.items leads.new.items (read.leads_of (documents_at visit.now.site) (site_of visit.now) keyword.entry)) }
+    requires { (d : Data) × read.Finds visit.now.site d keyword.now }
+    ensures { OnOk result (Adds (documents_in visit.now.site.resolver) leads.old.items leads.new.items (read.leads_of (documents_at visit.now.site) (site_of visit.now) keyword.now)) }
 {
     match keyword {
         Keyword::Nothing => Ok(()),
@@ -174,7 +174,7 @@ fn leads_of_members<'r>(
         match keyword(alloc, &visit.site, members, name, value) {
             Ok(keyword) => {
                 push_patterns(alloc, &visit.point.place, name, &keyword, &mut patterns)?;
-                push_leads(alloc, visit, keyword, &mut leads)?;
+                push_leads(alloc, visit, &keyword, &mut leads)?;
             }
             Err(refusal) => return Err(refused(alloc, &visit.point.place, name, refusal)?),
         }

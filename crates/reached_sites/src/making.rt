@@ -3,7 +3,7 @@
 ghost use Rattle.std.specs.Prelude.{◌≡◌, ◌∷◌, [], List, ℕ, true, IfErr, OnOk};
 ghost use Rattle.schema_meaning.specs.Members.{is_listed};
 ghost use Rattle.schema_patterns.specs.Tables.{texts_of_table};
-ghost use Rattle.reached_sites.specs.Patterns.{texts_of, text_of, Holds, IsFilled, RefusesPattern};
+ghost use Rattle.reached_sites.specs.Patterns.{texts_of, text_of, Holds, IsFilled, IsFront, RefusesPattern};
 
 use crate::cause::BuildCause;
 use crate::pattern::Pattern;
@@ -18,6 +18,7 @@ fn add_pattern<P: PatternMaker>(
 ) -> Result<(), BuildCause>
     ensures filled { IsFilled P.Matcher.finds (P.patterns maker.now).finished (P.patterns maker.now).makes table.old → IsFilled P.Matcher.finds (P.patterns maker.now).finished (P.patterns maker.now).makes table.new }
     ensures kept { Holds table.new (texts_of_table table.old) }
+    ensures grows { IsFront (texts_of_table table.old) (texts_of_table table.new) }
     ensures held { OnOk result (is_listed (text_of pattern.now) (texts_of_table table.new) ≡ true) }
     ensures refused { IfErr result (RefusesPattern (P.patterns maker.now).makes (pattern.now ∷ [])) }
 {
@@ -44,6 +45,7 @@ pub fn add_patterns<P: PatternMaker>(
 ) -> Result<(), BuildCause>
     ensures filled { IsFilled P.Matcher.finds (P.patterns maker.now).finished (P.patterns maker.now).makes table.old → IsFilled P.Matcher.finds (P.patterns maker.now).finished (P.patterns maker.now).makes table.new }
     ensures kept { Holds table.new (texts_of_table table.old) }
+    ensures grows { IsFront (texts_of_table table.old) (texts_of_table table.new) }
     ensures held { OnOk result (Holds table.new (texts_of patterns.now)) }
     ensures refused { IfErr result (RefusesPattern (P.patterns maker.now).makes patterns.now) }
 {

@@ -18,7 +18,7 @@ use std::alloc::{AllocError, Global};
 /// # Errors
 ///
 /// Where the refusal is want of memory, where memory was refused, or a count of owners is full.
-pub(crate) fn refused(
+pub fn refused(
     alloc: Global,
     place: &SchemaPlace,
     name: &str,

@@ -125,16 +125,16 @@ impl<'r> Visit<'r> {
     pub fn of_target(
         alloc: Global,
         text: &str,
-        target: Resolved<'r>,
+        target: &Resolved<'r>,
         matches: &'r Matches,
     ) -> Result<Visit<'r>, AllocError>
         requires { reads_as_path text.now ≡ true }
-        ensures met { IfOk result (λ v. (s : sites.Site) → scope_of target.entry.resolver ≡ entered_scope (base_of target.entry.resolver) s.base s.scope → Met v (sites.target_site s text.now (target_in target.entry))) }
-        ensures belongs { IfOk result (Belongs (documents_in target.entry.resolver)) }
+        ensures met { IfOk result (λ v. (s : sites.Site) → scope_of target.now.resolver ≡ entered_scope (base_of target.now.resolver) s.base s.scope → Met v (sites.target_site s text.now (target_in target.now))) }
+        ensures belongs { IfOk result (Belongs (documents_in target.now.resolver)) }
     {
-        let site = at_target(&target, matches)?;
+        let site = at_target(target, matches)?;
         Ok(Visit {
-            point: Waypoint::of_target(alloc, text, &target)?,
+            point: Waypoint::of_target(alloc, text, target)?,
             key: key_of_scope(alloc, &site)?,
             site,
         })

@@ -96,7 +96,7 @@ fn push_member<'r, P: PatternMaker>(
             if !are_made(alloc, maker, patterns.as_slice(), table)? {
                 return Ok(false);
             }
-            push_leads(alloc, visit, keyword, leads)?;
+            push_leads(alloc, visit, &keyword, leads)?;
             Ok(true)
         }
         Err(refusal) => {

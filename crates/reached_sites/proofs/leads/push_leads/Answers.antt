@@ -33,5 +33,5 @@ returns-in-Consequent c = on_ok_weaker c.push_at-in-Consequent.result (λ h. as_
 pub returns-in-Applicator : goal.returns-in-Applicator
 returns-in-Applicator c = on_ok_weaker c.push_applied.result (λ h. as_keyword c.args.visit.now _ _ _ _ c.in-Applicator.is h) c.push_applied.ensures
 
-pub returns : goal.returns
-returns c = on_ok_weaker c.push_target.result (λ h. as_keyword c.args.visit.now _ _ _ _ c.in-Reference.is h) c.push_target.ensures
+pub returns-in-Reference : goal.returns-in-Reference
+returns-in-Reference c = on_ok_weaker c.push_target.result (λ h. as_keyword c.args.visit.now _ _ _ _ c.in-Reference.is h) c.push_target.ensures

@@ -1,7 +1,7 @@
 use Rattle.std.proofs.Common.{◌≡◌, sym, ap, rules, false, inr}
 use Rattle.schema_meaning.specs.Members.{first}
 use Rattle.schema_definitions.specs.Rows.{Place, bad_pattern}
-use Rattle.reached_sites.proofs.Filling.{addition-filled, addition-holds, added-made, numbered-listed, not-made, refused-filled, refused-holds}
+use Rattle.reached_sites.proofs.Filling.{addition-filled, addition-front, addition-holds, added-made, numbered-listed, not-made, refused-filled, refused-front, refused-holds}
 use Rattle.reached_sites.proofs.making.add_pattern.Goals as goal
 
 pub returns-in-Ok-clause-filled : goal.returns-in-Ok-clause-filled
@@ -55,3 +55,16 @@ returns-in-Err-Memory-clause-filled g c =
 
 pub returns-in-Err-Memory-clause-kept : goal.returns-in-Err-Memory-clause-kept
 returns-in-Err-Memory-clause-kept g c = refused-holds c.args.table.now c.add_with.new.self c.in-Err-Memory.ensures.unchanged
+
+pub returns-in-Ok-clause-grows : goal.returns-in-Ok-clause-grows
+returns-in-Ok-clause-grows g c =
+    addition-front c.args.table.now c.add_with.new.self c.args.pattern.now.text.now (λ some. (c.in-Ok.ensures.kept some).1) c.in-Ok.ensures.grown
+
+pub returns-in_err-shared-in-Err-BadPattern-clause-grows : goal.returns-in_err-shared-in-Err-BadPattern-clause-grows
+returns-in_err-shared-in-Err-BadPattern-clause-grows g c = refused-front c.args.table.now c.add_with.new.self c.in-Err-BadPattern.ensures.unchanged
+
+pub returns-in_ok-shared-in-Err-BadPattern-clause-grows : goal.returns-in_ok-shared-in-Err-BadPattern-clause-grows
+returns-in_ok-shared-in-Err-BadPattern-clause-grows g c = refused-front c.args.table.now c.add_with.new.self c.in-Err-BadPattern.ensures.unchanged
+
+pub returns-in-Err-Memory-clause-grows : goal.returns-in-Err-Memory-clause-grows
+returns-in-Err-Memory-clause-grows g c = refused-front c.args.table.now c.add_with.new.self c.in-Err-Memory.ensures.unchanged

@@ -1,15 +1,15 @@
-use Rattle.std.proofs.Common.{◌∙◌, ◌∷◌, [], ◌++◌, List, ℕ, sym, ap, subst, take}
+use Rattle.std.proofs.Common.{◌∙◌, ◌∷◌, [], ◌++◌, List, ℕ, refl, sym, ap, subst, take}
 use Rattle.std.proofs.lemmas.List.{take_more}
 use Rattle.std.proofs.lemmas.Result.{err_from_is_err_and}
 use Rattle.schema_patterns.specs.Tables.{texts_of_table}
 use Rattle.reached_sites.specs.Patterns.{texts_of, text_of, Holds}
-use Rattle.reached_sites.proofs.Filling.{holds-itself, holds-none, holds-both, holds-one, holds-too}
+use Rattle.reached_sites.proofs.Filling.{holds-itself, holds-none, holds-both, holds-one, holds-too, same-front, further-front}
 use Rattle.reached_sites.proofs.Listing.{in-at}
 use Rattle.reached_sites.proofs.Putting.{texts-behind, refuses-more}
 use Rattle.reached_sites.proofs.making.add_patterns.Goals as goal
 
 pub loop-pattern-init : goal.loop-pattern-init
-loop-pattern-init g c = record { filled = λ f. f; kept = holds-itself c.args.table.now; held = holds-none c.args.table.now }
+loop-pattern-init g c = record { filled = λ f. f; kept = holds-itself c.args.table.now; grows = same-front (texts_of_table c.args.table.now) _ refl; held = holds-none c.args.table.now }
 
 pub returns-in_err-add_pattern-clause-refused : goal.returns-in_err-add_pattern-clause-refused
 returns-in_err-add_pattern-clause-refused g c =
@@ -32,6 +32,7 @@ loop-pattern-preserved g c =
     record {
       filled = λ f. c.in_ok-add_pattern.ensures.filled (known.filled f);
       kept = holds-too table larger (texts_of_table c.args.table.now) known.kept kept;
+      grows = further-front known.grows c.in_ok-add_pattern.ensures.grows;
       held =
           subst (λ (ts : List (List ℕ)). Holds larger ts) (sym texts)
           (holds-both larger (texts_of (take i qs)) (text_of q ∷ []) (holds-too table larger (texts_of (take i qs)) known.held kept) (holds-one larger (text_of q) c.in_ok-add_pattern.ensures.held));
@@ -40,3 +41,6 @@ loop-pattern-preserved g c =
 pub returns-in_err-add_pattern-clause-kept : goal.returns-in_err-add_pattern-clause-kept
 returns-in_err-add_pattern-clause-kept g c =
     holds-too c.loop-pattern.table c.add_pattern.new.table (texts_of_table c.args.table.now) c.loop-pattern.invariant.kept c.in_err-add_pattern.ensures.kept
+
+pub returns-in_err-add_pattern-clause-grows : goal.returns-in_err-add_pattern-clause-grows
+returns-in_err-add_pattern-clause-grows g c = further-front c.loop-pattern.invariant.grows c.in_err-add_pattern.ensures.grows

@@ -11,5 +11,5 @@ returns-clause-met c = λ s entered.
     let site = c.in_ok-site.ensures in
     let reference = c.args.text.now in
     let stands = site.stands s reference in
-    met-exactly _ (target_site s reference (target_in c.args.target)) (sym place.document) (sym place.path) (sym site.contents) (ap spelled (sym place.road))
+    met-exactly _ (target_site s reference (target_in c.args.target.now)) (sym place.document) (sym place.path) (sym site.contents) (ap spelled (sym place.road))
     (record { base = stands.base; scope = sym entered ∙ sym site.scope; dialect = stands.dialect })
