@@ -10,3 +10,8 @@ invariant_of-result g c = record {
   apart = ap (λ r. are_apart (documents_of r)) c.in-Ok.ensures.ok
       ∙ gathered-apart _ _ (map document_of c.args.documents.items) _ _ c.requires.apart c.in_ok-registry.ensures.documents;
 }
+
+pub returns-in-Ok-clause-prepared : goal.returns-in-Ok-clause-prepared
+returns-in-Ok-clause-prepared g c =
+    let r = c.in_ok-registry.ensures in
+    rw c.in-Ok.ensures.ok (record { gathered = r.documents; once = r.once; complete = r.complete; accepted = r.accepted; alone = r.alone })
