@@ -1,0 +1,9 @@
+pub mod Linked
+pub mod Starts
+pub mod Graphs
+pub mod Asked
+pub mod Read
+pub mod Filled
+pub mod Walked
+pub mod Causes
+pub mod Linking

@@ -1,0 +1,88 @@
+//! Graphs of schemas.
+
+ghost use Rattle.std.specs.Prelude.{◌∷◌, [], IfOk, IfErr};
+ghost use Rattle.reading_laws.specs.Asked.{AreAmong};
+ghost use Rattle.reading_laws.specs.Keys.{AreWithin};
+ghost use Rattle.referencing.specs.Resolved.{documents_in, target_in};
+ghost use Rattle.schema_definitions.specs.BuildCauses.{IsCauseOf};
+ghost use Rattle.schema_definitions.specs.Rows as rows;
+ghost use Rattle.schema_definitions.specs.Sites.{root_site};
+ghost use Rattle.schema_patterns.specs.Tables.{texts_of_table, AreMadeBy};
+ghost use Rattle.reached_sites.specs.Causes.{RefusesWithin};
+ghost use Rattle.reached_sites.specs.Roots.{IsPlaced};
+ghost use Rattle.compiled_graphs.specs.Linking.{IsCompiledAt, KnowsTable};
+
+use crate::starting::start_at;
+use crate::walk::{AtCause, Walk};
+use compiled_keywords::keyword::Keyword;
+use reached_sites::cause::BuildCause;
+use referencing::Resolved;
+use schema_engine::graph::Graph;
+use schema_patterns::matches::Matches;
+use schema_patterns::{PatternMaker, PatternMatcher, PatternTable};
+use std::alloc::{AllocError, Global};
+
+/// The schemas that are reached from a root, compiled into numbered nodes, each once for each compile key, with the patterns that they ask for
+/// and the number of the root's node. It borrows from no document.
+#[derive(Drop)]
+pub struct SchemaGraph<M> {
+    pub graph: Graph<Keyword>,
+    pub start: usize,
+    pub table: PatternTable<M>,
+}
+
+// The graph from a root, with the matches that its visits carry.
+fn build_from<'r, P: PatternMaker>(
+    alloc: Global,
+    root: &Resolved<'r>,
+    matches: &'r Matches,
+    maker: &P,
+    limit: usize,
+) -> Result<SchemaGraph<P::Matcher>, BuildCause>
+    requires placed { IsPlaced (documents_in root.now.resolver) (target_in root.now) }
+    ensures accepted { IfOk result (λ g. (c : rows.BuildCause) → IsCauseOf (documents_in root.now.resolver) (P.patterns maker.now).makes (root_site (target_in root.now)) c → ⊥) }
+    ensures within { IfOk result (λ g. AreWithin (documents_in root.now.resolver) (P.patterns maker.now).makes (root_site (target_in root.now) ∷ []) limit) }
+    ensures patterns { IfOk result (λ g. AreAmong (documents_in root.now.resolver) (P.patterns maker.now).makes (root_site (target_in root.now)) (texts_of_table g.table)) }
+    ensures made { IfOk result (λ g. AreMadeBy P.Matcher.finds (P.patterns maker.now).finished g.table) }
+    ensures linked { IfOk result (λ g. IsCompiledAt (documents_in root.now.resolver) (P.patterns maker.now).makes g.graph.nodes.items (root_site (target_in root.now)) g.start) }
+    ensures known { IfOk result (λ g. KnowsTable g.graph.nodes.items g.table) }
+    ensures refused { IfErr result (RefusesWithin (documents_in root.now.resolver) (P.patterns maker.now).makes (root_site (target_in root.now)) limit) }
+{
+    let (visits, visited) = start_at(alloc, root, matches)?;
+    let begun = Walk::new(alloc, visits, visited);
+    let walk = begun.run(alloc, maker, limit, AtCause::Stop)?;
+    Ok(SchemaGraph {
+        graph: Graph { nodes: walk.nodes },
+        start: 0,
+        table: walk.table,
+    })
+}
+
+/// Compiles the schemas that are reached from a root, each once for each compile key with which it is reached: its place, base, dialect, scope
+/// key and schema path. Those next to the root come first; the position in that order is the node's number.
+///
+/// A schema is found again by the text of its place. A scope key is made for each reference and where a subschema has a base of its own. The
+/// maker is asked once for each text, and for none of the literal forms.
+///
+/// # Errors
+///
+/// A cause that stands at a place reached from the root, the first in the order of the nodes; more compile keys than the limit, or want of
+/// memory.
+pub fn build<P: PatternMaker>(
+    alloc: Global,
+    root: &Resolved<'_>,
+    maker: &P,
+    limit: usize,
+) -> Result<SchemaGraph<P::Matcher>, BuildCause>
+    requires placed { IsPlaced (documents_in root.now.resolver) (target_in root.now) }
+    ensures accepted { IfOk result (λ g. (c : rows.BuildCause) → IsCauseOf (documents_in root.now.resolver) (P.patterns maker.now).makes (root_site (target_in root.now)) c → ⊥) }
+    ensures within { IfOk result (λ g. AreWithin (documents_in root.now.resolver) (P.patterns maker.now).makes (root_site (target_in root.now) ∷ []) limit) }
+    ensures patterns { IfOk result (λ g. AreAmong (documents_in root.now.resolver) (P.patterns maker.now).makes (root_site (target_in root.now)) (texts_of_table g.table)) }
+    ensures made { IfOk result (λ g. AreMadeBy P.Matcher.finds (P.patterns maker.now).finished g.table) }
+    ensures linked { IfOk result (λ g. IsCompiledAt (documents_in root.now.resolver) (P.patterns maker.now).makes g.graph.nodes.items (root_site (target_in root.now)) g.start) }
+    ensures known { IfOk result (λ g. KnowsTable g.graph.nodes.items g.table) }
+    ensures refused { IfErr result (RefusesWithin (documents_in root.now.resolver) (P.patterns maker.now).makes (root_site (target_in root.now)) limit) }
+{
+    let matches = Matches::none(alloc);
+    build_from(alloc, &*root, &matches, maker, limit)
+}

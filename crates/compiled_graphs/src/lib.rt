@@ -1,0 +1,10 @@
+//! The schemas that are reached from roots, compiled into graphs.
+#![tactic(auto)]
+
+mod asking;
+mod filling;
+pub mod graph;
+mod linking;
+mod reading;
+mod starting;
+mod walk;

@@ -1,0 +1,110 @@
+//! Where walks begin.
+
+ghost use Rattle.std.specs.Prelude.{◌≡◌, ◌∷◌, [], List, ℕ, Bool, true, map, string_bytes, IfOk, OnOk};
+ghost use Rattle.std.specs.List.{list_all};
+ghost use Rattle.schema_definitions.specs.Sites.{root_site};
+ghost use Rattle.document_laws.specs.TargetLaws.{are_apart, contents_rise};
+ghost use Rattle.referencing.specs.Resolved.{base_of, documents_in, target_in};
+ghost use Rattle.reached_sites.specs.Filed.{Filed};
+ghost use Rattle.reached_sites.specs.Growing.{Apart};
+ghost use Rattle.compiled_graphs.specs.Graphs.{IsGraph, IsVisited};
+ghost use Rattle.compiled_graphs.specs.Starts.{sites_from, Start, StartsOne};
+
+use reached_sites::reaching::put;
+use reached_sites::visit::Visit;
+use reached_sites::visited::Visited;
+use referencing::{Error, Resolved, Resolver};
+use schema_patterns::matches::Matches;
+use std::alloc::{AllocError, Global};
+
+/// Visits of what some references lead to, and for each reference the position of its visit, or none where it leads nowhere.
+#[derive(Drop)]
+pub(crate) struct Started<'r> {
+    pub(crate) visits: Vec<Visit<'r>>,
+    pub(crate) visited: Visited,
+    pub(crate) starts: Vec<Option<usize>>,
+}
+
+/// The visit of a root alone.
+///
+/// # Errors
+///
+/// Where memory was refused or a count of owners is full.
+pub(crate) fn start_at<'r>(
+    alloc: Global,
+    root: &Resolved<'r>,
+    matches: &'r Matches,
+) -> Result<(Vec<Visit<'r>>, Visited), AllocError>
+    ensures visited { IfOk result (λ s. IsVisited s.0.items 0 (root_site (target_in root.now))) }
+    ensures graph { IfOk result (λ s. (makes : List ℕ → Bool) → IsGraph (documents_in root.now.resolver) makes (root_site (target_in root.now) ∷ []) s.0.items [] [] 0) }
+    ensures apart { IfOk result (λ s. Filed s.1 s.0.items × Apart s.0.items) }
+{
+    let mut visits = Vec::new(alloc);
+    let mut visited = Visited::new(alloc);
+    put(
+        alloc,
+        &mut visits,
+        &mut visited,
+        Visit::of_root(alloc, root, matches)?,
+    )?;
+    Ok((visits, visited))
+}
+// Puts the visit of what a reference leads to behind others, unless it is one of them, and answers where it stands.
+fn start_one<'r>(
+    alloc: Global,
+    resolver: &Resolver<'r>,
+    reference: &str,
+    matches: &'r Matches,
+    visits: &mut Vec<Visit<'r>>,
+    visited: &mut Visited,
+) -> Result<Option<usize>, AllocError>
+    ensures starts { IfOk result (StartsOne (documents_in resolver.now) (base_of resolver.now) reference.now visits.old.items visits.new.items) }
+    ensures apart { OnOk result (Filed visited.old visits.old.items → Apart visits.old.items → Filed visited.new visits.new.items × Apart visits.new.items) }
+{
+    match resolver.lookup(reference) {
+        Ok(found) => {
+            let visit = Visit::of_root(alloc, &found, matches)?;
+            Ok(Some(put(alloc, visits, visited, visit)?))
+        }
+        Err(Error::Memory) => Err(AllocError),
+        Err(_) => Ok(None),
+    }
+}
+
+/// Looks references up, and visits what they lead to.
+///
+/// # Errors
+///
+/// Where memory was refused or a count of owners is full.
+pub(crate) fn start<'r>(
+    alloc: Global,
+    resolver: &Resolver<'r>,
+    references: &[String],
+    matches: &'r Matches,
+) -> Result<Started<'r>, AllocError>
+    requires apart { are_apart (documents_in resolver.now) ≡ true }
+    requires rise { list_all contents_rise (documents_in resolver.now) ≡ true }
+    ensures starts { IfOk result (λ s. Start (documents_in resolver.now) (base_of resolver.now) s.visits.items (map string_bytes references.now) s.starts.items) }
+    ensures graph { IfOk result (λ s. (makes : List ℕ → Bool) → IsGraph (documents_in resolver.now) makes (sites_from (documents_in resolver.now) (base_of resolver.now) (map string_bytes references.now)) s.visits.items [] [] 0) }
+    ensures apart { IfOk result (λ s. Filed s.visited s.visits.items × Apart s.visits.items) }
+{
+    let mut visits = Vec::new(alloc);
+    let mut visited = Visited::new(alloc);
+    let mut starts = Vec::new(alloc);
+    for reference in references {
+        let position = start_one(
+            alloc,
+            resolver,
+            reference.as_str(),
+            matches,
+            &mut visits,
+            &mut visited,
+        )?;
+        starts.push(position)?;
+    }
+    Ok(Started {
+        visits,
+        visited,
+        starts,
+    })
+}
