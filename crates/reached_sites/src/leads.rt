@@ -157,6 +157,23 @@ pub fn push_leads<'r>(
     }
 }
 
+/// The same, of a keyword that is not asked for again.
+///
+/// # Errors
+///
+/// Where memory was refused or a count of owners is full.
+pub fn push_leads_of<'r>(
+    alloc: Global,
+    visit: &Visit<'r>,
+    keyword: Keyword<'r>,
+    leads: &mut Vec<Visit<'r>>,
+) -> Result<(), AllocError>
+    requires { (d : Data) × read.Finds visit.now.site d keyword }
+    ensures { OnOk result (Adds (documents_in visit.now.site.resolver) leads.old.items leads.new.items (read.leads_of (documents_at visit.now.site) (site_of visit.now) keyword.entry)) }
+{
+    push_leads(alloc, visit, &keyword, leads)
+}
+
 fn leads_of_members<'r>(
     alloc: Global,
     visit: &Visit<'r>,
@@ -174,7 +191,7 @@ fn leads_of_members<'r>(
         match keyword(alloc, &visit.site, members, name, value) {
             Ok(keyword) => {
                 push_patterns(alloc, &visit.point.place, name, &keyword, &mut patterns)?;
-                push_leads(alloc, visit, &keyword, &mut leads)?;
+                push_leads_of(alloc, visit, keyword, &mut leads)?;
             }
             Err(refusal) => return Err(refused(alloc, &visit.point.place, name, refusal)?),
         }

@@ -14,7 +14,7 @@ ghost use Rattle.root_checks.specs.Led.{StaysFilled, MemberLeads, MembersLead, K
 
 use reached_sites::cause::BuildCause;
 use reached_sites::identifying::check_identifier;
-use reached_sites::leads::push_leads;
+use reached_sites::leads::push_leads_of;
 use reached_sites::making::add_patterns;
 use reached_sites::pattern::{Pattern, push_patterns};
 use reached_sites::visit::Visit;
@@ -96,7 +96,7 @@ fn push_member<'r, P: PatternMaker>(
             if !are_made(alloc, maker, patterns.as_slice(), table)? {
                 return Ok(false);
             }
-            push_leads(alloc, visit, &keyword, leads)?;
+            push_leads_of(alloc, visit, keyword, leads)?;
             Ok(true)
         }
         Err(refusal) => {

@@ -20,8 +20,8 @@ loop-name-init c =
     let same : c.args.members.now.entries ≡ c.into_iter-name-iterator.result = cc in
     subst (λ es. Walk v all (members_view es) leads patterns) same (walk-begins v all leads patterns c.new-leads.ensures.items c.new-patterns.ensures.items)
 
-pub push_leads-requires : goal.push_leads-requires
-push_leads-requires c = (view c.in-Some.value.now, c.in-Ok.ensures.found)
+pub push_leads_of-requires : goal.push_leads_of-requires
+push_leads_of-requires c = (view c.in-Some.value.now, c.in-Ok.ensures.found)
 
 pub loop-name-preserved : goal.loop-name-preserved
 loop-name-preserved c =
@@ -34,11 +34,11 @@ loop-name-preserved c =
     let before = c.loop-name.patterns.items in
     let after = c.push_patterns.new.patterns.items in
     let same : c.as_str-name.result.now ≡ k = c.as_str-name.ensures.value in
-    walk-goes v all k d (members_view c.next.new.self) c.loop-name.leads.items c.push_leads.new.leads.items before after
+    walk-goes v all k d (members_view c.next.new.self) c.loop-name.leads.items c.push_leads_of.new.leads.items before after
     (record {
       keyword = w;
       reads = λ makes. subst (λ (n : List ℕ). IsRowOf (context_of v makes all) n (row_here v makes all n d) w) same (c.in-Ok.ensures.read makes s (stands-itself v) refl);
-      leads = c.in_ok-push_leads-in-Ok.ensures;
+      leads = c.in_ok-push_leads_of-in-Ok.ensures;
       puts = subst (λ (n : List ℕ). Puts (place_in v.point.place) (pattern_parts w n) (patterns_in w) before after) same c.in_ok-push_patterns-in-Ok.ensures;
     })
     (subst (λ es. Walk v all (members_view es) c.loop-name.leads.items before) c.in-Some.ensures.steps c.loop-name.invariant)

@@ -10,8 +10,8 @@ use Rattle.reached_sites.proofs.Walking.{context_of, row_here}
 use Rattle.root_checks.proofs.Members.{member-wrong, put-texts, member-right, member-unmade, member-written, refusal-cause}
 use Rattle.root_checks.proofs.led.push_member.Goals as goal
 
-pub push_leads-requires : goal.push_leads-requires
-push_leads-requires g c = (view c.args.member.value.now, c.in-Ok.ensures.found)
+pub push_leads_of-requires : goal.push_leads_of-requires
+push_leads_of-requires g c = (view c.args.member.value.now, c.in-Ok.ensures.found)
 
 pub returns-then-not-branch-clause-led : goal.returns-then-not-branch-clause-led
 returns-then-not-branch-clause-led g c = λ filled.
@@ -40,7 +40,7 @@ returns-in-Ok-clause-led g c = λ filled.
     let held = subst (λ (l : List Pattern). Holds larger (texts_of l)) c.as_slice.ensures.value (c.in_ok-are_made-in-Ok.ensures.made c.if-not-branch.false) in
     let made = held-made finds finished makes larger (texts_of patterns) (c.in_ok-are_made-in-Ok.ensures.filled filled) held in
     member-right v makes all k d c.in-Ok.keyword (c.in-Ok.ensures.read makes (site_of v) (stands-itself v) refl) c.new-patterns.result.items patterns c.new-patterns.ensures.items
-    c.in_ok-push_patterns-in-Ok.ensures c.args.leads.now.items c.push_leads.new.leads.items made c.in_ok-push_leads-in-Ok.ensures
+    c.in_ok-push_patterns-in-Ok.ensures c.args.leads.now.items c.push_leads_of.new.leads.items made c.in_ok-push_leads_of-in-Ok.ensures
 
 pub returns-in-Ok-clause-written : goal.returns-in-Ok-clause-written
 returns-in-Ok-clause-written g c = λ t.
