@@ -133,9 +133,11 @@ module _ (own : List Document) (makes : List ℕ → Bool) (v : Visit) (found : 
 
   led-here : AllLed own (site_of v) (λ t. In t (leads_in here)) here
   led-here row i =
-      let led = λ (r : Row) (t : Site) (j : In r here) (k : In t r.leads). in-all (λ (r : Row). r.leads) here j k in
-      (λ t j. led row t i j, each_in (λ (r : Row). AllByRecursion (Holds (λ t. In t (leads_in here)) (λ t. In t (leads_in here))) r.shapes) here
-          (shapes_led own makes (site_of v) (λ t. In t (leads_in here)) (λ r t j k. led r t j k)) row i)
+      let led = λ (r : Row) (t : Site) (j : In r here) (k : In t r.leads). in-all (λ (r : Row). r.leads) here j k in (
+        λ t j. led row t i j,
+        each_in (λ (r : Row). AllByRecursion (Holds (λ t. In t (leads_in here)) (λ t. In t (leads_in here))) r.shapes) here
+            (shapes_led own makes (site_of v) (λ t. In t (leads_in here)) (λ r t j k. led r t j k)) row i,
+      )
 
   first-tells : (o : Option refused.BuildCause) (causes : List rows.BuildCause) → TellsFirst o causes → is_none o ≡ false → (c : rows.BuildCause) × In c causes
   first-tells None causes h e = absurd (true≢false e)

@@ -133,7 +133,10 @@ fn rank(path: &Path) -> Result<usize, AllocError>
 /// # Errors
 ///
 /// Where a count of owners is full, or a path is as long as numbers go.
-pub(crate) fn node_of(visit: &Visit<'_>, keywords: Vec<Keyword>) -> Result<Node<Keyword>, AllocError>
+pub(crate) fn node_of(
+    visit: &Visit<'_>,
+    keywords: Vec<Keyword>,
+) -> Result<Node<Keyword>, AllocError>
     ensures keywords { IfOk result (λ n. n.keywords.items ≡ keywords.items) }
     ensures path { IfOk result (λ n. n.schema_path ≡ visit.now.point.schema_path.steps) }
     ensures rank { IfOk result (λ n. IsRank visit.now.point.place.path n.rank) }
