@@ -9,7 +9,7 @@ pub mod making;
 pub mod pattern;
 pub mod place;
 pub mod reaching;
-mod refusing;
+pub mod refusing;
 pub mod schema_path;
 pub mod visit;
 pub mod visited;
