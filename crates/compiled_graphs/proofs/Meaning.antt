@@ -34,7 +34,6 @@ use Rattle.referencing.specs.Resolved.{documents_in}
 use Rattle.reached_sites.specs.Visits.{site_of, Met, Belongs}
 use Rattle.reached_sites.specs.declared.visit.Visit.{Visit}
 use Rattle.reached_sites.proofs.Listing.{in-none, none-in}
-use Rattle.reached_sites.proofs.Mirrored.{met-among}
 use Rattle.compiled_graphs.specs.Asked.{asked_by, IsAnswered}
 use Rattle.compiled_graphs.specs.Filled.{listed, IsOver, IsReached, AreReached, IsRank, Means, HasNode, HasNodes}
 use Rattle.compiled_graphs.specs.Filled as filled
@@ -43,6 +42,7 @@ use Rattle.marked_nodes.specs.declared.graph.Edge.{Edge}
 use Rattle.compiled_graphs.specs.Walked.{Walks}
 use Rattle.compiled_graphs.specs.declared.walk.Walk.{Walk}
 use Rattle.compiled_graphs.proofs.Positions.{in-place, one-there, within}
+use Rattle.compiled_graphs.proofs.Visits.{met-among}
 use Rattle.compiled_graphs.proofs.Sound.{pairs_of, all-linked, linked-in, IsBelow, all-lead}
 
 -- ---- the keywords of filled nodes

@@ -5,7 +5,7 @@ use Rattle.serde_json.specs.Find.{as_bool}
 use Rattle.schema_meaning.specs.Members.{In, first}
 use Rattle.schema_meaning.specs.Keywords.{never}
 use Rattle.schema_definitions.specs.Bearers.{Document}
-use Rattle.schema_definitions.specs.Rows.{BuildCause, Row, identifier_causes, keyword_value, reads, rows_at, rows_of}
+use Rattle.schema_definitions.specs.Rows.{BuildCause, Row, identifier_causes, keyword_value, reads, rows_at, rows_in, rows_of}
 use Rattle.schema_definitions.specs.Rows as rows
 use Rattle.schema_definitions.specs.Sites.{Site}
 use Rattle.schema_definitions.specs.Words.{or_else}
@@ -19,10 +19,10 @@ use Rattle.reached_sites.specs.Visits.{site_of, Met}
 use Rattle.reached_sites.specs.declared.cause.BuildCause as refused
 use Rattle.reached_sites.specs.declared.cause.BuildCause.TheVariants.{Memory}
 use Rattle.reached_sites.specs.declared.visit.Visit.{Visit}
-use Rattle.reached_sites.proofs.Leading.{IsOther, boolean-rows, other-rows}
+use Rattle.reached_sites.proofs.Leading.{IsOther, other-rows}
 use Rattle.reached_sites.proofs.Listing.{in-before, in-behind}
 use Rattle.reached_sites.proofs.Meeting.{present-of}
-use Rattle.reached_sites.proofs.Walking.{rows-of-object}
+use Rattle.reached_sites.proofs.Walking.{contexts, rows-of-object}
 use Rattle.compiled_graphs.specs.Filled.{total}
 use Rattle.compiled_graphs.specs.Read.{ReadAs, none, refuses, wrong, TellsFirst, IsMisnamed, RowsRead, IsFound}
 use Rattle.compiled_graphs.specs.declared.asking.Asking.{Asking}
@@ -58,7 +58,7 @@ pub told_wrong : (s : Site) (e : refused.BuildCause) → RefusesIdentifier s e �
 told_wrong s e (inl m) h = absurd (h m)
 told_wrong s e (inr x) h = x
 
-met-itself : (v : Visit) → Met v (site_of v)
+pub met-itself : (v : Visit) → Met v (site_of v)
 met-itself v = record { alike = itself (documents_at v.site) (site_of v) (present-of v) }
 
 pub named-tells : (v : Visit) (o : Option refused.BuildCause) → (o ≡ None → (s : Site) → Met v s → identifier_causes s ≡ []) → IfSome o (IsMisnamed v) → TellsFirst o (identifier_causes (site_of v))
@@ -71,6 +71,10 @@ first-of-both None (Some e) xs ys a b = (b.0, b.1, in-behind xs ys b.2)
 first-of-both (Some e) other xs ys a b = (a.0, a.1, in-before xs ys a.2)
 
 -- ---- rows
+
+boolean-rows : (own : List Document) (makes : List ℕ → Bool) (s : Site) (b : Bool) → s.contents ≡ boolean b → rows_at own makes s ≡ rows_in s (contexts own makes s) (boolean b)
+unfolding rows_at
+boolean-rows own makes s b e = ap (rows_in s (contexts own makes s)) e
 
 module _ (own : List Document) (makes : List ℕ → Bool) (s : Site) where
   pub true-read : (found : Found) → s.contents ≡ boolean true → RowsRead own s (rows_at own makes s) found found None

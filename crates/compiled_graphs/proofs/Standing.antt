@@ -26,12 +26,13 @@ use Rattle.reached_sites.specs.declared.cause.BuildCause as refused
 use Rattle.reached_sites.specs.declared.visit.Visit.{Visit}
 use Rattle.reached_sites.proofs.Listing.{in-all, in-before, in-behind, in-either, in-one, none-in}
 use Rattle.reached_sites.proofs.Matching.{visit-of, site-of, belongs-of}
-use Rattle.reached_sites.proofs.Mirrored.{alike-leads, met-among}
+use Rattle.reached_sites.proofs.Mirrored.{alike-leads}
 use Rattle.compiled_graphs.specs.Asked.{site_beside, beside_of, asked_by}
 use Rattle.compiled_graphs.specs.Graphs.{led_from, wrong_at, HasCause, IsLed}
 use Rattle.compiled_graphs.specs.Read.{ReadAs, none, refuses, asks, wrong, TellsFirst, IsFound}
 use Rattle.compiled_graphs.specs.declared.asking.Asking.{Asking}
 use Rattle.compiled_graphs.specs.declared.reading.Found.{Found}
+use Rattle.compiled_graphs.proofs.Visits.{met-among}
 
 -- ---- what is asked
 

@@ -13,8 +13,12 @@ use Rattle.referencing.specs.Resolved.{documents_in}
 use Rattle.reached_sites.specs.Visits.{site_of, Met, Belongs, Repeats}
 use Rattle.reached_sites.specs.declared.visit.Visit.{Visit}
 use Rattle.reached_sites.proofs.Keying.{sites-alike}
+use Rattle.reached_sites.proofs.Meeting.{met-alike}
 use Rattle.compiled_graphs.specs.Graphs.{IsReachedFrom}
 use Rattle.compiled_graphs.specs.Walked.{ArePlaced}
+
+pub met-among : (own : List Document) (v : Visit) (s t : Site) → Belongs own v → AreAlike own s t → Met v t → Met v s
+met-among own v s t b a m = met-alike v s t (subst (λ (ds : List Document). AreAlike ds s t) (sym b.documents) a) m
 
 pub reached-more : (own : List Document) (makes : List ℕ → Bool) (roots more : List Site) (v : Visit) → ((r : Site) → In r roots → In r more) → IsReachedFrom own makes roots v
     → IsReachedFrom own makes more v

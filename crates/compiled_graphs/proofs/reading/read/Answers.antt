@@ -10,7 +10,7 @@ use Rattle.reached_sites.proofs.Leading.{gone, object-of, written-object}
 use Rattle.reached_sites.proofs.Listing.{none-in}
 use Rattle.reached_sites.proofs.Walking.{own_of}
 use Rattle.compiled_graphs.proofs.Found.{both-none}
-use Rattle.compiled_graphs.proofs.Others.{all-found, named-tells, object-found}
+use Rattle.compiled_graphs.proofs.Others.{met-itself, all-found, named-tells, object-found}
 use Rattle.compiled_graphs.proofs.reading.read.Goals as goal
 
 pub read_other-requires : goal.read_other-requires
@@ -33,7 +33,7 @@ returns-in-Some-clause-written g c = λ t.
     let v = c.args.visit.now in
     let ms = members_view c.in-Some.members.now.entries in
     let is : as_object (view v.site.contents.now) ≡ Some ms = sym c.as_object.ensures ∙ ap (option_map (λ m. members_view m.now.entries)) c.in-Some.is in
-    subst (λ ts. Holds c.read_members.new.table ts) (sym (written-object (site_of v) ms (object-of (view v.site.contents.now) ms is))) (c.in_ok-cause.ensures.written (both-none c.in_ok-named.named c.in_ok-cause.cause (sym c.first_cause.ensures ∙ t)).1)
+    subst (λ ts. Holds c.read_members.new.table ts) (sym (written-object v (site_of v) ms (met-itself v) (object-of (view v.site.contents.now) ms is))) (c.in_ok-cause.ensures.written (both-none c.in_ok-named.named c.in_ok-cause.cause (sym c.first_cause.ensures ∙ t)).1)
 
 pub returns-in-Some-clause-counts : goal.returns-in-Some-clause-counts
 returns-in-Some-clause-counts g c = c.in_ok-cause.ensures.counts (rw (c.new.ensures.items, c.new-2.ensures.items) refl)
