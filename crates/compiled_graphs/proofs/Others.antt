@@ -62,8 +62,8 @@ pub met-itself : (v : Visit) → Met v (site_of v)
 met-itself v = record { alike = itself (documents_at v.site) (site_of v) (present-of v) }
 
 pub named-tells : (v : Visit) (o : Option refused.BuildCause) → (o ≡ None → (s : Site) → Met v s → identifier_causes s ≡ []) → IfSome o (IsMisnamed v) → TellsFirst o (identifier_causes (site_of v))
-named-tells v None right wrong = right refl (site_of v) (met-itself v)
-named-tells v (Some e) right wrong = wrong (site_of v) (met-itself v)
+named-tells v None right told = right refl (site_of v) (met-itself v)
+named-tells v (Some e) right told = told (site_of v) (met-itself v)
 
 pub first-of-both : (one other : Option refused.BuildCause) (xs ys : List BuildCause) → TellsFirst one xs → TellsFirst other ys → TellsFirst (or_else one other) (xs ++ ys)
 first-of-both None None xs ys a b = ap (λ l. l ++ ys) a ∙ b
