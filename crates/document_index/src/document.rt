@@ -9,7 +9,7 @@ use std::rc::Rc;
 use uri_references::uri::Uri;
 
 /// The name of a document: two of one URI stand in two layers.
-#[derive(Debug, Drop, PartialEq, Eq)]
+#[derive(Debug, Drop, PartialEq, Eq, Hash)]
 pub struct DocumentName {
     /// The number of its layer.
     pub layer: usize,

@@ -227,13 +227,6 @@ impl Index {
         self.by_dynamic_anchor.get(base)?.get(name)
     }
 
-    /// The last bearers of the dynamic anchors under a base, by their names, if there are any.
-    pub fn dynamic_anchors(&self, base: &str) -> Option<&BTreeMap<String, Bearer>>
-        ensures { (name : List ℕ) → option_and_then (λ names. named names.now name) result ≡ dynamically_anchored_in self.now base.now name }
-    {
-        self.by_dynamic_anchor.get(base)
-    }
-
     /// The names that some schema place bears as a dynamic anchor, each once, by their first occurrence.
     pub fn dynamic_names(&self) -> &[String]
         ensures { map string_bytes result.now ≡ dynamic_names_in self.now }

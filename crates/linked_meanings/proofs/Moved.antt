@@ -1,10 +1,9 @@
 -- The same faults with their schema paths moved: what related readings tell where the one's schema paths are moved to the other's.
 use Rattle.std.proofs.Common.{◌≡◌, ◌==◌, ◌++◌, ℕ, zero, suc, List, [], ◌∷◌, Bool, true, false, not, ◌&&◌, map, Option, Some, None, option_map, refl, sym, ap, ap₂, ◌∙◌, subst}
-use Rattle.std.proofs.lemmas.List.{append_assoc}
 use Rattle.std.specs.List.{filter, flat_map}
 use Rattle.serde_json.specs.Data.{Data, null, boolean, number, string, array, object}
 use Rattle.serde_json.specs.Find.{get}
-use Rattle.json_values.specs.Parts.{Part}
+use Rattle.json_values.specs.Parts.{Part, name, index}
 use Rattle.schema_meaning.specs.Members.{all_true, some_true, count_true, known_too, all_known}
 use Rattle.schema_meaning.specs.Places.{Spot}
 use Rattle.schema_meaning.specs.Faults.{Fault, fault, Kind, AnyOf, Contains, Not, Required, Faults, none, also, joined, join, is_none, Branches, branch, branches_of}
@@ -81,24 +80,30 @@ module _ (f : List Part → List Part) where
   wrong_stays matches (required names) d = missing_stay names d
   wrong_stays matches (dependent_required ps) d = beside_stay d ps
 
+  -- a keyword's own steps are names
+  abbrev AreNames : List Part → Type 0
+  AreNames [] = Unit {0}
+  AreNames (name k ∷ steps) = AreNames steps
+  AreNames (index i ∷ steps) = ⊥
+
   module _ {S : Type 0} where
     abbrev RuleStays : Rule S → Type 0
-    RuleStays (every p notes qs) = AllStay notes
-    RuleStays (together p note qs) = moved_kind f note.kind ≡ note.kind
+    RuleStays (every p notes qs) = AreNames p × AllStay notes
+    RuleStays (together p note qs) = AreNames p × (moved_kind f note.kind ≡ note.kind)
     RuleStays (each_named p s names) = Unit {0}
-    RuleStays (some_branch p qs) = Unit {0}
-    RuleStays (one_branch p qs) = Unit {0}
-    RuleStays (refusal p schema q) = Unit {0}
+    RuleStays (some_branch p qs) = AreNames p
+    RuleStays (one_branch p qs) = AreNames p
+    RuleStays (refusal p schema q) = AreNames p
     RuleStays (counted least most qs) = Unit {0}
     RuleStays (conditional q cs) = Unit {0}
 
     counting_stays : (d : Data) (least most : Option ℕ) (qs : List (Question S)) → RuleStays (counting d least most qs)
-    counting_stays null least most qs = tt
-    counting_stays (boolean b) least most qs = tt
-    counting_stays (number n) least most qs = tt
-    counting_stays (string s) least most qs = tt
+    counting_stays null least most qs = (tt, tt)
+    counting_stays (boolean b) least most qs = (tt, tt)
+    counting_stays (number n) least most qs = (tt, tt)
+    counting_stays (string s) least most qs = (tt, tt)
     counting_stays (array ds) least most qs = tt
-    counting_stays (object ms) least most qs = tt
+    counting_stays (object ms) least most qs = (tt, tt)
 
     needed_stay : (d : Data) (x : Dependency S) → AllStay (needed d x)
     needed_stay d (needs names) = missing_stay names d
@@ -109,29 +114,29 @@ module _ (f : List Part → List Part) where
     entries_stay d (p ∷ ps) = both_stay _ _ (if_member_stays (get p.0 d) (needed d p.1) (needed_stay d p.1)) (entries_stay d ps)
 
     rule_stays : (matches : List ℕ → List ℕ → Bool) (d : Data) (k : Shape S) → RuleStays (rule matches d k)
-    rule_stays matches d never = (refl, tt)
-    rule_stays matches d (asserts a) = wrong_stays matches a d
-    rule_stays matches d (items n s) = tt
-    rule_stays matches d (item_list ss) = tt
-    rule_stays matches d (prefix_items ss) = tt
-    rule_stays matches d (additional_items n s) = tt
-    rule_stays matches d (no_additional_items n s) = refl
+    rule_stays matches d never = (tt, (refl, tt))
+    rule_stays matches d (asserts a) = (tt, wrong_stays matches a d)
+    rule_stays matches d (items n s) = (tt, tt)
+    rule_stays matches d (item_list ss) = (tt, tt)
+    rule_stays matches d (prefix_items ss) = (tt, tt)
+    rule_stays matches d (additional_items n s) = (tt, tt)
+    rule_stays matches d (no_additional_items n s) = (tt, refl)
     rule_stays matches d (contains s least most) = counting_stays d least most _
-    rule_stays matches d (properties ps) = tt
-    rule_stays matches d (pattern_properties ps) = tt
-    rule_stays matches d (additional_properties declared s) = tt
-    rule_stays matches d (no_additional_properties declared s) = refl
-    rule_stays matches d (no_properties s) = refl
+    rule_stays matches d (properties ps) = (tt, tt)
+    rule_stays matches d (pattern_properties ps) = (tt, tt)
+    rule_stays matches d (additional_properties declared s) = (tt, tt)
+    rule_stays matches d (no_additional_properties declared s) = (tt, refl)
+    rule_stays matches d (no_properties s) = (tt, refl)
     rule_stays matches d (property_names s) = tt
-    rule_stays matches d (no_property_names s) = refl
-    rule_stays matches d (dependent_schemas ps) = tt
-    rule_stays matches d (dependencies ps) = entries_stay d ps
-    rule_stays matches d (all_of ss) = tt
+    rule_stays matches d (no_property_names s) = (tt, refl)
+    rule_stays matches d (dependent_schemas ps) = (tt, tt)
+    rule_stays matches d (dependencies ps) = (tt, entries_stay d ps)
+    rule_stays matches d (all_of ss) = (tt, tt)
     rule_stays matches d (any_of ss) = tt
     rule_stays matches d (one_of ss) = tt
     rule_stays matches d (negation e s) = tt
     rule_stays matches d (condition s a c) = tt
-    rule_stays matches d (reference k s) = tt
+    rule_stays matches d (reference k s) = (tt, tt)
 
 -- ---- what is told of moved answers
 
@@ -171,33 +176,38 @@ module _ (f : List Part → List Part) where
   one_of_moved zero bs = refl
   one_of_moved (suc n) bs = refl
 
-  module _ (under : (steps p : List Part) → f (steps ++ p) ≡ steps ++ f p) where
-    own_moved : (w : Spot) (p steps : List Part) (k l : Kind) (d : Data) → moved_kind f k ≡ l
-        → moved_fault f (own_fault w p steps (record { kind = k; value = d })) ≡ own_fault w (f p) steps (record { kind = l; value = d })
-    own_moved w p steps k l d h = ap₂ (λ x s. fault x d w.path s (steps ++ w.road)) h (under steps p)
+  module _ (under : (k : List ℕ) (p : List Part) → f (name k ∷ p) ≡ name k ∷ f p) where
+    under_names : (steps p : List Part) → AreNames f steps → f (steps ++ p) ≡ steps ++ f p
+    under_names [] p h = refl
+    under_names (name k ∷ steps) p h = under k (steps ++ p) ∙ ap (λ q. name k ∷ q) (under_names steps p h)
+    under_names (index i ∷ steps) p h = absurd h
 
-    notes_moved : (w : Spot) (p steps : List Part) (notes : List Note) → AllStay f notes → moved f (own_faults w p steps notes) ≡ own_faults w (f p) steps notes
-    notes_moved w p steps [] h = refl
-    notes_moved w p steps (note ∷ notes) h = ap₂ also (own_moved w p steps note.kind note.kind note.value h.0) (notes_moved w p steps notes h.1)
+    own_moved : (w : Spot) (p steps : List Part) (k l : Kind) (d : Data) → AreNames f steps → moved_kind f k ≡ l
+        → moved_fault f (own_fault w p steps (record { kind = k; value = d })) ≡ own_fault w (f p) steps (record { kind = l; value = d })
+    own_moved w p steps k l d names h = ap₂ (λ x s. fault x d w.path s (steps ++ w.road)) h (under_names steps p names)
+
+    notes_moved : (w : Spot) (p steps : List Part) → AreNames f steps → (notes : List Note) → AllStay f notes → moved f (own_faults w p steps notes) ≡ own_faults w (f p) steps notes
+    notes_moved w p steps names [] h = refl
+    notes_moved w p steps names (note ∷ notes) h = ap₂ also (own_moved w p steps note.kind note.kind note.value names h.0) (notes_moved w p steps names notes h.1)
 
     one_moved : (b c : Bool) (x y : Fault) → b ≡ c → moved_fault f x ≡ y → moved f (one_fault b x) ≡ one_fault c y
     one_moved b c x y e h = moved_one b x ∙ ap₂ one_fault e h
 
     rule_moved : {S : Type 0} (k : Rule S) → RuleStays f k → (w : Spot) (p : List Part) (xs : List Faults) → moved f (faults k w p xs) ≡ faults k w (f p) (map (moved f) xs)
-    rule_moved (every steps notes qs) h w p xs = moved_joined _ (join xs) ∙ ap₂ joined (notes_moved w p steps notes h) (moved_join xs)
-    rule_moved (together steps note qs) h w p xs = one_moved _ _ _ _ (ap all_true (moved_verdicts xs)) (own_moved w p steps note.kind note.kind note.value h)
+    rule_moved (every steps notes qs) h w p xs = moved_joined _ (join xs) ∙ ap₂ joined (notes_moved w p steps h.0 notes h.1) (moved_join xs)
+    rule_moved (together steps note qs) h w p xs = one_moved _ _ _ _ (ap all_true (moved_verdicts xs)) (own_moved w p steps note.kind note.kind note.value h.0 h.1)
     rule_moved (each_named steps s names) h w p xs = moved_each w (join xs) ∙ ap (each_of_object w) (moved_join xs)
     rule_moved (some_branch steps qs) h w p xs =
-        one_moved _ _ _ _ (ap some_true (moved_verdicts xs)) (own_moved w p steps (AnyOf (branches_of xs)) (AnyOf (branches_of (map (moved f) xs))) w.value (ap AnyOf (branches_moved xs)))
+        one_moved _ _ _ _ (ap some_true (moved_verdicts xs)) (own_moved w p steps (AnyOf (branches_of xs)) (AnyOf (branches_of (map (moved f) xs))) w.value h (ap AnyOf (branches_moved xs)))
     rule_moved (one_branch steps qs) h w p xs =
         let n = ap count_true (moved_verdicts xs) in
         one_moved _ _ _ _ (ap (λ i. i == 1) n) (own_moved w p steps (one_of_kind (count_true (map is_none xs)) (branches_of xs))
-        (one_of_kind (count_true (map is_none (map (moved f) xs))) (branches_of (map (moved f) xs))) w.value
+        (one_of_kind (count_true (map is_none (map (moved f) xs))) (branches_of (map (moved f) xs))) w.value h
         (one_of_moved (count_true (map is_none xs)) (branches_of xs) ∙ ap₂ one_of_kind n (branches_moved xs)))
     rule_moved (refusal steps schema q) h w p xs =
-        one_moved _ _ _ _ (ap (λ bs. not (all_true bs)) (moved_verdicts xs)) (own_moved w p steps (Not schema) (Not schema) w.value refl)
+        one_moved _ _ _ _ (ap (λ bs. not (all_true bs)) (moved_verdicts xs)) (own_moved w p steps (Not schema) (Not schema) w.value h refl)
     rule_moved (counted least most qs) h w p xs =
-        moved_one _ _ ∙ ap (one_fault _) (own_moved w p (at (count_refused_at least most (count_true (map is_none xs)))) Contains Contains w.value refl)
+        moved_one _ _ ∙ ap (one_fault _) (own_moved w p (at (count_refused_at least most (count_true (map is_none xs)))) Contains Contains w.value tt refl)
         ∙ ap (λ bs. one_fault (is_enough least (count_true bs) && is_few most (count_true bs)) (own_fault w (f p) (at (count_refused_at least most (count_true bs))) (record { kind = Contains; value = w.value })))
         (moved_verdicts xs)
     rule_moved (conditional q cs) h w p [] = refl
@@ -228,7 +238,7 @@ module _ (f : List Part → List Part) where
       all_told d (k ∷ ks) =
           known_moved (tell_one bags w p ask (rule matches d k)) _ ∙ ap₂ known_too (one_told (rule matches d k) (rule_stays f matches d k)) (all_told d ks)
 
-    moved_unfolded : {S : Type 0} (r : Reading S) (n : ℕ) (s : S) (w : Spot) → option_map (moved f) (unfolded bags r n s w) ≡ unfolded bags (moved_reading r) n s w
+    pub moved_unfolded : {S : Type 0} (r : Reading S) (n : ℕ) (s : S) (w : Spot) → option_map (moved f) (unfolded bags r n s w) ≡ unfolded bags (moved_reading r) n s w
     unfolding unfolded
     moved_unfolded r zero s w = refl
     moved_unfolded {S} r (suc n) s w =
@@ -241,6 +251,6 @@ module _ (f : List Part → List Part) where
 pub related_alike_moved : {S T : Type 0} (like : S → T → Type 0) → AnswerAlikeMoved like
 related_alike_moved like r u above related paths n s t w h =
     let f : List Part → List Part = λ p. p ++ above in
-    let under : (steps p : List Part) → f (steps ++ p) ≡ steps ++ f p = λ steps p. append_assoc steps p above in
+    let under : (k : List ℕ) (p : List Part) → f (name k ∷ p) ≡ name k ∷ f p = λ k p. refl in
     subst (λ o. SameOrOut o (unfolded bags u n t w)) (sym (moved_unfolded f under r n s w))
     ((related_alike like (moved_reading f under r) u (record { matches = related.matches; keywords = related.keywords; paths = paths }) n s t w h).1)

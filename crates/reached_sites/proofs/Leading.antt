@@ -21,54 +21,6 @@ use Rattle.reached_sites.specs.declared.visit.Visit.{Visit}
 use Rattle.reached_sites.proofs.Mirrored.{leads-alike}
 use Rattle.reached_sites.proofs.Walking.{own_of, contexts, rows-of-object}
 
--- where nothing is wrong with the identifier nor with the keywords
-all-right : (own : List Document) (makes : List ℕ → Bool) (s : Site) → identifier_causes s ≡ [] → causes_in (rows_at own makes s) ≡ [] → causes_at own makes s ≡ []
-all-right own makes s here behind = ap₂ (λ one other. one ++ other) here behind
-
-module _ (v : Visit) (makes : List ℕ → Bool) (leads : List Visit) where
-  object-here : (ms : Members) → view v.site.contents.now ≡ object ms → Rest (own_of v) makes (site_of v) ms ms [] leads → identifier_causes (site_of v) ≡ []
-      → Leads (own_of v) makes (site_of v) leads
-  object-here ms e rest named =
-      let s = site_of v in
-      let rows = rows-of-object (own_of v) makes s ms e in
-      record {
-        right = all-right (own_of v) makes s named (ap causes_in rows ∙ rest.right);
-        met = subst (λ (vs : List Visit). Matches (own_of v) vs (leads_in (rows_at (own_of v) makes s))) (sym rest.met.grown)
-            (subst (λ (rs : List Row). Matches (own_of v) rest.met.added (leads_in rs)) (sym rows) rest.met.met);
-      }
-
-  pub leads-object : (s : Site) (ms : Members) → Met v s → view v.site.contents.now ≡ object ms → Rest (own_of v) makes (site_of v) ms ms [] leads → identifier_causes s ≡ []
-      → Leads (own_of v) makes s leads
-  leads-object s ms m e rest named =
-      let named_here = sym (same_identifiers (own_of v) s (site_of v) m.alike) ∙ named in
-      leads-alike (own_of v) makes s (site_of v) leads m.alike (object-here ms e rest named_here)
-
-pub rows-of-boolean : (own : List Document) (makes : List ℕ → Bool) (s : Site) (b : Bool) → s.contents ≡ boolean b
-    → (causes_in (rows_at own makes s) ≡ []) × (leads_in (rows_at own makes s) ≡ [])
-unfolding rows_at
-rows-of-boolean own makes s true e = (ap (λ d. causes_in (rows_in s (contexts own makes s) d)) e, ap (λ d. leads_in (rows_in s (contexts own makes s) d)) e)
-rows-of-boolean own makes s false e = (ap (λ d. causes_in (rows_in s (contexts own makes s) d)) e, ap (λ d. leads_in (rows_in s (contexts own makes s) d)) e)
-
-pub leads-boolean : (v : Visit) (makes : List ℕ → Bool) (s : Site) (b : Bool) (leads : List Visit) → Met v s
-    → view v.site.contents.now ≡ boolean b → leads ≡ [] → identifier_causes s ≡ [] → Leads (own_of v) makes s leads
-leads-boolean v makes s b leads m e n named =
-    let is = m.alike.contents ∙ e in
-    let rows = rows-of-boolean (own_of v) makes s b is in
-    record {
-      right = all-right (own_of v) makes s named rows.0;
-      met = subst (λ (vs : List Visit). Matches (own_of v) vs (leads_in (rows_at (own_of v) makes s))) (sym n)
-          (subst (λ (ss : List Site). Matches (own_of v) [] ss) (sym rows.1) none);
-    }
-
--- ---- refused
-
--- where a site is
-abbrev pub place_of : Site → Place
-place_of s = record { document = s.document; path = s.path }
-
-pub same-place : (v : Visit) (s : Site) → Met v s → place_of s ≡ place_in v.point.place
-same-place v s m = rw (m.alike.document, m.alike.path) refl
-
 -- neither a boolean nor an object
 abbrev pub IsOther : Data → Type 0
 IsOther null = Unit {0}
@@ -87,13 +39,6 @@ other-rows docs makes s (string t) e o = ap (rows_in s (contexts docs makes s)) 
 other-rows docs makes s (array ds) e o = ap (rows_in s (contexts docs makes s)) e
 other-rows docs makes s (object ms) e o = absurd o
 
-pub no-schema : (v : Visit) (s : Site) (makes : List ℕ → Bool) (d : Data) → s.contents ≡ d → IsOther d
-    → IsCauseOf (documents_at v.site) makes s (keyword_value (place_of s) (codes "schema"))
-no-schema v s makes d e o =
-    let row : Row = record { causes = keyword_value (place_of s) (codes "schema") ∷ []; leads = []; shapes = [] } in
-    let stands = subst (λ (rows : List Row). In row rows) (sym (other-rows (documents_at v.site) makes s d e o)) first in
-    record { site = s; reached = at_root; wrong = row_cause (documents_at v.site) makes s row (keyword_value (place_of s) (codes "schema")) stands first }
-
 -- ---- by what the code asks of a value
 
 pub gone : {X Y : Type 0} (f : X → Y) (o : Option X) → ((x : X) → o ≡ Some x → ⊥) → option_map f o ≡ None
@@ -107,14 +52,6 @@ object-of (number n) ms e = absurd (cc (e))
 object-of (string t) ms e = absurd (cc (e))
 object-of (array ds) ms e = absurd (cc (e))
 object-of (object all) ms e = (let same : all ≡ ms = cc in ap object same)
-
-pub boolean-of : (d : Data) → is_some (as_bool d) ≡ true → (b : Bool) × (d ≡ boolean b)
-boolean-of null e = absurd (cc (e))
-boolean-of (boolean b) e = (b, refl)
-boolean-of (number n) e = absurd (cc (e))
-boolean-of (string t) e = absurd (cc (e))
-boolean-of (array ds) e = absurd (cc (e))
-boolean-of (object ms) e = absurd (cc (e))
 
 pub other-of : (d : Data) → as_object d ≡ None → is_some (as_bool d) ≡ false → IsOther d
 other-of null e f = tt

@@ -4,7 +4,6 @@ pub mod Putting
 pub mod Filling
 pub mod Matching
 pub mod Filing
-pub mod Growth
 pub mod Meeting
 pub mod Mirrored
 pub mod Walking
@@ -14,5 +13,4 @@ pub mod Naming
 pub mod Keying
 pub mod Spelling
 pub mod Reading
-pub mod Progressing
 pub mod Placing

@@ -3,7 +3,6 @@ pub mod Causes
 pub mod Roots
 pub mod Visits
 pub mod Led
-pub mod Found
 pub mod Filed
 pub mod Growing
 pub mod Members

@@ -39,25 +39,6 @@ use schema_sites::reading::keyword;
 use serde_json::{Map, Value};
 use std::alloc::{AllocError, Global};
 
-/// What the keywords of a schema lead to, and its patterns.
-#[derive(Drop)]
-pub(crate) struct Found<'r> {
-    pub(crate) leads: Vec<Visit<'r>>,
-    pub(crate) patterns: Vec<Pattern<'r>>,
-}
-
-impl<'r> Found<'r> {
-    fn nothing(alloc: Global) -> Found<'r>
-        ensures leads { result.leads.items ≡ [] }
-        ensures patterns { result.patterns.items ≡ [] }
-    {
-        Found {
-            leads: Vec::new(alloc),
-            patterns: Vec::new(alloc),
-        }
-    }
-}
-
 // The schema that stands at a keyword.
 fn push_at<'r>(
     alloc: Global,
@@ -155,83 +136,4 @@ pub fn push_leads<'r>(
         Keyword::Applicator(applicator) => push_applied(alloc, visit, applicator, leads),
         Keyword::Reference { text, target, .. } => push_target(alloc, visit, text, target, leads),
     }
-}
-
-/// The same, of a keyword that is not asked for again.
-///
-/// # Errors
-///
-/// Where memory was refused or a count of owners is full.
-pub fn push_leads_of<'r>(
-    alloc: Global,
-    visit: &Visit<'r>,
-    keyword: Keyword<'r>,
-    leads: &mut Vec<Visit<'r>>,
-) -> Result<(), AllocError>
-    requires { (d : Data) × read.Finds visit.now.site d keyword }
-    ensures { OnOk result (Adds (documents_in visit.now.site.resolver) leads.old.items leads.new.items (read.leads_of (documents_at visit.now.site) (site_of visit.now) keyword.entry)) }
-{
-    push_leads(alloc, visit, &keyword, leads)
-}
-
-fn leads_of_members<'r>(
-    alloc: Global,
-    visit: &Visit<'r>,
-    members: &'r Map<String, Value>,
-) -> Result<Found<'r>, BuildCause>
-    ensures accepted { IfOk result (λ f. (makes : List ℕ → Bool) → AreMade makes (texts_of f.patterns.items) → Rest (documents_in visit.now.site.resolver) makes (site_of visit.now) (members_view members.now.entries) (members_view members.now.entries) [] f.leads.items) }
-    ensures written { IfOk result (λ f. (p : List ℕ) → In p (written_members (site_of visit.now).dialect (members_view members.now.entries) (members_view members.now.entries)) → In p (texts_of f.patterns.items)) }
-    ensures bad { IfOk result (λ f. (makes : List ℕ → Bool) → view visit.now.site.contents.now ≡ object (members_view members.now.entries) → (q : Pattern) → In q f.patterns.items → is_made_by makes (text_of q) ≡ false → IsCauseOf (documents_at visit.now.site) makes (site_of visit.now) (bad_pattern (place_in q.place))) }
-    ensures refused { IfErr result (λ e. (makes : List ℕ → Bool) → view visit.now.site.contents.now ≡ object (members_view members.now.entries) → RefusesRoot (documents_at visit.now.site) makes (site_of visit.now) e) }
-{
-    let mut leads = Vec::new(alloc);
-    let mut patterns = Vec::new(alloc);
-    for (name, value) in members.iter() {
-        let name = name.as_str();
-        match keyword(alloc, &visit.site, members, name, value) {
-            Ok(keyword) => {
-                push_patterns(alloc, &visit.point.place, name, &keyword, &mut patterns)?;
-                push_leads_of(alloc, visit, keyword, &mut leads)?;
-            }
-            Err(refusal) => return Err(refused(alloc, &visit.point.place, name, refusal)?),
-        }
-    }
-    Ok(Found { leads, patterns })
-}
-
-// What the keywords of a schema lead to, where its identifier is right.
-fn leads_of_keywords<'r>(alloc: Global, visit: &Visit<'r>) -> Result<Found<'r>, BuildCause>
-    ensures accepted { IfOk result (LeadsIfNamed visit.now) }
-    ensures written { IfOk result (HasWritten visit.now) }
-    ensures bad { IfOk result (AreBadUnmade visit.now) }
-    ensures refused { IfErr result (RefusesVisit visit.now) }
-{
-    let contents = visit.site.contents;
-    if let Some(members) = contents.as_object() {
-        return leads_of_members(alloc, visit, members);
-    }
-    if contents.is_boolean() {
-        return Ok(Found::nothing(alloc));
-    }
-    Err(BuildCause::KeywordValue {
-        place: visit.point.place.shared()?,
-        expected: "schema",
-    })
-}
-
-/// The visits that the keywords of a schema lead to and its patterns, in the order of its members.
-///
-/// It reads each member once, and looks its references up. The patterns have to be made before the visits are.
-///
-/// # Errors
-///
-/// An identifier that is no URI reference, the first cause that a member is, in their order, or want of memory.
-pub(crate) fn leads_of<'r>(alloc: Global, visit: &Visit<'r>) -> Result<Found<'r>, BuildCause>
-    ensures accepted { IfOk result (λ f. (makes : List ℕ → Bool) (s : sites.Site) → Met visit.now s → AreMade makes (texts_of f.patterns.items) → Leads (documents_in visit.now.site.resolver) makes s f.leads.items) }
-    ensures written { IfOk result (λ f. (s : sites.Site) → Met visit.now s → (p : List ℕ) → In p (written s) → In p (texts_of f.patterns.items)) }
-    ensures bad { IfOk result (λ f. (makes : List ℕ → Bool) (s : sites.Site) → Met visit.now s → (q : Pattern) → In q f.patterns.items → is_made_by makes (text_of q) ≡ false → IsCauseOf (documents_at visit.now.site) makes s (bad_pattern (place_in q.place))) }
-    ensures refused { IfErr result (λ e. (makes : List ℕ → Bool) (s : sites.Site) → Met visit.now s → RefusesRoot (documents_at visit.now.site) makes s e) }
-{
-    check_identifier(alloc, visit)?;
-    leads_of_keywords(alloc, visit)
 }

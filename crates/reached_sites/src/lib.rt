@@ -1,8 +1,7 @@
-//! The places reached from a root, checked before any instance.
+//! The schemas that are reached from roots, each a visit of what stands at a place.
 #![tactic(auto)]
 
 pub mod cause;
-pub mod checking;
 pub mod identifying;
 pub mod leads;
 pub mod making;

@@ -77,23 +77,3 @@ pub fn put<'r>(
     visits.push(lead)?;
     Ok(position)
 }
-
-/// Puts those of some visits behind others that are not among them yet. Each is compared with those at its place.
-///
-/// # Errors
-///
-/// Where memory was refused or a count of owners is full.
-pub(crate) fn add_new<'r>(
-    alloc: Global,
-    visits: &mut Vec<Visit<'r>>,
-    visited: &mut Visited,
-    leads: Vec<Visit<'r>>,
-) -> Result<(), AllocError>
-    ensures grows { OnOk result (Grows visits.old.items visits.new.items leads.entry.items) }
-    ensures apart { OnOk result (Filed visited.old visits.old.items → Apart visits.old.items → Filed visited.new visits.new.items × Apart visits.new.items) }
-{
-    for lead in leads {
-        put(alloc, visits, visited, lead)?;
-    }
-    Ok(())
-}

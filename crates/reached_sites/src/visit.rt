@@ -77,24 +77,7 @@ fn key_of_scope(alloc: Global, site: &Site<'_>) -> Result<Rc<ScopeKey>, AllocErr
 }
 
 impl<'r> Visit<'r> {
-    ghost use Rattle.reached_sites.specs.Visits.{site_of, Met, Belongs, Begins, Repeats};
-
-    /// The one visit of a root.
-    ///
-    /// # Errors
-    ///
-    /// Where memory was refused or a count of owners is full.
-    pub fn first_visits(
-        alloc: Global,
-        root: &Resolved<'r>,
-        matches: &'r Matches,
-    ) -> Result<Vec<Visit<'r>>, AllocError>
-        ensures { IfOk result (λ v. Begins root.now v.items) }
-    {
-        let mut visits = Vec::new(alloc);
-        visits.push(Visit::of_root(alloc, root, matches)?)?;
-        Ok(visits)
-    }
+    ghost use Rattle.reached_sites.specs.Visits.{site_of, Met, Belongs, Repeats};
 
     /// The visit of a root.
     ///

@@ -1,7 +1,11 @@
 -- Scope keys that are equal.
-use Rattle.std.proofs.Common.{◌≡◌, ◌∙◌, ℕ, List, [], ◌∷◌, Bool, true, false, ◌&&◌, map, Option, Some, None, option_map, Decides, refl, sym, ap, ap₂, bytes_eq}
+use Rattle.std.proofs.Common.{◌≡◌, ◌∙◌, ℕ, List, [], ◌∷◌, ◌++◌, Bool, true, false, ◌&&◌, map, Option, Some, None, option_map, Decides, refl, sym, ap, ap₂, bytes_eq}
 use Rattle.std.specs.Option.{option_eq}
 use Rattle.std.specs.Cmp.Lexicographic.{pointwise}
+use Rattle.std.specs.List.{flat_map}
+use Rattle.std.specs.Hash.{HashWrites}
+use Rattle.std.specs.Hash as fed
+use Rattle.std.proofs.lemmas.List.{length-map}
 use Rattle.std.proofs.lemmas.Bool.{false≢true}
 use Rattle.std.proofs.lemmas.Slice.Eq.{slice_eq-Decides, bytes_eq-Decides}
 use Rattle.schema_definitions.specs.Words.{or}
@@ -21,6 +25,19 @@ module _ {A B : Type 0} (f : A → B) (E : B → B → Bool) where
   options-map [] (y ∷ ys) = refl
   options-map (x ∷ xs) [] = refl
   options-map (x ∷ xs) (y ∷ ys) = ap₂ (λ b c. b && c) (option_eq-map x y) (options-map xs ys)
+
+-- what is fed through a function, at the same
+module _ {A B : Type 0} (f : A → B) (F : B → HashWrites) where
+  option-fed : (x : Option A) → fed.option (λ u. F (f u)) x ≡ fed.option F (option_map f x)
+  option-fed None = refl
+  option-fed (Some u) = refl
+
+  each-fed : (xs : List (Option A)) → flat_map (fed.option (λ u. F (f u))) xs ≡ flat_map (fed.option F) (map (option_map f) xs)
+  each-fed [] = refl
+  each-fed (x ∷ xs) = ap₂ (λ us vs. us ++ vs) (option-fed x) (each-fed xs)
+
+  pub slice-fed : (xs : List (Option A)) → fed.slice (fed.option (λ u. F (f u))) xs ≡ fed.slice (fed.option F) (map (option_map f) xs)
+  slice-fed xs = ap₂ (λ n ws. fed.usize n ++ ws) (sym (length-map xs (option_map f))) (each-fed xs)
 
 option_eq-Decides : (a b : Option (List ℕ)) → Decides (option_eq bytes_eq a b) (a ≡ b)
 option_eq-Decides None None = (λ h. refl, λ e. refl)

@@ -1,13 +1,12 @@
 //! References by the dynamic scope (Core 8.2.3.2; 2019-09, Core 8.2.4.2).
 
-ghost use Rattle.std.specs.Prelude.{◌≡◌, ◌∷◌, ◌&&◌, ℕ, List, IfOk, IfErr, Ok, map, option_map, option_and_then, is_some};
+ghost use Rattle.std.specs.Prelude.{◌≡◌, ◌∷◌, ◌&&◌, ℕ, List, IfOk, IfErr, Ok, map, option_map};
 ghost use Rattle.schema_definitions.specs.Words as words;
 ghost use Rattle.schema_definitions.specs.Identifiers.{is_name, dynamic_anchors};
 ghost use Rattle.schema_definitions.specs.Bearers as bearers;
 ghost use Rattle.schema_definitions.specs.Scopes as spec;
 ghost use Rattle.schema_definitions.specs.Scopes.{entered_scope};
 ghost use Rattle.schema_definitions.specs.CompileKeys as keys;
-ghost use Rattle.document_index.specs.Indexes.{named};
 ghost use Rattle.document_index.specs.Seen.{standing_of};
 ghost use Rattle.document_sources.specs.Causes.{RefusesLookup};
 ghost use Rattle.referencing.specs.Found.{found_target, redirect};
@@ -17,14 +16,12 @@ ghost use Rattle.referencing.specs.Seen.{documents_of};
 use crate::registry::Registry;
 use crate::resolver::{Resolved, Resolver};
 use crate::resolving::{Found, fragment_or_empty, has_slash, look_up, whole};
-use document_index::index::Bearer;
 use document_index::standing::Standing;
 use document_sources::error::Error;
 use document_sources::named::{no_such_anchor, not_borne};
 use schema_dialects::identifiers::dynamic_anchor;
 use shared_lists::List;
 use std::alloc::AllocError;
-use std::collections::BTreeMap;
 use std::rc::Rc;
 use uri_grammar::components::split_fragment;
 use uri_references::uri::Uri;
@@ -113,14 +110,6 @@ fn end_of_run<'s>(
 }
 
 impl<'r> Resolver<'r> {
-    /// What bears the dynamic anchors under a base, by their names, if there are any: a `$dynamicRef` that finds one of these names leads to
-    /// the outermost resource of the scope that has it. One search by the base.
-    pub fn dynamic_anchors(&self, base: &str) -> Option<&'r BTreeMap<String, Bearer>>
-        ensures { (name : List ℕ) → is_some (option_and_then (λ names. named names.now name) result) ≡ is_some (bearers.dynamically_anchored (documents_in self.now) base.now name) }
-    {
-        self.registry.index.dynamic_anchors(base)
-    }
-
     /// The resource that a recursive reference leads to: the end of the run of those that say `$recursiveAnchor: true`, or the base.
     ///
     /// It looks each resource of the run up.

@@ -12,6 +12,7 @@ use crate::registry::Registry;
 use crate::resolver::Resolver;
 use shared_lists::List;
 use std::alloc::AllocError;
+use std::hash::{Hash, Hasher};
 use std::rc::Rc;
 use uri_references::uri::Uri;
 
@@ -46,6 +47,19 @@ impl Eq for ScopeKey {
     ghost use Rattle.referencing.specs.Keys.{keys_eq_equiv};
 
     ghost laws = { on_equiv key_of keys_eq_equiv };
+}
+
+impl Hash for ScopeKey {
+    ghost use Rattle.referencing.specs.Keys.{key_fed, keys_fed_alike};
+
+    ghost hash_input = { λ k. key_fed (key_of k) };
+
+    ghost respects_eq = { λ a b h. keys_fed_alike (key_of a) (key_of b) h };
+
+    fn hash<H: Hasher>(&self, state: &mut H) {
+        self.bearers.hash(state);
+        self.run.hash(state);
+    }
 }
 
 fn shared(resource: Option<&Rc<Uri>>) -> Result<Option<Rc<Uri>>, AllocError>

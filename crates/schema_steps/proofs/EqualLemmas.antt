@@ -1,10 +1,13 @@
 -- Equality of parts and of paths.
-use Rattle.std.proofs.Common.{ℕ, ◌≡◌, ◌&&◌, Bool, List, [], ◌∷◌, map, Decides, refl, ap}
+use Rattle.std.proofs.Common.{ℕ, ◌≡◌, ◌&&◌, ◌++◌, Bool, List, [], ◌∷◌, map, Decides, refl, ap}
 use Rattle.std.specs.Cmp.Lexicographic.{pointwise}
+use Rattle.std.specs.Hash.{HashWrites}
+use Rattle.std.specs.Hash as fed
 use Rattle.std.proofs.lemmas.Bool.{false≢true}
 use Rattle.std.proofs.lemmas.Bool.Decides.{Decides-eqb}
 use Rattle.std.proofs.lemmas.Slice.Eq.{slice_eq-Decides}
 use Rattle.json_values.specs.Parts.{Part, name, index}
+use Rattle.shared_lists.specs.Hashes.{marked}
 use Rattle.schema_steps.specs.Parts.{part_eq}
 
 -- a test through a function, at lists
@@ -13,6 +16,11 @@ pointwise-map f E [] [] = refl
 pointwise-map f E [] (y ∷ ys) = refl
 pointwise-map f E (x ∷ xs) [] = refl
 pointwise-map f E (x ∷ xs) (y ∷ ys) = ap (λ b. E (f x) (f y) && b) (pointwise-map f E xs ys)
+
+-- what is fed through a function, at lists
+pub marked-map : {A B : Type 0} (f : A → B) (F : B → HashWrites) (xs : List A) → marked (λ x. F (f x)) xs ≡ marked F (map f xs)
+marked-map f F [] = refl
+marked-map f F (x ∷ xs) = ap (λ ws. fed.u8 1 ++ (F (f x) ++ ws)) (marked-map f F xs)
 
 abbrev text_of : Part → List ℕ
 text_of (name s) = s

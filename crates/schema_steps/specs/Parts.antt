@@ -1,9 +1,13 @@
--- When two parts are the same.
-use Rattle.std.specs.Prelude.{◌≡◌, Bool, true, false, nat_eq}
+-- When two parts are the same, and what their hash feeds a hasher.
+use Rattle.std.specs.Prelude.{◌≡◌, ◌++◌, Bool, true, false, nat_eq}
 use Rattle.std.specs.Cmp.{IsEquivalence, IsPartialEquivalence, nat_eq_equiv, partial_equiv_from_equiv}
 use Rattle.std.specs.Cmp.Lexicographic.{pointwise, nat_list_eq_equiv}
-use Rattle.std.proofs.Common.{refl}
+use Rattle.std.specs.Hash.{HashWrites}
+use Rattle.std.specs.Hash as fed
+use Rattle.std.proofs.Common.{refl, ap}
 use Rattle.std.proofs.lemmas.Bool.{false≢true}
+use Rattle.std.proofs.lemmas.Bool.Decides.{Decides-eqb}
+use Rattle.std.proofs.lemmas.Slice.Eq.{slice_eq-Decides}
 use Rattle.json_values.specs.Parts.{Part, name, index}
 
 abbrev pub part_eq : Part → Part → Bool
@@ -35,3 +39,14 @@ part_eq_equiv = record { refl = itself; symm = turned; congr = along }
 
 pub part_eq_per : IsPartialEquivalence part_eq
 part_eq_per = partial_equiv_from_equiv part_eq_equiv
+
+abbrev pub part_fed : Part → HashWrites
+part_fed (name s) = fed.u8 0 ++ fed.str s
+part_fed (index n) = fed.u8 1 ++ fed.usize n
+
+-- equal parts are fed alike
+pub part_fed_alike : (x y : Part) → part_eq x y ≡ true → part_fed x ≡ part_fed y
+part_fed_alike (name s) (name t) h = ap (λ u. fed.u8 0 ++ fed.str u) ((slice_eq-Decides Decides-eqb s t (part_eq (name s) (name t)) refl).0 h)
+part_fed_alike (name s) (index n) h = absurd (false≢true h)
+part_fed_alike (index m) (name t) h = absurd (false≢true h)
+part_fed_alike (index m) (index n) h = ap (λ k. fed.u8 1 ++ fed.usize k) ((Decides-eqb m n).0 h)

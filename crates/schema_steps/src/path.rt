@@ -11,6 +11,7 @@ use crate::step::Step;
 use serde_json::Value;
 use shared_lists::{Iter, List};
 use std::alloc::{AllocError, Global};
+use std::hash::{Hash, Hasher};
 use std::marker::Model;
 use std::rc::RcStr;
 
@@ -188,4 +189,18 @@ impl Eq for Path {
     ghost use Rattle.schema_steps.specs.Parts.{part_eq_equiv};
 
     ghost laws = { lists_equiv part_eq_equiv };
+}
+
+/// It is linear in the path.
+impl Hash for Path {
+    ghost use Rattle.shared_lists.specs.Hashes.{marked, marked_alike};
+    ghost use Rattle.schema_steps.specs.Parts.{part_eq, part_fed, part_fed_alike};
+
+    ghost hash_input = { marked part_fed };
+
+    ghost respects_eq = { marked_alike part_eq part_fed part_fed_alike };
+
+    fn hash<H: Hasher>(&self, state: &mut H) {
+        self.steps.hash(state);
+    }
 }

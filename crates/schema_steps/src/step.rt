@@ -7,6 +7,7 @@ ghost use Rattle.json_values.specs.Pointers as spec;
 use json_pointers::{write_escaped_str, write_index};
 use serde_json::Value;
 use std::alloc::AllocError;
+use std::hash::{Hash, Hasher};
 use std::rc::RcStr;
 
 /// One step of a path: the name of a member, or the index of an item.
@@ -91,4 +92,27 @@ impl Eq for Step {
     ghost use Rattle.schema_steps.specs.Steps.{step_part};
 
     ghost laws = { on_equiv step_part part_eq_equiv };
+}
+
+/// What is fed tells a name from an index.
+impl Hash for Step {
+    ghost use Rattle.schema_steps.specs.Parts.{part_fed, part_fed_alike};
+    ghost use Rattle.schema_steps.specs.Steps.{step_part};
+
+    ghost hash_input = { λ step. part_fed (step_part step) };
+
+    ghost respects_eq = { λ x y h. part_fed_alike (step_part x) (step_part y) h };
+
+    fn hash<H: Hasher>(&self, state: &mut H) {
+        match self {
+            Step::Name(name) => {
+                state.write_u8(0);
+                name.as_str().hash(state);
+            }
+            Step::Item(index) => {
+                state.write_u8(1);
+                index.hash(state);
+            }
+        }
+    }
 }

@@ -1,0 +1,136 @@
+//! Graphs of several roots.
+
+ghost use Rattle.std.specs.Prelude.{◌≡◌, true, map, length, string_bytes, IfOk, IfErr};
+ghost use Rattle.std.specs.List.{list_all, All, AllZip};
+ghost use Rattle.document_laws.specs.TargetLaws.{are_apart, contents_rise};
+ghost use Rattle.referencing.specs.Resolved.{base_of, documents_in};
+ghost use Rattle.referencing.specs.Seen.{documents_of};
+ghost use Rattle.compiled_graphs.specs.Causes.{RefusesFrom};
+ghost use Rattle.compiled_graphs.specs.Marked.{IsMarked, IsNode};
+ghost use Rattle.compiled_graphs.specs.Several.{AreBuilt};
+
+use crate::starting::start;
+use crate::walk::{AtCause, Walk};
+use compiled_keywords::keyword::Keyword;
+use marked_nodes::leading_to;
+use reached_sites::cause::BuildCause;
+use referencing::{Registry, Resolver};
+use schema_engine::graph::Graph;
+use schema_patterns::matches::Matches;
+use schema_patterns::{PatternMaker, PatternTable};
+use std::alloc::{AllocError, Global};
+use uri_references::uri::Uri;
+
+/// The schemas that are reached from several roots, as one graph, with the patterns that they ask for, and for each root the number of its
+/// node, or none where it may not be read: it leads nowhere, or to a cause.
+#[derive(Drop)]
+pub struct SchemaGraphs<M> {
+    pub graph: Graph<Keyword>,
+    pub starts: Vec<Option<usize>>,
+    pub table: PatternTable<M>,
+}
+
+// A start that leads to no node that is marked.
+fn clear_start(start: Option<usize>, marks: &[bool]) -> Option<usize>
+    requires { IsNode (length marks.now) start }
+    ensures { IsMarked marks.now start result }
+{
+    match start {
+        Some(position) => {
+            if marks[position] {
+                None
+            } else {
+                Some(position)
+            }
+        }
+        None => None,
+    }
+}
+
+// Those that lead to no node that is marked.
+fn clear_starts(
+    alloc: Global,
+    starts: Vec<Option<usize>>,
+    marks: &[bool],
+) -> Result<Vec<Option<usize>>, AllocError>
+    requires { All (IsNode (length marks.now)) starts.items }
+    ensures { IfOk result (λ v. AllZip (IsMarked marks.now) starts.items v.items) }
+{
+    let mut clear = Vec::new(alloc);
+    for start in starts {
+        clear.push(clear_start(start, marks))?;
+    }
+    Ok(clear)
+}
+
+// The graph by matches that live as long as the documents are lent.
+fn build_from<'r, P: PatternMaker>(
+    alloc: Global,
+    resolver: &Resolver<'r>,
+    references: &[String],
+    matches: &'r Matches,
+    maker: &P,
+    limit: usize,
+) -> Result<SchemaGraphs<P::Matcher>, BuildCause>
+    requires apart { are_apart (documents_in resolver.now) ≡ true }
+    requires rise { list_all contents_rise (documents_in resolver.now) ≡ true }
+    ensures built { IfOk result (AreBuilt P.Matcher.finds (P.patterns maker.now) (documents_in resolver.now) (base_of resolver.now) (map string_bytes references.now) limit) }
+    ensures refused { IfErr result (RefusesFrom (P.patterns maker.now).makes (documents_in resolver.now) (base_of resolver.now) (map string_bytes references.now) limit) }
+{
+    let started = start(alloc, resolver, references, matches)?;
+    let begun = Walk::new(alloc, started.visits, started.visited);
+    let walk = begun.run(alloc, maker, limit, AtCause::GoOn)?;
+    let count = walk.visits.len();
+    let (edges, wrong) = (walk.edges.as_slice(), walk.wrong.as_slice());
+    let marks = leading_to(alloc, count, edges, wrong)?;
+    let starts = clear_starts(alloc, started.starts, marks.as_slice())?;
+    Ok(SchemaGraphs {
+        graph: Graph { nodes: walk.nodes },
+        starts,
+        table: walk.table,
+    })
+}
+
+// The same from a resolver, by no matches.
+fn build_by<P: PatternMaker>(
+    alloc: Global,
+    resolver: &Resolver<'_>,
+    references: &[String],
+    maker: &P,
+    limit: usize,
+) -> Result<SchemaGraphs<P::Matcher>, BuildCause>
+    requires apart { are_apart (documents_in resolver.now) ≡ true }
+    requires rise { list_all contents_rise (documents_in resolver.now) ≡ true }
+    ensures built { IfOk result (AreBuilt P.Matcher.finds (P.patterns maker.now) (documents_in resolver.now) (base_of resolver.now) (map string_bytes references.now) limit) }
+    ensures refused { IfErr result (RefusesFrom (P.patterns maker.now).makes (documents_in resolver.now) (base_of resolver.now) (map string_bytes references.now) limit) }
+{
+    let matches = Matches::none(alloc);
+    build_from(alloc, &*resolver, references, &matches, maker, limit)
+}
+
+/// Compiles the schemas that are reached from the roots that some references from a base lead to, all together, each once for each compile
+/// key. It goes on behind causes: a keyword that has one leads nowhere, and those beside it are walked. A schema with a cause has no
+/// keywords.
+///
+/// Which roots lead to a cause is found by one walk backwards over the edges. The maker is asked once for each text, and for none of the
+/// literal forms.
+///
+/// # Errors
+///
+/// More compile keys than the limit, all roots together, or want of memory.
+pub fn build_each<P: PatternMaker>(
+    alloc: Global,
+    registry: &Registry<'_>,
+    base: &Uri,
+    references: &[String],
+    maker: &P,
+    limit: usize,
+) -> Result<SchemaGraphs<P::Matcher>, BuildCause>
+    requires apart { are_apart (documents_of registry.now) ≡ true }
+    ensures built { IfOk result (AreBuilt P.Matcher.finds (P.patterns maker.now) (documents_of registry.now) base.now (map string_bytes references.now) limit) }
+    ensures refused { IfErr result (RefusesFrom (P.patterns maker.now).makes (documents_of registry.now) base.now (map string_bytes references.now) limit) }
+{
+    let resolver = registry.resolver(base.clone()?)?;
+    registry.names_rise();
+    build_by(alloc, &resolver, references, maker, limit)
+}

@@ -1,7 +1,0 @@
-use Rattle.std.specs.Vec.Iter.{into_iter_items}
-use Rattle.root_checks.proofs.Edges.{Linking}
-use Rattle.root_checks.proofs.linking.link.Given as goal
-
-abbrev pub invariant-loop-lead : goal.invariant-loop-lead
-invariant-loop-lead l =
-    Linking l.from l.initial.visited l.visited l.initial.visits.items l.visits.items (into_iter_items l.initial.lead-iterator) (into_iter_items l.lead-iterator) l.initial.edges.items l.edges.items
