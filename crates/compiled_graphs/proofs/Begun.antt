@@ -7,9 +7,6 @@ use Rattle.schema_definitions.specs.Lookup.{Target, lookup}
 use Rattle.schema_definitions.specs.BuildCauses.{at_root}
 use Rattle.schema_definitions.specs.Sites.{Site, root_site}
 use Rattle.document_laws.specs.TargetLaws.{are_apart, contents_rise, IsTarget, by_reference}
-use Rattle.reached_sites.specs.Filed.{Filed}
-use Rattle.reached_sites.specs.Growing.{Apart, none}
-use Rattle.reached_sites.specs.declared.visited.Visited.{Visited}
 use Rattle.reached_sites.specs.Visits.{Belongs}
 use Rattle.reached_sites.specs.declared.visit.Visit.{Visit}
 use Rattle.reached_sites.proofs.Listing.{in-before, in-behind, in-either, in-one, none-in}
@@ -184,9 +181,3 @@ starting-goes own base apart rise rs r old new os (Some i) h s =
 
 pub starting-begins : (own : List Document) (base : List ℕ) (vs : List Visit) (os : List (Option ℕ)) → vs ≡ [] → os ≡ [] → Starting own base [] vs os
 starting-begins own base vs os e f = subst (λ v. Starting own base [] v os) (sym e) (subst (λ o. Starting own base [] [] o) (sym f) (record { begun = λ makes. begun-none own base makes; starts = tt }))
-
-pub filed-none : (visited : Visited) (vs : List Visit) → vs ≡ [] → Filed visited vs
-filed-none visited vs e = subst (λ l. Filed visited l) (sym e) (record { each = λ i v at. absurd (cc (at)) })
-
-pub apart-none : (vs : List Visit) → vs ≡ [] → Apart vs
-apart-none vs e = subst (λ l. Apart l) (sym e) none

@@ -23,14 +23,11 @@ use Rattle.compiled_keywords.specs.Shapes.{shape_of, Knows}
 use Rattle.compiled_keywords.specs.declared.keyword.Keyword.{Keyword}
 use Rattle.keyword_compilers.specs.Patterns.{table_texts}
 use Rattle.reached_sites.specs.Causes.{RefusesWithin}
-use Rattle.reached_sites.specs.Filed.{Filed}
-use Rattle.reached_sites.specs.Growing.{Apart}
 use Rattle.reached_sites.specs.Patterns.{IsFront}
 use Rattle.reached_sites.specs.Roots.{IsPlaced}
 use Rattle.reached_sites.specs.Visits.{site_of, Met, Belongs}
 use Rattle.reached_sites.specs.declared.cause.BuildCause as refused
 use Rattle.reached_sites.specs.declared.visit.Visit.{Visit}
-use Rattle.reached_sites.specs.declared.visited.Visited.{Visited}
 use Rattle.reached_sites.proofs.Listing.{in-one, none-in}
 use Rattle.compiled_graphs.specs.Filled.{IsReached}
 use Rattle.compiled_graphs.specs.Graphs.{IsVisited, IsGraph}
@@ -102,9 +99,9 @@ module _ (own : List Document) where
         record { visit = x.0; there = x.1; met = record { alike = subst (λ (ds : List Document). AreAlike ds s (site_of x.0)) (sym b.documents) alike } }
 
 module _ {M : Type 0} (finds : M → List ℕ → Option Bool) (p : Patterns) (own : List Document) (root : Target) (limit : ℕ) (w : Walk M) (walked : IsWalked finds p own (root_site root ∷ []) limit Stop w)
-    (begins : IsVisited w.visits.items 0 (root_site root)) where
+    (begins : IsVisited w.visits.list.items 0 (root_site root)) where
   abbrev vs : List Visit
-  vs = w.visits.items
+  vs = w.visits.list.items
 
   abbrev roots : List Site
   roots = root_site root ∷ []
@@ -168,22 +165,21 @@ module _ {M : Type 0} (finds : M → List ℕ → Option Bool) (p : Patterns) (o
 
 pub record IsBuilt {M : Type 0} (finds : M → List ℕ → Option Bool) (p : Patterns) (own : List Document) (root : Target) (limit : ℕ) (w : Walk M) : Type 0 where
   pub walked : IsWalked finds p own (root_site root ∷ []) limit Stop w
-  pub begins : IsVisited w.visits.items 0 (root_site root)
+  pub begins : IsVisited w.visits.list.items 0 (root_site root)
 
 -- what is known where such a walk begins
-pub record IsStarted (own : List Document) (root : Target) (visits : List Visit) (visited : Visited) : Type 0 where
+pub record IsStarted (own : List Document) (root : Target) (visits : List Visit) : Type 0 where
   pub visited_first : IsVisited visits 0 (root_site root)
   pub graph : (makes : List ℕ → Bool) → IsGraph own makes (root_site root ∷ []) visits [] [] 0
-  pub apart : Filed visited visits × Apart visits
 
-module _ {M : Type 0} (finds : M → List ℕ → Option Bool) (p : Patterns) (own : List Document) (root : Target) (limit : ℕ) (begun : Walk M) (visits : List Visit) (visited : Visited) (placed : IsPlaced own root)
-    (b : IsBegun begun visits visited) (s : IsStarted own root visits visited) where
+module _ {M : Type 0} (finds : M → List ℕ → Option Bool) (p : Patterns) (own : List Document) (root : Target) (limit : ℕ) (begun : Walk M) (visits : List Visit) (placed : IsPlaced own root)
+    (b : IsBegun begun visits) (s : IsStarted own root visits) where
   pub walks-from-root : Walks finds p own (root_site root ∷ []) begun
-  walks-from-root = begun-walks finds p own (root_site root ∷ []) begun visits visited b (s.graph p.makes) s.apart
+  walks-from-root = begun-walks finds p own (root_site root ∷ []) begun visits b (s.graph p.makes)
 
-  pub built-of : (w : Walk M) → IsFront begun.visits.items w.visits.items
+  pub built-of : (w : Walk M) → IsFront begun.visits.list.items w.visits.list.items
       → ((o : List Document) (roots : List Site) → ArePlaced o roots → Walks finds p o roots begun → IsWalked finds p o roots limit Stop w) → IsBuilt finds p own root limit w
   built-of w f walks = record {
     walked = walks own (root_site root ∷ []) (one-placed own root placed) walks-from-root;
-    begins = visited-later begun.visits.items w.visits.items f.behind 0 (root_site root) f.is (subst (λ vs. IsVisited vs 0 (root_site root)) (sym b.visits_are) s.visited_first);
+    begins = visited-later begun.visits.list.items w.visits.list.items f.behind 0 (root_site root) f.is (subst (λ vs. IsVisited vs 0 (root_site root)) (sym b.visits_are) s.visited_first);
   }

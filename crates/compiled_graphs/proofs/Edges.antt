@@ -3,10 +3,8 @@ use Rattle.std.proofs.Common.{◌≡◌, ◌⊎◌, ◌∙◌, ℕ, List, [], �
 use Rattle.std.specs.List.{AllZip}
 use Rattle.schema_meaning.specs.Members.{In, first, later}
 use Rattle.marked_nodes.specs.declared.graph.Edge.{Edge}
-use Rattle.reached_sites.specs.Filed.{Filed}
-use Rattle.reached_sites.specs.Growing.{AddsOne, Apart, StandsAt}
+use Rattle.reached_sites.specs.Growing.{AddsOne, StandsAt}
 use Rattle.reached_sites.specs.declared.visit.Visit.{Visit}
-use Rattle.reached_sites.specs.declared.visited.Visited.{Visited}
 use Rattle.reached_sites.proofs.Listing.{in-before, in-behind, in-either, in-one, none-in}
 use Rattle.compiled_graphs.specs.Linked.{edge, Extends, IsLinked, LeadsOn, Links, StandsFor}
 use Rattle.compiled_graphs.proofs.Positions.{kept-place}
@@ -85,28 +83,25 @@ module _ (i : ℕ) where
 
 -- ---- a loop over the others
 
-pub record Linking (i : ℕ) (before after : Visited) (old now all rest : List Visit) (first_edges edges : List Edge) (numbers : List ℕ) : Type 0 where
+pub record Linking (i : ℕ) (old now all rest : List Visit) (first_edges edges : List Edge) (numbers : List ℕ) : Type 0 where
   pub links : (fin : List Visit) (last : List Edge) → Links i now fin rest edges last → Links i old fin all first_edges last
   pub stand : (fin : List Visit) (last : List Edge) (ns : List ℕ) → Links i now fin rest edges last → AllZip (StandsFor i fin last) rest ns → AllZip (StandsFor i fin last) all (numbers ++ ns)
-  pub apart : Filed before old → Apart old → Filed after now × Apart now
 
-pub linking-begins : (i : ℕ) (before : Visited) (old all : List Visit) (edges : List Edge) (numbers : List ℕ) → numbers ≡ [] → Linking i before before old old all all edges edges numbers
-linking-begins i before old all edges numbers empty = record {
+pub linking-begins : (i : ℕ) (old all : List Visit) (edges : List Edge) (numbers : List ℕ) → numbers ≡ [] → Linking i old old all all edges edges numbers
+linking-begins i old all edges numbers empty = record {
   links = λ fin last l. l;
   stand = λ fin last ns l z. subst (λ ms. AllZip (StandsFor i fin last) all (ms ++ ns)) (sym empty) z;
-  apart = λ f a. (f, a);
 }
 
-pub linking-goes : (i : ℕ) (before after last : Visited) (old now next all rest left : List Visit) (lead : Visit) (es fs gs : List Edge) (position : ℕ) (numbers more : List ℕ)
-    → Linking i before after old now all rest es fs numbers → rest ≡ lead ∷ left → AddsOne now next lead → StandsAt next position lead → gs ≡ fs ++ edge i position ∷ []
-    → more ≡ numbers ++ position ∷ [] → (Filed after now → Apart now → Filed last next × Apart next) → Linking i before last old next all left es gs more
-linking-goes i before after last old now next all rest left lead es fs gs position numbers more h e one stands pushed numbered apart = record {
+pub linking-goes : (i : ℕ) (old now next all rest left : List Visit) (lead : Visit) (es fs gs : List Edge) (position : ℕ) (numbers more : List ℕ)
+    → Linking i old now all rest es fs numbers → rest ≡ lead ∷ left → AddsOne now next lead → StandsAt next position lead → gs ≡ fs ++ edge i position ∷ []
+    → more ≡ numbers ++ position ∷ [] → Linking i old next all left es gs more
+linking-goes i old now next all rest left lead es fs gs position numbers more h e one stands pushed numbered = record {
   links = λ fin hs l. h.links fin hs (whole fin hs l);
   stand = λ fin hs ns l z.
       subst (λ ms. AllZip (StandsFor i fin hs) all ms) (sym (ap (λ ms. ms ++ ns) numbered ∙ append_assoc numbers (position ∷ []) ns))
       (h.stand fin hs (position ∷ ns) (whole fin hs l)
       (subst (λ ls. AllZip (StandsFor i fin hs) ls (position ∷ ns)) (sym e) ((stands-later next fin left position lead l.extends stands, there hs (l.kept (edge i position))), z)));
-  apart = λ f a. (let both = h.apart f a in apart both.0 both.1);
 }
   where
     there : (hs : List Edge) → (In (edge i position) gs → In (edge i position) hs) → In (edge i position) hs
@@ -115,8 +110,8 @@ linking-goes i before after last old now next all rest left lead es fs gs positi
     whole : (fin : List Visit) (hs : List Edge) → Links i next fin left gs hs → Links i now fin rest fs hs
     whole fin hs l = subst (λ ls. Links i now fin ls fs hs) (sym e) (links-more i now next fin lead left fs gs hs position one stands pushed l)
 
-pub linking-ends : (i : ℕ) (before after : Visited) (old now all rest : List Visit) (es fs : List Edge) (numbers : List ℕ) → Linking i before after old now all rest es fs numbers → rest ≡ []
+pub linking-ends : (i : ℕ) (old now all rest : List Visit) (es fs : List Edge) (numbers : List ℕ) → Linking i old now all rest es fs numbers → rest ≡ []
     → Links i old now all es fs × AllZip (StandsFor i now fs) all numbers
-linking-ends i before after old now all rest es fs numbers h e =
+linking-ends i old now all rest es fs numbers h e =
     let end = subst (λ ls. Links i now now ls fs fs) (sym e) (links-none i now fs) in
     (h.links now fs end, subst (λ ns. AllZip (StandsFor i now fs) all ns) (append-nil numbers) (h.stand now fs [] end (subst (λ ls. AllZip (StandsFor i now fs) ls []) (sym e) tt)))

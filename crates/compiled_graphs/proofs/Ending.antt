@@ -11,15 +11,14 @@ use Rattle.schema_definitions.specs.Sites.{Site}
 use Rattle.schema_patterns.specs.Tables.{texts_of_table}
 use Rattle.schema_patterns.specs.declared.table.PatternTable.{PatternTable}
 use Rattle.reading_laws.specs.Asked.{AreAmong}
-use Rattle.reading_laws.specs.Keys.{IsReached, AreWithin, Exceeds, key_of_site}
+use Rattle.reading_laws.specs.Keys.{Distinct, IsReached, AreWithin, Exceeds, key_of_site}
 use Rattle.reading_laws.proofs.Counting.{are-fewer}
 use Rattle.marked_nodes.specs.Leading.{LeadsTo, here, along}
 use Rattle.marked_nodes.specs.declared.graph.Edge.{Edge}
 use Rattle.referencing.specs.Resolved.{documents_in}
-use Rattle.reached_sites.specs.Growing.{Apart}
 use Rattle.reached_sites.specs.Visits.{site_of, key_at, Met, Belongs}
 use Rattle.reached_sites.specs.declared.visit.Visit.{Visit}
-use Rattle.reached_sites.proofs.Keying.{alike-key, key-in, keys-in, keys-distinct}
+use Rattle.reached_sites.proofs.Keying.{alike-key, key-in, keys-in}
 use Rattle.reached_sites.proofs.Listing.{in-all, in-some, in-none}
 use Rattle.reached_sites.proofs.Naming.{cause-through}
 use Rattle.reached_sites.proofs.Writing.{site-written}
@@ -54,10 +53,10 @@ module _ (own : List Document) (makes : List ℕ → Bool) where
         let r = g.reached h.0 h.1 in
         record { root = r.root; listed = r.listed; site = r.site; reached = r.reached; named = met-key h.0 r.site (g.belongs h.0 h.1) r.met ∙ h.2 }
 
-    pub keys-exceed : Apart vs → (limit : ℕ) → limit < length vs → Exceeds own makes roots limit
+    pub keys-exceed : Distinct (map key_at vs) → (limit : ℕ) → limit < length vs → Exceeds own makes roots limit
     keys-exceed a limit more = record {
       keys = map key_at vs;
-      are = record { distinct = keys-distinct vs a; reached = key-reached };
+      are = record { distinct = a; reached = key-reached };
       more = subst (λ m. limit < m) (sym (length-map vs key_at)) more;
     }
 

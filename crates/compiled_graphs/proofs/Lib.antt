@@ -16,3 +16,4 @@ pub mod Splitting
 pub mod Compiling
 pub mod Others
 pub mod Running
+pub mod Sorting

@@ -104,10 +104,10 @@ bool-at (b ∷ bs) (suc n) h = bool-at bs n (omega (arith, h))
 -- ---- which may be read
 
 module _ {M : Type 0} (finds : M → List ℕ → Option Bool) (p : Patterns) (own : List Document) (base : List ℕ) (rs : List (List ℕ)) (limit : ℕ) (w : Walk M)
-    (walked : IsWalked finds p own (sites_from own base rs) limit GoOn w) (marks : List Bool) (count : length marks ≡ length w.visits.items)
+    (walked : IsWalked finds p own (sites_from own base rs) limit GoOn w) (marks : List Bool) (count : length marks ≡ length w.visits.list.items)
     (each : (i : ℕ) (b : Bool) → slice_get marks i ≡ Some b → Decides b (LeadsTo w.edges.items w.wrong.items i)) where
   abbrev vs : List Visit
-  vs = w.visits.items
+  vs = w.visits.list.items
 
   abbrev es : List Edge
   es = w.edges.items

@@ -12,14 +12,11 @@ use Rattle.reading_laws.specs.SiteLaws.{AreAlike}
 use Rattle.schema_engine.specs.declared.node.Node.{Node}
 use Rattle.compiled_keywords.specs.declared.keyword.Keyword.{Keyword}
 use Rattle.referencing.specs.Resolved.{documents_in}
-use Rattle.reached_sites.specs.Filed.{Filed}
-use Rattle.reached_sites.specs.Growing.{Apart}
 use Rattle.reached_sites.specs.Led.{causes_in}
 use Rattle.reached_sites.specs.Patterns.{written, IsFilled, IsFront, Holds}
 use Rattle.reached_sites.specs.Visits.{site_of, Met}
 use Rattle.reached_sites.specs.declared.cause.BuildCause as refused
 use Rattle.reached_sites.specs.declared.visit.Visit.{Visit}
-use Rattle.reached_sites.specs.declared.visited.Visited.{Visited}
 use Rattle.reached_sites.proofs.Filling.{empty-filled}
 use Rattle.reached_sites.proofs.Listing.{in-behind, none-in}
 use Rattle.compiled_graphs.specs.Filled.{Compiled, IsRank, IsNodeOf, HasNode, HasNodes}
@@ -58,15 +55,14 @@ module _ {A : Type 0} where
 
 -- what the code knows of a step at the next visit
 pub record Step {M : Type 0} (finds : M → List ℕ → Option Bool) (p : Patterns) (old new : Walk M) (v : Visit) (found : Found) (cause : Option refused.BuildCause) (numbers : List ℕ) (node : Node Keyword) : Type 0 where
-  pub at : slice_get old.visits.items (length old.nodes.items) ≡ Some v
+  pub at : slice_get old.visits.list.items (length old.nodes.items) ≡ Some v
   pub read : VisitReads finds p old.table v found cause
   pub filled : StaysFilled finds p old.table new.table
   pub kept : Holds new.table (texts_of_table old.table)
   pub grows : IsFront (texts_of_table old.table) (texts_of_table new.table)
   pub written_here : cause ≡ None → Holds new.table (written (site_of v))
-  pub links : Links (length old.nodes.items) old.visits.items new.visits.items found.visits.items old.edges.items new.edges.items
-  pub apart : Filed old.visited old.visits.items → Apart old.visits.items → Filed new.visited new.visits.items × Apart new.visits.items
-  pub stand : AllZip (StandsFor (length old.nodes.items) new.visits.items new.edges.items) found.visits.items numbers
+  pub links : Links (length old.nodes.items) old.visits.list.items new.visits.list.items found.visits.items old.edges.items new.edges.items
+  pub stand : AllZip (StandsFor (length old.nodes.items) new.visits.list.items new.edges.items) found.visits.items numbers
   pub noted : new.wrong.items ≡ noted_wrong (is_none cause) old.wrong.items (length old.nodes.items)
   pub compiled : is_none cause ≡ true → Compiled (texts_of_table new.table) found.askings.items numbers node.keywords.items
   pub empty : is_none cause ≡ false → node.keywords.items ≡ []
@@ -101,10 +97,10 @@ module _ {M : Type 0} (finds : M → List ℕ → Option Bool) (p : Patterns) (o
   i = length old.nodes.items
 
   abbrev vs : List Visit
-  vs = old.visits.items
+  vs = old.visits.list.items
 
   abbrev us : List Visit
-  us = new.visits.items
+  us = new.visits.list.items
 
   abbrev b : Bool
   b = is_none cause
@@ -191,12 +187,9 @@ module _ {M : Type 0} (finds : M → List ℕ → Option Bool) (p : Patterns) (o
 
   pub step-walks : Walks finds p own roots new
   step-walks =
-      let both = step.apart w.filed w.apart in
       record {
         graph = subst (λ n. IsGraph own p.makes roots us new.edges.items new.wrong.items n) (sym one-more)
             (subst (λ ws. IsGraph own p.makes roots us new.edges.items ws (i + 1)) (sym step.noted) graph);
-        filed = both.0;
-        apart = both.1;
         filled = step.filled w.filled;
         noted = subst (λ n. Notes new.table us new.wrong.items n) (sym one-more) (subst (λ ws. Notes new.table us ws (i + 1)) (sym step.noted) notes);
         nodes = subst (λ ws. HasNodes own p.makes us new.edges.items ws (texts_of_table new.table) new.nodes.items) (sym step.noted) nodes;
@@ -221,18 +214,16 @@ module _ {M : Type 0} (finds : M → List ℕ → Option Bool) (p : Patterns) (o
 
 -- ---- a walk that begins
 
-module _ {M : Type 0} (finds : M → List ℕ → Option Bool) (p : Patterns) (own : List Document) (roots : List Site) (w : Walk M) (visits : List Visit) (visited : Visited) (b : IsBegun w visits visited) where
-  nothing-noted : (n : ℕ) → n ≡ 0 → Notes w.table w.visits.items w.wrong.items n
+module _ {M : Type 0} (finds : M → List ℕ → Option Bool) (p : Patterns) (own : List Document) (roots : List Site) (w : Walk M) (visits : List Visit) (b : IsBegun w visits) where
+  nothing-noted : (n : ℕ) → n ≡ 0 → Notes w.table w.visits.list.items w.wrong.items n
   nothing-noted n e i h none v at s m = absurd (omega (arith, e, h))
 
-  no-nodes : (nodes : List (Node Keyword)) → nodes ≡ [] → HasNodes own p.makes w.visits.items w.edges.items w.wrong.items (texts_of_table w.table) nodes
+  no-nodes : (nodes : List (Node Keyword)) → nodes ≡ [] → HasNodes own p.makes w.visits.list.items w.edges.items w.wrong.items (texts_of_table w.table) nodes
   no-nodes nodes e = record { each = λ i n at. (let none = subst (λ (l : List (Node Keyword)). slice_get l i ≡ Some n) e at in absurd (cc (none))) }
 
-  pub begun-walks : IsGraph own p.makes roots visits [] [] 0 → Filed visited visits × Apart visits → Walks finds p own roots w
-  begun-walks g both = record {
+  pub begun-walks : IsGraph own p.makes roots visits [] [] 0 → Walks finds p own roots w
+  begun-walks g = record {
     graph = rw (b.visits_are, b.edges, b.wrong, b.nodes) g;
-    filed = rw (b.visits_are, b.visited_is) both.0;
-    apart = rw b.visits_are both.1;
     filled = empty-filled finds p.finished p.makes w.table b.table;
     noted = nothing-noted (length w.nodes.items) (ap length b.nodes);
     nodes = no-nodes w.nodes.items b.nodes;

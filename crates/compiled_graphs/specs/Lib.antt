@@ -7,3 +7,5 @@ pub mod Filled
 pub mod Walked
 pub mod Causes
 pub mod Linking
+pub mod Marked
+pub mod Several

@@ -12,14 +12,11 @@ use Rattle.schema_patterns.specs.Makers.{Patterns}
 use Rattle.schema_patterns.specs.Tables.{entries_of, texts_of_table}
 use Rattle.schema_patterns.specs.declared.table.PatternTable.{PatternTable}
 use Rattle.reached_sites.specs.Causes.{NamesCause}
-use Rattle.reached_sites.specs.Filed.{Filed}
-use Rattle.reached_sites.specs.Growing.{Apart}
 use Rattle.reached_sites.specs.Patterns.{written, IsFilled, Holds}
 use Rattle.reached_sites.specs.Visits.{Met}
 use Rattle.reached_sites.specs.declared.cause.BuildCause as refused
 use Rattle.reached_sites.specs.declared.cause.BuildCause.TheVariants.{Memory}
 use Rattle.reached_sites.specs.declared.visit.Visit.{Visit}
-use Rattle.reached_sites.specs.declared.visited.Visited.{Visited}
 use Rattle.compiled_graphs.specs.Causes.{AreExceeded}
 use Rattle.compiled_graphs.specs.Filled.{HasNodes}
 use Rattle.compiled_graphs.specs.Graphs.{IsGraph}
@@ -39,12 +36,10 @@ Notes table vs wrong next = (i : ℕ) → i < next → (In i wrong → ⊥) → 
 
 -- all that is known in a walk, where the first visits have their nodes
 pub record Walks {M : Type 0} (finds : M → List ℕ → Option Bool) (p : Patterns) (own : List Document) (roots : List Site) (w : Walk M) : Type 0 where
-  pub graph : IsGraph own p.makes roots w.visits.items w.edges.items w.wrong.items (length w.nodes.items)
-  pub filed : Filed w.visited w.visits.items
-  pub apart : Apart w.visits.items
+  pub graph : IsGraph own p.makes roots w.visits.list.items w.edges.items w.wrong.items (length w.nodes.items)
   pub filled : IsFilled finds p.finished p.makes w.table
-  pub noted : Notes w.table w.visits.items w.wrong.items (length w.nodes.items)
-  pub nodes : HasNodes own p.makes w.visits.items w.edges.items w.wrong.items (texts_of_table w.table) w.nodes.items
+  pub noted : Notes w.table w.visits.list.items w.wrong.items (length w.nodes.items)
+  pub nodes : HasNodes own p.makes w.visits.list.items w.edges.items w.wrong.items (texts_of_table w.table) w.nodes.items
 
 -- a cause that stands at what is reached from one of the roots
 pub record IsFromOne (own : List Document) (makes : List ℕ → Bool) (roots : List Site) (e : refused.BuildCause) : Type 0 where
@@ -71,9 +66,8 @@ pub record IsStopped (at_cause : AtCause) (cause : Option refused.BuildCause) (e
   pub is : cause ≡ Some e
 
 -- nothing is read yet
-pub record IsBegun {M : Type 0} (w : Walk M) (visits : List Visit) (visited : Visited) : Type 0 where
-  pub visits_are : w.visits.items ≡ visits
-  pub visited_is : w.visited ≡ visited
+pub record IsBegun {M : Type 0} (w : Walk M) (visits : List Visit) : Type 0 where
+  pub visits_are : w.visits.list.items ≡ visits
   pub nodes : w.nodes.items ≡ []
   pub edges : w.edges.items ≡ []
   pub wrong : w.wrong.items ≡ []
@@ -87,8 +81,8 @@ NoneWrong GoOn wrong = Unit {0}
 -- all that is reached has its node, and no more of it than a limit
 pub record IsWalked {M : Type 0} (finds : M → List ℕ → Option Bool) (p : Patterns) (own : List Document) (roots : List Site) (limit : ℕ) (at_cause : AtCause) (w : Walk M) : Type 0 where
   pub walks : Walks finds p own roots w
-  pub all : length w.visits.items ≤ length w.nodes.items
-  pub few : length w.visits.items ≤ limit
+  pub all : length w.visits.list.items ≤ length w.nodes.items
+  pub few : length w.visits.list.items ≤ limit
   pub right : NoneWrong at_cause w.wrong.items
 
 abbrev pub StopsAt : AtCause → (List ℕ → Bool) → List Document → List Site → refused.BuildCause → Type 0

@@ -48,8 +48,8 @@ fn build_from<'r, P: PatternMaker>(
     ensures known { IfOk result (λ g. KnowsTable g.graph.nodes.items g.table) }
     ensures refused { IfErr result (RefusesWithin (documents_in root.now.resolver) (P.patterns maker.now).makes (root_site (target_in root.now)) limit) }
 {
-    let (visits, visited) = start_at(alloc, root, matches)?;
-    let begun = Walk::new(alloc, visits, visited);
+    let visits = start_at(alloc, root, matches)?;
+    let begun = Walk::new(alloc, visits);
     let walk = begun.run(alloc, maker, limit, AtCause::Stop)?;
     Ok(SchemaGraph {
         graph: Graph { nodes: walk.nodes },
@@ -61,7 +61,7 @@ fn build_from<'r, P: PatternMaker>(
 /// Compiles the schemas that are reached from a root, each once for each compile key with which it is reached: its place, base, dialect, scope
 /// key and schema path. Those next to the root come first; the position in that order is the node's number.
 ///
-/// A schema is found again by the text of its place. A scope key is made for each reference and where a subschema has a base of its own. The
+/// A schema is found again by one look-up of its compile key. A scope key is made for each reference and where a subschema has a base of its own. The
 /// maker is asked once for each text, and for none of the literal forms.
 ///
 /// # Errors

@@ -6,5 +6,6 @@ mod filling;
 pub mod graph;
 mod linking;
 mod reading;
+pub mod several;
 mod starting;
 mod walk;

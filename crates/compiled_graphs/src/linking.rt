@@ -2,14 +2,11 @@
 
 ghost use Rattle.std.specs.Prelude.{OnOk, IfOk};
 ghost use Rattle.std.specs.List.{AllZip};
-ghost use Rattle.reached_sites.specs.Filed.{Filed};
-ghost use Rattle.reached_sites.specs.Growing.{Apart};
 ghost use Rattle.compiled_graphs.specs.Linked.{Links, StandsFor};
 
 use marked_nodes::Edge;
-use reached_sites::reaching::put;
+use reached_sites::seen::Visits;
 use reached_sites::visit::Visit;
-use reached_sites::visited::Visited;
 use std::alloc::{AllocError, Global};
 
 /// Puts the visits that the one at a position asks for behind others, unless they are among these, and an edge to each behind other edges. It
@@ -20,19 +17,17 @@ use std::alloc::{AllocError, Global};
 /// Where memory was refused or a count of owners is full.
 pub(crate) fn link<'r>(
     alloc: Global,
-    visits: &mut Vec<Visit<'r>>,
-    visited: &mut Visited,
+    visits: &mut Visits<'r>,
     edges: &mut Vec<Edge>,
     from: usize,
     leads: Vec<Visit<'r>>,
 ) -> Result<Vec<usize>, AllocError>
-    ensures links { OnOk result (Links from visits.old.items visits.new.items leads.entry.items edges.old.items edges.new.items) }
-    ensures apart { OnOk result (Filed visited.old visits.old.items → Apart visits.old.items → Filed visited.new visits.new.items × Apart visits.new.items) }
-    ensures stand { IfOk result (λ ns. AllZip (StandsFor from visits.new.items edges.new.items) leads.entry.items ns.items) }
+    ensures links { OnOk result (Links from visits.old.list.items visits.new.list.items leads.entry.items edges.old.items edges.new.items) }
+    ensures stand { IfOk result (λ ns. AllZip (StandsFor from visits.new.list.items edges.new.items) leads.entry.items ns.items) }
 {
     let mut numbers = Vec::new(alloc);
     for lead in leads {
-        let to = put(alloc, visits, visited, lead)?;
+        let to = visits.put(lead)?;
         edges.push(Edge { from, to })?;
         numbers.push(to)?;
     }

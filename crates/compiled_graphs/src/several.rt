@@ -78,9 +78,9 @@ fn build_from<'r, P: PatternMaker>(
     ensures refused { IfErr result (RefusesFrom (P.patterns maker.now).makes (documents_in resolver.now) (base_of resolver.now) (map string_bytes references.now) limit) }
 {
     let started = start(alloc, resolver, references, matches)?;
-    let begun = Walk::new(alloc, started.visits, started.visited);
+    let begun = Walk::new(alloc, started.visits);
     let walk = begun.run(alloc, maker, limit, AtCause::GoOn)?;
-    let count = walk.visits.len();
+    let count = walk.visits.list.len();
     let (edges, wrong) = (walk.edges.as_slice(), walk.wrong.as_slice());
     let marks = leading_to(alloc, count, edges, wrong)?;
     let starts = clear_starts(alloc, started.starts, marks.as_slice())?;

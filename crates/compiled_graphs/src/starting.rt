@@ -5,14 +5,11 @@ ghost use Rattle.std.specs.List.{list_all};
 ghost use Rattle.schema_definitions.specs.Sites.{root_site};
 ghost use Rattle.document_laws.specs.TargetLaws.{are_apart, contents_rise};
 ghost use Rattle.referencing.specs.Resolved.{base_of, documents_in, target_in};
-ghost use Rattle.reached_sites.specs.Filed.{Filed};
-ghost use Rattle.reached_sites.specs.Growing.{Apart};
 ghost use Rattle.compiled_graphs.specs.Graphs.{IsGraph, IsVisited};
 ghost use Rattle.compiled_graphs.specs.Starts.{sites_from, Start, StartsOne};
 
-use reached_sites::reaching::put;
+use reached_sites::seen::Visits;
 use reached_sites::visit::Visit;
-use reached_sites::visited::Visited;
 use referencing::{Error, Resolved, Resolver};
 use schema_patterns::matches::Matches;
 use std::alloc::{AllocError, Global};
@@ -20,8 +17,7 @@ use std::alloc::{AllocError, Global};
 /// Visits of what some references lead to, and for each reference the position of its visit, or none where it leads nowhere.
 #[derive(Drop)]
 pub(crate) struct Started<'r> {
-    pub(crate) visits: Vec<Visit<'r>>,
-    pub(crate) visited: Visited,
+    pub(crate) visits: Visits<'r>,
     pub(crate) starts: Vec<Option<usize>>,
 }
 
@@ -34,37 +30,29 @@ pub(crate) fn start_at<'r>(
     alloc: Global,
     root: &Resolved<'r>,
     matches: &'r Matches,
-) -> Result<(Vec<Visit<'r>>, Visited), AllocError>
-    ensures visited { IfOk result (λ s. IsVisited s.0.items 0 (root_site (target_in root.now))) }
-    ensures graph { IfOk result (λ s. (makes : List ℕ → Bool) → IsGraph (documents_in root.now.resolver) makes (root_site (target_in root.now) ∷ []) s.0.items [] [] 0) }
-    ensures apart { IfOk result (λ s. Filed s.1 s.0.items × Apart s.0.items) }
+) -> Result<Visits<'r>, AllocError>
+    ensures visited { IfOk result (λ s. IsVisited s.list.items 0 (root_site (target_in root.now))) }
+    ensures graph { IfOk result (λ s. (makes : List ℕ → Bool) → IsGraph (documents_in root.now.resolver) makes (root_site (target_in root.now) ∷ []) s.list.items [] [] 0) }
 {
-    let mut visits = Vec::new(alloc);
-    let mut visited = Visited::new(alloc);
-    put(
-        alloc,
-        &mut visits,
-        &mut visited,
-        Visit::of_root(alloc, root, matches)?,
-    )?;
-    Ok((visits, visited))
+    let mut visits = Visits::new(alloc);
+    visits.put(Visit::of_root(alloc, root, matches)?)?;
+    Ok(visits)
 }
+
 // Puts the visit of what a reference leads to behind others, unless it is one of them, and answers where it stands.
 fn start_one<'r>(
     alloc: Global,
     resolver: &Resolver<'r>,
     reference: &str,
     matches: &'r Matches,
-    visits: &mut Vec<Visit<'r>>,
-    visited: &mut Visited,
+    visits: &mut Visits<'r>,
 ) -> Result<Option<usize>, AllocError>
-    ensures starts { IfOk result (StartsOne (documents_in resolver.now) (base_of resolver.now) reference.now visits.old.items visits.new.items) }
-    ensures apart { OnOk result (Filed visited.old visits.old.items → Apart visits.old.items → Filed visited.new visits.new.items × Apart visits.new.items) }
+    ensures { IfOk result (StartsOne (documents_in resolver.now) (base_of resolver.now) reference.now visits.old.list.items visits.new.list.items) }
 {
     match resolver.lookup(reference) {
         Ok(found) => {
             let visit = Visit::of_root(alloc, &found, matches)?;
-            Ok(Some(put(alloc, visits, visited, visit)?))
+            Ok(Some(visits.put(visit)?))
         }
         Err(Error::Memory) => Err(AllocError),
         Err(_) => Ok(None),
@@ -84,12 +72,10 @@ pub(crate) fn start<'r>(
 ) -> Result<Started<'r>, AllocError>
     requires apart { are_apart (documents_in resolver.now) ≡ true }
     requires rise { list_all contents_rise (documents_in resolver.now) ≡ true }
-    ensures starts { IfOk result (λ s. Start (documents_in resolver.now) (base_of resolver.now) s.visits.items (map string_bytes references.now) s.starts.items) }
-    ensures graph { IfOk result (λ s. (makes : List ℕ → Bool) → IsGraph (documents_in resolver.now) makes (sites_from (documents_in resolver.now) (base_of resolver.now) (map string_bytes references.now)) s.visits.items [] [] 0) }
-    ensures apart { IfOk result (λ s. Filed s.visited s.visits.items × Apart s.visits.items) }
+    ensures starts { IfOk result (λ s. Start (documents_in resolver.now) (base_of resolver.now) s.visits.list.items (map string_bytes references.now) s.starts.items) }
+    ensures graph { IfOk result (λ s. (makes : List ℕ → Bool) → IsGraph (documents_in resolver.now) makes (sites_from (documents_in resolver.now) (base_of resolver.now) (map string_bytes references.now)) s.visits.list.items [] [] 0) }
 {
-    let mut visits = Vec::new(alloc);
-    let mut visited = Visited::new(alloc);
+    let mut visits = Visits::new(alloc);
     let mut starts = Vec::new(alloc);
     for reference in references {
         let position = start_one(
@@ -98,13 +84,8 @@ pub(crate) fn start<'r>(
             reference.as_str(),
             matches,
             &mut visits,
-            &mut visited,
         )?;
         starts.push(position)?;
     }
-    Ok(Started {
-        visits,
-        visited,
-        starts,
-    })
+    Ok(Started { visits, starts })
 }

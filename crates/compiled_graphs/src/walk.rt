@@ -12,8 +12,7 @@ use crate::reading::read;
 use compiled_keywords::keyword::Keyword;
 use marked_nodes::{Edge, note};
 use reached_sites::cause::BuildCause;
-use reached_sites::visit::Visit;
-use reached_sites::visited::Visited;
+use reached_sites::seen::Visits;
 use schema_engine::node::Node;
 use schema_patterns::{PatternMaker, PatternMatcher, PatternTable};
 use std::alloc::{AllocError, Global};
@@ -29,8 +28,7 @@ pub(crate) enum AtCause {
 /// own, which have no keywords, and the patterns of the others.
 #[derive(Drop)]
 pub(crate) struct Walk<'r, M> {
-    pub(crate) visits: Vec<Visit<'r>>,
-    pub(crate) visited: Visited,
+    pub(crate) visits: Visits<'r>,
     pub(crate) nodes: Vec<Node<Keyword>>,
     pub(crate) edges: Vec<Edge>,
     pub(crate) wrong: Vec<usize>,
@@ -53,12 +51,11 @@ fn stopped(cause: Option<BuildCause>, at_cause: AtCause) -> Result<(), BuildCaus
 
 impl<'r, M: PatternMatcher> Walk<'r, M> {
     /// A walk that is to begin with some visits.
-    pub(crate) fn new(alloc: Global, visits: Vec<Visit<'r>>, visited: Visited) -> Walk<'r, M>
-        ensures { IsBegun result visits.entry.items visited }
+    pub(crate) fn new(alloc: Global, visits: Visits<'r>) -> Walk<'r, M>
+        ensures { IsBegun result visits.entry.list.items }
     {
         Walk {
             visits,
-            visited,
             nodes: Vec::new(alloc),
             edges: Vec::new(alloc),
             wrong: Vec::new(alloc),
@@ -72,18 +69,17 @@ impl<'r, M: PatternMatcher> Walk<'r, M> {
         alloc: Global,
         maker: &P,
     ) -> Result<Option<BuildCause>, AllocError>
-        requires there { length self.old.nodes.items < length self.old.visits.items }
-        ensures further { OnOk result (IsFront self.old.visits.items self.new.visits.items) }
+        requires there { length self.old.nodes.items < length self.old.visits.list.items }
+        ensures further { OnOk result (IsFront self.old.visits.list.items self.new.visits.list.items) }
         ensures one { OnOk result (length self.new.nodes.items ≡ length self.old.nodes.items + 1) }
         ensures fills { IfOk result (λ o. (own : List Document) (roots : List Site) → ArePlaced own roots → Fills M.finds (P.patterns maker.now) own roots self.old self.new o) }
     {
         let next = self.nodes.len();
-        let (found, cause) = read(alloc, &self.visits[next], maker, &mut self.table)?;
+        let (found, cause) = read(alloc, &self.visits.list[next], maker, &mut self.table)?;
         note(&mut self.wrong, next, cause.is_none())?;
         let numbers = link(
             alloc,
             &mut self.visits,
-            &mut self.visited,
             &mut self.edges,
             next,
             found.visits,
@@ -93,7 +89,7 @@ impl<'r, M: PatternMatcher> Walk<'r, M> {
         } else {
             Vec::new(alloc)
         };
-        self.nodes.push(node_of(&self.visits[next], keywords)?)?;
+        self.nodes.push(node_of(&self.visits.list[next], keywords)?)?;
         Ok(cause)
     }
 
@@ -112,12 +108,12 @@ impl<'r, M: PatternMatcher> Walk<'r, M> {
     ) -> Result<Walk<'r, M>, BuildCause>
         requires begun { self.nodes.items ≡ [] }
         requires right { self.wrong.items ≡ [] }
-        ensures further { IfOk result (λ w. IsFront self.entry.visits.items w.visits.items) }
+        ensures further { IfOk result (λ w. IsFront self.entry.visits.list.items w.visits.list.items) }
         ensures walked { IfOk result (λ w. (own : List Document) (roots : List Site) → ArePlaced own roots → Walks M.finds (P.patterns maker.now) own roots self.entry → IsWalked M.finds (P.patterns maker.now) own roots limit at_cause w) }
         ensures refused { IfErr result (λ e. (own : List Document) (roots : List Site) → ArePlaced own roots → Walks M.finds (P.patterns maker.now) own roots self.entry → RefusesWalk (P.patterns maker.now).makes own roots limit at_cause e) }
     {
-        while self.nodes.len() < self.visits.len() {
-            if self.visits.len() > limit {
+        while self.nodes.len() < self.visits.list.len() {
+            if self.visits.list.len() > limit {
                 return Err(BuildCause::NodeLimit { limit });
             }
             let cause = self.fill(alloc, maker)?;

@@ -21,6 +21,5 @@ pub use plain_reader::{
     at_target, keyword,
 };
 pub use reached_sites::cause::BuildCause;
-pub use reached_sites::checking::check_reached;
 pub use reached_sites::place::SchemaPlace;
 pub use reached_sites::{Draft, Registry, uri};

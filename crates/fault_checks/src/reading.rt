@@ -2,11 +2,13 @@
 ghost use Rattle.std.specs.Prelude.{◌≡◌, IfOk};
 ghost use Rattle.serde_json.specs.View.{view};
 ghost use Rattle.schema_registries.specs.Roots.{root_on};
+ghost use Rattle.reached_sites.specs.Roots.{IsPlaced};
+ghost use Rattle.fault_checks.specs.Passed.{documents_in, target_in};
 ghost use Rattle.fault_checks.specs.Checked.{AreReadIn, ReadsPlaced, is_of_schemas as is_cause_of_schemas};
 
 use crate::{Error, Resolved};
+use compiled_graphs::graph::build;
 use reached_sites::cause::BuildCause;
-use reached_sites::checking::check_reached;
 use schema_patterns::PatternMaker;
 use schema_patterns::matches::Matches;
 use schema_registries::SchemaRegistry;
@@ -31,10 +33,11 @@ fn read_reached<P: PatternMaker>(
     maker: &P,
     value: &Value,
 ) -> Result<Option<Matches>, AllocError>
+    requires placed { IsPlaced (documents_in root.now.resolver) (target_in root.now) }
     ensures { IfOk result (ReadsPlaced (P.patterns maker.now) root.now (view value.now)) }
 {
-    match check_reached(alloc, root, maker, usize::MAX) {
-        Ok(table) => Ok(Some(Matches::read(alloc, &table, value)?)),
+    match build(alloc, root, maker, usize::MAX) {
+        Ok(graph) => Ok(Some(Matches::read(alloc, &graph.table, value)?)),
         Err(cause) => {
             if is_of_schemas(&cause) {
                 Ok(None)

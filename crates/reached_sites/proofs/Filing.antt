@@ -1,144 +1,226 @@
--- Visits found by the texts of their places.
-use Rattle.std.proofs.Common.{◌≡◌, ◌⊎◌, ℕ, zero, suc, List, [], ◌∷◌, ◌++◌, Bool, true, false, Option, Some, None, IfSome, IfNone, refl, sym, ap, subst, ◌∙◌, length, inl, inr, bytes_eq, slice_get, option_map, Bor, cond, String, Global}
-use Rattle.std.specs.BTreeMap.{BTreeMap, get_by_text}
-use Rattle.std.specs.Bool.{Decides}
-use Rattle.std.specs.Option.{option_copied}
-use Rattle.std.specs.Prelude.{if◌then◌else◌}
-use Rattle.std.proofs.lemmas.Slice.Eq.{bytes_eq-Decides}
-use Rattle.schema_definitions.specs.Words.{or}
-use Rattle.schema_meaning.specs.Members.{In, first, later}
+-- Keys that are equal, and a visit more.
+use Rattle.std.proofs.Common.{◌≡◌, ◌⊎◌, ◌∙◌, ℕ, zero, suc, List, [], ◌∷◌, ◌++◌, Bool, true, false, true≢false, ◌&&◌, ◌||◌, not, cond, map, Option, Some, None, option_map, Decides, refl, sym, ap, ap₂, subst, inl, inr, length, bytes_eq, slice_get}
+use Rattle.std.specs.Cmp.Lexicographic.{pointwise}
+use Rattle.std.specs.List.{list_any, position_or_len}
+use Rattle.std.proofs.lemmas.Bool.{false≢true}
+use Rattle.std.proofs.lemmas.List.{length-map, map-append}
+use Rattle.std.proofs.lemmas.Slice.Eq.{slice_eq-Decides, bytes_eq-Decides}
+use Rattle.json_values.specs.Parts.{Part}
+use Rattle.schema_steps.specs.Parts.{part_eq}
+use Rattle.schema_steps.proofs.EqualLemmas.{part_eq-Decides}
+use Rattle.schema_drafts.specs.Vocabularies.{only, the_known}
+use Rattle.schema_drafts.specs.declared.draft.Draft.{Draft}
+use Rattle.schema_drafts.specs.declared.draft.Draft.TheVariants.{Draft4, Draft6, Draft7, Draft201909, Draft202012, Unknown}
+use Rattle.schema_definitions.specs.CompileKeys.{CompileKey}
 use Rattle.schema_definitions.specs.Rows.{Place}
-use Rattle.reached_sites.specs.Filed.{place_text, positions_under, Filed, RepeatedAt, RepeatedAmong}
-use Rattle.reached_sites.specs.Places.{place_in}
-use Rattle.reached_sites.specs.Visits.{Repeats, Known}
-use Rattle.reached_sites.proofs.Listing.{none-in}
-use Rattle.reached_sites.specs.declared.visited.Visited.{Visited}
+use Rattle.schema_meaning.specs.Members.{In, first, later}
+use Rattle.schema_dialects.specs.Dialects.{dialect_of}
+use Rattle.schema_dialects.specs.Sets.{flags, marked}
+use Rattle.schema_dialects.specs.declared.dialect.Dialect.{Dialect}
+use Rattle.schema_dialects.specs.declared.known.KnownVocabularies.{KnownVocabularies}
+use Rattle.document_index.specs.Seen.{name_of}
+use Rattle.referencing.specs.Keys as scopes
+use Rattle.referencing.proofs.KeyLemmas.{keys_eq-Decides}
+use Rattle.reading_laws.specs.Keys.{Distinct}
+use Rattle.reading_laws.proofs.Counting.{distinct-behind}
+use Rattle.reached_sites.specs.Growing.{AddsOne, StandsAt}
+use Rattle.reached_sites.specs.Keyed.{key_in, AreOne, draft_number, flag_number, known_numbers, numbers_of, keys_equal, AreFiled}
+use Rattle.reached_sites.specs.Visits.{key_at, Known}
+use Rattle.reached_sites.specs.declared.compile_key.CompileKey as code
 use Rattle.reached_sites.specs.declared.visit.Visit.{Visit}
+use Rattle.reached_sites.proofs.Keying.{key-from, key-same, one-dialect, one-key}
+use Rattle.reached_sites.proofs.Placing.{placed}
 
--- what a look-up lends
-pub lent : {X : Type 0} (o : Option (Bor X)) (p : Option X) → option_copied o ≡ p → option_map (λ b. b.now) o ≡ p
-lent None p e = e
-lent (Some b) p e = e
+-- ---- dialects by their numbers
 
-or-if : (b : Bool) (v : List ℕ) (o : Option (List ℕ)) → or [] (cond b (Some v) o) ≡ (if b then v else or [] o)
-or-if true v o = refl
-or-if false v o = refl
+abbrev draft_of : ℕ → Draft
+draft_of zero = Draft4
+draft_of (suc zero) = Draft6
+draft_of (suc (suc zero)) = Draft7
+draft_of (suc (suc (suc zero))) = Draft201909
+draft_of (suc (suc (suc (suc zero)))) = Draft202012
+draft_of (suc (suc (suc (suc (suc n))))) = Unknown
 
--- what stands under a text when something was put under one
-pub put-under : (old new : BTreeMap (String Global) (List ℕ)) (key text q v made : List ℕ) → key ≡ text → v ≡ made
-    → get_by_text new q ≡ cond (bytes_eq key q) (Some v) (get_by_text old q) → or [] (get_by_text new q) ≡ (if bytes_eq text q then made else or [] (get_by_text old q))
-put-under old new key text q v made same value e =
-    ap (or []) e ∙ or-if (bytes_eq key q) v (get_by_text old q) ∙ ap (λ t. if bytes_eq t q then v else or [] (get_by_text old q)) same
-    ∙ ap (λ x. if bytes_eq text q then x else or [] (get_by_text old q)) value
+draft-again : (d : Draft) → draft_of (draft_number d) ≡ d
+draft-again Draft4 = refl
+draft-again Draft6 = refl
+draft-again Draft7 = refl
+draft-again Draft201909 = refl
+draft-again Draft202012 = refl
+draft-again Unknown = refl
+
+abbrev flag_of : ℕ → Bool
+flag_of zero = false
+flag_of (suc n) = true
+
+flag-again : (b : Bool) → flag_of (flag_number b) ≡ b
+flag-again true = refl
+flag-again false = refl
+
+flags-again : (bs : List Bool) → map flag_of (map flag_number bs) ≡ bs
+flags-again [] = refl
+flags-again (b ∷ bs) = ap₂ (λ c cs. c ∷ cs) (flag-again b) (flags-again bs)
+
+abbrev with_known : KnownVocabularies → Dialect
+with_known k = record { draft = Unknown; required = Some k; siblings = false }
+
+one-known : (k j : KnownVocabularies) → flags k ≡ flags j → k ≡ j
+one-known k j e =
+    let same : with_known k ≡ with_known j = one-dialect (with_known k) (with_known j) (ap (λ bs. record { draft = Unknown; vocabularies = only (marked bs the_known); siblings = false }) e) in
+    let some : Some k ≡ Some j = ap (λ (d : Dialect). d.required) same in
+    cc (some)
+
+abbrev is_more : List ℕ → Bool
+is_more [] = false
+is_more (n ∷ ns) = true
+
+one-required : (o p : Option KnownVocabularies) → known_numbers o ≡ known_numbers p → o ≡ p
+one-required None None e = refl
+one-required None (Some k) e = absurd (false≢true (ap is_more e))
+one-required (Some k) None e = absurd (true≢false (ap is_more e))
+one-required (Some k) (Some j) e = ap Some (one-known k j (sym (flags-again (flags k)) ∙ ap (map flag_of) e ∙ flags-again (flags j)))
+
+abbrev head_of : List ℕ → ℕ
+head_of [] = 0
+head_of (n ∷ ns) = n
+
+abbrev rest_of : List ℕ → List ℕ
+rest_of [] = []
+rest_of (n ∷ ns) = ns
+
+abbrev dialect-from : Draft → Option KnownVocabularies → Bool → Dialect
+dialect-from draft required siblings = record { draft = draft; required = required; siblings = siblings }
+
+dialect-same : {c d : Draft} {o p : Option KnownVocabularies} {s t : Bool} → c ≡ d → o ≡ p → s ≡ t → dialect-from c o s ≡ dialect-from d p t
+dialect-same d o s = rw (d, o, s) refl
+
+one-of-numbers : (d e : Dialect) → numbers_of d ≡ numbers_of e → d ≡ e
+one-of-numbers d e h =
+    dialect-same (sym (draft-again d.draft) ∙ ap (λ ns. draft_of (head_of ns)) h ∙ draft-again e.draft) (one-required d.required e.required (ap (λ ns. rest_of (rest_of ns)) h))
+    (sym (flag-again d.siblings) ∙ ap (λ ns. flag_of (head_of (rest_of ns))) h ∙ flag-again e.siblings)
+
+-- ---- equal keys
+
+both-decided : {P Q : Type 0} (a b : Bool) → Decides a P → Decides b Q → Decides (a && b) (P × Q)
+both-decided true b d e = (λ h. (d.0 refl, e.0 h), λ h. e.1 h.1)
+both-decided false b d e = (λ h. absurd (false≢true h), λ h. absurd (false≢true (d.1 h.0)))
+
+paths-decided : (p q : List Part) → Decides (pointwise part_eq p q) (p ≡ q)
+paths-decided p q = slice_eq-Decides part_eq-Decides p q (pointwise part_eq p q) refl
+
+dialects-decided : (d e : Dialect) → Decides (bytes_eq (numbers_of d) (numbers_of e)) (d ≡ e)
+dialects-decided d e = (let n = bytes_eq-Decides (numbers_of d) (numbers_of e) in (λ h. one-of-numbers d e (n.0 h), λ h. n.1 (ap numbers_of h)))
+
+pub equal-decides : (a b : code.CompileKey) → Decides (keys_equal a b) (AreOne a b)
+equal-decides a b =
+    let scope = keys_eq-Decides (scopes.key_of a.scope.value) (scopes.key_of b.scope.value) (scopes.keys_eq (scopes.key_of a.scope.value) (scopes.key_of b.scope.value)) refl in
+    let d = both-decided _ _ (paths-decided a.schema_path b.schema_path)
+    (both-decided _ _ (paths-decided a.place.path b.place.path)
+    (both-decided _ _ (bytes_eq-Decides (name_of a.place.document) (name_of b.place.document))
+    (both-decided _ _ scope (both-decided _ _ (dialects-decided a.dialect b.dialect) (bytes_eq-Decides a.base.value b.base.value))))) in (
+      λ h. (let all = d.0 h in record { road = all.0; place = ap₂ placed all.2 all.1; scope = all.3; dialect = all.4; base = all.5 }),
+      λ h. d.1 (h.road, ap (λ (p : Place). p.path) h.place, ap (λ (p : Place). p.document) h.place, h.scope, h.dialect, h.base),
+    )
+
+pub one-answer : {P : Type 0} (r s : Bool) → Decides r P → Decides s P → r ≡ s
+one-answer true true d e = refl
+one-answer true false d e = absurd (false≢true (e.1 (d.0 refl)))
+one-answer false true d e = absurd (false≢true (d.1 (e.0 refl)))
+one-answer false false d e = refl
+
+keys-of-one : (a b : code.CompileKey) → AreOne a b → key_in a ≡ key_in b
+unfolding key-from
+keys-of-one a b h = key-same (ap (λ (p : Place). p.document) h.place) (ap (λ (p : Place). p.path) h.place) h.base h.scope (ap dialect_of h.dialect) h.road
+
+one-of-keys : (a b : code.CompileKey) → key_in a ≡ key_in b → AreOne a b
+one-of-keys a b e = record {
+  road = ap (λ (k : CompileKey). k.schema_path) e;
+  place = ap₂ placed (ap (λ (k : CompileKey). k.document) e) (ap (λ (k : CompileKey). k.path) e);
+  scope = ap (λ (k : CompileKey). k.scope) e;
+  dialect = one-dialect a.dialect b.dialect (ap (λ (k : CompileKey). k.dialect) e);
+  base = ap (λ (k : CompileKey). k.base) e;
+}
 
 -- ---- positions
 
 module _ {A : Type 0} where
-  next-place : (y x : A) (xs : List A) → (i : ℕ) × (slice_get xs i ≡ Some x) → (i : ℕ) × (slice_get (y ∷ xs) i ≡ Some x)
-  next-place y x xs h = (suc h.0, h.1)
-
-  place-of : (xs : List A) (x : A) → In x xs → (i : ℕ) × (slice_get xs i ≡ Some x)
-  place-of [] x i = elim i [ ]
-  place-of (y ∷ xs) x first = (0, refl)
-  place-of (y ∷ xs) x (later i) = next-place y x xs (place-of xs x i)
+  at-end : (xs : List A) (x : A) → slice_get (xs ++ x ∷ []) (length xs) ≡ Some x
+  at-end [] x = refl
+  at-end (y ∷ xs) x = at-end xs x
 
   in-place : (xs : List A) (i : ℕ) (x : A) → slice_get xs i ≡ Some x → In x xs
   in-place [] i x e = absurd (cc (e))
   in-place (y ∷ xs) zero x e = (let same : y ≡ x = cc in subst (λ z. In z (y ∷ xs)) same first)
   in-place (y ∷ xs) (suc i) x e = later (in-place xs i x e)
 
-  abbrev Placed : List A → A → ℕ → A → Type 0
-  Placed xs w i x = (slice_get xs i ≡ Some x) ⊎ ((i ≡ length xs) × (x ≡ w))
+  none-passes : (test : A → Bool) (xs : List A) → list_any test xs ≡ false → position_or_len test xs ≡ length xs
+  none-passes test [] e = refl
+  none-passes test (x ∷ xs) e = by (test x) e
+    where
+      by : (b : Bool) → (b || list_any test xs) ≡ false → cond (not b) (suc (position_or_len test xs)) 0 ≡ suc (length xs)
+      by true e = absurd (true≢false e)
+      by false e = ap suc (none-passes test xs e)
 
-  next-placed : (xs : List A) (y w x : A) (i : ℕ) → Placed xs w i x → Placed (y ∷ xs) w (suc i) x
-  next-placed xs y w x i (inl e) = inl e
-  next-placed xs y w x i (inr h) = inr (ap suc h.0, h.1)
+  get-map : {B : Type 0} (f : A → B) (xs : List A) (i : ℕ) → slice_get (map f xs) i ≡ option_map f (slice_get xs i)
+  get-map f [] i = refl
+  get-map f (x ∷ xs) zero = refl
+  get-map f (x ∷ xs) (suc i) = get-map f xs i
 
-  pub placed-behind : (xs : List A) (w : A) (i : ℕ) (x : A) → slice_get (xs ++ w ∷ []) i ≡ Some x → Placed xs w i x
-  placed-behind [] w zero x e = (let same : x ≡ w = cc in inr (refl, same))
-  placed-behind [] w (suc i) x e = absurd (cc (e))
-  placed-behind (y ∷ xs) w zero x e = inl e
-  placed-behind (y ∷ xs) w (suc i) x e = next-placed xs y w x i (placed-behind xs w i x e)
+or-first : (a b : Bool) → a ≡ true → (a || b) ≡ true
+or-first true b e = refl
+or-first false b e = absurd (false≢true e)
 
--- ---- found by the text
+or-second : (a b : Bool) → b ≡ true → (a || b) ≡ true
+or-second true b e = refl
+or-second false b e = e
 
-pub among-known : (vs : List Visit) (positions : List ℕ) (w : Visit) → RepeatedAmong vs positions w → Known vs w
-among-known vs positions w h = record { visit = h.2.0; listed = in-place vs h.0 h.2.0 h.2.1; same = h.2.2 }
+of-some : (o : Option Visit) (k : CompileKey) → option_map key_at o ≡ Some k → (v : Visit) × (o ≡ Some v) × (key_at v ≡ k)
+of-some None k e = absurd (cc (e))
+of-some (Some v) k e = (v, refl, cc (e))
 
-pub known-among : (visited : Visited) (vs : List Visit) (w : Visit) → Filed visited vs → Known vs w → RepeatedAmong vs (positions_under visited (place_text (place_in w.point.place))) w
-known-among visited vs w f k =
-    let at = place-of vs k.visit k.listed in (
-      at.0,
-      subst (λ (p : Place). In at.0 (positions_under visited (place_text p))) k.same.point.place (f.each at.0 k.visit at.1),
-      (k.visit, at.1, k.same),
-    )
+-- ---- a visit more
 
--- ---- one visit more
+pub nothing-filed : (ks : List code.CompileKey) (vs : List Visit) → ks ≡ [] → vs ≡ [] → AreFiled ks vs
+nothing-filed ks vs e f = subst (λ (xs : List code.CompileKey). AreFiled xs vs) (sym e) (subst (λ (ws : List Visit). AreFiled [] ws) (sym f) (record { each = refl; apart = tt }))
 
--- a visit was put under its text, at the end
-pub record PutAs (old new : Visited) (text : List ℕ) (i : ℕ) : Type 0 where
-  pub each : (q : List ℕ) → positions_under new q ≡ (if bytes_eq text q then i ∷ positions_under old text else positions_under old q)
+pub still-filed : (ks js : List code.CompileKey) (vs ws : List Visit) → js ≡ ks → ws ≡ vs → AreFiled ks vs → AreFiled js ws
+still-filed ks js vs ws e f h = subst (λ (xs : List code.CompileKey). AreFiled xs ws) (sym e) (subst (λ (us : List Visit). AreFiled ks us) (sym f) h)
 
-module _ (old new : Visited) (vs : List Visit) (w : Visit) (put : PutAs old new (place_text (place_in w.point.place)) (length vs)) where
-  abbrev text : List ℕ
-  text = place_text (place_in w.point.place)
+module _ (key : code.CompileKey) where
+  any-equal : (ks : List code.CompileKey) (k : CompileKey) → In k (map key_in ks) → key_in key ≡ k → list_any (keys_equal key) ks ≡ true
+  any-equal [] k i e = elim i [ ]
+  any-equal (j ∷ ks) _ first e = or-first (keys_equal key j) (list_any (keys_equal key) ks) ((equal-decides key j).1 (one-of-keys key j e))
+  any-equal (j ∷ ks) k (later i) e = or-second (keys_equal key j) (list_any (keys_equal key) ks) (any-equal ks k i e)
 
-  still : (b : Bool) (q : List ℕ) (i : ℕ) → bytes_eq text q ≡ b → In i (positions_under old q) → In i (if b then length vs ∷ positions_under old text else positions_under old q)
-  still true q i e h = later (subst (λ t. In i (positions_under old t)) (sym ((bytes_eq-Decides text q).0 e)) h)
-  still false q i e h = h
+  module _ (ks : List code.CompileKey) (vs : List Visit) (v : Visit) (filed : AreFiled ks vs) (is : key_in key ≡ key_at v) where
+    as-long : length ks ≡ length vs
+    as-long = sym (length-map ks key_in) ∙ ap length filed.each ∙ length-map vs key_at
 
-  kept : (q : List ℕ) (i : ℕ) → In i (positions_under old q) → In i (positions_under new q)
-  kept q i h = subst (λ is. In i is) (sym (put.each q)) (still (bytes_eq text q) q i refl h)
+    module _ (new : list_any (keys_equal key) ks ≡ false) where
+      pub filed-more : AreFiled (ks ++ key ∷ []) (vs ++ v ∷ [])
+      filed-more = record {
+        each = map-append key_in ks (key ∷ []) ∙ ap₂ (λ xs x. xs ++ x ∷ []) filed.each is ∙ sym (map-append key_at vs (v ∷ []));
+        apart = subst (λ (xs : List CompileKey). Distinct xs) (sym (map-append key_at vs (v ∷ [])))
+            (distinct-behind (map key_at vs) (key_at v) filed.apart
+            (λ i. false≢true (sym new ∙ any-equal ks (key_at v) (subst (λ (xs : List CompileKey). In (key_at v) xs) (sym filed.each) i) is)));
+      }
 
-  put-here : In (length vs) (positions_under new text)
-  put-here = subst (λ is. In (length vs) is) (sym (put.each text ∙ ap (λ b. if b then length vs ∷ positions_under old text else positions_under old text) ((bytes_eq-Decides text text).1 refl))) first
+      pub new-stands : (position : ℕ) → position ≡ position_or_len (keys_equal key) ks → StandsAt (vs ++ v ∷ []) position v
+      new-stands position e =
+          let last = e ∙ none-passes (keys_equal key) ks new ∙ as-long in
+          (v, subst (λ i. slice_get (vs ++ v ∷ []) i ≡ Some v) (sym last) (at-end vs v), inl refl)
 
-  filed-by : Filed old vs → (i : ℕ) (v : Visit) → (slice_get vs i ≡ Some v) ⊎ ((i ≡ length vs) × (v ≡ w)) → In i (positions_under new (place_text (place_in v.point.place)))
-  filed-by f i v (inl e) = kept (place_text (place_in v.point.place)) i (f.each i v e)
-  filed-by f i v (inr h) =
-      subst (λ j. In j (positions_under new (place_text (place_in v.point.place)))) (sym h.0)
-      (subst (λ (u : Visit). In (length vs) (positions_under new (place_text (place_in u.point.place)))) (sym h.1) put-here)
+    module _ (position : ℕ) (k : code.CompileKey) (at : slice_get ks position ≡ Some k) (equal : keys_equal key k ≡ true) where
+      visit-there : (w : Visit) × (slice_get vs position ≡ Some w) × (key_at w ≡ key_in k)
+      visit-there =
+          of-some (slice_get vs position) (key_in k)
+          (sym (get-map key_at vs position) ∙ ap (λ (xs : List CompileKey). slice_get xs position) (sym filed.each) ∙ get-map key_in ks position ∙ ap (option_map key_in) at)
 
-  pub filed-put : Filed old vs → Filed new (vs ++ w ∷ [])
-  filed-put f = record { each = λ i v e. filed-by f i v (placed-behind vs w i v e) }
+      same-key : key_at visit-there.0 ≡ key_at v
+      same-key = visit-there.2 ∙ sym (keys-of-one key k ((equal-decides key k).0 equal)) ∙ is
 
--- ---- compared with those at some positions
+      pub known-stands : StandsAt vs position v
+      known-stands = (visit-there.0, visit-there.1, inr (one-key visit-there.0 v same-key))
 
-pub at-position : (vs : List Visit) (i : ℕ) (v w : Visit) (b : Bool) → slice_get vs i ≡ Some v → Decides b (Repeats v w) → Decides b (RepeatedAt vs i w)
-at-position vs i v w b at d = (λ e. (v, at, d.0 e), λ h. d.1 (let same : h.0 ≡ v = one (slice_get vs i) h.0 v h.1 at in subst (λ u. Repeats u w) same h.2))
-  where
-    one : (o : Option Visit) (u v : Visit) → o ≡ Some u → o ≡ Some v → u ≡ v
-    one o u v e f = cc
-
-pub past-end : (vs : List Visit) (i : ℕ) (w : Visit) → slice_get vs i ≡ None → RepeatedAt vs i w → ⊥
-past-end vs i w none h = (let no : None ≡ Some h.0 = sym none ∙ h.1 in absurd (cc (no)))
-
-pub first-among : (vs : List Visit) (i : ℕ) (is : List ℕ) (w : Visit) → RepeatedAt vs i w → RepeatedAmong vs (i ∷ is) w
-first-among vs i is w h = (i, first, h)
-
-pub among-more : (vs : List Visit) (i : ℕ) (is : List ℕ) (w : Visit) → RepeatedAmong vs is w → RepeatedAmong vs (i ∷ is) w
-among-more vs i is w h = (h.0, later h.1, h.2)
-
-pub among-rest : (vs : List Visit) (i : ℕ) (is : List ℕ) (w : Visit) → (RepeatedAt vs i w → ⊥) → RepeatedAmong vs (i ∷ is) w → RepeatedAmong vs is w
-among-rest vs i is w refuted h = by h.0 h.1 h.2
-  where
-    by : (j : ℕ) → In j (i ∷ is) → RepeatedAt vs j w → RepeatedAmong vs is w
-    by _ first r = absurd (refuted r)
-    by j (later k) r = (j, k, r)
-
-pub among-none : (vs : List Visit) (w : Visit) → RepeatedAmong vs [] w → ⊥
-among-none vs w h = none-in h.1
-
-pub at-known : (vs : List Visit) (i : ℕ) (w : Visit) → RepeatedAt vs i w → Known vs w
-at-known vs i w h = record { visit = h.0; listed = in-place vs i h.0 h.1; same = h.2 }
-
-module _ {A : Type 0} where
-  pub at-end : (xs : List A) (x : A) → slice_get (xs ++ x ∷ []) (length xs) ≡ Some x
-  at-end [] x = refl
-  at-end (y ∷ xs) x = at-end xs x
-
-pub found-at : (vs us : List Visit) (i : ℕ) (w : Visit) (o : Option ℕ) → us ≡ vs → o ≡ Some i → IfSome o (λ j. RepeatedAt us j w) → RepeatedAt vs i w
-found-at vs us i w o e is h = subst (λ (l : List Visit). RepeatedAt l i w) e (subst (λ (x : Option ℕ). IfSome x (λ j. RepeatedAt us j w)) is h)
-
-pub absent-there : (o : Option ℕ) (P : Type 0) → o ≡ None → IfNone o P → P
-absent-there o P is h = subst (λ (x : Option ℕ). IfNone x P) is h
+      pub is-known : Known vs v
+      is-known = record { visit = visit-there.0; listed = in-place vs position visit-there.0 visit-there.1; same = one-key visit-there.0 v same-key }

@@ -24,10 +24,10 @@ use Rattle.reached_sites.specs.declared.visit.Visit.{Visit}
 use Rattle.reached_sites.proofs.Meeting.{present-of}
 use Rattle.reached_sites.proofs.Placing.{placed}
 
-key-from : List ℕ → List Part → List ℕ → ScopeKey → Dialect → List Part → CompileKey
+pub key-from : List ℕ → List Part → List ℕ → ScopeKey → Dialect → List Part → CompileKey
 key-from document path base scope dialect road = record { document = document; path = path; base = base; scope = scope; dialect = dialect; schema_path = road }
 
-key-same : {d e : List ℕ} {p q : List Part} {b c : List ℕ} {k l : ScopeKey} {x y : Dialect} {r s : List Part}
+pub key-same : {d e : List ℕ} {p q : List Part} {b c : List ℕ} {k l : ScopeKey} {x y : Dialect} {r s : List Part}
     → d ≡ e → p ≡ q → b ≡ c → k ≡ l → x ≡ y → r ≡ s → key-from d p b k x r ≡ key-from e q c l y s
 key-same d p b k x r = rw (d, p, b, k, x, r) refl
 
@@ -38,7 +38,7 @@ alike-key docs s t a = key-same a.document a.path a.base a.scope a.dialect a.roa
 
 -- ---- visits of one key repeat one another
 
-one-dialect : (d e : code.Dialect) → dialect_of d ≡ dialect_of e → d ≡ e
+pub one-dialect : (d e : code.Dialect) → dialect_of d ≡ dialect_of e → d ≡ e
 one-dialect d e h = (let same = same_dialects (Some d) (Some e) (ap Some h) in cc (same))
 
 pub one-key : (v w : Visit) → key_at v ≡ key_at w → Repeats v w
@@ -65,19 +65,9 @@ key-in (w ∷ vs) v (later i) = later (key-in vs v i)
 pub keys-in : (vs : List Visit) (k : CompileKey) → In k (map key_at vs) → (v : Visit) × In v vs × (key_at v ≡ k)
 keys-in = in-keys
 
-pub keys-distinct : (vs : List Visit) → Apart vs → Distinct (map key_at vs)
-keys-distinct _ none = tt
-keys-distinct _ (one_more {vs = vs} v a new) =
-    subst (λ (ks : List CompileKey). Distinct ks) (sym (map-append key_at vs (v ∷ [])))
-    (distinct-behind (map key_at vs) (key_at v) (keys-distinct vs a)
-    (λ i. (let h = in-keys vs (key_at v) i in new (record { visit = h.0; listed = h.1; same = one-key h.0 v h.2 }))))
-
 -- ---- visits that repeat one another stand for the same sites
 
 module _ (own : List Document) where
-  same-documents : (v w : Visit) → Belongs own v → Belongs own w → documents_in v.site.resolver ≡ documents_in w.site.resolver
-  same-documents v w b c = b.documents ∙ sym c.documents
-
   pub sites-alike : (v w : Visit) → Belongs own v → Belongs own w → Repeats v w → view v.site.contents.now ≡ view w.site.contents.now → AreAlike own (site_of w) (site_of v)
   sites-alike v w b c r e =
       let key : scope_key (documents_at w.site) (base_of w.site.resolver) (scope_of w.site.resolver) ≡ scope_key (documents_at v.site) (base_of v.site.resolver) (scope_of v.site.resolver) =

@@ -50,13 +50,6 @@ module _ (at : Place) (parts : List ℕ → List Part) where
 
 -- ---- what is made of them
 
-module _ (makes : List ℕ → Bool) where
-  pub made-before : (ps qs : List (List ℕ)) → AreMade makes (ps ++ qs) → AreMade makes ps
-  made-before ps qs m = record { each = λ p i. m.each p (in-before ps qs i) }
-
-  pub made-behind : (ps qs : List (List ℕ)) → AreMade makes (ps ++ qs) → AreMade makes qs
-  made-behind ps qs m = record { each = λ p i. m.each p (in-behind ps qs i) }
-
 -- ---- keywords without patterns
 
 pub no-patterns : (k : Keyword) → ((p : Bor (List ℕ)) → k ≡ keyword.Pattern p → ⊥) → ((a : Applicator) → k ≡ keyword.Applicator a → ⊥) → patterns_in k ≡ []

@@ -1,4 +1,4 @@
--- What is right at a site, and where its keywords lead.
+-- What is wrong at rows, and where they lead.
 use Rattle.std.specs.Prelude.{◌≡◌, ℕ, List, [], Bool}
 use Rattle.std.specs.List.{flat_map}
 use Rattle.schema_definitions.specs.Bearers.{Document}
@@ -13,8 +13,3 @@ leads_in rows = flat_map (λ r. r.leads) rows
 
 abbrev pub causes_in : List Row → List BuildCause
 causes_in rows = flat_map (λ r. r.causes) rows
-
--- nothing is wrong at a site, and visits stand for the sites that its keywords lead to
-pub record Leads (own : List Document) (makes : List ℕ → Bool) (s : Site) (visits : List Visit) : Type 0 where
-  pub right : causes_at own makes s ≡ []
-  pub met : Matches own visits (leads_in (rows_at own makes s))

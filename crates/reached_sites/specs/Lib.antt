@@ -3,7 +3,7 @@ pub mod Causes
 pub mod Roots
 pub mod Visits
 pub mod Led
-pub mod Filed
+pub mod Keyed
 pub mod Growing
 pub mod Members
 pub mod Patterns

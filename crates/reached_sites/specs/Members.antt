@@ -1,4 +1,4 @@
--- The members of a schema, each in turn.
+-- The context in which the members of a schema are read.
 use Rattle.std.specs.Prelude.{◌≡◌, ℕ, List, [], Bool}
 use Rattle.serde_json.specs.Data.{Members}
 use Rattle.schema_definitions.specs.Bearers.{Document}
@@ -10,8 +10,3 @@ use Rattle.reached_sites.specs.declared.visit.Visit.{Visit}
 
 abbrev pub context_in : List Document → (List ℕ → Bool) → Site → Members → Context
 context_in own makes s all = record { documents = own; makes = makes; site = s; members = all }
-
--- nothing is wrong at some members of all, and visits were put behind others for the sites that they lead to
-pub record Rest (own : List Document) (makes : List ℕ → Bool) (s : Site) (all some : Members) (old new : List Visit) : Type 0 where
-  pub right : causes_in (rows_of (context_in own makes s all) some) ≡ []
-  pub met : Adds own old new (leads_in (rows_of (context_in own makes s all) some))

@@ -66,10 +66,3 @@ pub record Known (vs : List Visit) (w : Visit) : Type 0 where
   pub visit : Visit
   pub listed : In visit vs
   pub same : Repeats visit w
-
--- visits that begin with a root
-pub record Begins (root : Resolved) (vs : List Visit) : Type 0 where
-  pub visit : Visit
-  pub alone : vs ≡ visit ∷ []
-  pub met : Met visit (root_site (target_in root))
-  pub belongs : Belongs (documents_in root.resolver) visit

@@ -1,11 +1,10 @@
 //! Places of documents.
 
-ghost use Rattle.std.specs.Prelude.{◌≡◌, ◌∷◌, Some, IfOk, string_bytes};
+ghost use Rattle.std.specs.Prelude.{◌≡◌, ◌∷◌, Some, IfOk};
 ghost use Rattle.std.specs.Bool.{Decides};
 ghost use Rattle.json_values.specs.Parts.{name as name_part, index as index_part};
 ghost use Rattle.document_index.specs.Seen.{name_of};
 ghost use Rattle.referencing.specs.Resolved.{target_in};
-ghost use Rattle.reached_sites.specs.Filed.{place_text};
 ghost use Rattle.reached_sites.specs.Places.{place_in, shown};
 
 use document_index::document::DocumentName;
@@ -56,19 +55,6 @@ impl SchemaPlace {
         ensures { Decides result (place_in self.now ≡ place_in other.now) }
     {
         self.path == other.path && self.document == other.document
-    }
-
-    /// The text of the document's URI and of the path, which places that are the same share.
-    ///
-    /// # Errors
-    ///
-    /// Where memory was refused.
-    pub fn text(&self, alloc: Global) -> Result<String, AllocError>
-        ensures { IfOk result (λ t. string_bytes t ≡ place_text (place_in self.now)) }
-    {
-        let mut text = String::from_str(alloc, self.document.uri.as_str())?;
-        self.path.write_to(&mut text)?;
-        Ok(text)
     }
 
     /// The place of a member.

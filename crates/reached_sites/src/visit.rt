@@ -14,9 +14,9 @@ ghost use Rattle.schema_sites.specs.Seen.{documents_at};
 ghost use Rattle.reading_laws.specs.Spelled.{spelled};
 ghost use Rattle.referencing.specs.Keys.{key_of};
 
+use crate::compile_key::CompileKey;
 use crate::waypoint::Waypoint;
 use referencing::{Resolved, ScopeKey};
-use schema_dialects::{Dialect, KnownVocabularies};
 use schema_patterns::matches::Matches;
 use schema_sites::site::{Site, at_root, at_target};
 use serde_json::Value;
@@ -32,28 +32,6 @@ pub struct Visit<'r> {
     ghost keyed: { key_of key.value ≡ scope_key (documents_at site) (base_of site.resolver) (scope_of site.resolver) },
 }
 
-// Whether the same vocabularies are required.
-fn are_same(one: Option<KnownVocabularies>, other: Option<KnownVocabularies>) -> bool
-    ensures { Decides result (one ≡ other) }
-{
-    one == other
-}
-
-fn is_same(one: Dialect, other: Dialect) -> bool
-    ensures { Decides result (one ≡ other) }
-{
-    one.draft == other.draft
-        && one.siblings == other.siblings
-        && are_same(one.required, other.required)
-}
-
-// Whether two schemas are read by one dialect.
-fn is_one_dialect(one: &Site<'_>, other: &Site<'_>) -> bool
-    ensures { Decides result (one.now.dialect ≡ other.now.dialect) }
-{
-    is_same(one.dialect, other.dialect)
-}
-
 // Whether references in two schemas are resolved against one base.
 fn is_one_base(one: &Site<'_>, other: &Site<'_>) -> Result<bool, AllocError>
     ensures { IfOk result (λ b. Decides b (base_of one.now.resolver ≡ base_of other.now.resolver)) }
@@ -61,12 +39,6 @@ fn is_one_base(one: &Site<'_>, other: &Site<'_>) -> Result<bool, AllocError>
     let base = one.resolver.base_uri()?;
     let other_base = other.resolver.base_uri()?;
     Ok(base.as_str() == other_base.as_str())
-}
-
-fn is_one_key(one: &ScopeKey, other: &ScopeKey) -> bool
-    ensures { Decides result (key_of one.now ≡ key_of other.now) }
-{
-    one == other
 }
 
 // The key of a site's scope.
@@ -77,7 +49,8 @@ fn key_of_scope(alloc: Global, site: &Site<'_>) -> Result<Rc<ScopeKey>, AllocErr
 }
 
 impl<'r> Visit<'r> {
-    ghost use Rattle.reached_sites.specs.Visits.{site_of, Met, Belongs, Repeats};
+    ghost use Rattle.reached_sites.specs.Visits.{site_of, key_at, Met, Belongs};
+    ghost use Rattle.reached_sites.specs.Keyed.{key_in};
 
     /// The visit of a root.
     ///
@@ -156,23 +129,20 @@ impl<'r> Visit<'r> {
         })
     }
 
-    /// Whether both have one compile key: one place, base, dialect, scope key and schema path.
+    /// What tells this visit from others: its place, base, dialect, scope key and schema path.
     ///
     /// # Errors
     ///
     /// Where a count of owners is full.
-    pub fn repeats(&self, other: &Visit<'_>) -> Result<bool, AllocError>
-        ensures { IfOk result (λ b. Decides b (Repeats self.now other.now)) }
+    pub fn compile_key(&self) -> Result<CompileKey, AllocError>
+        ensures { IfOk result (λ k. key_in k ≡ key_at self.now) }
     {
-        if !is_one_key(&*self.key, &*other.key) {
-            return Ok(false);
-        }
-        if !self.point.is(&other.point) {
-            return Ok(false);
-        }
-        if !is_one_dialect(&self.site, &other.site) {
-            return Ok(false);
-        }
-        is_one_base(&self.site, &other.site)
+        Ok(CompileKey {
+            place: self.point.place.shared()?,
+            base: self.site.resolver.base_uri()?,
+            dialect: self.site.dialect,
+            scope: self.key.clone()?,
+            schema_path: self.point.schema_path.steps.clone()?,
+        })
     }
 }

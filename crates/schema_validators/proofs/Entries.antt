@@ -12,14 +12,14 @@ use Rattle.schema_definitions.specs.Bearers.{Document}
 use Rattle.schema_registries.specs.Pointers.{pointers_of, reference_to, document_at, IsDocumentAt}
 use Rattle.reached_sites.specs.Passed.{AreWithin}
 use Rattle.reached_sites.specs.declared.cause.BuildCause.{BuildCause}
-use Rattle.root_checks.specs.Causes.{RefusesEach}
-use Rattle.root_checks.specs.Starts.{sites_from}
+use Rattle.compiled_graphs.specs.Causes.{RefusesEach}
+use Rattle.compiled_graphs.specs.Starts.{sites_from}
 use Rattle.schema_registries.specs.Matched.{HoldsPatterns}
 use Rattle.schema_patterns.specs.Tables.{texts_of_table}
 use Rattle.schema_patterns.specs.declared.table.PatternTable.{PatternTable}
 use Rattle.schema_registries.specs.Roots.{Patterns, IsSound, IsSoundBySome}
-use Rattle.root_checks.specs.Checks.{AreDecided, IsChecked}
-use Rattle.root_checks.specs.declared.checking.Checked.{Checked}
+use Rattle.compiled_graphs.specs.Several.{root_from, AreDecided, AreBuilt}
+use Rattle.compiled_graphs.specs.declared.several.SchemaGraphs.{SchemaGraphs}
 use Rattle.schema_validators.specs.Maps as maps
 use Rattle.schema_validators.specs.Maps.{keys_of, entries_in, entry_at, place_root, SortsOut, ReadsPlace, IsMapOf, StandsAtPlace, PutsPlace, Enters, ArePlacesExceeded}
 use Rattle.schema_validators.specs.Refused.{IsOfPlaces}
@@ -169,9 +169,18 @@ module _ {M : Type 0} (own : List Document) (document : List ℕ) (table : Patte
     sorted _ _ _ (maps.taken {pointers = ks} {marks = bs} {entries = es} n v s rest) d = maps.taken n (d.0.0 refl) (sorted ks bs es rest d.1)
     sorted _ _ es (maps.left {pointers = ks} {marks = bs} n rest) d = maps.left n (λ sound. false≢true (d.0.1 sound)) (sorted ks bs es rest d.1)
 
--- ---- what was checked of the references is decided of the pointers
+-- ---- what was built of the references is decided of the pointers
 
-pub decided-of : (p : Patterns) (own : List Document) (document : List ℕ) (ks : List (List ℕ)) (bs : List Bool) → AreDecided p own document (map reference_to ks) bs
+abbrev pub AreMarked : Patterns → List Document → List ℕ → List (List ℕ) → List Bool → Type 0
+AreMarked p own base rs bs = AllZip (λ r b. Decides b (IsSound p (root_from own base r))) rs bs
+
+pub marks-decided : (p : Patterns) (own : List Document) (base : List ℕ) (rs : List (List ℕ)) (os : List (Option ℕ)) → AreDecided p own base rs os → AreMarked p own base rs (map is_some os)
+marks-decided p own base [] [] h = tt
+marks-decided p own base [] (o ∷ os) h = absurd h
+marks-decided p own base (r ∷ rs) [] h = absurd h
+marks-decided p own base (r ∷ rs) (o ∷ os) h = (h.0, marks-decided p own base rs os h.1)
+
+pub decided-of : (p : Patterns) (own : List Document) (document : List ℕ) (ks : List (List ℕ)) (bs : List Bool) → AreMarked p own document (map reference_to ks) bs
     → AllZip (λ k b. Decides b (IsSound p (place_root own document k))) ks bs
 decided-of p own document [] [] h = tt
 decided-of p own document [] (b ∷ bs) h = absurd h
@@ -191,16 +200,16 @@ reference-in [] k i = elim i [ ]
 reference-in (_ ∷ ks) k first = first
 reference-in (n ∷ ks) k (later i) = later (reference-in ks k i)
 
-module _ {M : Type 0} (finds : M → List ℕ → Option Bool) (p : Patterns) (own : List Document) (document : List ℕ) (ks : List (List ℕ)) (limit : ℕ) (c : Checked M) (m : ValidatorMap M)
-    (checked : IsChecked finds p own document (map reference_to ks) limit c) (entered : Enters own document c.table ks c.right.items (entries_in m)) where
-  decided : AllZip (λ k b. Decides b (IsSound p (place_root own document k))) ks c.right.items
-  decided = decided-of p own document ks c.right.items checked.decided
+module _ {M : Type 0} (finds : M → List ℕ → Option Bool) (p : Patterns) (own : List Document) (document : List ℕ) (ks : List (List ℕ)) (limit : ℕ) (c : SchemaGraphs M) (m : ValidatorMap M)
+    (checked : AreBuilt finds p own document (map reference_to ks) limit c) (entered : Enters own document c.table ks (map is_some c.starts.items) (entries_in m)) where
+  decided : AllZip (λ k b. Decides b (IsSound p (place_root own document k))) ks (map is_some c.starts.items)
+  decided = decided-of p own document ks (map is_some c.starts.items) (marks-decided p own document (map reference_to ks) c.starts.items checked.decided)
 
   there : (k : List ℕ) → entry_at m k ≡ found (entries_in m) k
   there k = same-found m.validators.entries k
 
   entry-of : (k : List ℕ) (v : Validator M) → entry_at m k ≡ Some v → IsEntry own document c.table p ks k v
-  entry-of k v e = each-entry own document c.table p ks c.right.items (entries_in m) entered decided k v (found-in (entries_in m) k v (sym (there k) ∙ e))
+  entry-of k v e = each-entry own document c.table p ks (map is_some c.starts.items) (entries_in m) entered decided k v (found-in (entries_in m) k v (sym (there k) ∙ e))
 
   reads-place : (k : List ℕ) (v : Validator M) → IsEntry own document c.table p ks k v → ReadsPlace finds p own document k v
   reads-place k v h = record {
@@ -220,12 +229,12 @@ module _ {M : Type 0} (finds : M → List ℕ → Option Bool) (p : Patterns) (o
 
   has-entry : (k : List ℕ) → In k ks × IsSound p (place_root own document k) → is_some (entry_at m k) ≡ true
   has-entry k h =
-      let x = each-sound own document c.table p ks c.right.items (entries_in m) entered decided k h.0 h.1 in
+      let x = each-sound own document c.table p ks (map is_some c.starts.items) (entries_in m) entered decided k h.0 h.1 in
       ap is_some (there k) ∙ in-found (entries_in m) k x.0 x.1
 
   keys-sorted : SortsOut p own document ks (keys_of m)
   keys-sorted =
-      subst (λ (x : List (List ℕ)). SortsOut p own document ks x) (sym (same-names m.validators.entries)) (sorted own document c.table p ks c.right.items (entries_in m) entered decided)
+      subst (λ (x : List (List ℕ)). SortsOut p own document ks x) (sym (same-names m.validators.entries)) (sorted own document c.table p ks (map is_some c.starts.items) (entries_in m) entered decided)
 
   abbrev Readable : Document → List ℕ → Type 0
   Readable d k = In k (pointers_of own d) × IsSound p (place_root own d.uri k)
@@ -294,12 +303,12 @@ pub pointers-there : (own other : List Document) (uri : List ℕ) (ks : List (Li
     → ks ≡ pointers_of own d
 pointers-there own other uri ks same h = subst (λ (ds : List Document). (d : Document) → IsDocumentAt ds uri d → ks ≡ pointers_of ds d) same h
 
-pub checked-there : {M : Type 0} (finds : M → List ℕ → Option Bool) (p : Patterns) (own other : List Document) (uri : List ℕ) (refs ks : List (List ℕ)) (limit : ℕ) (c : Checked M) → other ≡ own → refs ≡ map reference_to ks
-    → IsChecked finds p other uri refs limit c → IsChecked finds p own uri (map reference_to ks) limit c
-checked-there finds p own other uri refs ks limit c same texts h =
-    subst (λ (x : List (List ℕ)). IsChecked finds p own uri x limit c) texts (subst (λ (ds : List Document). IsChecked finds p ds uri refs limit c) same h)
+pub built-there : {M : Type 0} (finds : M → List ℕ → Option Bool) (p : Patterns) (own other : List Document) (uri : List ℕ) (refs ks : List (List ℕ)) (limit : ℕ) (c : SchemaGraphs M) → other ≡ own → refs ≡ map reference_to ks
+    → AreBuilt finds p other uri refs limit c → AreBuilt finds p own uri (map reference_to ks) limit c
+built-there finds p own other uri refs ks limit c same texts h =
+    subst (λ (x : List (List ℕ)). AreBuilt finds p own uri x limit c) texts (subst (λ (ds : List Document). AreBuilt finds p ds uri refs limit c) same h)
 
-pub sound-there : (p : Patterns) (own : List Document) (uri : List ℕ) (ps qs : List (String Global)) (bs cs : List Bool) → qs ≡ ps → cs ≡ bs → AreDecided p own uri (map reference_to (map string_bytes ps)) bs
+pub sound-there : (p : Patterns) (own : List Document) (uri : List ℕ) (ps qs : List (String Global)) (bs cs : List Bool) → qs ≡ ps → cs ≡ bs → AreMarked p own uri (map reference_to (map string_bytes ps)) bs
     → AllZip (λ k b. b ≡ true → IsSoundBySome (place_root own uri k)) (map string_bytes qs) cs
 sound-there p own uri ps qs bs cs e f h =
     let here = sound-by-some p own uri (map string_bytes ps) bs (decided-of p own uri (map string_bytes ps) bs h) in

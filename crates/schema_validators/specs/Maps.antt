@@ -7,8 +7,8 @@ use Rattle.schema_definitions.specs.Lookup.{Target}
 use Rattle.schema_patterns.specs.declared.table.PatternTable.{PatternTable}
 use Rattle.schema_registries.specs.Pointers.{pointers_of, reference_to, IsDocumentAt}
 use Rattle.reached_sites.specs.Passed.{AreWithin}
-use Rattle.root_checks.specs.Causes.{AreExceeded}
-use Rattle.root_checks.specs.Starts.{sites_from}
+use Rattle.compiled_graphs.specs.Causes.{AreExceeded}
+use Rattle.compiled_graphs.specs.Starts.{sites_from}
 use Rattle.schema_registries.specs.declared.registry.SchemaRegistry.{SchemaRegistry}
 use Rattle.schema_registries.specs.Seen.{documents_in_registry}
 use Rattle.schema_registries.specs.Roots.{Root, Patterns, Finds, IsSound, root_on}

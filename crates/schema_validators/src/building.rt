@@ -11,7 +11,7 @@ ghost use Rattle.schema_validators.specs.Seen.{root_in, root_of};
 
 use crate::error::BuildError;
 use crate::validator::Validator;
-use reached_sites::checking::check_reached;
+use compiled_graphs::graph::build;
 use schema_drafts::draft::Draft;
 use schema_patterns::{PatternMaker, PatternMatcher, PatternTable};
 use schema_registries::SharedRegistry;
@@ -47,8 +47,8 @@ fn check_at<P: PatternMaker>(
     };
     registry.documents_are_apart();
     registry.registry().names_rise();
-    match check_reached(alloc, &found, maker, node_limit) {
-        Ok(table) => Ok((found.draft(), table)),
+    match build(alloc, &found, maker, node_limit) {
+        Ok(graph) => Ok((found.draft(), graph.table)),
         Err(cause) => Err(BuildError::of_schema(cause)),
     }
 }

@@ -1,6 +1,6 @@
 //! How maps of validators are built.
 
-ghost use Rattle.std.specs.Prelude.{◌≡◌, ◌∷◌, [], ℕ, List, map, true, bytes_eq, string_bytes, length, slice_get, ◌<◌, IfOk, IfErr, OnOk, None, Some};
+ghost use Rattle.std.specs.Prelude.{◌≡◌, ◌∷◌, [], ℕ, List, map, true, bytes_eq, string_bytes, length, slice_get, ◌<◌, IfOk, IfErr, OnOk, None, Some, is_some};
 ghost use Rattle.std.specs.List.{AllZip, IsDistinct};
 ghost use Rattle.schema_definitions.specs.Bearers.{Document};
 ghost use Rattle.schema_registries.specs.Pointers as places;
@@ -11,7 +11,7 @@ ghost use Rattle.schema_validators.specs.Maps.{entries_in, entry_at, place_root,
 use crate::error::BuildError;
 use crate::validator::Validator;
 use crate::validator_map::ValidatorMap;
-use root_checks::checking::check_each;
+use compiled_graphs::several::build_each;
 use schema_patterns::{PatternMaker, PatternMatcher, PatternTable};
 use schema_registries::place_pointers::{pointers_in, reference_to};
 use schema_registries::{SchemaRegistry, SharedRegistry};
@@ -28,6 +28,17 @@ fn references_to(alloc: Global, pointers: &[String]) -> Result<Vec<String>, Allo
         references.push(reference_to(alloc, pointer.as_str())?)?;
     }
     Ok(references)
+}
+
+// A mark for each start, whether there is one.
+fn marks_of(alloc: Global, starts: &[Option<usize>]) -> Result<Vec<bool>, AllocError>
+    ensures { IfOk result (λ v. v.items ≡ map is_some starts.now) }
+{
+    let mut marks = Vec::new(alloc);
+    for start in starts {
+        marks.push(start.is_some())?;
+    }
+    Ok(marks)
 }
 
 // Puts the validator of a place behind others, where the place may be read.
@@ -103,7 +114,7 @@ fn map_of<P: PatternMaker>(
     let references = references_to(alloc, pointers.as_slice())?;
     registry.documents_are_apart();
     let places = registry.registry();
-    let checked = match check_each(
+    let built = match build_each(
         alloc,
         places,
         document,
@@ -111,17 +122,17 @@ fn map_of<P: PatternMaker>(
         maker,
         node_limit,
     ) {
-        Ok(checked) => checked,
+        Ok(built) => built,
         Err(cause) => return Err(BuildError::of_places(cause)),
     };
-    let right = checked.right;
+    let right = marks_of(alloc, built.starts.as_slice())?;
     let map = validators_at(
         alloc,
         registry,
         document,
         pointers.as_slice(),
         right.as_slice(),
-        checked.table,
+        built.table,
     )?;
     Ok(map)
 }

@@ -1,10 +1,10 @@
-//! Tests of schema places, pointers followed from them, registries, and the places reached from a root.
+//! Tests of schema places, pointers followed from them, registries, and graphs of what is reached.
 #![tactic(auto)]
 
 #[cfg(test)]
-mod places;
+mod graphs;
 #[cfg(test)]
-mod reached;
+mod places;
 #[cfg(test)]
 mod registries;
 #[cfg(test)]

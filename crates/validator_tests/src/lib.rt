@@ -30,6 +30,8 @@ mod options;
 #[cfg(test)]
 mod patterns;
 #[cfg(test)]
+mod reached;
+#[cfg(test)]
 mod references;
 #[cfg(test)]
 mod retrieving;

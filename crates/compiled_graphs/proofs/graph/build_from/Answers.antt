@@ -13,8 +13,8 @@ returns-in_err-walk-clause-refused g c =
     let finds = g.P.Matcher.PatternMatcher.finds in
     let limit = c.args.limit in
     let s = c.in_ok-visits.ensures in
-    let started : IsStarted own root c.in_ok-visits.visits.items c.in_ok-visits.visited = record { visited_first = s.visited; graph = s.graph; apart = s.apart } in
-    let walks = walks-from-root finds p own root limit c.new-begun.result c.in_ok-visits.visits.items c.in_ok-visits.visited c.requires.placed c.new-begun.ensures started in
+    let started : IsStarted own root c.in_ok-visits.visits.list.items = record { visited_first = s.visited; graph = s.graph } in
+    let walks = walks-from-root finds p own root limit c.new-begun.result c.in_ok-visits.visits.list.items c.requires.placed c.new-begun.ensures started in
     let e = err_from_is_err_and c.from_residual-in_err-walk.result c.from_residual-in_err-walk.ensures.1 in
     rw (e.1, e.2) (refuses-one p.makes own (root_site root) limit _ (c.in_err-walk.ensures.refused own (root_site root ∷ []) (one-placed own root c.requires.placed) walks))
 
@@ -27,8 +27,8 @@ invariant_of-result g c =
     let limit = c.args.limit in
     let w = c.in_ok-walk.walk in
     let s = c.in_ok-visits.ensures in
-    let started : IsStarted own root c.in_ok-visits.visits.items c.in_ok-visits.visited = record { visited_first = s.visited; graph = s.graph; apart = s.apart } in
-    let b : IsBuilt finds p own root limit w = built-of finds p own root limit c.new-begun.result c.in_ok-visits.visits.items c.in_ok-visits.visited c.requires.placed c.new-begun.ensures started w
+    let started : IsStarted own root c.in_ok-visits.visits.list.items = record { visited_first = s.visited; graph = s.graph } in
+    let b : IsBuilt finds p own root limit w = built-of finds p own root limit c.new-begun.result c.in_ok-visits.visits.list.items c.requires.placed c.new-begun.ensures started w
     c.in_ok-walk.ensures.further c.in_ok-walk.ensures.walked in
     record { sound = sound finds p own root limit w b.walked b.begins }
 
@@ -41,8 +41,8 @@ returns-clause-accepted g c =
     let limit = c.args.limit in
     let w = c.in_ok-walk.walk in
     let s = c.in_ok-visits.ensures in
-    let started : IsStarted own root c.in_ok-visits.visits.items c.in_ok-visits.visited = record { visited_first = s.visited; graph = s.graph; apart = s.apart } in
-    let b : IsBuilt finds p own root limit w = built-of finds p own root limit c.new-begun.result c.in_ok-visits.visits.items c.in_ok-visits.visited c.requires.placed c.new-begun.ensures started w
+    let started : IsStarted own root c.in_ok-visits.visits.list.items = record { visited_first = s.visited; graph = s.graph } in
+    let b : IsBuilt finds p own root limit w = built-of finds p own root limit c.new-begun.result c.in_ok-visits.visits.list.items c.requires.placed c.new-begun.ensures started w
     c.in_ok-walk.ensures.further c.in_ok-walk.ensures.walked in
     accepted finds p own root limit w b.walked b.begins
 
@@ -55,8 +55,8 @@ returns-clause-within g c =
     let limit = c.args.limit in
     let w = c.in_ok-walk.walk in
     let s = c.in_ok-visits.ensures in
-    let started : IsStarted own root c.in_ok-visits.visits.items c.in_ok-visits.visited = record { visited_first = s.visited; graph = s.graph; apart = s.apart } in
-    let b : IsBuilt finds p own root limit w = built-of finds p own root limit c.new-begun.result c.in_ok-visits.visits.items c.in_ok-visits.visited c.requires.placed c.new-begun.ensures started w
+    let started : IsStarted own root c.in_ok-visits.visits.list.items = record { visited_first = s.visited; graph = s.graph } in
+    let b : IsBuilt finds p own root limit w = built-of finds p own root limit c.new-begun.result c.in_ok-visits.visits.list.items c.requires.placed c.new-begun.ensures started w
     c.in_ok-walk.ensures.further c.in_ok-walk.ensures.walked in
     within-limit finds p own root limit w b.walked b.begins
 
@@ -69,8 +69,8 @@ returns-clause-patterns g c =
     let limit = c.args.limit in
     let w = c.in_ok-walk.walk in
     let s = c.in_ok-visits.ensures in
-    let started : IsStarted own root c.in_ok-visits.visits.items c.in_ok-visits.visited = record { visited_first = s.visited; graph = s.graph; apart = s.apart } in
-    let b : IsBuilt finds p own root limit w = built-of finds p own root limit c.new-begun.result c.in_ok-visits.visits.items c.in_ok-visits.visited c.requires.placed c.new-begun.ensures started w
+    let started : IsStarted own root c.in_ok-visits.visits.list.items = record { visited_first = s.visited; graph = s.graph } in
+    let b : IsBuilt finds p own root limit w = built-of finds p own root limit c.new-begun.result c.in_ok-visits.visits.list.items c.requires.placed c.new-begun.ensures started w
     c.in_ok-walk.ensures.further c.in_ok-walk.ensures.walked in
     patterns-among finds p own root limit w b.walked b.begins
 
@@ -83,8 +83,8 @@ returns-clause-made g c =
     let limit = c.args.limit in
     let w = c.in_ok-walk.walk in
     let s = c.in_ok-visits.ensures in
-    let started : IsStarted own root c.in_ok-visits.visits.items c.in_ok-visits.visited = record { visited_first = s.visited; graph = s.graph; apart = s.apart } in
-    let b : IsBuilt finds p own root limit w = built-of finds p own root limit c.new-begun.result c.in_ok-visits.visits.items c.in_ok-visits.visited c.requires.placed c.new-begun.ensures started w
+    let started : IsStarted own root c.in_ok-visits.visits.list.items = record { visited_first = s.visited; graph = s.graph } in
+    let b : IsBuilt finds p own root limit w = built-of finds p own root limit c.new-begun.result c.in_ok-visits.visits.list.items c.requires.placed c.new-begun.ensures started w
     c.in_ok-walk.ensures.further c.in_ok-walk.ensures.walked in
     made finds p own root limit w b.walked b.begins
 
@@ -97,8 +97,8 @@ returns-clause-linked g c =
     let limit = c.args.limit in
     let w = c.in_ok-walk.walk in
     let s = c.in_ok-visits.ensures in
-    let started : IsStarted own root c.in_ok-visits.visits.items c.in_ok-visits.visited = record { visited_first = s.visited; graph = s.graph; apart = s.apart } in
-    let b : IsBuilt finds p own root limit w = built-of finds p own root limit c.new-begun.result c.in_ok-visits.visits.items c.in_ok-visits.visited c.requires.placed c.new-begun.ensures started w
+    let started : IsStarted own root c.in_ok-visits.visits.list.items = record { visited_first = s.visited; graph = s.graph } in
+    let b : IsBuilt finds p own root limit w = built-of finds p own root limit c.new-begun.result c.in_ok-visits.visits.list.items c.requires.placed c.new-begun.ensures started w
     c.in_ok-walk.ensures.further c.in_ok-walk.ensures.walked in
     compiled-at finds p own root limit w b.walked b.begins
 
@@ -111,7 +111,7 @@ returns-clause-known g c =
     let limit = c.args.limit in
     let w = c.in_ok-walk.walk in
     let s = c.in_ok-visits.ensures in
-    let started : IsStarted own root c.in_ok-visits.visits.items c.in_ok-visits.visited = record { visited_first = s.visited; graph = s.graph; apart = s.apart } in
-    let b : IsBuilt finds p own root limit w = built-of finds p own root limit c.new-begun.result c.in_ok-visits.visits.items c.in_ok-visits.visited c.requires.placed c.new-begun.ensures started w
+    let started : IsStarted own root c.in_ok-visits.visits.list.items = record { visited_first = s.visited; graph = s.graph } in
+    let b : IsBuilt finds p own root limit w = built-of finds p own root limit c.new-begun.result c.in_ok-visits.visits.list.items c.requires.placed c.new-begun.ensures started w
     c.in_ok-walk.ensures.further c.in_ok-walk.ensures.walked in
     knows finds p own root limit w b.walked b.begins

@@ -3,14 +3,12 @@ use Rattle.std.proofs.lemmas.List.{take_more, take_all, map-append}
 use Rattle.referencing.specs.Resolved.{base_of, documents_in}
 use Rattle.compiled_graphs.specs.Starts.{sites_from, Start, StartsOne}
 use Rattle.compiled_graphs.specs.Graphs.{IsGraph}
-use Rattle.compiled_graphs.proofs.Begun.{Starting, starting-begins, starting-goes, begun-graph, filed-none, apart-none}
+use Rattle.compiled_graphs.proofs.Begun.{Starting, starting-begins, starting-goes, begun-graph}
 use Rattle.compiled_graphs.proofs.starting.start.Goals as goal
 
 pub loop-reference-init : goal.loop-reference-init
 loop-reference-init c = record {
-  starting = starting-begins (documents_in c.args.resolver.now) (base_of c.args.resolver.now) c.new-visits.result.items c.new-starts.result.items c.new-visits.ensures.items c.new-starts.ensures.items;
-  filed = filed-none c.new-visited.result c.new-visits.result.items c.new-visits.ensures.items;
-  apart = apart-none c.new-visits.result.items c.new-visits.ensures.items;
+  starting = starting-begins (documents_in c.args.resolver.now) (base_of c.args.resolver.now) c.new-visits.result.list.items c.new-starts.result.items c.new-visits.ensures c.new-starts.ensures.items;
 }
 
 pub loop-reference-preserved : goal.loop-reference-preserved
@@ -23,20 +21,17 @@ loop-reference-preserved c =
     let known = c.loop-reference.invariant in
     let texts : map string_bytes (take (i + 1) refs) ≡ map string_bytes (take i refs) ++ string_bytes r ∷ [] =
     ap (map string_bytes) (take_more refs i r c.loop-reference-test.true ∙ ap (λ x. take i refs ++ x ∷ []) (sym c.reference-item.is)) ∙ map-append string_bytes (take i refs) (r ∷ []) in
-    let both = c.in_ok-position.ensures.apart known.filed known.apart in
-    let one = starting-goes own base c.requires.apart c.requires.rise (map string_bytes (take i refs)) (string_bytes r) c.loop-reference.visits.items c.start_one.new.visits.items c.loop-reference.starts.items c.in_ok-position.position
-    (subst (λ t. StartsOne own base t c.loop-reference.visits.items c.start_one.new.visits.items c.in_ok-position.position) c.as_str.ensures.value c.in_ok-position.ensures.starts) known.starting in
+    let one = starting-goes own base c.requires.apart c.requires.rise (map string_bytes (take i refs)) (string_bytes r) c.loop-reference.visits.list.items c.start_one.new.visits.list.items c.loop-reference.starts.items c.in_ok-position.position
+    (subst (λ t. StartsOne own base t c.loop-reference.visits.list.items c.start_one.new.visits.list.items c.in_ok-position.position) c.as_str.ensures.value c.in_ok-position.ensures) known.starting in
     record {
-      starting = subst (λ os. Starting own base (map string_bytes (take (i + 1) refs)) c.start_one.new.visits.items os) (sym c.in_ok-push.ensures.items)
-          (subst (λ rs. Starting own base rs c.start_one.new.visits.items (c.loop-reference.starts.items ++ c.in_ok-position.position ∷ [])) (sym texts) one);
-      filed = both.0;
-      apart = both.1;
+      starting = subst (λ os. Starting own base (map string_bytes (take (i + 1) refs)) c.start_one.new.visits.list.items os) (sym c.in_ok-push.ensures.items)
+          (subst (λ rs. Starting own base rs c.start_one.new.visits.list.items (c.loop-reference.starts.items ++ c.in_ok-position.position ∷ [])) (sym texts) one);
     }
 
 pub returns-clause-starts : goal.returns-clause-starts
 returns-clause-starts c =
     let refs = c.args.references.now in
-    subst (λ rs. Start (documents_in c.args.resolver.now) (base_of c.args.resolver.now) c.loop-reference.visits.items (map string_bytes rs) c.loop-reference.starts.items)
+    subst (λ rs. Start (documents_in c.args.resolver.now) (base_of c.args.resolver.now) c.loop-reference.visits.list.items (map string_bytes rs) c.loop-reference.starts.items)
     (take_all c.loop-reference.reference-index refs c.loop-reference-test.false) c.loop-reference.invariant.starting.starts
 
 pub returns-clause-graph : goal.returns-clause-graph
@@ -44,9 +39,6 @@ returns-clause-graph c = λ makes.
     let own = documents_in c.args.resolver.now in
     let base = base_of c.args.resolver.now in
     let refs = c.args.references.now in
-    let vs = c.loop-reference.visits.items in
+    let vs = c.loop-reference.visits.list.items in
     subst (λ rs. IsGraph own makes (sites_from own base (map string_bytes rs)) vs [] [] 0) (take_all c.loop-reference.reference-index refs c.loop-reference-test.false)
     (begun-graph own base makes (map string_bytes (take c.loop-reference.reference-index refs)) vs (c.loop-reference.invariant.starting.begun makes))
-
-pub returns-clause-apart : goal.returns-clause-apart
-returns-clause-apart c = (c.loop-reference.invariant.filed, c.loop-reference.invariant.apart)

@@ -1,13 +1,9 @@
 use Rattle.std.proofs.Common.{take, map, string_bytes}
 use Rattle.referencing.specs.Resolved.{base_of, documents_in}
-use Rattle.reached_sites.specs.Filed.{Filed}
-use Rattle.reached_sites.specs.Growing.{Apart}
 use Rattle.compiled_graphs.proofs.Begun.{Starting}
 use Rattle.compiled_graphs.proofs.starting.start.Given as goal
 
 abbrev pub invariant-loop-reference : goal.invariant-loop-reference
 invariant-loop-reference l = record {
-  starting : Starting (documents_in l.resolver) (base_of l.resolver) (map string_bytes (take l.reference-index l.references)) l.visits.items l.starts.items;
-  filed : Filed l.visited l.visits.items;
-  apart : Apart l.visits.items;
+  starting : Starting (documents_in l.resolver) (base_of l.resolver) (map string_bytes (take l.reference-index l.references)) l.visits.list.items l.starts.items;
 }

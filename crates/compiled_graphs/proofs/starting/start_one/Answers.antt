@@ -2,8 +2,8 @@ use Rattle.referencing.specs.Resolved.{target_in}
 use Rattle.reached_sites.proofs.Matching.{belongs-too}
 use Rattle.compiled_graphs.proofs.starting.start_one.Goals as goal
 
-pub returns-in-Ok-clause-starts : goal.returns-in-Ok-clause-starts
-returns-in-Ok-clause-starts c = record {
+pub returns-in-Ok : goal.returns-in-Ok
+returns-in-Ok c = record {
   target = target_in c.in-Ok.found;
   found = c.in-Ok.ensures.ok;
   visit = c.in_ok-visit-in-Ok.visit;

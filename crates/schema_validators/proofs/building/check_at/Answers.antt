@@ -8,7 +8,7 @@ use Rattle.reached_sites.specs.Passed.{documents_in, base_of, target_in}
 use Rattle.schema_registries.specs.Seen.{documents_shared}
 use Rattle.reached_sites.specs.Causes.{RefusesWithin}
 use Rattle.schema_registries.specs.Roots.{Root}
-use Rattle.document_laws.specs.TargetLaws.{are_apart, contents_rise}
+use Rattle.document_laws.specs.TargetLaws.{are_apart, contents_rise, by_reference}
 use Rattle.schema_validators.specs.Seen.{root_of}
 use Rattle.schema_validators.proofs.Placing.{sound_there, within_there, patterns_there, one_root}
 use Rattle.schema_validators.proofs.building.check_at.Goals as goal
@@ -34,10 +34,23 @@ returns-clause-refused g c =
     let target = target_in c.in-Ok.found in
     let there : documents_in c.in-Ok.found.resolver ≡ documents_shared c.args.registry.now = c.in-Ok.ensures.documents ∙ documents in
     c.of_schema.ensures p c.args.node_limit r target (sym same ∙ c.in-Ok.ensures.ok)
-    (subst (λ own. RefusesWithin own p.makes (root_site target) c.args.node_limit c.in-Err-check_reached.cause) there c.in-Err-check_reached.ensures.refused)
+    (subst (λ own. RefusesWithin own p.makes (root_site target) c.args.node_limit c.in-Err-build.cause) there c.in-Err-build.ensures.refused)
 
-pub returns-in-Ok-check_reached-clause-made : goal.returns-in-Ok-check_reached-clause-made
-returns-in-Ok-check_reached-clause-made g c =
+pub build-requires : goal.build-requires
+build-requires g c =
+    let resolver = c.in_ok-resolver.resolver in
+    let own = documents_in c.in-Ok.found.resolver in
+    let there : own ≡ documents_shared c.args.registry.now = c.in-Ok.ensures.documents ∙ c.in_ok-resolver.ensures.documents ∙ c.registry.ensures.documents in
+    record {
+      placed = record {
+        apart = ap are_apart there ∙ c.documents_are_apart.ensures;
+        rise = ap (list_all contents_rise) (there ∙ sym c.registry-2.ensures.documents) ∙ c.names_rise.ensures;
+        target = by_reference (base_of resolver) c.args.root.now (subst (λ ds. lookup ds (base_of resolver) c.args.root.now ≡ Ok (target_in c.in-Ok.found)) (sym c.in-Ok.ensures.documents) c.in-Ok.ensures.ok);
+      };
+    }
+
+pub returns-in-Ok-build-clause-made : goal.returns-in-Ok-build-clause-made
+returns-in-Ok-build-clause-made g c =
     let p = g.P.PatternMaker.patterns c.args.maker.now in
     let resolver = c.in_ok-resolver.resolver in
     let own = documents_in c.in-Ok.found.resolver in
@@ -48,13 +61,13 @@ returns-in-Ok-check_reached-clause-made g c =
     let rise = ap (list_all contents_rise) (there ∙ sym c.registry-2.ensures.documents) ∙ c.names_rise.ensures in
     let one = one_root there (c.in_ok-resolver.ensures.base ∙ c.in_ok-clone.ensures.cases) refl in
     record {
-      sound = sound_there own (base_of resolver) c.args.root.now t found apart rise p c.in-Ok-check_reached.ensures.accepted _ one;
-      patterns = patterns_there own (base_of resolver) c.args.root.now t found apart rise p (texts_of_table c.in-Ok-check_reached.table) c.in-Ok-check_reached.ensures.patterns _ one;
-      made = c.in-Ok-check_reached.ensures.made;
+      sound = sound_there own (base_of resolver) c.args.root.now t found apart rise p (λ placed. c.in-Ok-build.ensures.accepted) _ one;
+      patterns = patterns_there own (base_of resolver) c.args.root.now t found apart rise p (texts_of_table c.in-Ok-build.graph.table) (λ placed. c.in-Ok-build.ensures.patterns) _ one;
+      made = c.in-Ok-build.ensures.made;
     }
 
-pub returns-in-Ok-check_reached-clause-within : goal.returns-in-Ok-check_reached-clause-within
-returns-in-Ok-check_reached-clause-within g c =
+pub returns-in-Ok-build-clause-within : goal.returns-in-Ok-build-clause-within
+returns-in-Ok-build-clause-within g c =
     let p = g.P.PatternMaker.patterns c.args.maker.now in
     let resolver = c.in_ok-resolver.resolver in
     let own = documents_in c.in-Ok.found.resolver in
@@ -64,4 +77,4 @@ returns-in-Ok-check_reached-clause-within g c =
     let apart = ap are_apart there ∙ c.documents_are_apart.ensures in
     let rise = ap (list_all contents_rise) (there ∙ sym c.registry-2.ensures.documents) ∙ c.names_rise.ensures in
     let one = one_root there (c.in_ok-resolver.ensures.base ∙ c.in_ok-clone.ensures.cases) refl in
-    within_there own (base_of resolver) c.args.root.now t found apart rise p c.args.node_limit c.in-Ok-check_reached.ensures.within _ one
+    within_there own (base_of resolver) c.args.root.now t found apart rise p c.args.node_limit (λ placed. c.in-Ok-build.ensures.within) _ one

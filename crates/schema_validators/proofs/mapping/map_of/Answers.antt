@@ -1,7 +1,7 @@
-use Rattle.std.proofs.Common.{◌≡◌, ◌∙◌, ap, map, string_bytes}
+use Rattle.std.proofs.Common.{◌≡◌, ◌∙◌, ap, is_some, map, string_bytes}
 use Rattle.schema_registries.specs.Pointers.{reference_to}
 use Rattle.schema_registries.specs.Seen.{documents_shared}
-use Rattle.schema_validators.proofs.Entries.{uri-of, is-map, pointers-there, checked-there, refused-there, sound-there, entered-there}
+use Rattle.schema_validators.proofs.Entries.{uri-of, is-map, pointers-there, built-there, marks-decided, refused-there, sound-there, entered-there}
 use Rattle.schema_validators.proofs.mapping.map_of.Goals as goal
 
 pub returns-in-Err-clause-refused : goal.returns-in-Err-clause-refused
@@ -23,8 +23,8 @@ validators_at-requires-clause-sound g c =
     let ks = map string_bytes c.in_ok-pointers.pointers.items in
     let texts : map string_bytes c.as_slice-2.result.now ≡ map reference_to ks =
     ap (map string_bytes) c.as_slice-2.ensures.value ∙ c.in_ok-references.ensures ∙ ap (λ x. map reference_to (map string_bytes x)) c.as_slice.ensures.value in
-    let checked = checked-there g.P.Matcher.PatternMatcher.finds p own _ document _ ks c.args.node_limit c.in-Ok.checked c.registry-places.ensures.documents texts c.in-Ok.ensures.checked in
-    sound-there p own document c.in_ok-pointers.pointers.items _ c.in-Ok.checked.right.items _ c.as_slice-3.ensures.value c.as_slice-4.ensures.value checked.decided
+    let built = built-there g.P.Matcher.PatternMatcher.finds p own _ document _ ks c.args.node_limit c.in-Ok.built c.registry-places.ensures.documents texts c.in-Ok.ensures.built in
+    sound-there p own document c.in_ok-pointers.pointers.items _ (map is_some c.in-Ok.built.starts.items) _ c.as_slice-3.ensures.value (c.as_slice-4.ensures.value ∙ c.in_ok-right.ensures ∙ ap (map is_some) c.as_slice-5.ensures.value) (marks-decided p own document (map reference_to ks) c.in-Ok.built.starts.items built.decided)
 
 pub returns-clause-built : goal.returns-clause-built
 returns-clause-built g c = λ d at.
@@ -34,7 +34,7 @@ returns-clause-built g c = λ d at.
     let ks = map string_bytes c.in_ok-pointers.pointers.items in
     let texts : map string_bytes c.as_slice-2.result.now ≡ map reference_to ks =
     ap (map string_bytes) c.as_slice-2.ensures.value ∙ c.in_ok-references.ensures ∙ ap (λ x. map reference_to (map string_bytes x)) c.as_slice.ensures.value in
-    let checked = checked-there g.P.Matcher.PatternMatcher.finds p own _ document _ ks c.args.node_limit c.in-Ok.checked c.registry-places.ensures.documents texts c.in-Ok.ensures.checked in
-    is-map g.P.Matcher.PatternMatcher.finds p own document ks c.args.node_limit c.in-Ok.checked c.in_ok-map.map checked
-    (entered-there own document c.in-Ok.checked.table c.in_ok-pointers.pointers.items _ c.in-Ok.checked.right.items _ c.in_ok-map.map c.as_slice-3.ensures.value c.as_slice-4.ensures.value c.in_ok-map.ensures)
+    let built = built-there g.P.Matcher.PatternMatcher.finds p own _ document _ ks c.args.node_limit c.in-Ok.built c.registry-places.ensures.documents texts c.in-Ok.ensures.built in
+    is-map g.P.Matcher.PatternMatcher.finds p own document ks c.args.node_limit c.in-Ok.built c.in_ok-map.map built
+    (entered-there own document c.in-Ok.built.table c.in_ok-pointers.pointers.items _ (map is_some c.in-Ok.built.starts.items) _ c.in_ok-map.map c.as_slice-3.ensures.value (c.as_slice-4.ensures.value ∙ c.in_ok-right.ensures ∙ ap (map is_some) c.as_slice-5.ensures.value) c.in_ok-map.ensures)
     d (uri-of own document d at) (pointers-there own _ document ks c.registry.ensures.documents c.in_ok-pointers.ensures.pointers d at)

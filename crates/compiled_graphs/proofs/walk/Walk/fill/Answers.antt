@@ -17,7 +17,7 @@ pub compile-requires : goal.compile-requires
 compile-requires g c =
     let found = c.in_ok-found.found in
     let ns = c.in_ok-numbers.numbers.items in
-    let same = zip-length (StandsFor c.len-next.result c.link.new.visits.items c.link.new.edges.items) found.visits.items ns c.in_ok-numbers.ensures.stand in
+    let same = zip-length (StandsFor c.len-next.result c.link.new.visits.list.items c.link.new.edges.items) found.visits.items ns c.in_ok-numbers.ensures.stand in
     rw (c.deref.ensures.value, c.deref-then-is_none.ensures.value) (c.in_ok-found.ensures.counts ∙ same)
 
 pub returns-clause-further : goal.returns-clause-further
@@ -26,7 +26,7 @@ returns-clause-further g c = record { behind = c.in_ok-numbers.ensures.links.ext
 pub returns-clause-fills : goal.returns-clause-fills
 returns-clause-fills g c = λ own roots placed.
     let old = c.args.self.now in
-    let vs = old.visits.items in
+    let vs = old.visits.list.items in
     let i = c.len-next.result in
     let v = c.index.result.now in
     let found = c.in_ok-found.found in
@@ -34,7 +34,7 @@ returns-clause-fills g c = λ own roots placed.
     let read = c.in_ok-found.ensures in
     let ns = c.in_ok-numbers.numbers.items in
     let node = c.in_ok-node_of.field-0 in
-    let us = c.link.new.visits.items in
+    let us = c.link.new.visits.list.items in
     let es = c.link.new.edges.items in
     let texts = texts_of_table c.read.new.table in
     let finds = g.M.PatternMatcher.finds in
@@ -56,7 +56,7 @@ returns-clause-fills g c = λ own roots placed.
       | else-is_none w ↦
           fits-empty (is_none cause) texts found.askings.items ns _ (sym (told-none cause c.is_none-2.result c.is_none-2.ensures) ∙ w.if-is_none.false) (rw w.keywords-is w.new-keywords.ensures.items)
     ] in
-    let step : Step finds p old (record { visits = c.link.new.visits; visited = c.link.new.visited; nodes = c.push.new.self; edges = c.link.new.edges; wrong = c.note.new.wrong; table = c.read.new.table }) v found cause ns node = record {
+    let step : Step finds p old (record { visits = c.link.new.visits; nodes = c.push.new.self; edges = c.link.new.edges; wrong = c.note.new.wrong; table = c.read.new.table }) v found cause ns node = record {
       at = subst (λ n. slice_get vs n ≡ Some v) here at;
       read = read.read;
       filled = read.filled;
@@ -64,7 +64,6 @@ returns-clause-fills g c = λ own roots placed.
       grows = read.grows;
       written_here = read.written;
       links = subst (λ n. Links n vs us found.visits.items old.edges.items es) here linked;
-      apart = c.in_ok-numbers.ensures.apart;
       stand = subst (λ n. AllZip (StandsFor n us es) found.visits.items ns) here c.in_ok-numbers.ensures.stand;
       noted = noted;
       compiled = λ t. subst (λ ks. Compiled texts found.askings.items ns ks) (sym keeps.keywords) (fitting.compiled t);

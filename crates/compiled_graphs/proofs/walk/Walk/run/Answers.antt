@@ -7,7 +7,7 @@ use Rattle.compiled_graphs.proofs.walk.Walk.run.Goals as goal
 
 pub loop-alloc-init : goal.loop-alloc-init
 loop-alloc-init g c =
-    let vs = c.args.self.visits.items in
+    let vs = c.args.self.visits.list.items in
     let none : length c.args.self.nodes.items ≡ 0 = ap length c.requires.begun in
     record {
       further = same-front vs vs refl;
@@ -21,9 +21,9 @@ returns-then-len-limit-clause-refused g c = λ own roots placed w.
     let now = c.loop-alloc.self in
     let known = (c.loop-alloc.invariant.walks own roots placed w).0 in
     let makes = (g.P.PatternMaker.patterns c.args.maker.now).makes in
-    let count = c.len-in-loop-alloc-2.ensures ∙ now.visits.ok.0 in
-    let more : c.args.limit < length now.visits.items = omega (arith, c.if-len-limit.true, count) in
-    inl (record { named = refl; exceeds = keys-exceed own makes roots now.visits.items now.edges.items now.wrong.items (length now.nodes.items) known.graph known.apart c.args.limit more })
+    let count = c.len-in-loop-alloc-2.ensures ∙ now.visits.list.ok.0 in
+    let more : c.args.limit < length now.visits.list.items = omega (arith, c.if-len-limit.true, count) in
+    inl (record { named = refl; exceeds = keys-exceed own makes roots now.visits.list.items now.edges.items now.wrong.items (length now.nodes.items) known.graph now.visits.filed.apart c.args.limit more })
 
 pub loop-alloc-preserved : goal.loop-alloc-preserved
 loop-alloc-preserved g c =
@@ -32,19 +32,19 @@ loop-alloc-preserved g c =
     let known = c.loop-alloc.invariant in
     let filled = c.in_ok-cause.ensures in
     let nodes = c.len.ensures ∙ now.nodes.ok.0 in
-    let visits = c.len-in-loop-alloc.ensures ∙ now.visits.ok.0 in
-    let again = c.len-in-loop-alloc-2.ensures ∙ now.visits.ok.0 in
+    let visits = c.len-in-loop-alloc.ensures ∙ now.visits.list.ok.0 in
+    let again = c.len-in-loop-alloc-2.ensures ∙ now.visits.list.ok.0 in
     let one = filled.one in
-    let before : length now.nodes.items < length now.visits.items = omega (arith, c.loop-alloc-test.true, nodes, visits) in
-    let few : length now.visits.items ≤ c.args.limit = omega (arith, c.if-len-limit.false, again) in
-    let longer = front-length now.visits.items next.visits.items filled.further in
+    let before : length now.nodes.items < length now.visits.list.items = omega (arith, c.loop-alloc-test.true, nodes, visits) in
+    let few : length now.visits.list.items ≤ c.args.limit = omega (arith, c.if-len-limit.false, again) in
+    let longer = front-length now.visits.list.items next.visits.list.items filled.further in
     record {
       further = further-front known.further filled.further;
       walks = λ own roots placed w.
           let was = known.walks own roots placed w in
           let f = filled.fills own roots placed in
           (f.walks was.0, still-none c.args.at_cause now.wrong.items next.wrong.items c.in_ok-cause.cause c.in_ok-stopped.ensures.goes f.right was.1);
-      few = few-where (length next.visits.items) (length next.nodes.items) c.args.limit (omega (arith, one, before, few));
+      few = few-where (length next.visits.list.items) (length next.nodes.items) c.args.limit (omega (arith, one, before, few));
       within = omega (arith, one, before, longer);
     }
 
@@ -62,9 +62,9 @@ returns-clause-walked g c = λ own roots placed w.
     let known = c.loop-alloc.invariant in
     let both = known.walks own roots placed w in
     let nodes = c.len.ensures ∙ now.nodes.ok.0 in
-    let visits = c.len-in-loop-alloc.ensures ∙ now.visits.ok.0 in
-    let all : length now.visits.items ≤ length now.nodes.items = omega (arith, c.loop-alloc-test.false, nodes, visits) in
-    record { walks = both.0; all = all; few = few-at-end (length now.visits.items) (length now.nodes.items) c.args.limit known.few all; right = both.1 }
+    let visits = c.len-in-loop-alloc.ensures ∙ now.visits.list.ok.0 in
+    let all : length now.visits.list.items ≤ length now.nodes.items = omega (arith, c.loop-alloc-test.false, nodes, visits) in
+    record { walks = both.0; all = all; few = few-at-end (length now.visits.list.items) (length now.nodes.items) c.args.limit known.few all; right = both.1 }
 
 pub returns-clause-further : goal.returns-clause-further
 returns-clause-further g c = c.loop-alloc.invariant.further

@@ -14,8 +14,8 @@ invariant-loop-alloc g l =
     let finds = g.M.PatternMatcher.finds in
     let p = g.P.PatternMaker.patterns l.maker in
     record {
-      further : IsFront l.initial.self.visits.items l.self.visits.items;
+      further : IsFront l.initial.self.visits.list.items l.self.visits.list.items;
       walks : (own : List Document) (roots : List Site) → ArePlaced own roots → Walks finds p own roots l.initial.self → Walks finds p own roots l.self × NoneWrong l.at_cause l.self.wrong.items;
-      few : FewOrMore (length l.self.visits.items) (length l.self.nodes.items) l.limit;
-      within : length l.self.nodes.items ≤ length l.self.visits.items;
+      few : FewOrMore (length l.self.visits.list.items) (length l.self.nodes.items) l.limit;
+      within : length l.self.nodes.items ≤ length l.self.visits.list.items;
     }

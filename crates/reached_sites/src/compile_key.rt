@@ -1,0 +1,103 @@
+//! Compile keys: what tells one visit from another.
+
+ghost use Rattle.std.specs.Prelude.{◌≡◌};
+ghost use Rattle.std.specs.Bool.{Decides};
+ghost use Rattle.std.specs.Cmp.{on_per, on_equiv};
+ghost use Rattle.referencing.specs.Keys.{key_of};
+ghost use Rattle.reached_sites.specs.Keyed.{AreOne, key_fed, key_in, keys_equal, keys_equal_equiv, keys_equal_per, keys_fed_alike};
+
+use crate::place::SchemaPlace;
+use referencing::ScopeKey;
+use schema_dialects::{Dialect, KnownVocabularies};
+use schema_steps::Path;
+use std::hash::{Hash, Hasher};
+use std::rc::Rc;
+use uri_references::uri::Uri;
+
+/// What tells one visit from another: its place, base, dialect, the key of its scope, and its schema path. It shares them with the visit.
+#[derive(Drop)]
+pub struct CompileKey {
+    pub(crate) place: SchemaPlace,
+    pub(crate) base: Rc<Uri>,
+    pub(crate) dialect: Dialect,
+    pub(crate) scope: Rc<ScopeKey>,
+    pub(crate) schema_path: Path,
+}
+
+// Whether the same vocabularies are required.
+fn are_same(one: Option<KnownVocabularies>, other: Option<KnownVocabularies>) -> bool
+    ensures { Decides result (one ≡ other) }
+{
+    one == other
+}
+
+fn is_one_dialect(one: Dialect, other: Dialect) -> bool
+    ensures { Decides result (one ≡ other) }
+{
+    one.draft == other.draft
+        && one.siblings == other.siblings
+        && are_same(one.required, other.required)
+}
+
+fn is_one_scope(one: &ScopeKey, other: &ScopeKey) -> bool
+    ensures { Decides result (key_of one.now ≡ key_of other.now) }
+{
+    one == other
+}
+
+fn is_one_base(one: &Uri, other: &Uri) -> bool
+    ensures { Decides result (one.now ≡ other.now) }
+{
+    one.as_str() == other.as_str()
+}
+
+impl CompileKey {
+    // Whether both tell the same.
+    fn is(&self, other: &CompileKey) -> bool
+        ensures { Decides result (AreOne self.now other.now) }
+    {
+        if self.schema_path != other.schema_path {
+            return false;
+        }
+        if !self.place.is(&other.place) {
+            return false;
+        }
+        if !is_one_scope(&*self.scope, &*other.scope) {
+            return false;
+        }
+        if !is_one_dialect(self.dialect, other.dialect) {
+            return false;
+        }
+        is_one_base(&*self.base, &*other.base)
+    }
+}
+
+/// Keys are equal where each part is. It is linear in the paths and the scope key.
+impl PartialEq for CompileKey {
+    ghost eq = { keys_equal };
+
+    ghost laws = { keys_equal_per };
+
+    fn eq(&self, other: &CompileKey) -> bool {
+        self.is(other)
+    }
+}
+
+impl Eq for CompileKey {
+    ghost laws = { keys_equal_equiv };
+}
+
+/// The dialect is left out: places that differ in it alone are few.
+impl Hash for CompileKey {
+    ghost hash_input = { λ key. key_fed (key_in key) };
+
+    ghost respects_eq = { keys_fed_alike };
+
+    fn hash<H: Hasher>(&self, state: &mut H) {
+        self.place.document.hash(state);
+        self.place.path.hash(state);
+        self.base.hash(state);
+        self.scope.hash(state);
+        self.schema_path.hash(state);
+    }
+}
