@@ -39,7 +39,7 @@ const BY_SCOPES: &str = r##"{"rows": [
 const SEVERAL_ROOTS: &str = r##"{"rows": [
     [{"http://a.test/r": {"$defs": {"a": true, "b": {"type": 5}, "c": {"$ref": "#/$defs/b"}, "d": {"items": {"$ref": "#/$defs/a"}}}}},
         ["#/$defs/a", "#/$defs/b", "#/$defs/c", "#/$defs/none", "#/$defs/a", "#/$defs/d"], "7: 0 - - - 0 3"],
-    [{"http://a.test/r": {"properties": {"a": {"properties": {"b": true}}}}}, ["", "#/properties/a"], "4: 0 1"]
+    [{"http://a.test/r": {"properties": {"a": {"properties": {"b": true}}}}}, ["", "#/properties/a"], "5: 0 1"]
 ]}"##;
 
 fn prepared(rt: &impl Abort, alloc: Global, documents: &Value) -> SharedRegistry {
