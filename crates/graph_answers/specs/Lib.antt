@@ -1,0 +1,3 @@
+pub mod Tables
+pub mod Linking
+pub mod Answers
