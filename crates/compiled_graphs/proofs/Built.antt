@@ -22,6 +22,8 @@ use Rattle.schema_engine.specs.declared.node.Node.{Node}
 use Rattle.compiled_keywords.specs.Shapes.{shape_of, Knows}
 use Rattle.compiled_keywords.specs.declared.keyword.Keyword.{Keyword}
 use Rattle.keyword_compilers.specs.Patterns.{table_texts}
+use Rattle.graph_answers.specs.Tables.{AreForms}
+use Rattle.graph_answers.proofs.TableReads.{forms_of_made}
 use Rattle.reached_sites.specs.Causes.{RefusesWithin}
 use Rattle.reached_sites.specs.Patterns.{IsFront}
 use Rattle.reached_sites.specs.Roots.{IsPlaced}
@@ -157,6 +159,9 @@ module _ {M : Type 0} (finds : M → List ℕ → Option Bool) (p : Patterns) (o
     begins = of-visited own vs graph.belongs (root_site root) 0 begins;
     within = (let all = walked.all in let one = within vs 0 begins.visit begins.there in omega (arith, all, one));
   }
+
+  pub forms : AreForms finds w.table
+  forms = forms_of_made finds w.table p.finished made
 
   pub knows : KnowsTable w.nodes.items w.table
   knows = are-known own p.makes vs w.edges.items w.wrong.items (texts_of_table w.table) w.nodes.items walked.walks.nodes walked.all

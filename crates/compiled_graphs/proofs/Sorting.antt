@@ -20,11 +20,13 @@ use Rattle.reading_laws.specs.SiteLaws.{AreAlike}
 use Rattle.marked_nodes.specs.Leading.{LeadsTo, here, along}
 use Rattle.marked_nodes.specs.Sources.{IsWithin}
 use Rattle.marked_nodes.specs.declared.graph.Edge.{Edge}
-use Rattle.schema_engine.specs.Graphs.{reading_of, AreKnown}
+use Rattle.schema_engine.specs.Graphs.{reading_of, IsSound as Sounds}
 use Rattle.schema_engine.specs.declared.node.Node.{Node}
-use Rattle.compiled_keywords.specs.Shapes.{shape_of, Knows}
-use Rattle.keyword_compilers.specs.Patterns.{table_texts}
+use Rattle.compiled_keywords.specs.Shapes.{shape_of}
+use Rattle.graph_answers.specs.Tables.{AreForms}
+use Rattle.graph_answers.proofs.TableReads.{forms_of_made}
 use Rattle.compiled_keywords.specs.declared.keyword.Keyword.{Keyword}
+use Rattle.reached_sites.specs.Patterns.{IsFront}
 use Rattle.reached_sites.specs.Visits.{site_of, Belongs}
 use Rattle.reached_sites.specs.declared.visit.Visit.{Visit}
 use Rattle.compiled_graphs.specs.Filled.{IsReached}
@@ -34,14 +36,15 @@ use Rattle.compiled_graphs.specs.Linking.{as_spelled, StandsFor, IsCompiledAt, K
 use Rattle.compiled_graphs.specs.Marked.{IsMarked, IsNode, AreNodes}
 use Rattle.compiled_graphs.specs.Several.{root_from, AreDecided, StartsAtNode, AreBuilt}
 use Rattle.compiled_graphs.specs.Starts.{sites_from, LeadsNowhere, Starts, StartsAt, Start}
-use Rattle.compiled_graphs.specs.Walked.{Notes, IsWalked}
-use Rattle.compiled_graphs.specs.declared.several.SchemaGraphs.{SchemaGraphs}
+use Rattle.compiled_graphs.specs.Walked.{Notes, Walks, IsBegun, IsWalked}
+use Rattle.compiled_graphs.specs.declared.several.CompiledEach.{CompiledEach}
 use Rattle.compiled_graphs.specs.declared.walk.AtCause.TheVariants.{GoOn}
 use Rattle.compiled_graphs.specs.declared.walk.Walk.{Walk}
-use Rattle.compiled_graphs.proofs.Begun.{sites-visited}
+use Rattle.compiled_graphs.proofs.Begun.{sites-visited, start-later}
 use Rattle.compiled_graphs.proofs.Built.{all-read}
 use Rattle.compiled_graphs.proofs.Ending.{leads-wrong, no-cause, all-among, keys-within}
-use Rattle.compiled_graphs.proofs.Meaning.{same-order, are-known, keywords-mean, paths-mean}
+use Rattle.compiled_graphs.proofs.Meaning.{same-order, is-sound, are-known, keywords-mean, paths-mean}
+use Rattle.compiled_graphs.proofs.Walks.{begun-walks}
 use Rattle.compiled_graphs.proofs.Positions.{in-place, within, all-of, same-all}
 -- ---- all are nodes
 
@@ -252,14 +255,37 @@ module _ {M : Type 0} (finds : M → List ℕ → Option Bool) (p : Patterns) (o
   holds-each (_ ∷ qs) (o ∷ os) (b ∷ bs) h c r first sound = holds-at r o true h.0 b c.0 sound
   holds-each (q ∷ qs) (o ∷ os) (b ∷ bs) h c r (later i) sound = holds-each qs os bs h.1 c.1 r i sound
 
-  pub are-built : (g : SchemaGraphs M) (os : List (Option ℕ)) → Start own base vs rs os → AllZip (IsMarked marks) os g.starts.items → g.graph.nodes.items ≡ w.nodes.items → g.table ≡ w.table
-      → AreBuilt finds p own base rs limit g
+  pub are-built : (g : CompiledEach M) (os : List (Option ℕ)) → Start own base vs rs os → AllZip (IsMarked marks) os g.starts.items → g.schemas.graph.nodes.items ≡ w.nodes.items
+      → g.schemas.table ≡ w.table → AreBuilt finds p own base rs limit g
   are-built g os starts c is same = record {
     decided = all-decided rs os g.starts.items starts c;
     within = keys-within own p.makes roots vs es wrong graph (sites-visited own base vs rs os starts) limit walked.few;
     patterns = λ r i sound. subst (λ x. HoldsPatterns p (root_from own base r) (texts_of_table x)) (sym same) (holds-each rs os g.starts.items starts c r i sound);
     made = subst (λ x. AreMadeBy finds p.finished x) (sym same) walked.walks.filled.made;
     compiled = subst (λ ns. AllZip (StartsAtNode p.makes own base ns) rs g.starts.items) (sym is) (all-start rs os g.starts.items starts c);
-    known = subst (λ x. KnowsTable g.graph.nodes.items x) (sym same) (subst (λ ns. AreKnown Knows (table_texts (texts_of_table w.table)) ns) (sym is)
-        (are-known own p.makes vs es wrong (texts_of_table w.table) w.nodes.items walked.walks.nodes walked.all));
   }
+
+-- ---- a walk from several roots
+
+module _ {M : Type 0} (finds : M → List ℕ → Option Bool) (p : Patterns) (own : List Document) (base : List ℕ) (rs : List (List ℕ)) (limit : ℕ) (w : Walk M)
+    (walked : IsWalked finds p own (sites_from own base rs) limit GoOn w) where
+  pub all-graph : IsGraph own p.makes (sites_from own base rs) w.visits.list.items w.edges.items w.wrong.items (length w.visits.list.items)
+  all-graph = all-read own p.makes (sites_from own base rs) w.visits.list.items w.edges.items w.wrong.items (length w.nodes.items) walked.all walked.walks.graph
+
+  pub each-sound : Sounds shape_of w.nodes.items
+  each-sound = is-sound own p.makes w.visits.list.items w.edges.items w.wrong.items (texts_of_table w.table) w.nodes.items walked.walks.nodes walked.all
+
+  pub each-known : KnowsTable w.nodes.items w.table
+  each-known = are-known own p.makes w.visits.list.items w.edges.items w.wrong.items (texts_of_table w.table) w.nodes.items walked.walks.nodes walked.all
+
+  pub each-forms : AreForms finds w.table
+  each-forms = forms_of_made finds w.table p.finished walked.walks.filled.made
+
+module _ {M : Type 0} (finds : M → List ℕ → Option Bool) (p : Patterns) (own : List Document) (base : List ℕ) (rs : List (List ℕ)) (begun : Walk M) (visits : List Visit) (os : List (Option ℕ))
+    (b : IsBegun begun visits) (starts : Start own base visits rs os) (graph : (makes : List ℕ → Bool) → IsGraph own makes (sites_from own base rs) visits [] [] 0) where
+  pub walks-from : Walks finds p own (sites_from own base rs) begun
+  walks-from = begun-walks finds p own (sites_from own base rs) begun visits b (graph p.makes)
+
+  pub starts-then : (w : Walk M) → IsFront begun.visits.list.items w.visits.list.items → Start own base w.visits.list.items rs os
+  starts-then w f =
+      start-later own base begun.visits.list.items w.visits.list.items f.behind rs os f.is (subst (λ (vs : List Visit). Start own base vs rs os) (sym b.visits_are) starts)

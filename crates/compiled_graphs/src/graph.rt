@@ -1,6 +1,6 @@
 //! Graphs of schemas.
 
-ghost use Rattle.std.specs.Prelude.{◌∷◌, [], IfOk, IfErr};
+ghost use Rattle.std.specs.Prelude.{◌<◌, ◌∷◌, [], length, IfOk, IfErr};
 ghost use Rattle.reading_laws.specs.Asked.{AreAmong};
 ghost use Rattle.reading_laws.specs.Keys.{AreWithin};
 ghost use Rattle.referencing.specs.Resolved.{documents_in, target_in};
@@ -10,25 +10,24 @@ ghost use Rattle.schema_definitions.specs.Sites.{root_site};
 ghost use Rattle.schema_patterns.specs.Tables.{texts_of_table, AreMadeBy};
 ghost use Rattle.reached_sites.specs.Causes.{RefusesWithin};
 ghost use Rattle.reached_sites.specs.Roots.{IsPlaced};
-ghost use Rattle.compiled_graphs.specs.Linking.{IsCompiledAt, KnowsTable};
+ghost use Rattle.compiled_graphs.specs.Linking.{IsCompiledAt};
 
+use crate::schemas::SchemaGraph;
 use crate::starting::start_at;
 use crate::walk::{AtCause, Walk};
-use compiled_keywords::keyword::Keyword;
 use reached_sites::cause::BuildCause;
 use referencing::Resolved;
 use schema_engine::graph::Graph;
 use schema_patterns::matches::Matches;
-use schema_patterns::{PatternMaker, PatternMatcher, PatternTable};
+use schema_patterns::{PatternMaker, PatternMatcher};
 use std::alloc::{AllocError, Global};
 
-/// The schemas that are reached from a root, compiled into numbered nodes, each once for each compile key, with the patterns that they ask for
-/// and the number of the root's node. It borrows from no document.
+/// The schemas that are reached from a root, and the number of the root's node.
 #[derive(Drop)]
-pub struct SchemaGraph<M> {
-    pub graph: Graph<Keyword>,
+pub struct Compiled<M: PatternMatcher> {
+    pub schemas: SchemaGraph<M>,
     pub start: usize,
-    pub table: PatternTable<M>,
+    pub ghost there: { start < length schemas.graph.nodes.items },
 }
 
 // The graph from a root, with the matches that its visits carry.
@@ -38,23 +37,24 @@ fn build_from<'r, P: PatternMaker>(
     matches: &'r Matches,
     maker: &P,
     limit: usize,
-) -> Result<SchemaGraph<P::Matcher>, BuildCause>
+) -> Result<Compiled<P::Matcher>, BuildCause>
     requires placed { IsPlaced (documents_in root.now.resolver) (target_in root.now) }
     ensures accepted { IfOk result (λ g. (c : rows.BuildCause) → IsCauseOf (documents_in root.now.resolver) (P.patterns maker.now).makes (root_site (target_in root.now)) c → ⊥) }
     ensures within { IfOk result (λ g. AreWithin (documents_in root.now.resolver) (P.patterns maker.now).makes (root_site (target_in root.now) ∷ []) limit) }
-    ensures patterns { IfOk result (λ g. AreAmong (documents_in root.now.resolver) (P.patterns maker.now).makes (root_site (target_in root.now)) (texts_of_table g.table)) }
-    ensures made { IfOk result (λ g. AreMadeBy P.Matcher.finds (P.patterns maker.now).finished g.table) }
-    ensures linked { IfOk result (λ g. IsCompiledAt (documents_in root.now.resolver) (P.patterns maker.now).makes g.graph.nodes.items (root_site (target_in root.now)) g.start) }
-    ensures known { IfOk result (λ g. KnowsTable g.graph.nodes.items g.table) }
+    ensures patterns { IfOk result (λ g. AreAmong (documents_in root.now.resolver) (P.patterns maker.now).makes (root_site (target_in root.now)) (texts_of_table g.schemas.table)) }
+    ensures made { IfOk result (λ g. AreMadeBy P.Matcher.finds (P.patterns maker.now).finished g.schemas.table) }
+    ensures linked { IfOk result (λ g. IsCompiledAt (documents_in root.now.resolver) (P.patterns maker.now).makes g.schemas.graph.nodes.items (root_site (target_in root.now)) g.start) }
     ensures refused { IfErr result (RefusesWithin (documents_in root.now.resolver) (P.patterns maker.now).makes (root_site (target_in root.now)) limit) }
 {
     let visits = start_at(alloc, root, matches)?;
     let begun = Walk::new(alloc, visits);
     let walk = begun.run(alloc, maker, limit, AtCause::Stop)?;
-    Ok(SchemaGraph {
-        graph: Graph { nodes: walk.nodes },
+    Ok(Compiled {
+        schemas: SchemaGraph {
+            graph: Graph { nodes: walk.nodes },
+            table: walk.table,
+        },
         start: 0,
-        table: walk.table,
     })
 }
 
@@ -73,14 +73,13 @@ pub fn build<P: PatternMaker>(
     root: &Resolved<'_>,
     maker: &P,
     limit: usize,
-) -> Result<SchemaGraph<P::Matcher>, BuildCause>
+) -> Result<Compiled<P::Matcher>, BuildCause>
     requires placed { IsPlaced (documents_in root.now.resolver) (target_in root.now) }
     ensures accepted { IfOk result (λ g. (c : rows.BuildCause) → IsCauseOf (documents_in root.now.resolver) (P.patterns maker.now).makes (root_site (target_in root.now)) c → ⊥) }
     ensures within { IfOk result (λ g. AreWithin (documents_in root.now.resolver) (P.patterns maker.now).makes (root_site (target_in root.now) ∷ []) limit) }
-    ensures patterns { IfOk result (λ g. AreAmong (documents_in root.now.resolver) (P.patterns maker.now).makes (root_site (target_in root.now)) (texts_of_table g.table)) }
-    ensures made { IfOk result (λ g. AreMadeBy P.Matcher.finds (P.patterns maker.now).finished g.table) }
-    ensures linked { IfOk result (λ g. IsCompiledAt (documents_in root.now.resolver) (P.patterns maker.now).makes g.graph.nodes.items (root_site (target_in root.now)) g.start) }
-    ensures known { IfOk result (λ g. KnowsTable g.graph.nodes.items g.table) }
+    ensures patterns { IfOk result (λ g. AreAmong (documents_in root.now.resolver) (P.patterns maker.now).makes (root_site (target_in root.now)) (texts_of_table g.schemas.table)) }
+    ensures made { IfOk result (λ g. AreMadeBy P.Matcher.finds (P.patterns maker.now).finished g.schemas.table) }
+    ensures linked { IfOk result (λ g. IsCompiledAt (documents_in root.now.resolver) (P.patterns maker.now).makes g.schemas.graph.nodes.items (root_site (target_in root.now)) g.start) }
     ensures refused { IfErr result (RefusesWithin (documents_in root.now.resolver) (P.patterns maker.now).makes (root_site (target_in root.now)) limit) }
 {
     let matches = Matches::none(alloc);

@@ -6,6 +6,7 @@ mod filling;
 pub mod graph;
 mod linking;
 mod reading;
+pub mod schemas;
 pub mod several;
 mod starting;
 mod walk;

@@ -2,32 +2,55 @@
 
 ghost use Rattle.std.specs.Prelude.{◌≡◌, true, map, length, string_bytes, IfOk, IfErr};
 ghost use Rattle.std.specs.List.{list_all, All, AllZip};
+ghost use Rattle.serde_json.specs.View.{view};
 ghost use Rattle.document_laws.specs.TargetLaws.{are_apart, contents_rise};
 ghost use Rattle.referencing.specs.Resolved.{base_of, documents_in};
 ghost use Rattle.referencing.specs.Seen.{documents_of};
 ghost use Rattle.compiled_graphs.specs.Causes.{RefusesFrom};
 ghost use Rattle.compiled_graphs.specs.Marked.{IsMarked, IsNode};
-ghost use Rattle.compiled_graphs.specs.Several.{AreBuilt};
+ghost use Rattle.compiled_graphs.specs.Several.{AnswersAt, AreBuilt};
 
+use crate::schemas::SchemaGraph;
 use crate::starting::start;
 use crate::walk::{AtCause, Walk};
-use compiled_keywords::keyword::Keyword;
 use marked_nodes::leading_to;
 use reached_sites::cause::BuildCause;
 use referencing::{Registry, Resolver};
 use schema_engine::graph::Graph;
 use schema_patterns::matches::Matches;
-use schema_patterns::{PatternMaker, PatternTable};
+use schema_patterns::{PatternMaker, PatternMatcher};
+use serde_json::Value;
 use std::alloc::{AllocError, Global};
 use uri_references::uri::Uri;
 
-/// The schemas that are reached from several roots, as one graph, with the patterns that they ask for, and for each root the number of its
-/// node, or none where it may not be read: it leads nowhere, or to a cause.
+/// The schemas that are reached from several roots, and for each root the number of its node, or none where it may not be read: it leads
+/// nowhere, or to a cause.
 #[derive(Drop)]
-pub struct SchemaGraphs<M> {
-    pub graph: Graph<Keyword>,
+pub struct CompiledEach<M: PatternMatcher> {
+    pub schemas: SchemaGraph<M>,
     pub starts: Vec<Option<usize>>,
-    pub table: PatternTable<M>,
+    pub ghost there: { All (IsNode (length schemas.graph.nodes.items)) starts.items },
+}
+
+impl<M: PatternMatcher> CompiledEach<M> {
+    /// Whether a value is valid from the root at a position on, or nothing where that may not be read.
+    ///
+    /// # Errors
+    ///
+    /// Where memory was refused.
+    pub fn is_valid(
+        &self,
+        alloc: Global,
+        position: usize,
+        value: &Value,
+    ) -> Result<Option<bool>, AllocError>
+        ensures { IfOk result (AnswersAt M.finds self.now position (view value.now)) }
+    {
+        match self.starts.get(position) {
+            Some(Some(start)) => Ok(Some(self.schemas.is_valid(alloc, *start, value)?)),
+            _ => Ok(None),
+        }
+    }
 }
 
 // A start that leads to no node that is marked.
@@ -71,7 +94,7 @@ fn build_from<'r, P: PatternMaker>(
     matches: &'r Matches,
     maker: &P,
     limit: usize,
-) -> Result<SchemaGraphs<P::Matcher>, BuildCause>
+) -> Result<CompiledEach<P::Matcher>, BuildCause>
     requires apart { are_apart (documents_in resolver.now) ≡ true }
     requires rise { list_all contents_rise (documents_in resolver.now) ≡ true }
     ensures built { IfOk result (AreBuilt P.Matcher.finds (P.patterns maker.now) (documents_in resolver.now) (base_of resolver.now) (map string_bytes references.now) limit) }
@@ -84,10 +107,12 @@ fn build_from<'r, P: PatternMaker>(
     let (edges, wrong) = (walk.edges.as_slice(), walk.wrong.as_slice());
     let marks = leading_to(alloc, count, edges, wrong)?;
     let starts = clear_starts(alloc, started.starts, marks.as_slice())?;
-    Ok(SchemaGraphs {
-        graph: Graph { nodes: walk.nodes },
+    Ok(CompiledEach {
+        schemas: SchemaGraph {
+            graph: Graph { nodes: walk.nodes },
+            table: walk.table,
+        },
         starts,
-        table: walk.table,
     })
 }
 
@@ -98,7 +123,7 @@ fn build_by<P: PatternMaker>(
     references: &[String],
     maker: &P,
     limit: usize,
-) -> Result<SchemaGraphs<P::Matcher>, BuildCause>
+) -> Result<CompiledEach<P::Matcher>, BuildCause>
     requires apart { are_apart (documents_in resolver.now) ≡ true }
     requires rise { list_all contents_rise (documents_in resolver.now) ≡ true }
     ensures built { IfOk result (AreBuilt P.Matcher.finds (P.patterns maker.now) (documents_in resolver.now) (base_of resolver.now) (map string_bytes references.now) limit) }
@@ -125,7 +150,7 @@ pub fn build_each<P: PatternMaker>(
     references: &[String],
     maker: &P,
     limit: usize,
-) -> Result<SchemaGraphs<P::Matcher>, BuildCause>
+) -> Result<CompiledEach<P::Matcher>, BuildCause>
     requires apart { are_apart (documents_of registry.now) ≡ true }
     ensures built { IfOk result (AreBuilt P.Matcher.finds (P.patterns maker.now) (documents_of registry.now) base.now (map string_bytes references.now) limit) }
     ensures refused { IfErr result (RefusesFrom (P.patterns maker.now).makes (documents_of registry.now) base.now (map string_bytes references.now) limit) }

@@ -37,7 +37,7 @@ fn read_reached<P: PatternMaker>(
     ensures { IfOk result (ReadsPlaced (P.patterns maker.now) root.now (view value.now)) }
 {
     match build(alloc, root, maker, usize::MAX) {
-        Ok(graph) => Ok(Some(Matches::read(alloc, &graph.table, value)?)),
+        Ok(compiled) => Ok(Some(Matches::read(alloc, &compiled.schemas.table, value)?)),
         Err(cause) => {
             if is_of_schemas(&cause) {
                 Ok(None)

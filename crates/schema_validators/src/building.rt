@@ -48,7 +48,7 @@ fn check_at<P: PatternMaker>(
     registry.documents_are_apart();
     registry.registry().names_rise();
     match build(alloc, &found, maker, node_limit) {
-        Ok(graph) => Ok((found.draft(), graph.table)),
+        Ok(compiled) => Ok((found.draft(), compiled.schemas.table)),
         Err(cause) => Err(BuildError::of_schema(cause)),
     }
 }

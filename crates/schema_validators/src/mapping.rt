@@ -132,7 +132,7 @@ fn map_of<P: PatternMaker>(
         document,
         pointers.as_slice(),
         right.as_slice(),
-        built.table,
+        built.schemas.table,
     )?;
     Ok(map)
 }

@@ -1,6 +1,6 @@
 // Graphs of what is reached: how many nodes there are, and at which of them each root starts.
 use crate::rows::assert_text;
-use compiled_graphs::several::{SchemaGraphs, build_each};
+use compiled_graphs::several::{CompiledEach, build_each};
 use document_sources::DefaultRetriever;
 use schema_drafts::draft::Draft;
 use schema_patterns::bench::{ScriptedMaker, ScriptedMatcher};
@@ -77,15 +77,15 @@ fn graphs_of(
     alloc: Global,
     registry: &SharedRegistry,
     roots: &[String],
-) -> SchemaGraphs<ScriptedMatcher> {
+) -> CompiledEach<ScriptedMatcher> {
     let base = from_str(alloc, "http://a.test/r").expect(rt, "a URI");
     let maker = ScriptedMaker::new(alloc);
     registry.documents_are_apart();
     build_each(alloc, registry.registry(), &base, roots, &maker, 65_536).expect(rt, "graphs")
 }
 
-fn shown(rt: &impl Abort, alloc: Global, graphs: &SchemaGraphs<ScriptedMatcher>) -> String {
-    let mut output = format!(in alloc; "{}:", graphs.graph.nodes.len()).expect(rt, "memory");
+fn shown(rt: &impl Abort, alloc: Global, graphs: &CompiledEach<ScriptedMatcher>) -> String {
+    let mut output = format!(in alloc; "{}:", graphs.schemas.graph.nodes.len()).expect(rt, "memory");
     for start in &graphs.starts {
         match start {
             Some(position) => write!(output, " {position}").expect(rt, "memory"),
@@ -130,8 +130,8 @@ fn patterns_stand_once(rt: HostRuntime) {
     let registry = prepared(&rt, alloc, &documents);
     let roots = texts_of(&rt, alloc, &Value::from_str(alloc, r#"[""]"#).expect(&rt, "JSON"));
     let graphs = graphs_of(&rt, alloc, &registry, roots.as_slice());
-    assert!(rt; graphs.table.len() == 3);
+    assert!(rt; graphs.schemas.table.len() == 3);
     for (pattern, stands) in [("a.c", true), ("b", true), ("^c", true), ("d", false)] {
-        assert!(rt; graphs.table.get(pattern).is_some() == stands, "{pattern}");
+        assert!(rt; graphs.schemas.table.get(pattern).is_some() == stands, "{pattern}");
     }
 }

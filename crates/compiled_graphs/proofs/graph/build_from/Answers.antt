@@ -2,7 +2,7 @@ use Rattle.std.proofs.Common.{[], ◌∷◌}
 use Rattle.std.proofs.lemmas.Result.{err_from_is_err_and}
 use Rattle.referencing.specs.Resolved.{documents_in, target_in}
 use Rattle.schema_definitions.specs.Sites.{root_site}
-use Rattle.compiled_graphs.proofs.Built.{IsBuilt, IsStarted, one-placed, refuses-one, walks-from-root, built-of, accepted, within-limit, patterns-among, made, sound, compiled-at, knows}
+use Rattle.compiled_graphs.proofs.Built.{IsBuilt, IsStarted, one-placed, refuses-one, walks-from-root, built-of, accepted, within-limit, patterns-among, made, sound, compiled-at, forms, knows}
 use Rattle.compiled_graphs.proofs.graph.build_from.Goals as goal
 
 pub returns-in_err-walk-clause-refused : goal.returns-in_err-walk-clause-refused
@@ -30,7 +30,12 @@ invariant_of-result g c =
     let started : IsStarted own root c.in_ok-visits.visits.list.items = record { visited_first = s.visited; graph = s.graph } in
     let b : IsBuilt finds p own root limit w = built-of finds p own root limit c.new-begun.result c.in_ok-visits.visits.list.items c.requires.placed c.new-begun.ensures started w
     c.in_ok-walk.ensures.further c.in_ok-walk.ensures.walked in
-    record { sound = sound finds p own root limit w b.walked b.begins }
+    record {
+      sound = sound finds p own root limit w b.walked b.begins;
+      known = knows finds p own root limit w b.walked b.begins;
+      forms = forms finds p own root limit w b.walked b.begins;
+      there = (compiled-at finds p own root limit w b.walked b.begins).within;
+    }
 
 pub returns-clause-accepted : goal.returns-clause-accepted
 returns-clause-accepted g c =
@@ -101,17 +106,3 @@ returns-clause-linked g c =
     let b : IsBuilt finds p own root limit w = built-of finds p own root limit c.new-begun.result c.in_ok-visits.visits.list.items c.requires.placed c.new-begun.ensures started w
     c.in_ok-walk.ensures.further c.in_ok-walk.ensures.walked in
     compiled-at finds p own root limit w b.walked b.begins
-
-pub returns-clause-known : goal.returns-clause-known
-returns-clause-known g c =
-    let own = documents_in c.args.root.now.resolver in
-    let root = target_in c.args.root.now in
-    let p = g.P.PatternMaker.patterns c.args.maker.now in
-    let finds = g.P.Matcher.PatternMatcher.finds in
-    let limit = c.args.limit in
-    let w = c.in_ok-walk.walk in
-    let s = c.in_ok-visits.ensures in
-    let started : IsStarted own root c.in_ok-visits.visits.list.items = record { visited_first = s.visited; graph = s.graph } in
-    let b : IsBuilt finds p own root limit w = built-of finds p own root limit c.new-begun.result c.in_ok-visits.visits.list.items c.requires.placed c.new-begun.ensures started w
-    c.in_ok-walk.ensures.further c.in_ok-walk.ensures.walked in
-    knows finds p own root limit w b.walked b.begins

@@ -62,7 +62,7 @@ returns-in-Ok-build-clause-made g c =
     let one = one_root there (c.in_ok-resolver.ensures.base ∙ c.in_ok-clone.ensures.cases) refl in
     record {
       sound = sound_there own (base_of resolver) c.args.root.now t found apart rise p (λ placed. c.in-Ok-build.ensures.accepted) _ one;
-      patterns = patterns_there own (base_of resolver) c.args.root.now t found apart rise p (texts_of_table c.in-Ok-build.graph.table) (λ placed. c.in-Ok-build.ensures.patterns) _ one;
+      patterns = patterns_there own (base_of resolver) c.args.root.now t found apart rise p (texts_of_table c.in-Ok-build.compiled.schemas.table) (λ placed. c.in-Ok-build.ensures.patterns) _ one;
       made = c.in-Ok-build.ensures.made;
     }
 

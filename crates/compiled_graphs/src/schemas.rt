@@ -1,0 +1,65 @@
+//! Compiled schemas with the patterns that they ask for.
+
+ghost use Rattle.std.specs.Prelude.{◌<◌, length, IfOk, OnOk};
+ghost use Rattle.serde_json.specs.View.{view};
+ghost use Rattle.compiled_keywords.specs.Shapes.{shape_of};
+ghost use Rattle.graph_answers.specs.Answers.{IsAnswer, HearsAnswer, Agree, IsVerdict, IsCertified, AreFaults, HaveCertificates};
+ghost use Rattle.graph_answers.specs.Tables.{AreForms};
+ghost use Rattle.compiled_graphs.specs.Linking.{KnowsTable};
+
+use compiled_keywords::keyword::Keyword;
+use graph_answers::checking;
+use schema_engine::graph::Graph;
+use schema_patterns::{PatternMatcher, PatternTable};
+use schema_reports::Observer;
+use serde_json::Value;
+use std::alloc::{AllocError, Global};
+
+/// Schemas compiled into numbered nodes, each once for each compile key, with the patterns that they ask for by their numbers. It borrows
+/// from no document.
+#[derive(Drop)]
+pub struct SchemaGraph<M: PatternMatcher> {
+    pub graph: Graph<Keyword>,
+    pub table: PatternTable<M>,
+    ghost known: { KnowsTable graph.nodes.items table },
+    ghost forms: { AreForms M.finds table },
+}
+
+impl<M: PatternMatcher> SchemaGraph<M> {
+    /// Whether a value is valid from a node on. Where references come back to where they were, the return is accepted.
+    ///
+    /// It stops as soon as it is decided, and takes no memory but for one stack of questions.
+    ///
+    /// # Errors
+    ///
+    /// Where memory was refused.
+    pub fn is_valid(&self, alloc: Global, start: usize, value: &Value) -> Result<bool, AllocError>
+        requires there { start < length self.now.graph.nodes.items }
+        ensures cut { IfOk result (IsAnswer shape_of M.finds self.now.graph.nodes.items self.now.table start (view value.now)) }
+        ensures verdict { IfOk result (IsVerdict shape_of M.finds self.now.graph.nodes.items self.now.table start (view value.now)) }
+        ensures certified { IfOk result (IsCertified shape_of M.finds self.now.graph.nodes.items self.now.table start (view value.now)) }
+    {
+        checking::is_valid(alloc, &self.graph, start, &self.table, value)
+    }
+
+    /// Tells an observer of the faults of a value from a node on. Where references come back to where they were, the return tells nothing.
+    ///
+    /// # Errors
+    ///
+    /// Where memory was refused or a count of owners is full. The observer may have been told of some faults then.
+    pub fn tell_faults<'o>(
+        &'o self,
+        alloc: Global,
+        start: usize,
+        value: &'o Value,
+        observer: &mut Observer<'o>,
+    ) -> Result<(), AllocError>
+        requires there { start < length self.now.graph.nodes.items }
+        ensures cut { OnOk result (HearsAnswer shape_of M.finds self.now.graph.nodes.items self.now.table start (view value.now) observer.old observer.new) }
+        ensures agree { Agree shape_of M.finds self.now.graph.nodes.items self.now.table start (view value.now) }
+        ensures faults { AreFaults shape_of M.finds self.now.graph.nodes.items self.now.table start (view value.now) }
+        ensures certified { HaveCertificates shape_of M.finds self.now.graph.nodes.items self.now.table start (view value.now) }
+    {
+        checking::tell_faults(alloc, &self.graph, start, &self.table, value, observer)
+    }
+}
