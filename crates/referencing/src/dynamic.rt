@@ -1,6 +1,6 @@
 //! References by the dynamic scope (Core 8.2.3.2; 2019-09, Core 8.2.4.2).
 
-ghost use Rattle.std.specs.Prelude.{◌≡◌, ◌∷◌, ◌&&◌, ℕ, List, IfOk, IfErr, Ok, map, option_map};
+ghost use Rattle.std.specs.Prelude.{◌≡◌, ◌∷◌, ◌&&◌, ℕ, List, IfOk, IfErr, Ok, map, option_map, option_and_then, is_some};
 ghost use Rattle.schema_definitions.specs.Words as words;
 ghost use Rattle.schema_definitions.specs.Identifiers.{is_name, dynamic_anchors};
 ghost use Rattle.schema_definitions.specs.Bearers as bearers;
