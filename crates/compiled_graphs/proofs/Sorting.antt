@@ -46,6 +46,7 @@ use Rattle.compiled_graphs.proofs.Ending.{leads-wrong, no-cause, all-among, keys
 use Rattle.compiled_graphs.proofs.Meaning.{same-order, is-sound, are-known, keywords-mean, paths-mean}
 use Rattle.compiled_graphs.proofs.Walks.{begun-walks}
 use Rattle.compiled_graphs.proofs.Positions.{in-place, within, all-of, same-all}
+
 -- ---- all are nodes
 
 module _ (own : List Document) (makes : List ℕ → Bool) (base : List ℕ) where

@@ -78,13 +78,7 @@ pub(crate) fn start<'r>(
     let mut visits = Visits::new(alloc);
     let mut starts = Vec::new(alloc);
     for reference in references {
-        let position = start_one(
-            alloc,
-            resolver,
-            reference.as_str(),
-            matches,
-            &mut visits,
-        )?;
+        let position = start_one(alloc, resolver, reference.as_str(), matches, &mut visits)?;
         starts.push(position)?;
     }
     Ok(Started { visits, starts })

@@ -77,19 +77,14 @@ impl<'r, M: PatternMatcher> Walk<'r, M> {
         let next = self.nodes.len();
         let (found, cause) = read(alloc, &self.visits.list[next], maker, &mut self.table)?;
         note(&mut self.wrong, next, cause.is_none())?;
-        let numbers = link(
-            alloc,
-            &mut self.visits,
-            &mut self.edges,
-            next,
-            found.visits,
-        )?;
+        let numbers = link(alloc, &mut self.visits, &mut self.edges, next, found.visits)?;
         let keywords = if cause.is_none() {
             compile(alloc, &found.askings, &numbers, &self.table)?
         } else {
             Vec::new(alloc)
         };
-        self.nodes.push(node_of(&self.visits.list[next], keywords)?)?;
+        self.nodes
+            .push(node_of(&self.visits.list[next], keywords)?)?;
         Ok(cause)
     }
 

@@ -50,15 +50,10 @@ fn prepared(rt: &impl Abort, alloc: Global, documents: &Value) -> SharedRegistry
             .add_text(uri.as_str(), text.as_bytes())
             .expect(rt, "a document");
     }
-    SharedRegistry::prepare(
-        alloc,
-        &added,
-        Draft::default(),
-        false,
-        &DefaultRetriever,
-        0,
+    SharedRegistry::prepare(alloc, &added, Draft::default(), false, &DefaultRetriever, 0).expect(
+        rt,
+        "a registry",
     )
-    .expect(rt, "a registry")
 }
 
 fn texts_of(rt: &impl Abort, alloc: Global, texts: &Value) -> Vec<String> {
@@ -85,7 +80,9 @@ fn graphs_of(
 }
 
 fn shown(rt: &impl Abort, alloc: Global, graphs: &CompiledEach<ScriptedMatcher>) -> String {
-    let mut output = format!(in alloc; "{}:", graphs.schemas.graph.nodes.len()).expect(rt, "memory");
+    let mut output = format!(in alloc; "{}:", graphs.schemas.graph.nodes.len()).expect(
+        rt, "memory",
+    );
     for start in &graphs.starts {
         match start {
             Some(position) => write!(output, " {position}").expect(rt, "memory"),
@@ -117,6 +114,62 @@ fn nodes_of_roots(rt: HostRuntime) {
     }
 }
 
+// Each row: documents, references, a value, and for each reference whether the value is valid from there on, or a line where it may
+// not be read.
+const ANSWERS: &str = r##"{"rows": [
+    [{"http://a.test/r": {"type": "integer"}}, ["", "#/x"], 5, "yes -"],
+    [{"http://a.test/r": {"type": "integer"}}, ["", ""], "5", "no no"],
+    [{"http://a.test/r": {"$defs": {"a": {"minItems": 2}, "b": {"$ref": "#/$defs/a"}, "c": {"type": 5}}}},
+        ["#/$defs/a", "#/$defs/b", "#/$defs/c", ""], [1], "no no - yes"],
+    [{"http://a.test/r": {"$defs": {"a": {"minItems": 2}, "b": {"$ref": "#/$defs/a"}, "c": {"type": 5}}}},
+        ["#/$defs/a", "#/$defs/b", "#/$defs/c", ""], [1, 2], "yes yes - yes"],
+    [{"http://a.test/r": {"properties": {"next": {"$ref": "#"}}, "required": ["v"]}}, [""], {"v": 1, "next": {"v": 2, "next": {"v": 3}}}, "yes"],
+    [{"http://a.test/r": {"properties": {"next": {"$ref": "#"}}, "required": ["v"]}}, [""], {"v": 1, "next": {"v": 2, "next": {}}}, "no"],
+    [{"http://a.test/r": {"pattern": "^a"}}, [""], "ab", "yes"],
+    [{"http://a.test/r": {"pattern": "^a"}}, [""], "ba", "no"],
+    [{"http://a.test/list": {"$id": "http://a.test/list", "type": "array",
+            "items": {"$dynamicRef": "#item"}, "$defs": {"d": {"$dynamicAnchor": "item"}}},
+        "http://a.test/strings": {"$id": "http://a.test/strings", "$ref": "list",
+            "$defs": {"s": {"$dynamicAnchor": "item", "type": "string"}}}},
+        ["list", "strings"], [1], "yes no"]
+]}"##;
+
+fn answered(
+    rt: &impl Abort,
+    alloc: Global,
+    graphs: &CompiledEach<ScriptedMatcher>,
+    value: &Value,
+) -> String {
+    let mut output = String::new(alloc);
+    for position in 0..graphs.starts.len() {
+        let answer = match graphs.is_valid(alloc, position, value).expect(rt, "memory") {
+            Some(true) => "yes",
+            Some(false) => "no",
+            None => "-",
+        };
+        let before = if position == 0 { "" } else { " " };
+        write!(output, "{before}{answer}").expect(rt, "memory");
+    }
+    output
+}
+
+#[test]
+fn answers_of_roots(rt: HostRuntime) {
+    let alloc = rt.alloc();
+    let table = Value::from_str(alloc, ANSWERS).expect(&rt, "JSON");
+    let rows = table.get("rows").and_then(Value::as_array);
+    for row in rows.expect(&rt, "rows") {
+        let [documents, roots, value, want] = row.as_array().expect(&rt, "a row").as_slice() else {
+            panic!(rt; "{row}")
+        };
+        let registry = prepared(&rt, alloc, documents);
+        let roots = texts_of(&rt, alloc, roots);
+        let graphs = graphs_of(&rt, alloc, &registry, roots.as_slice());
+        let want = want.as_str().expect(&rt, "a text");
+        assert_text(&rt, row, answered(&rt, alloc, &graphs, value), want);
+    }
+}
+
 const WITH_PATTERNS: &str = r##"{"http://a.test/r": {
     "$defs": {"s": {"pattern": "a.c"}, "t": {"pattern": "d"}},
     "properties": {"x": {"$ref": "#/$defs/s"}, "y": {"$ref": "#/$defs/s"}},
@@ -128,10 +181,17 @@ fn patterns_stand_once(rt: HostRuntime) {
     let alloc = rt.alloc();
     let documents = Value::from_str(alloc, WITH_PATTERNS).expect(&rt, "JSON");
     let registry = prepared(&rt, alloc, &documents);
-    let roots = texts_of(&rt, alloc, &Value::from_str(alloc, r#"[""]"#).expect(&rt, "JSON"));
+    let roots = texts_of(
+        &rt,
+        alloc,
+        &Value::from_str(alloc, r#"[""]"#).expect(&rt, "JSON"),
+    );
     let graphs = graphs_of(&rt, alloc, &registry, roots.as_slice());
     assert!(rt; graphs.schemas.table.len() == 3);
     for (pattern, stands) in [("a.c", true), ("b", true), ("^c", true), ("d", false)] {
-        assert!(rt; graphs.schemas.table.get(pattern).is_some() == stands, "{pattern}");
+        assert!(rt;
+            graphs.schemas.table.get(pattern).is_some() == stands,
+            "{pattern}"
+        );
     }
 }

@@ -131,7 +131,12 @@ build => Keyword value at 'http://a.test/s#/properties/b/minItems': expected cou
 
 #[test]
 fn in_another_document(rt: HostRuntime) {
-    assert_cases(&rt, rt.alloc(), BESIDE_IN_ANOTHER_DOCUMENT, IN_ANOTHER_DOCUMENT);
+    assert_cases(
+        &rt,
+        rt.alloc(),
+        BESIDE_IN_ANOTHER_DOCUMENT,
+        IN_ANOTHER_DOCUMENT,
+    );
 }
 
 // The items of `list` are those of the outermost resource: `strings` is one of the scope only where `list` is reached
@@ -173,7 +178,12 @@ build => Keyword value at 'http://a.test/strict#/minItems': expected count
 
 #[test]
 fn by_recursive_anchors(rt: HostRuntime) {
-    assert_cases(&rt, rt.alloc(), BESIDE_BY_RECURSIVE_ANCHORS, BY_RECURSIVE_ANCHORS);
+    assert_cases(
+        &rt,
+        rt.alloc(),
+        BESIDE_BY_RECURSIVE_ANCHORS,
+        BY_RECURSIVE_ANCHORS,
+    );
 }
 
 // Dynamic references that come back end.
