@@ -1,9 +1,10 @@
 -- Keys that are equal, and a visit more.
-use Rattle.std.proofs.Common.{◌≡◌, ◌⊎◌, ◌∙◌, ℕ, zero, suc, List, [], ◌∷◌, ◌++◌, Bool, true, false, true≢false, ◌&&◌, ◌||◌, not, cond, map, Option, Some, None, option_map, Decides, refl, sym, ap, ap₂, subst, inl, inr, length, bytes_eq, slice_get}
+use Rattle.std.proofs.Common.{◌≡◌, ◌+◌, arith, ◌∙◌, ℕ, zero, suc, List, [], ◌∷◌, ◌++◌, Bool, true, false, true≢false, ◌&&◌, ◌||◌, not, cond, map, Option, Some, None, option_map, Decides, refl, sym, ap, ap₂, subst, inl, inr, length, bytes_eq, slice_get}
 use Rattle.std.specs.Cmp.Lexicographic.{pointwise}
-use Rattle.std.specs.List.{list_any, position_or_len}
+use Rattle.std.specs.List.{AllByRecursion, IsDistinct, list_any, position_or_len}
 use Rattle.std.proofs.lemmas.Bool.{false≢true}
 use Rattle.std.proofs.lemmas.List.{length-map, map-append}
+use Rattle.std.proofs.lemmas.Map.Keys.{IsDistinct-head, IsDistinct-tail}
 use Rattle.std.proofs.lemmas.Slice.Eq.{slice_eq-Decides, bytes_eq-Decides}
 use Rattle.json_values.specs.Parts.{Part}
 use Rattle.schema_steps.specs.Parts.{part_eq}
@@ -22,13 +23,13 @@ use Rattle.document_index.specs.Seen.{name_of}
 use Rattle.referencing.specs.Keys as scopes
 use Rattle.referencing.proofs.KeyLemmas.{keys_eq-Decides}
 use Rattle.reading_laws.specs.Keys.{Distinct}
-use Rattle.reading_laws.proofs.Counting.{distinct-behind}
-use Rattle.reached_sites.specs.Growing.{AddsOne, StandsAt}
-use Rattle.reached_sites.specs.Keyed.{key_in, AreOne, draft_number, flag_number, known_numbers, numbers_of, keys_equal, AreFiled}
+use Rattle.reached_sites.specs.Growing.{StandsAt}
+use Rattle.reached_sites.specs.Keyed.{key_in, AreOne, draft_number, flag_number, known_numbers, numbers_of, keys_equal}
 use Rattle.reached_sites.specs.Visits.{key_at, Known}
 use Rattle.reached_sites.specs.declared.compile_key.CompileKey as code
+use Rattle.reached_sites.specs.declared.seen.Visits.{Visits}
 use Rattle.reached_sites.specs.declared.visit.Visit.{Visit}
-use Rattle.reached_sites.proofs.Keying.{key-from, key-same, one-dialect, one-key}
+use Rattle.reached_sites.proofs.Keying.{key-same, one-dialect, one-key}
 use Rattle.reached_sites.proofs.Placing.{placed}
 
 -- ---- dialects by their numbers
@@ -114,12 +115,17 @@ dialects-decided d e = (let n = bytes_eq-Decides (numbers_of d) (numbers_of e) i
 pub equal-decides : (a b : code.CompileKey) → Decides (keys_equal a b) (AreOne a b)
 equal-decides a b =
     let scope = keys_eq-Decides (scopes.key_of a.scope.value) (scopes.key_of b.scope.value) (scopes.keys_eq (scopes.key_of a.scope.value) (scopes.key_of b.scope.value)) refl in
-    let d = both-decided _ _ (paths-decided a.schema_path b.schema_path)
-    (both-decided _ _ (paths-decided a.place.path b.place.path)
-    (both-decided _ _ (bytes_eq-Decides (name_of a.place.document) (name_of b.place.document))
+    let d = both-decided _ _ (paths-decided a.point.schema_path.steps b.point.schema_path.steps)
+    (both-decided _ _ (paths-decided a.point.place.path b.point.place.path)
+    (both-decided _ _ (bytes_eq-Decides (name_of a.point.place.document) (name_of b.point.place.document))
     (both-decided _ _ scope (both-decided _ _ (dialects-decided a.dialect b.dialect) (bytes_eq-Decides a.base.value b.base.value))))) in (
-      λ h. (let all = d.0 h in record { road = all.0; place = ap₂ placed all.2 all.1; scope = all.3; dialect = all.4; base = all.5 }),
-      λ h. d.1 (h.road, ap (λ (p : Place). p.path) h.place, ap (λ (p : Place). p.document) h.place, h.scope, h.dialect, h.base),
+      λ h. (let all = d.0 h in record {
+        point = record { place = ap₂ placed all.1.1.0 all.1.0; road = all.0 };
+        scope = all.1.1.1.0;
+        dialect = all.1.1.1.1.0;
+        base = all.1.1.1.1.1;
+      }),
+      λ h. d.1 (h.point.road, (ap (λ (p : Place). p.path) h.point.place, (ap (λ (p : Place). p.document) h.point.place, (h.scope, (h.dialect, h.base))))),
     )
 
 pub one-answer : {P : Type 0} (r s : Bool) → Decides r P → Decides s P → r ≡ s
@@ -129,13 +135,11 @@ one-answer false true d e = absurd (false≢true (d.1 (e.0 refl)))
 one-answer false false d e = refl
 
 keys-of-one : (a b : code.CompileKey) → AreOne a b → key_in a ≡ key_in b
-unfolding key-from
-keys-of-one a b h = key-same (ap (λ (p : Place). p.document) h.place) (ap (λ (p : Place). p.path) h.place) h.base h.scope (ap dialect_of h.dialect) h.road
+keys-of-one a b h = key-same (ap (λ (p : Place). p.document) h.point.place) (ap (λ (p : Place). p.path) h.point.place) h.base h.scope (ap dialect_of h.dialect) h.point.road
 
 one-of-keys : (a b : code.CompileKey) → key_in a ≡ key_in b → AreOne a b
 one-of-keys a b e = record {
-  road = ap (λ (k : CompileKey). k.schema_path) e;
-  place = ap₂ placed (ap (λ (k : CompileKey). k.document) e) (ap (λ (k : CompileKey). k.path) e);
+  point = record { place = ap₂ placed (ap (λ (k : CompileKey). k.document) e) (ap (λ (k : CompileKey). k.path) e); road = ap (λ (k : CompileKey). k.schema_path) e };
   scope = ap (λ (k : CompileKey). k.scope) e;
   dialect = one-dialect a.dialect b.dialect (ap (λ (k : CompileKey). k.dialect) e);
   base = ap (λ (k : CompileKey). k.base) e;
@@ -155,11 +159,11 @@ module _ {A : Type 0} where
 
   none-passes : (test : A → Bool) (xs : List A) → list_any test xs ≡ false → position_or_len test xs ≡ length xs
   none-passes test [] e = refl
-  none-passes test (x ∷ xs) e = by (test x) e
+  none-passes test (x ∷ xs) e = by (test x) e (none-passes test xs)
     where
-      by : (b : Bool) → (b || list_any test xs) ≡ false → cond (not b) (suc (position_or_len test xs)) 0 ≡ suc (length xs)
-      by true e = absurd (true≢false e)
-      by false e = ap suc (none-passes test xs e)
+      by : (b : Bool) → (b || list_any test xs) ≡ false → (list_any test xs ≡ false → position_or_len test xs ≡ length xs) → cond (not b) (1 + position_or_len test xs) 0 ≡ suc (length xs)
+      by true e rest = absurd (true≢false e)
+      by false e rest = (let h = rest e in omega (arith, h))
 
   get-map : {B : Type 0} (f : A → B) (xs : List A) (i : ℕ) → slice_get (map f xs) i ≡ option_map f (slice_get xs i)
   get-map f [] i = refl
@@ -180,11 +184,14 @@ of-some (Some v) k e = (v, refl, cc (e))
 
 -- ---- a visit more
 
+abbrev pub AreFiled : List code.CompileKey → List Visit → Type 0
+AreFiled ks vs = map key_in ks ≡ map key_at vs
+
 pub nothing-filed : (ks : List code.CompileKey) (vs : List Visit) → ks ≡ [] → vs ≡ [] → AreFiled ks vs
-nothing-filed ks vs e f = subst (λ (xs : List code.CompileKey). AreFiled xs vs) (sym e) (subst (λ (ws : List Visit). AreFiled [] ws) (sym f) (record { each = refl; apart = tt }))
+nothing-filed ks vs e f = ap (map key_in) e ∙ sym (ap (map key_at) f)
 
 pub still-filed : (ks js : List code.CompileKey) (vs ws : List Visit) → js ≡ ks → ws ≡ vs → AreFiled ks vs → AreFiled js ws
-still-filed ks js vs ws e f h = subst (λ (xs : List code.CompileKey). AreFiled xs ws) (sym e) (subst (λ (us : List Visit). AreFiled ks us) (sym f) h)
+still-filed ks js vs ws e f h = ap (map key_in) e ∙ h ∙ sym (ap (map key_at) f)
 
 module _ (key : code.CompileKey) where
   any-equal : (ks : List code.CompileKey) (k : CompileKey) → In k (map key_in ks) → key_in key ≡ k → list_any (keys_equal key) ks ≡ true
@@ -192,29 +199,27 @@ module _ (key : code.CompileKey) where
   any-equal (j ∷ ks) _ first e = or-first (keys_equal key j) (list_any (keys_equal key) ks) ((equal-decides key j).1 (one-of-keys key j e))
   any-equal (j ∷ ks) k (later i) e = or-second (keys_equal key j) (list_any (keys_equal key) ks) (any-equal ks k i e)
 
+  none-equal : (ks : List code.CompileKey) → AllByRecursion (λ j. keys_equal key j ≡ false) ks → list_any (keys_equal key) ks ≡ false
+  none-equal [] h = refl
+  none-equal (j ∷ ks) h = ap₂ (λ a b. a || b) h.0 (none-equal ks h.1)
+
   module _ (ks : List code.CompileKey) (vs : List Visit) (v : Visit) (filed : AreFiled ks vs) (is : key_in key ≡ key_at v) where
+    pub filed-more : AreFiled (ks ++ key ∷ []) (vs ++ v ∷ [])
+    filed-more = map-append key_in ks (key ∷ []) ∙ ap₂ (λ xs x. xs ++ x ∷ []) filed is ∙ sym (map-append key_at vs (v ∷ []))
+
     as-long : length ks ≡ length vs
-    as-long = sym (length-map ks key_in) ∙ ap length filed.each ∙ length-map vs key_at
+    as-long = sym (length-map ks key_in) ∙ ap length filed ∙ length-map vs key_at
 
-    module _ (new : list_any (keys_equal key) ks ≡ false) where
-      pub filed-more : AreFiled (ks ++ key ∷ []) (vs ++ v ∷ [])
-      filed-more = record {
-        each = map-append key_in ks (key ∷ []) ∙ ap₂ (λ xs x. xs ++ x ∷ []) filed.each is ∙ sym (map-append key_at vs (v ∷ []));
-        apart = subst (λ (xs : List CompileKey). Distinct xs) (sym (map-append key_at vs (v ∷ [])))
-            (distinct-behind (map key_at vs) (key_at v) filed.apart
-            (λ i. false≢true (sym new ∙ any-equal ks (key_at v) (subst (λ (xs : List CompileKey). In (key_at v) xs) (sym filed.each) i) is)));
-      }
-
-      pub new-stands : (position : ℕ) → position ≡ position_or_len (keys_equal key) ks → StandsAt (vs ++ v ∷ []) position v
-      new-stands position e =
-          let last = e ∙ none-passes (keys_equal key) ks new ∙ as-long in
-          (v, subst (λ i. slice_get (vs ++ v ∷ []) i ≡ Some v) (sym last) (at-end vs v), inl refl)
+    pub new-stands : list_any (keys_equal key) ks ≡ false → (position : ℕ) → position ≡ position_or_len (keys_equal key) ks → StandsAt (vs ++ v ∷ []) position v
+    new-stands new position e =
+        let last = e ∙ none-passes (keys_equal key) ks new ∙ as-long in
+        (v, subst (λ i. slice_get (vs ++ v ∷ []) i ≡ Some v) (sym last) (at-end vs v), inl refl)
 
     module _ (position : ℕ) (k : code.CompileKey) (at : slice_get ks position ≡ Some k) (equal : keys_equal key k ≡ true) where
       visit-there : (w : Visit) × (slice_get vs position ≡ Some w) × (key_at w ≡ key_in k)
       visit-there =
           of-some (slice_get vs position) (key_in k)
-          (sym (get-map key_at vs position) ∙ ap (λ (xs : List CompileKey). slice_get xs position) (sym filed.each) ∙ get-map key_in ks position ∙ ap (option_map key_in) at)
+          (sym (get-map key_at vs position) ∙ ap (λ (xs : List CompileKey). slice_get xs position) (sym filed) ∙ get-map key_in ks position ∙ ap (option_map key_in) at)
 
       same-key : key_at visit-there.0 ≡ key_at v
       same-key = visit-there.2 ∙ sym (keys-of-one key k ((equal-decides key k).0 equal)) ∙ is
@@ -224,3 +229,14 @@ module _ (key : code.CompileKey) where
 
       pub is-known : Known vs v
       is-known = record { visit = visit-there.0; listed = in-place vs position visit-there.0 visit-there.1; same = one-key visit-there.0 v same-key }
+
+distinct-keys : (ks : List code.CompileKey) → IsDistinct keys_equal ks → Distinct (map key_in ks)
+distinct-keys [] h = tt
+distinct-keys (k ∷ ks) h = (
+  λ i. false≢true (sym (none-equal k ks (IsDistinct-head keys_equal k ks h)) ∙ any-equal k ks (key_in k) i refl),
+  distinct-keys ks (IsDistinct-tail keys_equal k ks h),
+)
+
+-- no two visits have one key
+pub keys-apart : (vs : Visits) → Distinct (map key_at vs.list.items)
+keys-apart vs = subst (λ (xs : List CompileKey). Distinct xs) vs.filed (distinct-keys vs.keys.keys vs.apart)

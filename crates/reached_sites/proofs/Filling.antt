@@ -1,7 +1,6 @@
 -- Tables of patterns that grow.
-use Rattle.std.proofs.Common.{◌≡◌, ◌∙◌, ◌⊎◌, ℕ, zero, suc, List, [], ◌∷◌, ◌++◌, map, Bool, true, false, true≢false, ◌||◌, is_some, Option, Some, None, option_map, slice_get, IsSome, String, Global, string_bytes, bytes_eq, refl, sym, ap, subst, inl, inr, append-nil, append_assoc}
+use Rattle.std.proofs.Common.{if◌then◌else◌, ◌≡◌, ◌∙◌, ◌⊎◌, ℕ, zero, suc, List, [], ◌∷◌, ◌++◌, map, Bool, true, false, true≢false, ◌||◌, is_some, Option, Some, None, option_map, slice_get, IsSome, String, Global, string_bytes, bytes_eq, refl, sym, ap, subst, inl, inr, append-nil, append_assoc}
 use Rattle.std.specs.Map.{lookup}
-use Rattle.std.specs.Prelude.{if◌then◌else◌}
 use Rattle.std.proofs.lemmas.List.{map-append}
 use Rattle.std.proofs.lemmas.Slice.Eq.{bytes_eq-Decides}
 use Rattle.json_values.specs.Patterns.{Literal, literal_of, literal_or, means, known}

@@ -1,6 +1,5 @@
 -- The compile keys of visits.
 use Rattle.std.proofs.Common.{◌≡◌, ◌∙◌, ℕ, List, [], ◌∷◌, map, Some, refl, sym, ap, ap₂, subst}
-use Rattle.std.proofs.lemmas.List.{map-append}
 use Rattle.json_values.specs.Parts.{Part}
 use Rattle.serde_json.specs.View.{view}
 use Rattle.schema_meaning.specs.Members.{In, first, later}
@@ -13,18 +12,16 @@ use Rattle.schema_sites.specs.Seen.{documents_at}
 use Rattle.schema_dialects.proofs.Dialects.{same_dialects}
 use Rattle.schema_dialects.specs.Dialects.{dialect_of}
 use Rattle.schema_dialects.specs.declared.dialect.Dialect as code
-use Rattle.referencing.specs.Resolved.{base_of, scope_of, documents_in}
+use Rattle.referencing.specs.Resolved.{base_of, scope_of}
 use Rattle.reading_laws.specs.SiteLaws.{AreAlike}
 use Rattle.reading_laws.specs.Spelled.{spelled}
-use Rattle.reading_laws.specs.Keys.{Distinct, key_of_site}
-use Rattle.reading_laws.proofs.Counting.{distinct-behind}
-use Rattle.reached_sites.specs.Growing.{Apart, none, one_more}
+use Rattle.reading_laws.specs.Keys.{key_of_site}
 use Rattle.reached_sites.specs.Visits.{site_of, key_at, Belongs, Repeats}
 use Rattle.reached_sites.specs.declared.visit.Visit.{Visit}
 use Rattle.reached_sites.proofs.Meeting.{present-of}
 use Rattle.reached_sites.proofs.Placing.{placed}
 
-pub key-from : List ℕ → List Part → List ℕ → ScopeKey → Dialect → List Part → CompileKey
+abbrev pub key-from : List ℕ → List Part → List ℕ → ScopeKey → Dialect → List Part → CompileKey
 key-from document path base scope dialect road = record { document = document; path = path; base = base; scope = scope; dialect = dialect; schema_path = road }
 
 pub key-same : {d e : List ℕ} {p q : List Part} {b c : List ℕ} {k l : ScopeKey} {x y : Dialect} {r s : List Part}
@@ -33,7 +30,6 @@ key-same d p b k x r = rw (d, p, b, k, x, r) refl
 
 -- sites that are alike have one key
 pub alike-key : (docs : Documents) (s t : Site) → AreAlike docs s t → key_of_site docs s ≡ key_of_site docs t
-unfolding key-from
 alike-key docs s t a = key-same a.document a.path a.base a.scope a.dialect a.road
 
 -- ---- visits of one key repeat one another

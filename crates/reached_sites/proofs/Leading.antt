@@ -1,25 +1,17 @@
 -- What a schema that was read leads to.
-use Rattle.std.proofs.Common.{◌≡◌, ◌∙◌, ℕ, List, [], ◌∷◌, ◌++◌, Bool, true, false, Option, Some, None, option_map, is_some, refl, sym, ap, ap₂, subst}
-use Rattle.std.specs.Prelude.{codes}
+use Rattle.std.proofs.Common.{◌≡◌, ◌∙◌, ℕ, List, [], Bool, false, Option, Some, None, option_map, is_some, refl, ap, ap₂}
 use Rattle.serde_json.specs.Data.{Data, null, boolean, number, string, array, object, Members}
 use Rattle.serde_json.specs.Find.{as_object, as_bool}
 use Rattle.serde_json.specs.View.{view}
-use Rattle.schema_meaning.specs.Members.{In, first}
-use Rattle.schema_definitions.specs.Bearers.{Document, Documents}
-use Rattle.schema_definitions.specs.BuildCauses.{at_root, causes_at, IsCauseOf}
+use Rattle.schema_definitions.specs.Bearers.{Documents}
 use Rattle.schema_definitions.specs.Sites.{Site}
-use Rattle.schema_definitions.specs.Rows.{Place, Row, keyword_value, rows_at, rows_in, no_schema, identifier_causes}
+use Rattle.schema_definitions.specs.Rows.{rows_at, rows_in, no_schema}
 use Rattle.schema_sites.specs.Seen.{documents_at}
-use Rattle.reached_sites.specs.Led.{Leads, leads_in, causes_in}
-use Rattle.reached_sites.specs.Members.{Rest}
-use Rattle.reading_laws.proofs.Reaching.{same_identifiers, row_cause}
 use Rattle.reading_laws.specs.SiteLaws.{AreAlike}
 use Rattle.reached_sites.specs.Patterns.{written, written_in, written_members}
-use Rattle.reached_sites.specs.Places.{place_in}
-use Rattle.reached_sites.specs.Visits.{site_of, Met, Matches, none}
+use Rattle.reached_sites.specs.Visits.{site_of, Met}
 use Rattle.reached_sites.specs.declared.visit.Visit.{Visit}
-use Rattle.reached_sites.proofs.Mirrored.{leads-alike}
-use Rattle.reached_sites.proofs.Walking.{own_of, contexts, rows-of-object}
+use Rattle.reached_sites.proofs.Walking.{contexts}
 
 -- neither a boolean nor an object
 abbrev pub IsOther : Data → Type 0

@@ -1,19 +1,11 @@
 -- What is read at a site holds at those that are alike.
-use Rattle.std.proofs.Common.{◌∙◌, ℕ, List, [], ◌∷◌, Bool, sym, subst, inl, inr}
+use Rattle.std.proofs.Common.{List, [], ◌∷◌}
 use Rattle.std.specs.List.{AllZip}
-use Rattle.schema_definitions.specs.Bearers.{Document, Documents}
-use Rattle.schema_definitions.specs.Rows.{Row, rows_at}
-use Rattle.schema_definitions.specs.Sites.{Site}
-use Rattle.reading_laws.proofs.Reaching.{same_causes, alike_have_causes}
-use Rattle.reading_laws.proofs.Reading.{read_alike}
+use Rattle.schema_definitions.specs.Bearers.{Documents}
+use Rattle.schema_definitions.specs.Rows.{Row}
 use Rattle.reading_laws.proofs.Results.{zip_append}
 use Rattle.reading_laws.specs.SiteLaws.{AreAlike, RowsAgree}
-use Rattle.reached_sites.specs.Causes.{RefusesRoot}
-use Rattle.reached_sites.specs.Led.{leads_in, Leads}
-use Rattle.reached_sites.specs.Visits.{Belongs, Met, Matches, both}
-use Rattle.reached_sites.specs.declared.cause.BuildCause.{BuildCause}
-use Rattle.reached_sites.specs.declared.visit.Visit.{Visit}
-use Rattle.reached_sites.proofs.Meeting.{met-alike}
+use Rattle.reached_sites.specs.Led.{leads_in}
 
 pub alike-leads : (docs : Documents) (rs qs : List Row) → AllZip (RowsAgree docs) rs qs → AllZip (AreAlike docs) (leads_in rs) (leads_in qs)
 alike-leads docs [] [] z = tt

@@ -1,12 +1,9 @@
 -- Refusals of sites that are reached, and of the root.
-use Rattle.std.proofs.Common.{ℕ, List, Bool, inl, inr}
+use Rattle.std.proofs.Common.{ℕ, List, Bool}
 use Rattle.schema_definitions.specs.Bearers.{Documents}
 use Rattle.schema_definitions.specs.BuildCauses.{Reached, at_root, by_keyword, IsCauseOf}
 use Rattle.schema_definitions.specs.Sites.{Site}
 use Rattle.schema_definitions.specs.Rows as rows
-use Rattle.reading_laws.proofs.Reaching.{identifier_cause}
-use Rattle.reached_sites.specs.Causes.{RefusesIdentifier, RefusesRoot}
-use Rattle.reached_sites.specs.declared.cause.BuildCause.{BuildCause}
 
 pub reached-through : (docs : Documents) (makes : List ℕ → Bool) (root s t : Site) → Reached docs makes root s → Reached docs makes s t → Reached docs makes root t
 reached-through docs makes root s _ r at_root = r

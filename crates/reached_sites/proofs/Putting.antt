@@ -4,7 +4,6 @@ use Rattle.std.proofs.lemmas.List.{map-append}
 use Rattle.json_values.specs.Parts.{Part}
 use Rattle.schema_meaning.specs.Members.{In, first, later}
 use Rattle.schema_definitions.specs.Rows.{Place}
-use Rattle.applicators.specs.Made.{AreMade}
 use Rattle.applicators.specs.Applied.{Applicator}
 use Rattle.schema_sites.specs.Read.{patterns_in}
 use Rattle.schema_sites.specs.declared.keyword.Keyword.{Keyword}
@@ -13,7 +12,7 @@ use Rattle.reached_sites.specs.Patterns.{text_of, texts_of, place_with, Puts, Re
 use Rattle.reached_sites.specs.Places.{place_in}
 use Rattle.reached_sites.specs.declared.cause.BuildCause.{BuildCause}
 use Rattle.reached_sites.specs.declared.pattern.Pattern.{Pattern}
-use Rattle.reached_sites.proofs.Listing.{in-before, in-behind, in-either, in-one, none-in}
+use Rattle.reached_sites.proofs.Listing.{in-either, in-one, none-in}
 
 pub texts-behind : (qs rs : List Pattern) → texts_of (qs ++ rs) ≡ texts_of qs ++ texts_of rs
 texts-behind qs rs = map-append text_of qs rs

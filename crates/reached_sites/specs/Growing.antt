@@ -1,6 +1,5 @@
 -- How a list of visits grows by one: it is put behind, unless it is among them.
 use Rattle.std.specs.Prelude.{◌≡◌, ◌⊎◌, ℕ, List, [], ◌∷◌, ◌++◌, Some, slice_get}
-use Rattle.schema_meaning.specs.Members.{In}
 use Rattle.reached_sites.specs.Visits.{Known, Repeats}
 use Rattle.reached_sites.specs.declared.visit.Visit.{Visit}
 

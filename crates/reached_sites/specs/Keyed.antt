@@ -1,6 +1,5 @@
 -- The compile keys by which visits are told apart: what they stand for, when they are equal, and what their hash feeds a hasher.
 use Rattle.std.specs.Prelude.{◌≡◌, ◌++◌, ◌&&◌, ℕ, List, [], ◌∷◌, Bool, true, false, Option, Some, None, map, bytes_eq}
-use Rattle.std.specs.Bool.{Decides}
 use Rattle.std.specs.Cmp.{IsEquivalence, IsPartialEquivalence, on_equiv, and_equiv, partial_equiv_from_equiv}
 use Rattle.std.specs.Cmp.Lexicographic.{pointwise, lists_equiv, nat_list_eq_equiv}
 use Rattle.std.specs.Hash.{HashWrites}
@@ -9,7 +8,6 @@ use Rattle.std.specs.Cmp.{first_so, second_so}
 use Rattle.std.proofs.Common.{ap, ap₂}
 use Rattle.std.proofs.lemmas.Slice.Eq.{bytes_eq-Decides}
 use Rattle.shared_lists.specs.Hashes.{marked, marked_alike}
-use Rattle.json_values.specs.Parts.{Part}
 use Rattle.schema_steps.specs.Parts.{part_eq, part_eq_equiv, part_fed, part_fed_alike}
 use Rattle.schema_drafts.specs.declared.draft.Draft.{Draft}
 use Rattle.schema_drafts.specs.declared.draft.Draft.TheVariants.{Draft4, Draft6, Draft7, Draft201909, Draft202012, Unknown}
@@ -20,26 +18,22 @@ use Rattle.schema_dialects.specs.declared.dialect.Dialect.{Dialect}
 use Rattle.schema_dialects.specs.declared.known.KnownVocabularies.{KnownVocabularies}
 use Rattle.document_index.specs.Seen.{name_of}
 use Rattle.referencing.specs.Keys as scopes
-use Rattle.reading_laws.specs.Keys.{Distinct}
-use Rattle.reached_sites.specs.Places.{place_in}
-use Rattle.reached_sites.specs.Visits.{key_at}
+use Rattle.reached_sites.specs.Visits.{AreOnePoint}
 use Rattle.reached_sites.specs.declared.compile_key.CompileKey as code
-use Rattle.reached_sites.specs.declared.visit.Visit.{Visit}
 
 abbrev pub key_in : code.CompileKey → CompileKey
 key_in k = record {
-  document = name_of k.place.document;
-  path = k.place.path;
+  document = name_of k.point.place.document;
+  path = k.point.place.path;
   base = k.base.value;
   scope = scopes.key_of k.scope.value;
   dialect = dialect_of k.dialect;
-  schema_path = k.schema_path;
+  schema_path = k.point.schema_path.steps;
 }
 
 -- keys that tell the same
 pub record AreOne (a b : code.CompileKey) : Type 0 where
-  pub road : a.schema_path ≡ b.schema_path
-  pub place : place_in a.place ≡ place_in b.place
+  pub point : AreOnePoint a.point b.point
   pub scope : scopes.key_of a.scope.value ≡ scopes.key_of b.scope.value
   pub dialect : a.dialect ≡ b.dialect
   pub base : a.base.value ≡ b.base.value
@@ -69,17 +63,17 @@ numbers_of d = draft_number d.draft ∷ flag_number d.siblings ∷ known_numbers
 
 abbrev pub keys_equal : code.CompileKey → code.CompileKey → Bool
 keys_equal a b =
-    pointwise part_eq a.schema_path b.schema_path
-    && (pointwise part_eq a.place.path b.place.path
-    && (bytes_eq (name_of a.place.document) (name_of b.place.document)
+    pointwise part_eq a.point.schema_path.steps b.point.schema_path.steps
+    && (pointwise part_eq a.point.place.path b.point.place.path
+    && (bytes_eq (name_of a.point.place.document) (name_of b.point.place.document)
     && (scopes.keys_eq (scopes.key_of a.scope.value) (scopes.key_of b.scope.value)
     && (bytes_eq (numbers_of a.dialect) (numbers_of b.dialect) && bytes_eq a.base.value b.base.value))))
 
 pub keys_equal_equiv : IsEquivalence keys_equal
 keys_equal_equiv =
-    and_equiv (on_equiv (λ (k : code.CompileKey). k.schema_path) (lists_equiv part_eq_equiv))
-    (and_equiv (on_equiv (λ (k : code.CompileKey). k.place.path) (lists_equiv part_eq_equiv))
-    (and_equiv (on_equiv (λ (k : code.CompileKey). name_of k.place.document) nat_list_eq_equiv)
+    and_equiv (on_equiv (λ (k : code.CompileKey). k.point.schema_path.steps) (lists_equiv part_eq_equiv))
+    (and_equiv (on_equiv (λ (k : code.CompileKey). k.point.place.path) (lists_equiv part_eq_equiv))
+    (and_equiv (on_equiv (λ (k : code.CompileKey). name_of k.point.place.document) nat_list_eq_equiv)
     (and_equiv (on_equiv (λ (k : code.CompileKey). scopes.key_of k.scope.value) scopes.keys_eq_equiv)
     (and_equiv (on_equiv (λ (k : code.CompileKey). numbers_of k.dialect) nat_list_eq_equiv) (on_equiv (λ (k : code.CompileKey). k.base.value) nat_list_eq_equiv)))))
 
@@ -107,14 +101,7 @@ keys_fed_alike a b h =
     let last = second_so _ _ further in
     let scope = first_so _ _ last in
     let base = second_so _ _ (second_so _ _ last) in
-    ap₂ (λ x y. x ++ y) (ap name_fed ((bytes_eq-Decides (name_of a.place.document) (name_of b.place.document)).0 document))
-    (ap₂ (λ x y. x ++ y) (marked_alike part_eq part_fed part_fed_alike a.place.path b.place.path path)
+    ap₂ (λ x y. x ++ y) (ap name_fed ((bytes_eq-Decides (name_of a.point.place.document) (name_of b.point.place.document)).0 document))
+    (ap₂ (λ x y. x ++ y) (marked_alike part_eq part_fed part_fed_alike a.point.place.path b.point.place.path path)
     (ap₂ (λ x y. x ++ y) (ap fed.str ((bytes_eq-Decides a.base.value b.base.value).0 base))
-    (ap₂ (λ x y. x ++ y) (scopes.keys_fed_alike (scopes.key_of a.scope.value) (scopes.key_of b.scope.value) scope) (marked_alike part_eq part_fed part_fed_alike a.schema_path b.schema_path road))))
-
--- ---- keys of visits
-
--- the key of each visit, in order, and no two the same
-pub record AreFiled (keys : List code.CompileKey) (vs : List Visit) : Type 0 where
-  pub each : map key_in keys ≡ map key_at vs
-  pub apart : Distinct (map key_at vs)
+    (ap₂ (λ x y. x ++ y) (scopes.keys_fed_alike (scopes.key_of a.scope.value) (scopes.key_of b.scope.value) scope) (marked_alike part_eq part_fed part_fed_alike a.point.schema_path.steps b.point.schema_path.steps road))))

@@ -1,5 +1,5 @@
 -- The patterns of schemas, as they are met and as they are put into a table.
-use Rattle.std.specs.Prelude.{◌≡◌, ◌⊎◌, ℕ, List, [], ◌++◌, map, Bool, true, false, bytes_eq, codes, if◌then◌else◌, Option, Some}
+use Rattle.std.specs.Prelude.{if◌then◌else◌, ◌≡◌, ◌⊎◌, ℕ, List, [], ◌++◌, map, Bool, true, false, bytes_eq, codes, Option, Some}
 use Rattle.serde_json.specs.Data.{Data, null, boolean, number, string, array, object, Members, no_members, member}
 use Rattle.serde_json.specs.Find.{as_str}
 use Rattle.json_values.specs.Parts.{Part}

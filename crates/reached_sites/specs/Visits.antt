@@ -6,10 +6,9 @@ use Rattle.schema_definitions.specs.Bearers.{Document}
 use Rattle.document_index.specs.Seen.{name_of}
 use Rattle.schema_dialects.specs.Dialects.{dialect_of}
 use Rattle.referencing.specs.Keys.{key_of}
-use Rattle.referencing.specs.Resolved.{base_of, scope_of, documents_in, target_in}
-use Rattle.referencing.specs.declared.resolver.Resolved.{Resolved}
+use Rattle.referencing.specs.Resolved.{base_of, scope_of, documents_in}
 use Rattle.schema_definitions.specs.CompileKeys.{CompileKey}
-use Rattle.schema_definitions.specs.Sites.{Site, root_site}
+use Rattle.schema_definitions.specs.Sites.{Site}
 use Rattle.schema_sites.specs.Seen.{documents_at}
 use Rattle.reading_laws.specs.SiteLaws.{AreAlike}
 use Rattle.reading_laws.specs.Keys.{key_of_site}

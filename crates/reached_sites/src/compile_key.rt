@@ -2,14 +2,12 @@
 
 ghost use Rattle.std.specs.Prelude.{◌≡◌};
 ghost use Rattle.std.specs.Bool.{Decides};
-ghost use Rattle.std.specs.Cmp.{on_per, on_equiv};
 ghost use Rattle.referencing.specs.Keys.{key_of};
 ghost use Rattle.reached_sites.specs.Keyed.{AreOne, key_fed, key_in, keys_equal, keys_equal_equiv, keys_equal_per, keys_fed_alike};
 
-use crate::place::SchemaPlace;
+use crate::waypoint::Waypoint;
 use referencing::ScopeKey;
 use schema_dialects::{Dialect, KnownVocabularies};
-use schema_steps::Path;
 use std::hash::{Hash, Hasher};
 use std::rc::Rc;
 use uri_references::uri::Uri;
@@ -17,11 +15,10 @@ use uri_references::uri::Uri;
 /// What tells one visit from another: its place, base, dialect, the key of its scope, and its schema path. It shares them with the visit.
 #[derive(Drop)]
 pub struct CompileKey {
-    pub(crate) place: SchemaPlace,
+    pub(crate) point: Waypoint,
     pub(crate) base: Rc<Uri>,
     pub(crate) dialect: Dialect,
     pub(crate) scope: Rc<ScopeKey>,
-    pub(crate) schema_path: Path,
 }
 
 // Whether the same vocabularies are required.
@@ -56,10 +53,7 @@ impl CompileKey {
     fn is(&self, other: &CompileKey) -> bool
         ensures { Decides result (AreOne self.now other.now) }
     {
-        if self.schema_path != other.schema_path {
-            return false;
-        }
-        if !self.place.is(&other.place) {
+        if !self.point.is(&other.point) {
             return false;
         }
         if !is_one_scope(&*self.scope, &*other.scope) {
@@ -94,10 +88,10 @@ impl Hash for CompileKey {
     ghost respects_eq = { keys_fed_alike };
 
     fn hash<H: Hasher>(&self, state: &mut H) {
-        self.place.document.hash(state);
-        self.place.path.hash(state);
+        self.point.place.document.hash(state);
+        self.point.place.path.hash(state);
         self.base.hash(state);
         self.scope.hash(state);
-        self.schema_path.hash(state);
+        self.point.schema_path.steps.hash(state);
     }
 }

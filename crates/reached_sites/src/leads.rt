@@ -1,33 +1,18 @@
 //! Where the keywords of a schema lead.
 
-ghost use Rattle.std.specs.Prelude.{◌≡◌, ◌∷◌, ◌++◌, [], List, map, ℕ, Bool, false, IfOk, IfErr, OnOk};
-ghost use Rattle.serde_json.specs.Data.{Data, object};
-ghost use Rattle.serde_json.specs.View.{view, members_view};
+ghost use Rattle.std.specs.Prelude.{◌≡◌, ◌∷◌, ◌++◌, [], map, IfOk, OnOk};
+ghost use Rattle.serde_json.specs.Data.{Data};
+ghost use Rattle.serde_json.specs.View.{view};
 ghost use Rattle.document_index.specs.Seen.{name_of};
 ghost use Rattle.referencing.specs.Resolved.{documents_in, target_in};
-ghost use Rattle.schema_meaning.specs.Members.{In};
-ghost use Rattle.schema_definitions.specs.BuildCauses.{IsCauseOf};
-ghost use Rattle.schema_definitions.specs.Rows.{bad_pattern};
 ghost use Rattle.schema_definitions.specs.Sites as sites;
-ghost use Rattle.applicators.specs.Made.{is_made_by, AreMade};
 ghost use Rattle.applicators.specs.Shapes as applied;
 ghost use Rattle.schema_sites.specs.Read as read;
 ghost use Rattle.schema_sites.specs.Seen.{documents_at};
 ghost use Rattle.schema_sites.specs.declared.reference_keyword.ReferenceKeyword.{ReferenceKeyword};
 ghost use Rattle.reading_laws.specs.Spelled.{spelled};
-ghost use Rattle.reached_sites.specs.Causes.{RefusesRoot};
-ghost use Rattle.reached_sites.specs.Found.{LeadsIfNamed, HasWritten, AreBadUnmade, RefusesVisit};
-ghost use Rattle.reached_sites.specs.Led.{Leads};
-ghost use Rattle.reached_sites.specs.Members.{Rest};
-ghost use Rattle.reached_sites.specs.Patterns.{text_of, texts_of, written, written_members};
-ghost use Rattle.reached_sites.specs.Places.{place_in};
-ghost use Rattle.reached_sites.specs.Visits.{site_of, Met, Adds};
-ghost use Rattle.reached_sites.specs.declared.pattern.Pattern.{Pattern};
+ghost use Rattle.reached_sites.specs.Visits.{site_of, Adds};
 
-use crate::cause::BuildCause;
-use crate::identifying::check_identifier;
-use crate::pattern::{Pattern, push_patterns};
-use crate::refusing::refused;
 use crate::visit::Visit;
 use crate::waypoint::Waypoint;
 use applicators::applicator::Applicator;
@@ -35,8 +20,7 @@ use applicators::subschema::{Entry, Subschema};
 use applicators::subschemas::subschemas;
 use referencing::Resolved;
 use schema_sites::keyword::Keyword;
-use schema_sites::reading::keyword;
-use serde_json::{Map, Value};
+use serde_json::Value;
 use std::alloc::{AllocError, Global};
 
 // The schema that stands at a keyword.

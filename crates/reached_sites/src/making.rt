@@ -1,6 +1,6 @@
 //! The patterns of schemas put into a table.
 
-ghost use Rattle.std.specs.Prelude.{◌≡◌, ◌∷◌, [], List, ℕ, true, IfErr, OnOk};
+ghost use Rattle.std.specs.Prelude.{◌≡◌, ◌∷◌, [], true, IfErr, OnOk};
 ghost use Rattle.schema_meaning.specs.Members.{is_listed};
 ghost use Rattle.schema_patterns.specs.Tables.{texts_of_table};
 ghost use Rattle.reached_sites.specs.Patterns.{texts_of, text_of, Holds, IsFilled, IsFront, RefusesPattern};

@@ -1,6 +1,6 @@
 //! Patterns of schemas, and where they stand.
 
-ghost use Rattle.std.specs.Prelude.{◌≡◌, ◌∷◌, [], List, ℕ, IfSome, IfNone, OnOk};
+ghost use Rattle.std.specs.Prelude.{◌≡◌, ◌∷◌, [], IfSome, IfNone, OnOk};
 ghost use Rattle.serde_json.specs.View.{members_view};
 ghost use Rattle.json_values.specs.Parts.{name as name_part};
 ghost use Rattle.schema_definitions.specs.Rows.{member_names};

@@ -1,6 +1,7 @@
 //! Schema paths.
 
-ghost use Rattle.std.specs.Prelude.{◌≡◌, ◌∷◌, ◌++◌, [], true, string_bytes, IfOk};
+ghost use Rattle.std.specs.Prelude.{◌≡◌, ◌∷◌, [], true, IfOk};
+ghost use Rattle.std.specs.Bool.{Decides};
 ghost use Rattle.json_values.specs.Parts.{name as name_part, index as index_part};
 ghost use Rattle.schema_definitions.specs.Sites.{path_of_reference};
 ghost use Rattle.schema_reports.specs.Readable.{reads_as_path};
@@ -66,5 +67,25 @@ impl SchemaPath {
         let mut digits = String::new(alloc);
         Step::Item(index).write_to(&mut digits)?;
         self.member(alloc, digits.as_str())
+    }
+
+    /// The same path, shared.
+    ///
+    /// # Errors
+    ///
+    /// Where a count of owners is full.
+    pub fn shared(&self) -> Result<SchemaPath, AllocError>
+        ensures { IfOk result (λ p. p.steps ≡ self.now.steps) }
+    {
+        Ok(SchemaPath {
+            steps: self.steps.clone()?,
+        })
+    }
+
+    /// Whether both are the same path.
+    pub fn is(&self, other: &SchemaPath) -> bool
+        ensures { Decides result (self.now.steps ≡ other.now.steps) }
+    {
+        self.steps == other.steps
     }
 }

@@ -1,8 +1,11 @@
 //! Visits, each of another compile key.
 
-ghost use Rattle.std.specs.Prelude.{◌≡◌, [], IfOk, OnOk};
+ghost use Rattle.std.specs.Prelude.{◌≡◌, [], map, IfOk, OnOk};
+ghost use Rattle.std.specs.List.{IsDistinct};
+ghost use Rattle.std.proofs.Props.{props};
 ghost use Rattle.reached_sites.specs.Growing.{AddsOne, StandsAt};
-ghost use Rattle.reached_sites.specs.Keyed.{AreFiled};
+ghost use Rattle.reached_sites.specs.Keyed.{key_in, keys_equal};
+ghost use Rattle.reached_sites.specs.Visits.{key_at};
 
 use crate::compile_key::CompileKey;
 use crate::visit::Visit;
@@ -14,7 +17,8 @@ use std::alloc::{AllocError, Global};
 pub struct Visits<'r> {
     pub list: Vec<Visit<'r>>,
     keys: IndexSet<CompileKey>,
-    ghost filed: { AreFiled keys.keys list.items },
+    ghost filed: { map key_in keys.keys ≡ map key_at list.items },
+    ghost apart: { IsDistinct keys_equal keys.keys } by { Prim.hlevel props },
 }
 
 impl<'r> Visits<'r> {

@@ -1,6 +1,6 @@
 //! Visits.
 
-ghost use Rattle.std.specs.Prelude.{◌≡◌, ◌∷◌, ◌++◌, [], List, ℕ, true, IfOk};
+ghost use Rattle.std.specs.Prelude.{◌≡◌, ◌++◌, [], List, true, IfOk};
 ghost use Rattle.std.specs.Bool.{Decides};
 ghost use Rattle.serde_json.specs.View.{view};
 ghost use Rattle.json_values.specs.Parts.{Part};
@@ -138,11 +138,10 @@ impl<'r> Visit<'r> {
         ensures { IfOk result (λ k. key_in k ≡ key_at self.now) }
     {
         Ok(CompileKey {
-            place: self.point.place.shared()?,
+            point: self.point.shared()?,
             base: self.site.resolver.base_uri()?,
             dialect: self.site.dialect,
             scope: self.key.clone()?,
-            schema_path: self.point.schema_path.steps.clone()?,
         })
     }
 }

@@ -1,12 +1,14 @@
 //! Where a walk over schemas comes by.
 
 ghost use Rattle.std.specs.Prelude.{◌≡◌, ◌∷◌, [], true, IfOk};
+ghost use Rattle.std.specs.Bool.{Decides};
 ghost use Rattle.json_values.specs.Parts.{name as name_part, index as index_part};
 ghost use Rattle.document_index.specs.Seen.{name_of};
 ghost use Rattle.referencing.specs.Resolved.{target_in};
 ghost use Rattle.schema_definitions.specs.Sites.{path_of_reference};
 ghost use Rattle.schema_reports.specs.Readable.{reads_as_path};
 ghost use Rattle.reading_laws.specs.Spelled.{by_name};
+ghost use Rattle.reached_sites.specs.Visits.{AreOnePoint};
 
 use crate::place::SchemaPlace;
 use crate::schema_path::SchemaPath;
@@ -88,5 +90,26 @@ impl Waypoint {
             place: self.place.item(alloc, index)?,
             schema_path: self.schema_path.item(alloc, index)?,
         })
+    }
+
+    /// The same, which shares the place and the schema path.
+    ///
+    /// # Errors
+    ///
+    /// Where a count of owners is full.
+    pub fn shared(&self) -> Result<Waypoint, AllocError>
+        ensures { IfOk result (λ p. AreOnePoint p self.now) }
+    {
+        Ok(Waypoint {
+            place: self.place.shared()?,
+            schema_path: self.schema_path.shared()?,
+        })
+    }
+
+    /// Whether both are the same place by the same schema path.
+    pub fn is(&self, other: &Waypoint) -> bool
+        ensures { Decides result (AreOnePoint self.now other.now) }
+    {
+        self.schema_path.is(&other.schema_path) && self.place.is(&other.place)
     }
 }

@@ -1,4 +1,4 @@
-use Rattle.std.proofs.Common.{◌≡◌, ◌∙◌, Some, sym, ap, inr}
+use Rattle.std.proofs.Common.{◌≡◌, Some, sym, ap, inr}
 use Rattle.serde_json.specs.View.{view}
 use Rattle.schema_definitions.specs.Identifiers.{identifier_text}
 use Rattle.schema_definitions.specs.Lookup.{invalid_uri}

@@ -1,5 +1,6 @@
 use Rattle.std.proofs.Common.{◌≡◌, ◌∙◌, ◌<◌, ◌≤◌, ap, refl, inl, inr, arith, length}
 use Rattle.std.proofs.lemmas.Result.{err_from_is_err_and}
+use Rattle.reached_sites.proofs.Filing.{keys-apart}
 use Rattle.reached_sites.proofs.Filling.{same-front, further-front}
 use Rattle.compiled_graphs.proofs.Ending.{keys-exceed}
 use Rattle.compiled_graphs.proofs.Running.{none-wrong, still-none, stops-there, few-where, few-at-end, front-length}
@@ -23,7 +24,7 @@ returns-then-len-limit-clause-refused g c = λ own roots placed w.
     let makes = (g.P.PatternMaker.patterns c.args.maker.now).makes in
     let count = c.len-in-loop-alloc-2.ensures ∙ now.visits.list.ok.0 in
     let more : c.args.limit < length now.visits.list.items = omega (arith, c.if-len-limit.true, count) in
-    inl (record { named = refl; exceeds = keys-exceed own makes roots now.visits.list.items now.edges.items now.wrong.items (length now.nodes.items) known.graph now.visits.filed.apart c.args.limit more })
+    inl (record { named = refl; exceeds = keys-exceed own makes roots now.visits.list.items now.edges.items now.wrong.items (length now.nodes.items) known.graph (keys-apart now.visits) c.args.limit more })
 
 pub loop-alloc-preserved : goal.loop-alloc-preserved
 loop-alloc-preserved g c =
