@@ -1,7 +1,6 @@
 -- What is built of a root.
-use Rattle.std.proofs.Common.{◌≡◌, ◌∙◌, ◌⊎◌, ◌<◌, ◌≤◌, ℕ, zero, suc, List, [], ◌∷◌, Bool, Option, Some, None, map, option_map, refl, sym, ap, subst, inl, inr, arith, length, slice_get}
-use Rattle.std.specs.List.{AllZip}
-use Rattle.schema_meaning.specs.Members.{In, first}
+use Rattle.std.proofs.Common.{◌≡◌, ◌≤◌, ℕ, zero, suc, List, [], ◌∷◌, Bool, Option, Some, map, option_map, refl, sym, ap, subst, inl, inr, arith, length, slice_get}
+use Rattle.schema_meaning.specs.Members.{In}
 use Rattle.schema_definitions.specs.Bearers.{Document}
 use Rattle.schema_definitions.specs.BuildCauses.{IsCauseOf}
 use Rattle.schema_definitions.specs.Lookup.{Target}
@@ -17,23 +16,20 @@ use Rattle.reading_laws.specs.Keys.{AreWithin}
 use Rattle.reading_laws.specs.SiteLaws.{AreAlike}
 use Rattle.marked_nodes.specs.Leading.{LeadsTo, here, along}
 use Rattle.marked_nodes.specs.declared.graph.Edge.{Edge}
-use Rattle.schema_engine.specs.Graphs.{reading_of, IsSound, AreKnown}
-use Rattle.schema_engine.specs.declared.node.Node.{Node}
-use Rattle.compiled_keywords.specs.Shapes.{shape_of, Knows}
-use Rattle.compiled_keywords.specs.declared.keyword.Keyword.{Keyword}
-use Rattle.keyword_compilers.specs.Patterns.{table_texts}
+use Rattle.schema_engine.specs.Graphs.{reading_of, IsSound}
+use Rattle.compiled_keywords.specs.Shapes.{shape_of}
 use Rattle.graph_answers.specs.Tables.{AreForms}
 use Rattle.graph_answers.proofs.TableReads.{forms_of_made}
 use Rattle.reached_sites.specs.Causes.{RefusesWithin}
 use Rattle.reached_sites.specs.Patterns.{IsFront}
 use Rattle.reached_sites.specs.Roots.{IsPlaced}
-use Rattle.reached_sites.specs.Visits.{site_of, Met, Belongs}
+use Rattle.reached_sites.specs.Visits.{site_of, Belongs}
 use Rattle.reached_sites.specs.declared.cause.BuildCause as refused
 use Rattle.reached_sites.specs.declared.visit.Visit.{Visit}
 use Rattle.reached_sites.proofs.Listing.{in-one, none-in}
 use Rattle.compiled_graphs.specs.Filled.{IsReached}
 use Rattle.compiled_graphs.specs.Graphs.{IsVisited, IsGraph}
-use Rattle.compiled_graphs.specs.Linking.{as_spelled, StandsFor, MeansDocuments, IsCompiledAt, KnowsTable}
+use Rattle.compiled_graphs.specs.Linking.{as_spelled, StandsFor, IsCompiledAt, KnowsTable}
 use Rattle.compiled_graphs.specs.Walked.{ArePlaced, Notes, Walks, IsBegun, IsWalked, RefusesWalk}
 use Rattle.compiled_graphs.specs.declared.walk.AtCause.TheVariants.{Stop}
 use Rattle.compiled_graphs.specs.declared.walk.Walk.{Walk}

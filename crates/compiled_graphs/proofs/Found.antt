@@ -1,5 +1,5 @@
 -- What is found of the members of a schema.
-use Rattle.std.proofs.Common.{◌≡◌, ◌∙◌, ◌⊎◌, ◌+◌, ℕ, List, [], ◌∷◌, ◌++◌, Bool, true, false, Option, Some, None, IfSome, refl, sym, ap, subst, inl, inr, arith, length, append-nil, append_assoc}
+use Rattle.std.proofs.Common.{◌≡◌, ◌∙◌, ◌⊎◌, ◌+◌, ℕ, List, [], ◌∷◌, ◌++◌, Bool, true, Option, Some, None, IfSome, refl, sym, ap, subst, inl, inr, arith, length, append-nil, append_assoc}
 use Rattle.std.proofs.lemmas.List.{length-append}
 use Rattle.serde_json.specs.Data.{Data, Members, no_members, member}
 use Rattle.schema_meaning.specs.Members.{In, is_listed}
@@ -9,7 +9,7 @@ use Rattle.schema_definitions.specs.Sites.{Site}
 use Rattle.schema_definitions.specs.Rows as rows
 use Rattle.schema_definitions.specs.Rows.{Row, rows_of}
 use Rattle.reading_laws.proofs.WrongRows.{wrong-leads-nowhere}
-use Rattle.applicators.specs.Made.{is_made_by, AreMade}
+use Rattle.applicators.specs.Made.{AreMade}
 use Rattle.certificate_laws.proofs.Named.{listed_in}
 use Rattle.schema_patterns.specs.Tables.{texts_of_table}
 use Rattle.schema_patterns.specs.declared.table.PatternTable.{PatternTable}
@@ -32,7 +32,7 @@ use Rattle.reached_sites.proofs.Putting.{in-texts}
 use Rattle.reached_sites.proofs.Walking.{own_of, context_of, row_here}
 use Rattle.reached_sites.proofs.Writing.{every_text, all-made, member-shown}
 use Rattle.compiled_graphs.specs.Asked.{beside_of, asked_by, IsAnswered}
-use Rattle.compiled_graphs.specs.Read.{ReadAs, none, asks, wrong, TellsFirst, AddsRow, RowRead, RowsRead, IsUnmade, written_at}
+use Rattle.compiled_graphs.specs.Read.{ReadAs, none, asks, wrong, TellsFirst, RowRead, RowsRead, IsUnmade, written_at}
 use Rattle.compiled_graphs.specs.declared.asking.Asking.{Asking}
 use Rattle.compiled_graphs.specs.declared.asking.Asking.TheVariants.{Keyword}
 use Rattle.compiled_graphs.specs.declared.reading.Found.{Found}

@@ -1,18 +1,14 @@
 -- What a graph means once all its nodes are filled.
-use Rattle.std.proofs.Common.{◌≡◌, ◌∙◌, ◌⊎◌, ◌<◌, ◌≤◌, ◌+◌, ℕ, zero, suc, List, [], ◌∷◌, ◌++◌, Bool, true, false, Option, Some, None, map, refl, sym, ap, subst, inl, inr, arith, length, slice_get}
+use Rattle.std.proofs.Common.{◌≡◌, ◌∙◌, ◌<◌, ◌≤◌, ℕ, zero, suc, List, [], ◌∷◌, ◌++◌, Bool, true, false, Option, Some, None, map, refl, sym, ap, subst, arith, length, slice_get}
 use Rattle.std.proofs.lemmas.List.{map-append, length-append}
-use Rattle.std.proofs.lemmas.Option.{slice_get_read}
 use Rattle.std.specs.List.{AllZip, flat_map}
 use Rattle.json_values.specs.Parts.{Part}
 use Rattle.schema_meaning.specs.Members.{In, first, later, Reordered, nothing_left, kept}
-use Rattle.schema_meaning.specs.Keywords.{Shape}
 use Rattle.schema_meaning.specs.Linked.{Linked}
 use Rattle.schema_definitions.specs.Bearers.{Document}
 use Rattle.schema_definitions.specs.Plain.{keywords_at}
 use Rattle.schema_definitions.specs.Rows.{Row, rows_at}
 use Rattle.schema_definitions.specs.Sites.{Site}
-use Rattle.schema_patterns.specs.Makers.{Patterns}
-use Rattle.schema_patterns.specs.Tables.{texts_of_table}
 use Rattle.linked_meanings.specs.Related.{RelatedShape, related_never}
 use Rattle.linked_meanings.proofs.Composed.{shapes_so, shapes_through}
 use Rattle.reading_laws.specs.SiteLaws.{AreAlike}
@@ -30,7 +26,6 @@ use Rattle.compiled_keywords.specs.declared.keyword.Keyword.TheVariants as code
 use Rattle.keyword_compilers.specs.Patterns.{table_texts}
 use Rattle.keyword_compilers.specs.Shapes.{shapes_in}
 use Rattle.keyword_compilers.proofs.Numbering.{knows_entries}
-use Rattle.referencing.specs.Resolved.{documents_in}
 use Rattle.reached_sites.specs.Visits.{site_of, Met, Belongs}
 use Rattle.reached_sites.specs.declared.visit.Visit.{Visit}
 use Rattle.reached_sites.proofs.Listing.{in-none, none-in}
@@ -39,8 +34,6 @@ use Rattle.compiled_graphs.specs.Filled.{listed, IsOver, IsReached, AreReached, 
 use Rattle.compiled_graphs.specs.Filled as filled
 use Rattle.compiled_graphs.specs.Graphs.{IsVisited}
 use Rattle.marked_nodes.specs.declared.graph.Edge.{Edge}
-use Rattle.compiled_graphs.specs.Walked.{Walks}
-use Rattle.compiled_graphs.specs.declared.walk.Walk.{Walk}
 use Rattle.compiled_graphs.proofs.Positions.{in-place, one-there, within}
 use Rattle.compiled_graphs.proofs.Visits.{met-among}
 use Rattle.compiled_graphs.proofs.Sound.{pairs_of, all-linked, linked-in, IsBelow, all-lead}

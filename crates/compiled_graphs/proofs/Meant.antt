@@ -1,14 +1,13 @@
 -- Nodes filled by what was found.
-use Rattle.std.proofs.Common.{◌≡◌, ◌∙◌, ◌⊎◌, ◌+◌, ℕ, zero, suc, List, [], ◌∷◌, ◌++◌, Bool, true, false, true≢false, Option, Some, None, map, refl, sym, ap, subst, inl, inr, arith, length, slice_get}
+use Rattle.std.proofs.Common.{◌≡◌, ◌∙◌, ℕ, List, [], ◌∷◌, ◌++◌, Bool, true, true≢false, Option, map, refl, sym, ap, subst, arith, length}
 use Rattle.std.proofs.lemmas.List.{length-append}
 use Rattle.std.specs.List.{AllZip}
 use Rattle.serde_json.specs.Data.{Data, Members, no_members, member}
 use Rattle.serde_json.specs.View.{members_view}
 use Rattle.json_values.specs.Parts.{Part}
-use Rattle.schema_meaning.specs.Members.{In, first, later, is_listed}
+use Rattle.schema_meaning.specs.Members.{In, first, later}
 use Rattle.schema_meaning.specs.Keywords.{Shape, asserts, pattern}
 use Rattle.schema_definitions.specs.Bearers.{Document, Documents}
-use Rattle.schema_definitions.specs.Plain.{keywords_at}
 use Rattle.schema_definitions.specs.Rows.{BuildCause, Row, member_names, rows_at}
 use Rattle.schema_definitions.specs.Sites.{Site, below}
 use Rattle.applicators.specs.Applied.{name_of, combining_of, asks_of}
@@ -30,15 +29,15 @@ use Rattle.schema_sites.specs.declared.keyword.Keyword.TheVariants as reads
 use Rattle.compiled_keywords.specs.declared.keyword.Keyword.{Keyword}
 use Rattle.keyword_compilers.specs.Patterns.{patterns_asked, patterns_needed, patterns_in, AreHeld, AreEntries}
 use Rattle.keyword_compilers.proofs.Numbering.{entries_stay}
-use Rattle.reached_sites.specs.Led.{leads_in, causes_in}
+use Rattle.reached_sites.specs.Led.{causes_in}
 use Rattle.reached_sites.specs.Patterns.{written, Holds, IsFront}
 use Rattle.reached_sites.specs.Visits.{Met, Matches}
 use Rattle.reached_sites.specs.Visits as visits
 use Rattle.reached_sites.specs.declared.visit.Visit.{Visit}
 use Rattle.reached_sites.proofs.Listing.{in-all, in-before, in-behind, in-none, none-in}
 use Rattle.reached_sites.proofs.Writing.{site-written}
-use Rattle.compiled_graphs.specs.Asked.{asked_by, IsAnswered}
-use Rattle.compiled_graphs.specs.Filled.{total, listed, IsOver, IsCompiled, Compiled, AreReached, Means}
+use Rattle.compiled_graphs.specs.Asked.{asked_by}
+use Rattle.compiled_graphs.specs.Filled.{total, Compiled, AreReached, Means}
 use Rattle.compiled_graphs.specs.Filled as filled
 use Rattle.compiled_graphs.specs.Graphs.{IsVisited}
 use Rattle.marked_nodes.specs.declared.graph.Edge.{Edge}

@@ -24,7 +24,7 @@ use Rattle.reached_sites.proofs.Listing.{in-before, in-behind}
 use Rattle.reached_sites.proofs.Meeting.{present-of}
 use Rattle.reached_sites.proofs.Walking.{contexts, rows-of-object}
 use Rattle.compiled_graphs.specs.Filled.{total}
-use Rattle.compiled_graphs.specs.Read.{ReadAs, none, refuses, wrong, TellsFirst, IsMisnamed, RowsRead, IsFound}
+use Rattle.compiled_graphs.specs.Read.{none, refuses, wrong, TellsFirst, IsMisnamed, RowsRead, IsFound}
 use Rattle.compiled_graphs.specs.declared.asking.Asking.{Asking}
 use Rattle.compiled_graphs.specs.declared.asking.Asking.TheVariants as asking
 use Rattle.compiled_graphs.specs.declared.reading.Found.{Found}

@@ -1,5 +1,5 @@
 -- A walk that goes on.
-use Rattle.std.proofs.Common.{◌≡◌, ◌∙◌, ◌⊎◌, ◌<◌, ◌≤◌, ◌+◌, ℕ, zero, suc, List, [], ◌++◌, Bool, Option, Some, None, IfSome, refl, ap, subst, inl, inr, arith, length}
+use Rattle.std.proofs.Common.{◌≡◌, ◌∙◌, ◌⊎◌, ◌<◌, ◌≤◌, ◌+◌, ℕ, zero, suc, List, [], Bool, Option, None, IfSome, ap, subst, inl, inr, arith, length}
 use Rattle.std.proofs.lemmas.List.{length-append}
 use Rattle.schema_definitions.specs.Bearers.{Document}
 use Rattle.schema_definitions.specs.Sites.{Site}

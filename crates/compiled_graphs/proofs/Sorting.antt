@@ -1,5 +1,5 @@
 -- Which roots may be read, by the graph of what is reached from them.
-use Rattle.std.proofs.Common.{◌≡◌, ◌∙◌, ◌<◌, ◌≤◌, ℕ, zero, suc, List, [], ◌∷◌, Bool, true, false, true≢false, Option, Some, None, map, option_map, is_ok, is_some, refl, sym, ap, subst, arith, length, slice_get}
+use Rattle.std.proofs.Common.{◌≡◌, ◌≤◌, ◌∙◌, inl, inr, ◌<◌, ℕ, zero, suc, List, [], ◌∷◌, Bool, true, false, true≢false, Option, Some, None, is_ok, is_some, refl, sym, ap, subst, arith, length, slice_get}
 use Rattle.std.specs.Bool.{Decides}
 use Rattle.std.specs.List.{All, AllZip}
 use Rattle.std.specs.Prelude.{if◌then◌else◌}
@@ -9,8 +9,10 @@ use Rattle.schema_definitions.specs.Plain.{keywords_at}
 use Rattle.schema_meaning.specs.Members.{In, first, later}
 use Rattle.schema_definitions.specs.BuildCauses.{IsCauseOf}
 use Rattle.schema_definitions.specs.Sites.{Site, root_site}
+use Rattle.schema_definitions.specs.Words.{or}
 use Rattle.schema_patterns.specs.Tables.{AreMadeBy, texts_of_table}
-use Rattle.schema_registries.specs.Roots.{Patterns, Finds, IsSound}
+use Rattle.schema_patterns.specs.declared.table.PatternTable.{PatternTable}
+use Rattle.schema_registries.specs.Roots.{Patterns, IsSound}
 use Rattle.schema_registries.specs.Matched.{HoldsPatterns}
 use Rattle.schema_registries.proofs.Found.{finds_one}
 use Rattle.linked_meanings.specs.Related.{AreRelated}
@@ -20,15 +22,17 @@ use Rattle.reading_laws.specs.SiteLaws.{AreAlike}
 use Rattle.marked_nodes.specs.Leading.{LeadsTo, here, along}
 use Rattle.marked_nodes.specs.Sources.{IsWithin}
 use Rattle.marked_nodes.specs.declared.graph.Edge.{Edge}
-use Rattle.schema_engine.specs.Graphs.{reading_of, IsSound as Sounds}
 use Rattle.schema_engine.specs.declared.node.Node.{Node}
+use Rattle.compiled_keywords.specs.declared.keyword.Keyword.{Keyword}
+use Rattle.schema_engine.specs.Graphs.{reading_of, IsSound as Sounds}
 use Rattle.compiled_keywords.specs.Shapes.{shape_of}
 use Rattle.graph_answers.specs.Tables.{AreForms}
 use Rattle.graph_answers.proofs.TableReads.{forms_of_made}
-use Rattle.compiled_keywords.specs.declared.keyword.Keyword.{Keyword}
 use Rattle.reached_sites.specs.Patterns.{IsFront}
-use Rattle.reached_sites.specs.Visits.{site_of, Belongs}
+use Rattle.reached_sites.specs.Visits.{site_of}
 use Rattle.reached_sites.specs.declared.visit.Visit.{Visit}
+use Rattle.reached_sites.specs.declared.cause.BuildCause as refused
+use Rattle.compiled_graphs.specs.Causes.{RefusesEach}
 use Rattle.compiled_graphs.specs.Filled.{IsReached}
 use Rattle.compiled_graphs.specs.Graphs.{IsVisited, IsGraph}
 use Rattle.compiled_graphs.specs.Linked.{edge}
@@ -36,8 +40,7 @@ use Rattle.compiled_graphs.specs.Linking.{as_spelled, StandsFor, IsCompiledAt, K
 use Rattle.compiled_graphs.specs.Marked.{IsMarked, IsNode, AreNodes}
 use Rattle.compiled_graphs.specs.Several.{root_from, AreDecided, StartsAtNode, AreBuilt}
 use Rattle.compiled_graphs.specs.Starts.{sites_from, LeadsNowhere, Starts, StartsAt, Start}
-use Rattle.compiled_graphs.specs.Walked.{Notes, Walks, IsBegun, IsWalked}
-use Rattle.compiled_graphs.specs.declared.several.CompiledEach.{CompiledEach}
+use Rattle.compiled_graphs.specs.Walked.{RefusesWalk, Notes, Walks, IsBegun, IsWalked}
 use Rattle.compiled_graphs.specs.declared.walk.AtCause.TheVariants.{GoOn}
 use Rattle.compiled_graphs.specs.declared.walk.Walk.{Walk}
 use Rattle.compiled_graphs.proofs.Begun.{sites-visited, start-later}
@@ -54,7 +57,7 @@ module _ (own : List Document) (makes : List ℕ → Bool) (base : List ℕ) whe
   node-of vs r None h = tt
   node-of vs r (Some i) h = within vs i h.visited.visit h.visited.there
 
-  each-node : (vs : List Visit) (rs : List (List ℕ)) (os : List (Option ℕ)) → Start own base vs rs os → (o : Option ℕ) → In o os → IsNode (length vs) o
+  pub each-node : (vs : List Visit) (rs : List (List ℕ)) (os : List (Option ℕ)) → Start own base vs rs os → (o : Option ℕ) → In o os → IsNode (length vs) o
   each-node vs rs [] h o i = elim i [ ]
   each-node vs [] (q ∷ os) h o i = absurd h
   each-node vs (r ∷ rs) (_ ∷ os) h o first = node-of vs r o h.0
@@ -94,10 +97,7 @@ clear-there (v ∷ vs) (b ∷ bs) (suc n) t e = clear-there vs bs n t e
 there-clear : (vs : List Visit) (bs : List Bool) (n : ℕ) (v : Visit) → slice_get vs n ≡ Some v → slice_get bs n ≡ Some false → slice_get (clear_sites vs bs) n ≡ Some (Some (site_of v))
 there-clear [] bs n v e f = absurd (cc (e))
 there-clear (u ∷ vs) [] n v e f = absurd (cc (f))
-there-clear (u ∷ vs) (b ∷ bs) zero v e f =
-    let one : b ≡ false = cc (f) in
-    let same : u ≡ v = cc (e) in
-    rw (one, same) refl
+there-clear (u ∷ vs) (b ∷ bs) zero v e f = ap (λ c. Some (if c then None else Some (site_of u))) (ap (or b) f) ∙ ap (λ (w : Visit). Some (Some (site_of w))) (ap (or u) e)
 there-clear (u ∷ vs) (b ∷ bs) (suc n) v e f = there-clear vs bs n v e f
 
 bool-at : (bs : List Bool) (n : ℕ) → n < length bs → (b : Bool) × (slice_get bs n ≡ Some b)
@@ -256,15 +256,39 @@ module _ {M : Type 0} (finds : M → List ℕ → Option Bool) (p : Patterns) (o
   holds-each (_ ∷ qs) (o ∷ os) (b ∷ bs) h c r first sound = holds-at r o true h.0 b c.0 sound
   holds-each (q ∷ qs) (o ∷ os) (b ∷ bs) h c r (later i) sound = holds-each qs os bs h.1 c.1 r i sound
 
-  pub are-built : (g : CompiledEach M) (os : List (Option ℕ)) → Start own base vs rs os → AllZip (IsMarked marks) os g.starts.items → g.schemas.graph.nodes.items ≡ w.nodes.items
-      → g.schemas.table ≡ w.table → AreBuilt finds p own base rs limit g
-  are-built g os starts c is same = record {
-    decided = all-decided rs os g.starts.items starts c;
+  pub are-built : (nodes : List (Node Keyword)) (table : PatternTable M) (os cs : List (Option ℕ)) → Start own base vs rs os → AllZip (IsMarked marks) os cs → nodes ≡ w.nodes.items
+      → table ≡ w.table → AreBuilt finds p own base rs limit nodes table cs
+  are-built nodes table os cs starts c is same = record {
+    decided = all-decided rs os cs starts c;
     within = keys-within own p.makes roots vs es wrong graph (sites-visited own base vs rs os starts) limit walked.few;
-    patterns = λ r i sound. subst (λ x. HoldsPatterns p (root_from own base r) (texts_of_table x)) (sym same) (holds-each rs os g.starts.items starts c r i sound);
+    patterns = λ r i sound. subst (λ x. HoldsPatterns p (root_from own base r) (texts_of_table x)) (sym same) (holds-each rs os cs starts c r i sound);
     made = subst (λ x. AreMadeBy finds p.finished x) (sym same) walked.walks.filled.made;
-    compiled = subst (λ ns. AllZip (StartsAtNode p.makes own base ns) rs g.starts.items) (sym is) (all-start rs os g.starts.items starts c);
+    compiled = subst (λ ns. AllZip (StartsAtNode p.makes own base ns) rs cs) (sym is) (all-start rs os cs starts c);
   }
+
+-- ---- the starts that are left
+
+pub refuses-each : (makes : List ℕ → Bool) (own : List Document) (sites : List Site) (limit : ℕ) (e : refused.BuildCause) → RefusesWalk makes own sites limit GoOn e → RefusesEach own makes sites limit e
+refuses-each makes own sites limit e (inl h) = inl h
+refuses-each makes own sites limit e (inr (inl h)) = absurd h
+refuses-each makes own sites limit e (inr (inr m)) = inr m
+
+module _ (marks : List Bool) (n m : ℕ) (fewer : n ≤ m) where
+  kept-node : (o q : Option ℕ) → IsNode n o → IsMarked marks o q → IsNode m q
+  kept-node None None h k = tt
+  kept-node None (Some j) h k = absurd (cc (k))
+  kept-node (Some i) None h k = tt
+  kept-node (Some i) (Some j) h k = (let same : j ≡ i = k.0 in omega (arith, h, same, fewer))
+
+  kept-each : (os cs : List (Option ℕ)) → ((o : Option ℕ) → In o os → IsNode n o) → AllZip (IsMarked marks) os cs → (q : Option ℕ) → In q cs → IsNode m q
+  kept-each [] [] e z q i = elim i [ ]
+  kept-each [] (r ∷ cs) e z q i = absurd z
+  kept-each (o ∷ os) [] e z q i = absurd z
+  kept-each (o ∷ os) (_ ∷ cs) e z q first = kept-node o q (e o first) z.0
+  kept-each (o ∷ os) (r ∷ cs) e z q (later i) = kept-each os cs (λ p j. e p (later j)) z.1 q i
+
+  pub kept-nodes : (os cs : List (Option ℕ)) → ((o : Option ℕ) → In o os → IsNode n o) → AllZip (IsMarked marks) os cs → All (IsNode m) cs
+  kept-nodes os cs e z = all-of (IsNode m) cs (kept-each os cs e z)
 
 -- ---- a walk from several roots
 

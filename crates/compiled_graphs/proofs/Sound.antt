@@ -1,6 +1,5 @@
 -- Filled nodes lead to nodes, and schemas nest.
-use Rattle.std.proofs.Common.{◌≡◌, ◌∙◌, ◌⊎◌, ◌<◌, ◌+◌, ℕ, suc, List, [], ◌∷◌, ◌++◌, Bool, true, false, true≢false, Option, Some, None, map, codes, refl, sym, ap, subst, inl, inr, arith, length, slice_get}
-use Rattle.std.proofs.lemmas.List.{length-append}
+use Rattle.std.proofs.Common.{◌≡◌, ◌⊎◌, ℕ, suc, List, [], ◌∷◌, ◌++◌, Bool, true, false, true≢false, Option, Some, None, map, codes, sym, subst, inl, inr}
 use Rattle.std.specs.List.{AllZip, flat_map}
 use Rattle.std.specs.Borrow.{Bor}
 use Rattle.serde_json.specs.Data.{Data, Items, no_items, item, Members, no_members, member, null, boolean, number, string, array, object}
@@ -11,7 +10,7 @@ use Rattle.schema_meaning.specs.Members.{In, first, later}
 use Rattle.schema_meaning.specs.Keywords.{Dependency, needs, applies, Shape}
 use Rattle.schema_meaning.specs.Linked.{Linked}
 use Rattle.schema_definitions.specs.Bearers.{Document, Documents}
-use Rattle.schema_definitions.specs.Rows.{Row, sites_named, sites_applied, in_list, rows_at}
+use Rattle.schema_definitions.specs.Rows.{Row, sites_named, sites_applied}
 use Rattle.schema_definitions.specs.Sites.{Site, below}
 use Rattle.applicators.specs.Applied.{name_of, asks_of}
 use Rattle.applicators.specs.Asks.{leads_by}
@@ -21,18 +20,17 @@ use Rattle.applicators.specs.declared.asks.AsksOf.TheVariants as asks
 use Rattle.linked_meanings.specs.Related.{RelatedBeside, RelatedIfAny, RelatedDependency, related_needs, related_applies, RelatedEntry, RelatedShape, related_never, related_asserts, related_items, related_item_list, related_prefix_items, related_additional_items, related_no_additional_items, related_contains, related_properties, related_pattern_properties, related_additional_properties, related_no_additional_properties, related_no_properties, related_property_names, related_no_property_names, related_dependent_schemas, related_dependencies, related_all_of, related_any_of, related_one_of, related_negation, related_condition, related_reference}
 use Rattle.linked_meanings.proofs.Composed.{shape_so}
 use Rattle.schema_engine.specs.Leads.{if_some, if_applies, subschemas_of, targets_of, leads_of}
-use Rattle.schema_sites.specs.Read.{row_of, shapes_of}
+use Rattle.schema_sites.specs.Read.{shapes_of}
 use Rattle.schema_sites.specs.Read as sites
 use Rattle.schema_sites.specs.declared.keyword.Keyword as read
 use Rattle.schema_sites.specs.declared.keyword.Keyword.TheVariants as reads
 use Rattle.compiled_keywords.specs.Shapes.{shape_of}
 use Rattle.compiled_keywords.specs.declared.keyword.Keyword.{Keyword}
-use Rattle.keyword_compilers.specs.Shapes.{shapes_in}
 use Rattle.reached_sites.specs.declared.visit.Visit.{Visit}
-use Rattle.reached_sites.proofs.Listing.{in-before, in-behind, in-either, in-one, in-some, none-in}
+use Rattle.reached_sites.proofs.Listing.{in-either, in-one, none-in}
 use Rattle.reached_sites.proofs.Meeting.{below-path}
 use Rattle.compiled_graphs.specs.Asked.{site_beside, beside_of, asked_by, IsAnswered}
-use Rattle.compiled_graphs.specs.Filled.{listed, IsOver, IsReached, AreReached, Means}
+use Rattle.compiled_graphs.specs.Filled.{IsOver, IsReached, AreReached, Means}
 use Rattle.compiled_graphs.specs.Filled as filled
 use Rattle.compiled_graphs.specs.Graphs.{IsVisited}
 use Rattle.marked_nodes.specs.declared.graph.Edge.{Edge}

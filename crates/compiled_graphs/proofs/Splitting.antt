@@ -1,5 +1,5 @@
 -- The numbers of what a keyword asks: its leads, and behind an `if` what stands beside.
-use Rattle.std.proofs.Common.{◌≡◌, ◌+◌, ℕ, List, [], ◌∷◌, Bool, true, false, Option, Some, None, is_some, sym, subst, take, slice_get}
+use Rattle.std.proofs.Common.{◌≡◌, ◌+◌, ℕ, List, [], ◌∷◌, Bool, Option, Some, None, is_some, take, slice_get}
 use Rattle.std.specs.List.{AllZip}
 use Rattle.std.specs.Prelude.{if◌then◌else◌}
 use Rattle.std.specs.Borrow.{Bor}
@@ -7,12 +7,10 @@ use Rattle.serde_json.specs.declared.value.Value.{Value}
 use Rattle.schema_definitions.specs.Bearers.{Documents}
 use Rattle.schema_definitions.specs.Sites.{Site}
 use Rattle.schema_meaning.specs.Linked.{Linked}
-use Rattle.schema_sites.specs.declared.keyword.Keyword.{Keyword}
 use Rattle.schema_sites.specs.declared.keyword.Keyword.TheVariants as reads
 use Rattle.keyword_compilers.specs.Linking.{AreNodesOf}
 use Rattle.keyword_compilers.specs.declared.nodes.Nodes.{Nodes}
-use Rattle.keyword_compilers.proofs.Linking.{answers_alone}
-use Rattle.compiled_graphs.specs.Asked.{asked_by, IsAnswered}
+use Rattle.compiled_graphs.specs.Asked.{asked_by}
 use Rattle.compiled_graphs.specs.Filled.{node_if}
 
 abbrev one_or_none : Bool → ℕ

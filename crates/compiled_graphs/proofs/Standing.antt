@@ -1,5 +1,5 @@
 -- What is found at a visit, at the sites for which it stands.
-use Rattle.std.proofs.Common.{◌≡◌, ◌∙◌, ◌⊎◌, ℕ, List, [], ◌∷◌, ◌++◌, Bool, true, false, true≢false, Option, Some, None, IfSome, is_none, option_map, codes, refl, sym, ap, subst, inl, inr}
+use Rattle.std.proofs.Common.{◌≡◌, ◌∙◌, ◌⊎◌, ℕ, List, [], ◌++◌, Bool, true, false, true≢false, Option, Some, None, IfSome, is_none, option_map, codes, sym, subst, inl, inr}
 use Rattle.std.specs.List.{AllByRecursion, AllZip}
 use Rattle.std.specs.Borrow.{Bor}
 use Rattle.serde_json.specs.View.{view}
@@ -28,7 +28,7 @@ use Rattle.reached_sites.proofs.Listing.{in-all, in-before, in-behind, in-either
 use Rattle.reached_sites.proofs.Matching.{visit-of, site-of, belongs-of}
 use Rattle.reached_sites.proofs.Mirrored.{alike-leads}
 use Rattle.compiled_graphs.specs.Asked.{site_beside, beside_of, asked_by}
-use Rattle.compiled_graphs.specs.Graphs.{led_from, wrong_at, HasCause, IsLed}
+use Rattle.compiled_graphs.specs.Graphs.{IsLed}
 use Rattle.compiled_graphs.specs.Read.{ReadAs, none, refuses, asks, wrong, TellsFirst, IsFound}
 use Rattle.compiled_graphs.specs.declared.asking.Asking.{Asking}
 use Rattle.compiled_graphs.specs.declared.reading.Found.{Found}

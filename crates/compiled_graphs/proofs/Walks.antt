@@ -1,5 +1,5 @@
 -- A walk whose next node is filled.
-use Rattle.std.proofs.Common.{◌≡◌, ◌∙◌, ◌⊎◌, ◌<◌, ◌≤◌, ◌+◌, ℕ, zero, suc, List, [], ◌∷◌, ◌++◌, Bool, true, false, true≢false, Option, Some, None, IfSome, is_some, is_none, not, refl, sym, ap, subst, inl, inr, arith, length, slice_get}
+use Rattle.std.proofs.Common.{◌≡◌, ◌∙◌, ◌⊎◌, ◌+◌, ℕ, zero, suc, List, [], ◌∷◌, ◌++◌, Bool, true, false, true≢false, Option, Some, None, IfSome, is_some, is_none, not, refl, sym, ap, subst, inl, inr, arith, length, slice_get}
 use Rattle.std.proofs.lemmas.List.{length-append}
 use Rattle.schema_definitions.specs.Bearers.{Document}
 use Rattle.schema_definitions.specs.BuildCauses.{causes_at}
@@ -7,19 +7,19 @@ use Rattle.schema_definitions.specs.Rows.{identifier_causes, rows_at}
 use Rattle.schema_definitions.specs.Sites.{Site}
 use Rattle.schema_meaning.specs.Members.{In, first}
 use Rattle.schema_patterns.specs.Makers.{Patterns}
-use Rattle.schema_patterns.specs.Tables.{entries_of, texts_of_table}
+use Rattle.schema_patterns.specs.Tables.{texts_of_table}
 use Rattle.reading_laws.specs.SiteLaws.{AreAlike}
 use Rattle.schema_engine.specs.declared.node.Node.{Node}
 use Rattle.compiled_keywords.specs.declared.keyword.Keyword.{Keyword}
 use Rattle.referencing.specs.Resolved.{documents_in}
 use Rattle.reached_sites.specs.Led.{causes_in}
-use Rattle.reached_sites.specs.Patterns.{written, IsFilled, IsFront, Holds}
+use Rattle.reached_sites.specs.Patterns.{written, IsFront, Holds}
 use Rattle.reached_sites.specs.Visits.{site_of, Met}
 use Rattle.reached_sites.specs.declared.cause.BuildCause as refused
 use Rattle.reached_sites.specs.declared.visit.Visit.{Visit}
 use Rattle.reached_sites.proofs.Filling.{empty-filled}
-use Rattle.reached_sites.proofs.Listing.{in-behind, none-in}
-use Rattle.compiled_graphs.specs.Filled.{Compiled, IsRank, IsNodeOf, HasNode, HasNodes}
+use Rattle.reached_sites.proofs.Listing.{in-behind}
+use Rattle.compiled_graphs.specs.Filled.{Compiled, IsRank, HasNode, HasNodes}
 use Rattle.compiled_graphs.specs.Graphs.{IsReachedFrom, IsGraph, IsLed}
 use Rattle.compiled_graphs.specs.Linked.{Links, StandsFor}
 use Rattle.compiled_graphs.specs.Read.{StaysFilled, VisitReads, TellsFirst, IsFound}
@@ -30,7 +30,7 @@ use Rattle.compiled_graphs.specs.declared.walk.Walk.{Walk}
 use Rattle.compiled_graphs.proofs.Meant.{no-first, all-held, means-of, means-stays}
 use Rattle.compiled_graphs.proofs.Growing.{kept-at, noted_wrong, wrong-before, stands-for, graph-goes, notes-go}
 use Rattle.compiled_graphs.proofs.Standing.{is-led, all-causes}
-use Rattle.compiled_graphs.proofs.Positions.{in-place, front-place, one-there, within}
+use Rattle.compiled_graphs.proofs.Positions.{in-place}
 use Rattle.std.specs.List.{AllZip}
 
 -- ---- a list with one more at its end

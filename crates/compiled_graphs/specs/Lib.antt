@@ -9,3 +9,4 @@ pub mod Causes
 pub mod Linking
 pub mod Marked
 pub mod Several
+pub mod Known

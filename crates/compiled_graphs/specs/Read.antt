@@ -1,5 +1,5 @@
 -- What stands at a schema, as it is read: each row with its keyword and the visits of what that asks, or with a cause.
-use Rattle.std.specs.Prelude.{◌≡◌, ◌+◌, ℕ, List, [], ◌∷◌, ◌++◌, Bool, false, Option, Some, None, length}
+use Rattle.std.specs.Prelude.{◌≡◌, ℕ, List, [], ◌∷◌, ◌++◌, Bool, false, Option, Some, None, length}
 use Rattle.serde_json.specs.Data.{Data, Members}
 use Rattle.serde_json.specs.View.{view, members_view}
 use Rattle.schema_meaning.specs.Members.{In}

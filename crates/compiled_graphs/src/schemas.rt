@@ -5,6 +5,8 @@ ghost use Rattle.serde_json.specs.View.{view};
 ghost use Rattle.compiled_keywords.specs.Shapes.{shape_of};
 ghost use Rattle.graph_answers.specs.Answers.{IsAnswer, HearsAnswer, Agree, IsVerdict, IsCertified, AreFaults, HaveCertificates};
 ghost use Rattle.graph_answers.specs.Tables.{AreForms};
+ghost use Rattle.std.proofs.Props.{props};
+ghost use Rattle.compiled_graphs.specs.Known.{knows_prop};
 ghost use Rattle.compiled_graphs.specs.Linking.{KnowsTable};
 
 use compiled_keywords::keyword::Keyword;
@@ -21,7 +23,7 @@ use std::alloc::{AllocError, Global};
 pub struct SchemaGraph<M: PatternMatcher> {
     pub graph: Graph<Keyword>,
     pub table: PatternTable<M>,
-    ghost known: { KnowsTable graph.nodes.items table },
+    ghost known: { KnowsTable graph.nodes.items table } by { Prim.hlevel (knows_prop, props) },
     ghost forms: { AreForms M.finds table },
 }
 

@@ -10,6 +10,7 @@ ghost use Rattle.compiled_graphs.specs.Causes.{RefusesFrom};
 ghost use Rattle.compiled_graphs.specs.Marked.{IsMarked, IsNode};
 ghost use Rattle.compiled_graphs.specs.Several.{AnswersAt, AreBuilt};
 
+use crate::each::CompiledEach;
 use crate::schemas::SchemaGraph;
 use crate::starting::start;
 use crate::walk::{AtCause, Walk};
@@ -23,15 +24,6 @@ use serde_json::Value;
 use std::alloc::{AllocError, Global};
 use uri_references::uri::Uri;
 
-/// The schemas that are reached from several roots, and for each root the number of its node, or none where it may not be read: it leads
-/// nowhere, or to a cause.
-#[derive(Drop)]
-pub struct CompiledEach<M: PatternMatcher> {
-    pub schemas: SchemaGraph<M>,
-    pub starts: Vec<Option<usize>>,
-    pub ghost there: { All (IsNode (length schemas.graph.nodes.items)) starts.items },
-}
-
 impl<M: PatternMatcher> CompiledEach<M> {
     /// Whether a value is valid from the root at a position on, or nothing where that may not be read.
     ///
@@ -44,7 +36,7 @@ impl<M: PatternMatcher> CompiledEach<M> {
         position: usize,
         value: &Value,
     ) -> Result<Option<bool>, AllocError>
-        ensures { IfOk result (AnswersAt M.finds self.now position (view value.now)) }
+        ensures { IfOk result (AnswersAt M.finds self.now.schemas.graph.nodes.items self.now.schemas.table (view value.now) self.now.starts.items position) }
     {
         match self.starts.get(position) {
             Some(Some(start)) => Ok(Some(self.schemas.is_valid(alloc, *start, value)?)),
@@ -97,7 +89,7 @@ fn build_from<'r, P: PatternMaker>(
 ) -> Result<CompiledEach<P::Matcher>, BuildCause>
     requires apart { are_apart (documents_in resolver.now) ≡ true }
     requires rise { list_all contents_rise (documents_in resolver.now) ≡ true }
-    ensures built { IfOk result (AreBuilt P.Matcher.finds (P.patterns maker.now) (documents_in resolver.now) (base_of resolver.now) (map string_bytes references.now) limit) }
+    ensures built { IfOk result (λ g. AreBuilt P.Matcher.finds (P.patterns maker.now) (documents_in resolver.now) (base_of resolver.now) (map string_bytes references.now) limit g.schemas.graph.nodes.items g.schemas.table g.starts.items) }
     ensures refused { IfErr result (RefusesFrom (P.patterns maker.now).makes (documents_in resolver.now) (base_of resolver.now) (map string_bytes references.now) limit) }
 {
     let started = start(alloc, resolver, references, matches)?;
@@ -126,7 +118,7 @@ fn build_by<P: PatternMaker>(
 ) -> Result<CompiledEach<P::Matcher>, BuildCause>
     requires apart { are_apart (documents_in resolver.now) ≡ true }
     requires rise { list_all contents_rise (documents_in resolver.now) ≡ true }
-    ensures built { IfOk result (AreBuilt P.Matcher.finds (P.patterns maker.now) (documents_in resolver.now) (base_of resolver.now) (map string_bytes references.now) limit) }
+    ensures built { IfOk result (λ g. AreBuilt P.Matcher.finds (P.patterns maker.now) (documents_in resolver.now) (base_of resolver.now) (map string_bytes references.now) limit g.schemas.graph.nodes.items g.schemas.table g.starts.items) }
     ensures refused { IfErr result (RefusesFrom (P.patterns maker.now).makes (documents_in resolver.now) (base_of resolver.now) (map string_bytes references.now) limit) }
 {
     let matches = Matches::none(alloc);
@@ -152,7 +144,7 @@ pub fn build_each<P: PatternMaker>(
     limit: usize,
 ) -> Result<CompiledEach<P::Matcher>, BuildCause>
     requires apart { are_apart (documents_of registry.now) ≡ true }
-    ensures built { IfOk result (AreBuilt P.Matcher.finds (P.patterns maker.now) (documents_of registry.now) base.now (map string_bytes references.now) limit) }
+    ensures built { IfOk result (λ g. AreBuilt P.Matcher.finds (P.patterns maker.now) (documents_of registry.now) base.now (map string_bytes references.now) limit g.schemas.graph.nodes.items g.schemas.table g.starts.items) }
     ensures refused { IfErr result (RefusesFrom (P.patterns maker.now).makes (documents_of registry.now) base.now (map string_bytes references.now) limit) }
 {
     let resolver = registry.resolver(base.clone()?)?;

@@ -1,6 +1,6 @@
 //! Where walks begin.
 
-ghost use Rattle.std.specs.Prelude.{◌≡◌, ◌∷◌, [], List, ℕ, Bool, true, map, string_bytes, IfOk, OnOk};
+ghost use Rattle.std.specs.Prelude.{◌≡◌, ◌∷◌, [], List, ℕ, Bool, true, map, string_bytes, IfOk};
 ghost use Rattle.std.specs.List.{list_all};
 ghost use Rattle.schema_definitions.specs.Sites.{root_site};
 ghost use Rattle.document_laws.specs.TargetLaws.{are_apart, contents_rise};

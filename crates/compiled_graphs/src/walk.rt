@@ -1,6 +1,6 @@
 //! The walk that fills a graph.
 
-ghost use Rattle.std.specs.Prelude.{◌≡◌, ◌<◌, ◌+◌, ℕ, List, [], IfOk, IfErr, OnOk, length};
+ghost use Rattle.std.specs.Prelude.{◌≡◌, ◌<◌, ◌+◌, List, [], IfOk, IfErr, OnOk, length};
 ghost use Rattle.schema_definitions.specs.Bearers.{Document};
 ghost use Rattle.schema_definitions.specs.Sites.{Site};
 ghost use Rattle.reached_sites.specs.Patterns.{IsFront};
@@ -75,7 +75,8 @@ impl<'r, M: PatternMatcher> Walk<'r, M> {
         ensures fills { IfOk result (λ o. (own : List Document) (roots : List Site) → ArePlaced own roots → Fills M.finds (P.patterns maker.now) own roots self.old self.new o) }
     {
         let next = self.nodes.len();
-        let (found, cause) = read(alloc, &self.visits.list[next], maker, &mut self.table)?;
+        let visits = &self.visits;
+        let (found, cause) = read(alloc, &visits.list[next], maker, &mut self.table)?;
         note(&mut self.wrong, next, cause.is_none())?;
         let numbers = link(alloc, &mut self.visits, &mut self.edges, next, found.visits)?;
         let keywords = if cause.is_none() {
@@ -83,8 +84,8 @@ impl<'r, M: PatternMatcher> Walk<'r, M> {
         } else {
             Vec::new(alloc)
         };
-        self.nodes
-            .push(node_of(&self.visits.list[next], keywords)?)?;
+        let visits = &self.visits;
+        self.nodes.push(node_of(&visits.list[next], keywords)?)?;
         Ok(cause)
     }
 

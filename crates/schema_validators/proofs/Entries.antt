@@ -18,8 +18,9 @@ use Rattle.schema_registries.specs.Matched.{HoldsPatterns}
 use Rattle.schema_patterns.specs.Tables.{texts_of_table}
 use Rattle.schema_patterns.specs.declared.table.PatternTable.{PatternTable}
 use Rattle.schema_registries.specs.Roots.{Patterns, IsSound, IsSoundBySome}
+use Rattle.schema_engine.specs.declared.node.Node.{Node}
+use Rattle.compiled_keywords.specs.declared.keyword.Keyword.{Keyword}
 use Rattle.compiled_graphs.specs.Several.{root_from, AreDecided, AreBuilt}
-use Rattle.compiled_graphs.specs.declared.several.CompiledEach.{CompiledEach}
 use Rattle.schema_validators.specs.Maps as maps
 use Rattle.schema_validators.specs.Maps.{keys_of, entries_in, entry_at, place_root, SortsOut, ReadsPlace, IsMapOf, StandsAtPlace, PutsPlace, Enters, ArePlacesExceeded}
 use Rattle.schema_validators.specs.Refused.{IsOfPlaces}
@@ -200,25 +201,26 @@ reference-in [] k i = elim i [ ]
 reference-in (_ ∷ ks) k first = first
 reference-in (n ∷ ks) k (later i) = later (reference-in ks k i)
 
-module _ {M : Type 0} (finds : M → List ℕ → Option Bool) (p : Patterns) (own : List Document) (document : List ℕ) (ks : List (List ℕ)) (limit : ℕ) (c : CompiledEach M) (m : ValidatorMap M)
-    (checked : AreBuilt finds p own document (map reference_to ks) limit c) (entered : Enters own document c.schemas.table ks (map is_some c.starts.items) (entries_in m)) where
-  decided : AllZip (λ k b. Decides b (IsSound p (place_root own document k))) ks (map is_some c.starts.items)
-  decided = decided-of p own document ks (map is_some c.starts.items) (marks-decided p own document (map reference_to ks) c.starts.items checked.decided)
+module _ {M : Type 0} (finds : M → List ℕ → Option Bool) (p : Patterns) (own : List Document) (document : List ℕ) (ks : List (List ℕ)) (limit : ℕ) (nodes : List (Node Keyword)) (table : PatternTable M)
+    (starts : List (Option ℕ)) (m : ValidatorMap M) (checked : AreBuilt finds p own document (map reference_to ks) limit nodes table starts)
+    (entered : Enters own document table ks (map is_some starts) (entries_in m)) where
+  decided : AllZip (λ k b. Decides b (IsSound p (place_root own document k))) ks (map is_some starts)
+  decided = decided-of p own document ks (map is_some starts) (marks-decided p own document (map reference_to ks) starts checked.decided)
 
   there : (k : List ℕ) → entry_at m k ≡ found (entries_in m) k
   there k = same-found m.validators.entries k
 
-  entry-of : (k : List ℕ) (v : Validator M) → entry_at m k ≡ Some v → IsEntry own document c.schemas.table p ks k v
-  entry-of k v e = each-entry own document c.schemas.table p ks (map is_some c.starts.items) (entries_in m) entered decided k v (found-in (entries_in m) k v (sym (there k) ∙ e))
+  entry-of : (k : List ℕ) (v : Validator M) → entry_at m k ≡ Some v → IsEntry own document table p ks k v
+  entry-of k v e = each-entry own document table p ks (map is_some starts) (entries_in m) entered decided k v (found-in (entries_in m) k v (sym (there k) ∙ e))
 
-  reads-place : (k : List ℕ) (v : Validator M) → IsEntry own document c.schemas.table p ks k v → ReadsPlace finds p own document k v
+  reads-place : (k : List ℕ) (v : Validator M) → IsEntry own document table p ks k v → ReadsPlace finds p own document k v
   reads-place k v h = record {
     root = h.stands.root;
     made = record {
       sound = subst (λ r. IsSound p r) (sym h.stands.root) h.sound;
       patterns = subst (λ r. HoldsPatterns p r (texts_of_table v.table.value)) (sym h.stands.root)
           (subst (λ (t : PatternTable M). HoldsPatterns p (place_root own document k) (texts_of_table t)) (sym h.stands.table_is) (checked.patterns (reference_to k) (reference-in ks k h.listed) h.sound));
-      made = shared_made finds p.finished c.schemas.table v.table.value h.stands.table_is checked.made;
+      made = shared_made finds p.finished table v.table.value h.stands.table_is checked.made;
     };
     draft = h.stands.draft;
   }
@@ -229,12 +231,12 @@ module _ {M : Type 0} (finds : M → List ℕ → Option Bool) (p : Patterns) (o
 
   has-entry : (k : List ℕ) → In k ks × IsSound p (place_root own document k) → is_some (entry_at m k) ≡ true
   has-entry k h =
-      let x = each-sound own document c.schemas.table p ks (map is_some c.starts.items) (entries_in m) entered decided k h.0 h.1 in
+      let x = each-sound own document table p ks (map is_some starts) (entries_in m) entered decided k h.0 h.1 in
       ap is_some (there k) ∙ in-found (entries_in m) k x.0 x.1
 
   keys-sorted : SortsOut p own document ks (keys_of m)
   keys-sorted =
-      subst (λ (x : List (List ℕ)). SortsOut p own document ks x) (sym (same-names m.validators.entries)) (sorted own document c.schemas.table p ks (map is_some c.starts.items) (entries_in m) entered decided)
+      subst (λ (x : List (List ℕ)). SortsOut p own document ks x) (sym (same-names m.validators.entries)) (sorted own document table p ks (map is_some starts) (entries_in m) entered decided)
 
   abbrev Readable : Document → List ℕ → Type 0
   Readable d k = In k (pointers_of own d) × IsSound p (place_root own d.uri k)
@@ -303,10 +305,10 @@ pub pointers-there : (own other : List Document) (uri : List ℕ) (ks : List (Li
     → ks ≡ pointers_of own d
 pointers-there own other uri ks same h = subst (λ (ds : List Document). (d : Document) → IsDocumentAt ds uri d → ks ≡ pointers_of ds d) same h
 
-pub built-there : {M : Type 0} (finds : M → List ℕ → Option Bool) (p : Patterns) (own other : List Document) (uri : List ℕ) (refs ks : List (List ℕ)) (limit : ℕ) (c : CompiledEach M) → other ≡ own → refs ≡ map reference_to ks
-    → AreBuilt finds p other uri refs limit c → AreBuilt finds p own uri (map reference_to ks) limit c
-built-there finds p own other uri refs ks limit c same texts h =
-    subst (λ (x : List (List ℕ)). AreBuilt finds p own uri x limit c) texts (subst (λ (ds : List Document). AreBuilt finds p ds uri refs limit c) same h)
+pub built-there : {M : Type 0} (finds : M → List ℕ → Option Bool) (p : Patterns) (own other : List Document) (uri : List ℕ) (refs ks : List (List ℕ)) (limit : ℕ) (nodes : List (Node Keyword)) (table : PatternTable M) (starts : List (Option ℕ)) → other ≡ own → refs ≡ map reference_to ks
+    → AreBuilt finds p other uri refs limit nodes table starts → AreBuilt finds p own uri (map reference_to ks) limit nodes table starts
+built-there finds p own other uri refs ks limit nodes table starts same texts h =
+    subst (λ (x : List (List ℕ)). AreBuilt finds p own uri x limit nodes table starts) texts (subst (λ (ds : List Document). AreBuilt finds p ds uri refs limit nodes table starts) same h)
 
 pub sound-there : (p : Patterns) (own : List Document) (uri : List ℕ) (ps qs : List (String Global)) (bs cs : List Bool) → qs ≡ ps → cs ≡ bs → AreMarked p own uri (map reference_to (map string_bytes ps)) bs
     → AllZip (λ k b. b ≡ true → IsSoundBySome (place_root own uri k)) (map string_bytes qs) cs

@@ -1,6 +1,7 @@
 // Graphs of what is reached: how many nodes there are, and at which of them each root starts.
 use crate::rows::assert_text;
-use compiled_graphs::several::{CompiledEach, build_each};
+use compiled_graphs::each::CompiledEach;
+use compiled_graphs::several::build_each;
 use document_sources::DefaultRetriever;
 use schema_drafts::draft::Draft;
 use schema_patterns::bench::{ScriptedMaker, ScriptedMatcher};

@@ -1,4 +1,4 @@
-use Rattle.std.proofs.Common.{◌≡◌, ◌∙◌, Option, Some, None, sym, subst}
+use Rattle.std.proofs.Common.{sym, subst}
 use Rattle.serde_json.specs.View.{view}
 use Rattle.referencing.specs.Resolved.{documents_in}
 use Rattle.schema_definitions.specs.Sites.{below}

@@ -1,4 +1,4 @@
-use Rattle.std.proofs.Common.{◌≡◌, ◌∙◌, ◌∷◌, ◌+◌, [], List, ap, sym, subst, arith, drop}
+use Rattle.std.proofs.Common.{◌≡◌, ◌∙◌, ◌∷◌, ◌+◌, List, ap, sym, subst, arith, drop}
 use Rattle.std.proofs.lemmas.List.{drop_more, drop_all}
 use Rattle.schema_patterns.specs.Tables.{texts_of_table}
 use Rattle.compiled_graphs.specs.declared.asking.Asking.{Asking}

@@ -30,12 +30,35 @@ invariant_of-result g c =
     let started : IsStarted own root c.in_ok-visits.visits.list.items = record { visited_first = s.visited; graph = s.graph } in
     let b : IsBuilt finds p own root limit w = built-of finds p own root limit c.new-begun.result c.in_ok-visits.visits.list.items c.requires.placed c.new-begun.ensures started w
     c.in_ok-walk.ensures.further c.in_ok-walk.ensures.walked in
-    record {
-      sound = sound finds p own root limit w b.walked b.begins;
-      known = knows finds p own root limit w b.walked b.begins;
-      forms = forms finds p own root limit w b.walked b.begins;
-      there = (compiled-at finds p own root limit w b.walked b.begins).within;
-    }
+    record { sound = sound finds p own root limit w b.walked b.begins }
+
+pub invariant_of-result-2 : goal.invariant_of-result-2
+invariant_of-result-2 g c =
+    let own = documents_in c.args.root.now.resolver in
+    let root = target_in c.args.root.now in
+    let p = g.P.PatternMaker.patterns c.args.maker.now in
+    let finds = g.P.Matcher.PatternMatcher.finds in
+    let limit = c.args.limit in
+    let w = c.in_ok-walk.walk in
+    let s = c.in_ok-visits.ensures in
+    let started : IsStarted own root c.in_ok-visits.visits.list.items = record { visited_first = s.visited; graph = s.graph } in
+    let b : IsBuilt finds p own root limit w = built-of finds p own root limit c.new-begun.result c.in_ok-visits.visits.list.items c.requires.placed c.new-begun.ensures started w
+    c.in_ok-walk.ensures.further c.in_ok-walk.ensures.walked in
+    record { known = knows finds p own root limit w b.walked b.begins; forms = forms finds p own root limit w b.walked b.begins }
+
+pub invariant_of-result-3 : goal.invariant_of-result-3
+invariant_of-result-3 g c =
+    let own = documents_in c.args.root.now.resolver in
+    let root = target_in c.args.root.now in
+    let p = g.P.PatternMaker.patterns c.args.maker.now in
+    let finds = g.P.Matcher.PatternMatcher.finds in
+    let limit = c.args.limit in
+    let w = c.in_ok-walk.walk in
+    let s = c.in_ok-visits.ensures in
+    let started : IsStarted own root c.in_ok-visits.visits.list.items = record { visited_first = s.visited; graph = s.graph } in
+    let b : IsBuilt finds p own root limit w = built-of finds p own root limit c.new-begun.result c.in_ok-visits.visits.list.items c.requires.placed c.new-begun.ensures started w
+    c.in_ok-walk.ensures.further c.in_ok-walk.ensures.walked in
+    record { there = (compiled-at finds p own root limit w b.walked b.begins).within }
 
 pub returns-clause-accepted : goal.returns-clause-accepted
 returns-clause-accepted g c =
