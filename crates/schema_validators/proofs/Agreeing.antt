@@ -1,5 +1,5 @@
 -- Roots of registries of equal documents are built alike, and validators at one root answer alike.
-use Rattle.std.proofs.Common.{◌≡◌, ◌∙◌, ◌⊎◌, inl, inr, ℕ, List, [], ◌∷◌, Bool, true, false, true≢false, Option, Some, None, option_map, Result, Ok, Err, IfOk, IfErr, refl, sym, ap, ap₂, subst, arith}
+use Rattle.std.proofs.Common.{◌≡◌, ◌∙◌, inl, inr, ℕ, List, Bool, true, true≢false, Option, Some, None, option_map, Result, Ok, Err, IfOk, IfErr, refl, sym, ap, ap₂, subst, arith}
 use Rattle.serde_json.specs.Data.{Data}
 use Rattle.schema_meaning.specs.Faults.{Fault, fault, Faults, none, also, instance_path, evaluation_path}
 use Rattle.schema_meaning.specs.Order.{SameFault, same_fault, same_kind, SameFaults, same_none, same_also}
@@ -16,10 +16,10 @@ use Rattle.schema_registries.specs.Seen.{documents_shared, retrieved_shared}
 use Rattle.schema_registries.specs.Roots.{Root, Patterns, Finds, IsSound, root_on}
 use Rattle.schema_registries.specs.Answers.{IsCut, IsAnswer}
 use Rattle.schema_registries.proofs.Found.{leads_somewhere}
-use Rattle.schema_validators.specs.Asked.{IsAsked, IsHandedIn, IsMet, IsMetIn, Accepts, meta_root}
+use Rattle.schema_validators.specs.Asked.{IsAsked, IsMet, Accepts, meta_root}
 use Rattle.schema_validators.specs.Counted.{IsWithin}
 use Rattle.schema_validators.specs.Made.{IsMadeBy}
-use Rattle.schema_validators.specs.Refused.{RefusesBuild, RefusesValue, RefusesAt, RefusesByMeta, RefusesMeta, RefusesRoot}
+use Rattle.schema_validators.specs.Refused.{RefusesBuild, RefusesValue, RefusesAt, RefusesRoot}
 use Rattle.schema_validators.specs.Seen.{root_in, root_of}
 use Rattle.schema_validators.proofs.Certifying.{verdict_certified, fault_certified}
 use Rattle.schema_validators.specs.declared.error.BuildError.{BuildError}

@@ -1,25 +1,25 @@
 -- One application of `required` tells each name that is missing once.
-use Rattle.std.proofs.Common.{◌≡◌, ◌∙◌, ℕ, List, [], ◌∷◌, ◌++◌, map, Bool, true, false, not, ◌&&◌, ◌||◌, cond, codes, bytes_eq, Option, Some, None, option_map, option_and_then, refl, sym, ap, subst}
+use Rattle.std.proofs.Common.{◌≡◌, ◌∙◌, ℕ, List, [], ◌∷◌, map, Bool, true, false, not, ◌&&◌, ◌||◌, cond, codes, bytes_eq, Option, Some, None, option_map, option_and_then, refl, sym, ap, subst}
 use Rattle.std.specs.Prelude.{if◌then◌else◌}
-use Rattle.std.specs.List.{filter, flat_map}
+use Rattle.std.specs.List.{filter}
 use Rattle.std.proofs.lemmas.Slice.Eq.{bytes_eq-Decides}
 use Rattle.serde_json.specs.Data.{Data, null, boolean, number, string, array, object, Members, member}
 use Rattle.serde_json.specs.Find.{get, as_array}
 use Rattle.json_values.specs.Parts.{Part, name}
 use Rattle.schema_meaning.specs.Members.{In, first, later, is_listed, known_too, all_known}
 use Rattle.schema_meaning.specs.Places.{Spot, whole}
-use Rattle.schema_meaning.specs.Faults.{Fault, fault, Faults, none, also, joined, join, is_none, Required}
+use Rattle.schema_meaning.specs.Faults.{fault, Faults, none, also, joined, join, is_none, Required}
 use Rattle.schema_meaning.specs.Keywords.{Shape, asserts, required, missing, if_object, none_there, rule}
 use Rattle.schema_meaning.specs.Questions.{Question, at, asked_at}
-use Rattle.schema_meaning.specs.Rules.{Note, Rule, every, conditional, consequents, chosen, if_same, own_faults, faults, asks}
-use Rattle.schema_meaning.specs.Readings.{Reading, rules, bags, verdicts, tell_one, told, IsTold}
+use Rattle.schema_meaning.specs.Rules.{Rule, every, conditional, consequents, chosen, if_same, own_faults, faults, asks}
+use Rattle.schema_meaning.specs.Readings.{Reading, rules, bags, verdicts, tell_one, told}
 use Rattle.meaning_laws.proofs.Known.{option_map-some, all_known-in}
 use Rattle.meaning_laws.proofs.Verdicts.{told_agrees}
 use Rattle.meaning_laws.proofs.Refuses.{told_once}
 use Rattle.meaning_laws.proofs.Stays.{told-asks}
 use Rattle.meaning_laws.proofs.Obliged.{in_map}
 use Rattle.schema_definitions.specs.Bearers.{Documents}
-use Rattle.schema_definitions.specs.Rows.{Row, Context, counts_here, nothing_read, read_among, readers, row_at, rows_of, rows_in, rows_at, asserted, unless_empty}
+use Rattle.schema_definitions.specs.Rows.{Row, Context, nothing_read, read_among, readers, row_at, rows_of, rows_in, rows_at, asserted, unless_empty}
 use Rattle.schema_definitions.specs.Sites.{Site, root_site}
 use Rattle.schema_definitions.specs.Plain.{keywords_at, plain}
 use Rattle.schema_definitions.specs.Values.{names_in, none_twice, if_none_twice}

@@ -1,5 +1,5 @@
 -- The roots of validators, and what options say.
-use Rattle.std.specs.Prelude.{ℕ, List, [], ◌∷◌, string_bytes}
+use Rattle.std.specs.Prelude.{ℕ, List, string_bytes}
 use Rattle.schema_definitions.specs.Bearers.{Document}
 use Rattle.reached_sites.specs.Passed.{documents_of}
 use Rattle.schema_registries.specs.Roots.{Root}

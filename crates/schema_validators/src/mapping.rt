@@ -126,13 +126,14 @@ fn map_of<P: PatternMaker>(
         Err(cause) => return Err(BuildError::of_places(cause)),
     };
     let right = marks_of(alloc, built.starts.as_slice())?;
+    let schemas = built.schemas;
     let map = validators_at(
         alloc,
         registry,
         document,
         pointers.as_slice(),
         right.as_slice(),
-        built.schemas.table,
+        schemas.table,
     )?;
     Ok(map)
 }

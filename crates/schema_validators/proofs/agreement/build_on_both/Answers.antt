@@ -1,5 +1,5 @@
-use Rattle.schema_registries.specs.Roots.{Patterns, root_on}
-use Rattle.schema_validators.proofs.Agreeing.{IsBuiltOn, built_alike, one_root}
+use Rattle.schema_registries.specs.Roots.{Patterns}
+use Rattle.schema_validators.proofs.Agreeing.{built_alike, one_root}
 use Rattle.schema_validators.proofs.agreement.build_on_both.Goals as goal
 
 pub returns-clause-one_root : goal.returns-clause-one_root

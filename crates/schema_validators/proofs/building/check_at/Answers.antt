@@ -1,4 +1,4 @@
-use Rattle.std.proofs.Common.{◌≡◌, ◌∙◌, [], ◌∷◌, Ok, ap, ap₂, sym, subst, refl}
+use Rattle.std.proofs.Common.{◌≡◌, ◌∙◌, Ok, ap, ap₂, sym, subst, refl}
 use Rattle.std.specs.List.{list_all}
 use Rattle.schema_definitions.specs.Lookup.{lookup}
 use Rattle.schema_definitions.specs.Sites.{root_site}

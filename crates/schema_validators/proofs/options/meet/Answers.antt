@@ -1,4 +1,4 @@
-use Rattle.std.proofs.Common.{◌≡◌, ◌∙◌, [], ◌∷◌, Some, inl, ap₂, sym, subst}
+use Rattle.std.proofs.Common.{◌≡◌, ◌∙◌, Some, inl, ap₂, sym, subst}
 use Rattle.schema_definitions.specs.Lookup.{lookup}
 use Rattle.document_sources.specs.Causes.{RefusesLookup}
 use Rattle.reached_sites.specs.Passed.{documents_in, base_of, target_in}
