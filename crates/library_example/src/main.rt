@@ -6,12 +6,12 @@ ghost use Rattle.serde_json.specs.View.{view};
 ghost use Rattle.json_schema_validator.specs.Numbers.{only_whole};
 
 use json_schema_validator::{
-    CheckAnswer, Documents, RegexMaker, SchemaRegistry, ValidationError, Validator, check_error,
-    has_only_whole, uri,
+    BuildError, CheckAnswer, DocumentError, Documents, RegexMaker, SchemaRegistry, ValidationError,
+    Validator, check_error, has_only_whole, uri,
 };
 use serde_json::Value;
-use std::alloc::Global;
-use std::process::Abort;
+use std::alloc::{AllocError, Global};
+use std::process::ExitCode;
 
 const ROOT: &str =
     r#"{"$id":"http://a.test/order","type":"object","required":["id","lines"],"properties":{"id":{"type":"integer","minimum":1},"lines":{"type":"array","items":{"$ref":"line"}}}}"#;
@@ -21,15 +21,45 @@ const LINE: &str =
 
 const ORDER: &str = r#"{"id":0,"lines":[{"item":"nail","count":12},{"item":7,"count":0}]}"#;
 
-fn documents(rt: &impl Abort, alloc: Global) -> Documents {
+#[derive(Debug, Drop)]
+enum Failure {
+    Uri,
+    Document(DocumentError),
+    Build(BuildError),
+    Json(serde_json::Error),
+    Numbers,
+    Memory,
+}
+
+impl From<DocumentError> for Failure {
+    fn from(error: DocumentError) -> Failure {
+        Failure::Document(error)
+    }
+}
+
+impl From<BuildError> for Failure {
+    fn from(error: BuildError) -> Failure {
+        Failure::Build(error)
+    }
+}
+
+impl From<serde_json::Error> for Failure {
+    fn from(error: serde_json::Error) -> Failure {
+        Failure::Json(error)
+    }
+}
+
+impl From<AllocError> for Failure {
+    fn from(_error: AllocError) -> Failure {
+        Failure::Memory
+    }
+}
+
+fn documents(alloc: Global) -> Result<Documents, DocumentError> {
     let mut documents = Documents::new(alloc);
-    documents
-        .add_text("http://a.test/order", ROOT.as_bytes())
-        .expect(rt, "a document");
-    documents
-        .add_text("http://a.test/line", LINE.as_bytes())
-        .expect(rt, "a document");
-    documents
+    documents.add_text("http://a.test/order", ROOT.as_bytes())?;
+    documents.add_text("http://a.test/line", LINE.as_bytes())?;
+    Ok(documents)
 }
 
 fn word(answer: CheckAnswer) -> &'static str {
@@ -39,42 +69,54 @@ fn word(answer: CheckAnswer) -> &'static str {
     }
 }
 
-// A fault: its kind, its place in the value, the road through the schema, and what the check says of the two.
-fn told(
-    rt: &impl Abort,
+// A line for a fault: its kind, its place in the value, the road through the schema, and what the check says of the two.
+fn push_fault(
     alloc: Global,
+    text: &mut String,
     registry: &SchemaRegistry,
     value: &Value,
     error: &ValidationError<'_>,
-) -> String
+) -> Result<(), AllocError>
     requires whole { only_whole (view value.now) ≡ true }
 {
-    let kind = error.message();
-    let place = error.instance_path().to_pointer(alloc).expect(rt, "memory");
-    let road = error
-        .evaluation_path()
-        .to_pointer(alloc)
-        .expect(rt, "memory");
-    let answer = check_error(alloc, registry, "", &RegexMaker, value, error).expect(rt, "memory");
-    let check = word(answer);
-    format!(in alloc; "{kind} at {place} by {road}: {check}").expect(rt, "memory")
+    let answer = check_error(alloc, registry, "", &RegexMaker, value, error)?;
+    text.push_str(error.message())?;
+    text.push_str(" at ")?;
+    error.instance_path().write_to(text)?;
+    text.push_str(" by ")?;
+    error.evaluation_path().write_to(text)?;
+    text.push_str(": ")?;
+    text.push_str(word(answer))?;
+    text.push_str("\n")
 }
 
-fn main(rt: HostRuntime) {
-    let alloc = rt.alloc();
-    let base = uri::from_str(alloc, "http://a.test/order").expect(&rt, "a URI");
-    let options = Validator::options(alloc)
-        .expect(&rt, "memory")
-        .with_base(base);
-    let registry = options
-        .prepare(&documents(&rt, alloc))
-        .expect(&rt, "a registry");
-    let validator = options.build_on(&registry, "").expect(&rt, "a validator");
-    let value = Value::from_str(alloc, ORDER).expect(&rt, "JSON");
-    let is_whole = has_only_whole(&value);
-    assert!(&rt; is_whole);
-    for error in validator.iter_errors(&value).expect(&rt, "memory") {
-        let line = told(&rt, alloc, &registry, &value, &error);
-        println!(rt; "{line}").expect(&rt, "standard output");
+fn report(alloc: Global) -> Result<String, Failure> {
+    let Ok(base) = uri::from_str(alloc, "http://a.test/order") else {
+        return Err(Failure::Uri);
+    };
+    let options = Validator::options(alloc)?.with_base(base);
+    let registry = options.prepare(&documents(alloc)?)?;
+    let validator = options.build_on(&registry, "")?;
+    let value = Value::from_str(alloc, ORDER)?;
+    let mut text = String::new(alloc);
+    if !has_only_whole(&value) {
+        return Err(Failure::Numbers);
+    }
+    for error in validator.iter_errors(&value)? {
+        push_fault(alloc, &mut text, &registry, &value, &error)?;
+    }
+    Ok(text)
+}
+
+fn main(rt: HostRuntime) -> ExitCode {
+    match report(rt.alloc()) {
+        Ok(text) => match print!(rt; "{text}") {
+            Ok(()) => ExitCode::SUCCESS,
+            Err(_) => ExitCode::FAILURE,
+        },
+        Err(failure) => {
+            let _ = eprintln!(rt; "{failure:?}");
+            ExitCode::FAILURE
+        }
     }
 }
