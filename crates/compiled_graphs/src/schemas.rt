@@ -50,7 +50,7 @@ impl<M: PatternMatcher> SchemaGraph<M> {
     ///
     /// Where memory was refused or a count of owners is full. The observer may have been told of some faults then.
     pub fn tell_faults<'o>(
-        &'o self,
+        &self,
         alloc: Global,
         start: usize,
         value: &'o Value,

@@ -24,11 +24,11 @@ fn items_at<'i>(place: Place<'i>) -> &'i [Value]
     }
 }
 
-fn push_items_from<'i>(
+fn push_items_from<'q, 'i: 'q>(
     start: usize,
     node: usize,
     items: &'i [Value],
-    into: &mut Vec<Question<'i>>,
+    into: &mut Vec<Question<'q, 'i>>,
 ) -> Result<(), AllocError>
     ensures { OnOk result ((k : List ℕ) → Puts (whole_at k) into.old.items into.new.items (map alone (each_item k node start (items_from start (items_view items.now))))) }
 {
@@ -48,21 +48,21 @@ fn push_items_from<'i>(
 }
 
 // Each item from the start-th on by one node.
-pub(crate) fn push_items<'i>(
+pub(crate) fn push_items<'q, 'i: 'q>(
     start: usize,
     node: usize,
     place: Place<'i>,
-    into: &mut Vec<Question<'i>>,
+    into: &mut Vec<Question<'q, 'i>>,
 ) -> Result<(), AllocError>
     ensures { OnOk result ((k : List ℕ) → Puts (whole_at k) into.old.items into.new.items (map alone (each_item k node start (items_from start (items_of (value_at place.entry)))))) }
 {
     push_items_from(start, node, items_at(place), into)
 }
 
-fn push_indexed<'i>(
+fn push_indexed<'q, 'i: 'q>(
     nodes: &[usize],
     items: &'i [Value],
-    into: &mut Vec<Question<'i>>,
+    into: &mut Vec<Question<'q, 'i>>,
 ) -> Result<(), AllocError>
     ensures { OnOk result ((k : List ℕ) → Puts (index_at k) into.old.items into.new.items (map alone (item_by_item k nodes.now 0 (items_view items.now)))) }
 {
@@ -85,10 +85,10 @@ fn push_indexed<'i>(
 }
 
 // Each item by the node of its own index.
-pub(crate) fn push_item_list<'i>(
+pub(crate) fn push_item_list<'q, 'i: 'q>(
     nodes: &[usize],
     place: Place<'i>,
-    into: &mut Vec<Question<'i>>,
+    into: &mut Vec<Question<'q, 'i>>,
 ) -> Result<(), AllocError>
     ensures { OnOk result ((k : List ℕ) → Puts (index_at k) into.old.items into.new.items (map alone (item_by_item k nodes.now 0 (items_of (value_at place.entry))))) }
 {
@@ -96,9 +96,9 @@ pub(crate) fn push_item_list<'i>(
 }
 
 // The place by each of some nodes.
-pub(crate) fn push_branches<'i>(
+pub(crate) fn push_branches<'q, 'i: 'q>(
     nodes: &[usize],
-    into: &mut Vec<Question<'i>>,
+    into: &mut Vec<Question<'q, 'i>>,
 ) -> Result<(), AllocError>
     ensures { OnOk result ((k : List ℕ) → Puts (index_at k) into.old.items into.new.items (map alone (each_branch k 0 nodes.now))) }
 {
@@ -115,7 +115,10 @@ pub(crate) fn push_branches<'i>(
 }
 
 // The place by one node.
-pub(crate) fn push_here<'i>(node: usize, into: &mut Vec<Question<'i>>) -> Result<(), AllocError>
+pub(crate) fn push_here<'q, 'i: 'q>(
+    node: usize,
+    into: &mut Vec<Question<'q, 'i>>,
+) -> Result<(), AllocError>
     ensures whole { OnOk result ((k : List ℕ) → Puts (whole_at k) into.old.items into.new.items (map alone (here k node ∷ []))) }
     ensures condition { OnOk result ((k : List ℕ) → Puts (condition_at k) into.old.items into.new.items (alone (here k node) ∷ [])) }
 {
@@ -130,7 +133,10 @@ pub(crate) fn push_here<'i>(node: usize, into: &mut Vec<Question<'i>>) -> Result
 }
 
 // The place by a node, if there is one, beside the answer yes.
-fn push_then<'i>(node: Option<usize>, into: &mut Vec<Question<'i>>) -> Result<(), AllocError>
+fn push_then<'q, 'i: 'q>(
+    node: Option<usize>,
+    into: &mut Vec<Question<'q, 'i>>,
+) -> Result<(), AllocError>
     ensures { OnOk result ((k : List ℕ) → Puts (condition_at k) into.old.items into.new.items (consequent true (codes "then") node)) }
 {
     if let Some(node) = node {
@@ -146,7 +152,10 @@ fn push_then<'i>(node: Option<usize>, into: &mut Vec<Question<'i>>) -> Result<()
 }
 
 // The same beside the answer no.
-fn push_else<'i>(node: Option<usize>, into: &mut Vec<Question<'i>>) -> Result<(), AllocError>
+fn push_else<'q, 'i: 'q>(
+    node: Option<usize>,
+    into: &mut Vec<Question<'q, 'i>>,
+) -> Result<(), AllocError>
     ensures { OnOk result ((k : List ℕ) → Puts (condition_at k) into.old.items into.new.items (consequent false (codes "else") node)) }
 {
     if let Some(node) = node {
@@ -162,11 +171,11 @@ fn push_else<'i>(node: Option<usize>, into: &mut Vec<Question<'i>>) -> Result<()
 }
 
 // The place by a condition, and by what stands beside its answers.
-pub(crate) fn push_condition<'i>(
+pub(crate) fn push_condition<'q, 'i: 'q>(
     condition: usize,
     then_node: Option<usize>,
     else_node: Option<usize>,
-    into: &mut Vec<Question<'i>>,
+    into: &mut Vec<Question<'q, 'i>>,
 ) -> Result<(), AllocError>
     ensures { OnOk result ((k : List ℕ) → Puts (condition_at k) into.old.items into.new.items
         (alone (here k condition) ∷ (consequent true (codes "then") then_node ++ consequent false (codes "else") else_node))) }

@@ -96,11 +96,11 @@ fn tell_asked<'o>(
     }
 }
 
-fn push_asked<'i, T: Matching>(
-    asks: &'i Asks,
+fn push_asked<'q, 'i: 'q, T: Matching>(
+    asks: &'q Asks,
     place: Place<'i>,
     matching: &mut T,
-    into: &mut Vec<Question<'i>>,
+    into: &mut Vec<Question<'q, 'i>>,
 ) -> Result<(), AllocError>
     requires { KnowsAsked asks.now (T.matches matching.old).pattern }
     ensures same { OnOk result (T.matches matching.new ≡ T.matches matching.old) }
@@ -129,7 +129,7 @@ fn push_asked<'i, T: Matching>(
     }
 }
 
-fn push_target<'i>(node: usize, into: &mut Vec<Question<'i>>) -> Result<(), AllocError>
+fn push_target<'q, 'i: 'q>(node: usize, into: &mut Vec<Question<'q, 'i>>) -> Result<(), AllocError>
     ensures { OnOk result ((k : List ℕ) → Puts (whole_at k) into.old.items into.new.items (map alone (record { site = node; step = stay; added = at k; follows = true } ∷ []))) }
 {
     into.push(Question {
@@ -144,11 +144,11 @@ fn push_target<'i>(node: usize, into: &mut Vec<Question<'i>>) -> Result<(), Allo
 
 impl Keyword {
     // Pushes its questions behind those that are there.
-    fn push_questions<'i, T: Matching>(
-        &'i self,
+    fn push_questions<'q, 'i: 'q, T: Matching>(
+        &'q self,
         place: Place<'i>,
         matching: &mut T,
-        into: &mut Vec<Question<'i>>,
+        into: &mut Vec<Question<'q, 'i>>,
     ) -> Result<(), AllocError>
         requires { Knows self.now (T.matches matching.old).pattern }
         ensures same { OnOk result (T.matches matching.new ≡ T.matches matching.old) }
@@ -193,11 +193,11 @@ impl Validate for Keyword {
         }
     }
 
-    fn questions<'i, T: Matching>(
-        &'i self,
+    fn questions<'q, 'i: 'q, T: Matching>(
+        &'q self,
         place: Place<'i>,
         matching: &mut T,
-        into: &mut Vec<Question<'i>>,
+        into: &mut Vec<Question<'q, 'i>>,
     ) -> Result<(), AllocError> {
         self.push_questions(place, matching, into)
     }

@@ -41,10 +41,10 @@ pub(crate) fn object_at<'i>(place: Place<'i>) -> Option<&'i Map<String, Value>>
 }
 
 // Each declared member that is there, by its node.
-pub(crate) fn push_declared<'i>(
-    nodes: &'i [NamedNode],
+pub(crate) fn push_declared<'q, 'i: 'q>(
+    nodes: &'q [NamedNode],
     place: Place<'i>,
-    into: &mut Vec<Question<'i>>,
+    into: &mut Vec<Question<'q, 'i>>,
 ) -> Result<(), AllocError>
     ensures { OnOk result ((k : List ℕ) → Puts (name_at k (map named nodes.now)) into.old.items into.new.items (map alone (each_declared k (value_at place.entry) (map named nodes.now)))) }
 {
@@ -64,10 +64,10 @@ pub(crate) fn push_declared<'i>(
 }
 
 // The place by the node of each of these names that is a member's.
-pub(crate) fn push_triggered<'i>(
+pub(crate) fn push_triggered<'q, 'i: 'q>(
     nodes: &[NamedNode],
     place: Place<'i>,
-    into: &mut Vec<Question<'i>>,
+    into: &mut Vec<Question<'q, 'i>>,
 ) -> Result<(), AllocError>
     ensures { OnOk result ((k : List ℕ) → Puts (name_at k (map named nodes.now)) into.old.items into.new.items (map alone (each_triggered k (value_at place.entry) (map named nodes.now)))) }
 {
@@ -102,10 +102,10 @@ fn applied_at(entry: &NamedDependency, place: Place<'_>) -> Option<usize>
 }
 
 // The place by the node of each of these names that is a member's, if its entry is a schema.
-pub(crate) fn push_dependencies<'i>(
+pub(crate) fn push_dependencies<'q, 'i: 'q>(
     entries: &[NamedDependency],
     place: Place<'i>,
-    into: &mut Vec<Question<'i>>,
+    into: &mut Vec<Question<'q, 'i>>,
 ) -> Result<(), AllocError>
     ensures { OnOk result (Puts (name_at (codes "dependencies") (map depending entries.now)) into.old.items into.new.items (map alone (each_dependency (value_at place.entry) (map depending entries.now)))) }
 {
@@ -123,10 +123,10 @@ pub(crate) fn push_dependencies<'i>(
     Ok(())
 }
 
-fn push_members_of<'i>(
+fn push_members_of<'q, 'i: 'q>(
     node: usize,
     members: &'i Map<String, Value>,
-    into: &mut Vec<Question<'i>>,
+    into: &mut Vec<Question<'q, 'i>>,
 ) -> Result<(), AllocError>
     ensures { OnOk result ((k : List ℕ) → Puts (whole_at k) into.old.items into.new.items (map alone (each_member k node (listed members.now)))) }
 {
@@ -144,10 +144,10 @@ fn push_members_of<'i>(
 }
 
 // Each member by one node.
-pub(crate) fn push_members<'i>(
+pub(crate) fn push_members<'q, 'i: 'q>(
     node: usize,
     place: Place<'i>,
-    into: &mut Vec<Question<'i>>,
+    into: &mut Vec<Question<'q, 'i>>,
 ) -> Result<(), AllocError>
     ensures { OnOk result ((k : List ℕ) → Puts (whole_at k) into.old.items into.new.items (map alone (each_member k node (members_of (value_at place.entry))))) }
 {
@@ -157,10 +157,10 @@ pub(crate) fn push_members<'i>(
     }
 }
 
-fn push_names_of<'i>(
+fn push_names_of<'q, 'i: 'q>(
     node: usize,
     members: &'i Map<String, Value>,
-    into: &mut Vec<Question<'i>>,
+    into: &mut Vec<Question<'q, 'i>>,
 ) -> Result<(), AllocError>
     ensures { OnOk result ((k : List ℕ) → Puts (whole_at k) into.old.items into.new.items (map alone (each_name (at k) node (map (λ m. m.0) (listed members.now))))) }
 {
@@ -177,10 +177,10 @@ fn push_names_of<'i>(
 }
 
 // Each member's name by one node.
-pub(crate) fn push_names<'i>(
+pub(crate) fn push_names<'q, 'i: 'q>(
     node: usize,
     place: Place<'i>,
-    into: &mut Vec<Question<'i>>,
+    into: &mut Vec<Question<'q, 'i>>,
 ) -> Result<(), AllocError>
     ensures { OnOk result ((k : List ℕ) → Puts (whole_at k) into.old.items into.new.items (map alone (each_name (at k) node (names_of (value_at place.entry))))) }
 {
@@ -191,12 +191,12 @@ pub(crate) fn push_names<'i>(
 }
 
 // Each member whose name the pattern of an entry matches.
-fn push_matched<'i, T: Matching>(
+fn push_matched<'q, 'i: 'q, T: Matching>(
     entry: usize,
     node: &PatternNode,
     members: &'i Map<String, Value>,
     matching: &mut T,
-    into: &mut Vec<Question<'i>>,
+    into: &mut Vec<Question<'q, 'i>>,
 ) -> Result<(), AllocError>
     requires { IsNumbered (T.matches matching.old).pattern node.now.pattern }
     ensures same { OnOk result (T.matches matching.new ≡ T.matches matching.old) }
@@ -218,11 +218,11 @@ fn push_matched<'i, T: Matching>(
     Ok(())
 }
 
-fn push_each_matched<'i, T: Matching>(
+fn push_each_matched<'q, 'i: 'q, T: Matching>(
     nodes: &[PatternNode],
     members: &'i Map<String, Value>,
     matching: &mut T,
-    into: &mut Vec<Question<'i>>,
+    into: &mut Vec<Question<'q, 'i>>,
 ) -> Result<(), AllocError>
     requires { AreNumbered (T.matches matching.old).pattern nodes.now }
     ensures same { OnOk result (T.matches matching.new ≡ T.matches matching.old) }
@@ -236,11 +236,11 @@ fn push_each_matched<'i, T: Matching>(
 }
 
 // Each member by the node of each pattern that matches its name.
-pub(crate) fn push_matching<'i, T: Matching>(
+pub(crate) fn push_matching<'q, 'i: 'q, T: Matching>(
     nodes: &[PatternNode],
     place: Place<'i>,
     matching: &mut T,
-    into: &mut Vec<Question<'i>>,
+    into: &mut Vec<Question<'q, 'i>>,
 ) -> Result<(), AllocError>
     requires { AreNumbered (T.matches matching.old).pattern nodes.now }
     ensures same { OnOk result (T.matches matching.new ≡ T.matches matching.old) }
@@ -253,12 +253,12 @@ pub(crate) fn push_matching<'i, T: Matching>(
     }
 }
 
-fn push_others_of<'i, T: Matching>(
+fn push_others_of<'q, 'i: 'q, T: Matching>(
     declared: &Declared,
     node: usize,
     members: &'i Map<String, Value>,
     matching: &mut T,
-    into: &mut Vec<Question<'i>>,
+    into: &mut Vec<Question<'q, 'i>>,
 ) -> Result<(), AllocError>
     requires { AllNumbered (T.matches matching.old).pattern declared.now.patterns.items }
     ensures same { OnOk result (T.matches matching.new ≡ T.matches matching.old) }
@@ -281,12 +281,12 @@ fn push_others_of<'i, T: Matching>(
 }
 
 // Each member that is not declared by one node.
-pub(crate) fn push_others<'i, T: Matching>(
+pub(crate) fn push_others<'q, 'i: 'q, T: Matching>(
     declared: &Declared,
     node: usize,
     place: Place<'i>,
     matching: &mut T,
-    into: &mut Vec<Question<'i>>,
+    into: &mut Vec<Question<'q, 'i>>,
 ) -> Result<(), AllocError>
     requires { AllNumbered (T.matches matching.old).pattern declared.now.patterns.items }
     ensures same { OnOk result (T.matches matching.new ≡ T.matches matching.old) }

@@ -22,9 +22,9 @@ use std::alloc::{AllocError, Global};
 /// # Errors
 ///
 /// Where memory was refused.
-pub fn is_valid<'i, K: Validate, M: PatternMatcher>(
+pub fn is_valid<'q, 'i: 'q, K: Validate, M: PatternMatcher>(
     alloc: Global,
-    graph: &'i Graph<K>,
+    graph: &'q Graph<K>,
     start: usize,
     table: &PatternTable<M>,
     value: &'i Value,
@@ -50,7 +50,7 @@ pub fn is_valid<'i, K: Validate, M: PatternMatcher>(
 /// Where memory was refused or a count of owners is full. The observer may have been told of some faults then.
 pub fn tell_faults<'o, K: Validate, M: PatternMatcher>(
     alloc: Global,
-    graph: &'o Graph<K>,
+    graph: &Graph<K>,
     start: usize,
     table: &PatternTable<M>,
     value: &'o Value,

@@ -23,12 +23,12 @@ use std::alloc::AllocError;
 /// # Errors
 ///
 /// Where memory was refused.
-pub fn accepts<'i, K: Validate, T: Matching>(
-    graph: &'i Graph<K>,
+pub fn accepts<'q, 'i: 'q, K: Validate, T: Matching>(
+    graph: &'q Graph<K>,
     node: usize,
     value: &'i Value,
     matching: &mut T,
-    questions: &mut Vec<Question<'i>>,
+    questions: &mut Vec<Question<'q, 'i>>,
 ) -> Result<bool, AllocError>
     requires known { AreKnown K.knows (T.matches matching.old).pattern graph.now.nodes.items }
     requires there { node < length graph.now.nodes.items }

@@ -16,11 +16,11 @@ use crate::verdict::accepts_question;
 use std::alloc::AllocError;
 
 // How many of the questions from `start` on are answered yes.
-pub(crate) fn count_accepted<'i, K: Validate, T: Matching>(
-    here: &Here<'i, '_, K>,
+pub(crate) fn count_accepted<'q, 'i: 'q, K: Validate, T: Matching>(
+    here: &Here<'q, 'i, '_, K>,
     start: usize,
     matching: &mut T,
-    questions: &mut Vec<Question<'i>>,
+    questions: &mut Vec<Question<'q, 'i>>,
 ) -> Result<usize, AllocError>
     requires known { AreKnown K.knows (T.matches matching.old).pattern here.now.graph.now.nodes.items }
     requires asked { EachMayAsk here.now.graph.now.nodes.items (rank_at here.now.graph.now.nodes.items here.now.node) (value_at here.now.place) (map call_of (drop start questions.old.items)) }

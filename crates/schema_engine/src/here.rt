@@ -7,8 +7,8 @@ use crate::validate::Validate;
 
 /// A node at a place, and the references in progress there.
 #[derive(Drop)]
-pub(crate) struct Here<'i, 'p, K: Validate> {
-    pub(crate) graph: &'i Graph<K>,
+pub(crate) struct Here<'q, 'i, 'p, K: Validate> {
+    pub(crate) graph: &'q Graph<K>,
     pub(crate) node: usize,
     pub(crate) place: Place<'i>,
     pub(crate) progress: &'p Progress<'p>,

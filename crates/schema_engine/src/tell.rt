@@ -22,13 +22,13 @@ use std::alloc::{AllocError, Global};
 /// # Errors
 ///
 /// Where memory was refused or a count of owners is full. The observer may have been told of some faults then.
-pub fn tell<'i, K: Validate, T: Matching>(
+pub fn tell<'q, 'i: 'q, K: Validate, T: Matching>(
     alloc: Global,
-    graph: &'i Graph<K>,
+    graph: &'q Graph<K>,
     node: usize,
     value: &'i Value,
     matching: &mut T,
-    questions: &mut Vec<Question<'i>>,
+    questions: &mut Vec<Question<'q, 'i>>,
     observer: &mut Observer<'i>,
 ) -> Result<(), AllocError>
     requires known { AreKnown K.knows (T.matches matching.old).pattern graph.now.nodes.items }

@@ -34,12 +34,12 @@ use std::alloc::AllocError;
 
 // What a node tells of a value in its situation, where no reference is in progress.
 #[cycle(telling)]
-pub(crate) fn tell_value<'i, K: Validate, T: Matching>(
-    graph: &'i Graph<K>,
+pub(crate) fn tell_value<'q, 'i: 'q, K: Validate, T: Matching>(
+    graph: &'q Graph<K>,
     node: usize,
     situation: Situation<'_, 'i>,
     matching: &mut T,
-    questions: &mut Vec<Question<'i>>,
+    questions: &mut Vec<Question<'q, 'i>>,
     observer: &mut Observer<'i>,
 ) -> Result<(), AllocError>
     requires known { AreKnown K.knows (T.matches matching.old).pattern graph.now.nodes.items }
@@ -64,10 +64,10 @@ pub(crate) fn tell_value<'i, K: Validate, T: Matching>(
 
 // What a node tells there.
 #[cycle(telling)]
-fn tell_node<'i, K: Validate, T: Matching>(
-    there: &There<'i, '_, K>,
+fn tell_node<'q, 'i: 'q, K: Validate, T: Matching>(
+    there: &There<'q, 'i, '_, K>,
     matching: &mut T,
-    questions: &mut Vec<Question<'i>>,
+    questions: &mut Vec<Question<'q, 'i>>,
     observer: &mut Observer<'i>,
 ) -> Result<(), AllocError>
     requires known { AreKnown K.knows (T.matches matching.old).pattern (nodes_of there.now.here) }
@@ -89,11 +89,11 @@ fn tell_node<'i, K: Validate, T: Matching>(
 
 // What a keyword of the node tells.
 #[cycle(telling)]
-fn tell_keyword<'i, K: Validate, T: Matching>(
-    there: &There<'i, '_, K>,
-    keyword: &'i K,
+fn tell_keyword<'q, 'i: 'q, K: Validate, T: Matching>(
+    there: &There<'q, 'i, '_, K>,
+    keyword: &'q K,
     matching: &mut T,
-    questions: &mut Vec<Question<'i>>,
+    questions: &mut Vec<Question<'q, 'i>>,
     observer: &mut Observer<'i>,
 ) -> Result<(), AllocError>
     requires known { AreKnown K.knows (T.matches matching.old).pattern (nodes_of there.now.here) }
@@ -113,12 +113,12 @@ fn tell_keyword<'i, K: Validate, T: Matching>(
 
 // What a keyword tells whose questions are those from `start` on.
 #[cycle(telling)]
-fn tell_by_rule<'i, K: Validate, T: Matching>(
-    there: &There<'i, '_, K>,
-    keyword: &'i K,
+fn tell_by_rule<'q, 'i: 'q, K: Validate, T: Matching>(
+    there: &There<'q, 'i, '_, K>,
+    keyword: &'q K,
     start: usize,
     matching: &mut T,
-    questions: &mut Vec<Question<'i>>,
+    questions: &mut Vec<Question<'q, 'i>>,
     observer: &mut Observer<'i>,
 ) -> Result<(), AllocError>
     requires known { AreKnown K.knows (T.matches matching.old).pattern (nodes_of there.now.here) }
@@ -156,13 +156,13 @@ fn tell_by_rule<'i, K: Validate, T: Matching>(
 
 // What the questions from `start` on tell that stand beside this answer to a condition.
 #[cycle(telling)]
-fn tell_each<'i, K: Validate, T: Matching>(
-    there: &There<'i, '_, K>,
-    keyword: &'i K,
+fn tell_each<'q, 'i: 'q, K: Validate, T: Matching>(
+    there: &There<'q, 'i, '_, K>,
+    keyword: &'q K,
     beside: bool,
     start: usize,
     matching: &mut T,
-    questions: &mut Vec<Question<'i>>,
+    questions: &mut Vec<Question<'q, 'i>>,
     observer: &mut Observer<'i>,
 ) -> Result<(), AllocError>
     requires known { AreKnown K.knows (T.matches matching.old).pattern (nodes_of there.now.here) }
@@ -189,12 +189,12 @@ fn tell_each<'i, K: Validate, T: Matching>(
 
 // What is told where the first of the questions from `start` on is a condition.
 #[cycle(telling)]
-fn tell_conditional<'i, K: Validate, T: Matching>(
-    there: &There<'i, '_, K>,
-    keyword: &'i K,
+fn tell_conditional<'q, 'i: 'q, K: Validate, T: Matching>(
+    there: &There<'q, 'i, '_, K>,
+    keyword: &'q K,
     start: usize,
     matching: &mut T,
-    questions: &mut Vec<Question<'i>>,
+    questions: &mut Vec<Question<'q, 'i>>,
     observer: &mut Observer<'i>,
 ) -> Result<(), AllocError>
     requires known { AreKnown K.knows (T.matches matching.old).pattern (nodes_of there.now.here) }
@@ -223,12 +223,12 @@ fn tell_conditional<'i, K: Validate, T: Matching>(
 
 // What is told of the object, for each fault that the questions from `start` on tell of a name.
 #[cycle(telling)]
-fn tell_named<'i, K: Validate, T: Matching>(
-    there: &There<'i, '_, K>,
-    keyword: &'i K,
+fn tell_named<'q, 'i: 'q, K: Validate, T: Matching>(
+    there: &There<'q, 'i, '_, K>,
+    keyword: &'q K,
     start: usize,
     matching: &mut T,
-    questions: &mut Vec<Question<'i>>,
+    questions: &mut Vec<Question<'q, 'i>>,
     observer: &mut Observer<'i>,
 ) -> Result<(), AllocError>
     requires known { AreKnown K.knows (T.matches matching.old).pattern (nodes_of there.now.here) }
@@ -255,13 +255,13 @@ fn tell_named<'i, K: Validate, T: Matching>(
 
 // What a keyword tells that has one fault for all of its questions, those from `start` on.
 #[cycle(telling)]
-fn tell_combined<'i, K: Validate, T: Matching>(
-    there: &There<'i, '_, K>,
-    keyword: &'i K,
+fn tell_combined<'q, 'i: 'q, K: Validate, T: Matching>(
+    there: &There<'q, 'i, '_, K>,
+    keyword: &'q K,
     combination: Combination,
     start: usize,
     matching: &mut T,
-    questions: &mut Vec<Question<'i>>,
+    questions: &mut Vec<Question<'q, 'i>>,
     observer: &mut Observer<'i>,
 ) -> Result<(), AllocError>
     requires known { AreKnown K.knows (T.matches matching.old).pattern (nodes_of there.now.here) }
@@ -294,13 +294,13 @@ fn tell_combined<'i, K: Validate, T: Matching>(
 
 // Tells of the one fault.
 #[cycle(telling)]
-fn tell_refusal<'i, K: Validate, T: Matching>(
-    there: &There<'i, '_, K>,
-    keyword: &'i K,
+fn tell_refusal<'q, 'i: 'q, K: Validate, T: Matching>(
+    there: &There<'q, 'i, '_, K>,
+    keyword: &'q K,
     combination: Combination,
     start: usize,
     matching: &mut T,
-    questions: &mut Vec<Question<'i>>,
+    questions: &mut Vec<Question<'q, 'i>>,
     observer: &mut Observer<'i>,
 ) -> Result<(), AllocError>
     requires known { AreKnown K.knows (T.matches matching.old).pattern (nodes_of there.now.here) }
@@ -351,12 +351,12 @@ fn tell_refusal<'i, K: Validate, T: Matching>(
 
 // The errors of each of the questions from `start` on.
 #[cycle(telling)]
-fn tell_branches<'i, K: Validate, T: Matching>(
-    there: &There<'i, '_, K>,
-    keyword: &'i K,
+fn tell_branches<'q, 'i: 'q, K: Validate, T: Matching>(
+    there: &There<'q, 'i, '_, K>,
+    keyword: &'q K,
     start: usize,
     matching: &mut T,
-    questions: &mut Vec<Question<'i>>,
+    questions: &mut Vec<Question<'q, 'i>>,
 ) -> Result<Vec<Vec<ValidationError<'i>>>, AllocError>
     requires known { AreKnown K.knows (T.matches matching.old).pattern (nodes_of there.now.here) }
     requires right { IsThere there.now }
@@ -380,12 +380,12 @@ fn tell_branches<'i, K: Validate, T: Matching>(
 
 // What a question of a keyword tells.
 #[cycle(telling)]
-fn tell_question<'i, K: Validate, T: Matching>(
-    there: &There<'i, '_, K>,
-    keyword: &'i K,
-    question: Question<'i>,
+fn tell_question<'q, 'i: 'q, K: Validate, T: Matching>(
+    there: &There<'q, 'i, '_, K>,
+    keyword: &'q K,
+    question: Question<'q, 'i>,
     matching: &mut T,
-    questions: &mut Vec<Question<'i>>,
+    questions: &mut Vec<Question<'q, 'i>>,
     observer: &mut Observer<'i>,
 ) -> Result<(), AllocError>
     requires known { AreKnown K.knows (T.matches matching.old).pattern (nodes_of there.now.here) }
@@ -417,12 +417,12 @@ fn tell_question<'i, K: Validate, T: Matching>(
 
 // What a question tells whose entry is reached by this road.
 #[cycle(telling)]
-fn tell_step<'i, 'e, K: Validate, T: Matching>(
-    there: &There<'i, '_, K>,
+fn tell_step<'q, 'i: 'q, 'e, K: Validate, T: Matching>(
+    there: &There<'q, 'i, '_, K>,
     evaluation: &'e LazyLocation<'e, 'e>,
-    question: Question<'i>,
+    question: Question<'q, 'i>,
     matching: &mut T,
-    questions: &mut Vec<Question<'i>>,
+    questions: &mut Vec<Question<'q, 'i>>,
     observer: &mut Observer<'i>,
 ) -> Result<(), AllocError>
     requires known { AreKnown K.knows (T.matches matching.old).pattern (nodes_of there.now.here) }
@@ -472,12 +472,12 @@ fn tell_step<'i, 'e, K: Validate, T: Matching>(
 
 // What another schema of the keyword tells there.
 #[cycle(telling)]
-fn tell_inside<'i, 'e, K: Validate, T: Matching>(
-    there: &There<'i, '_, K>,
+fn tell_inside<'q, 'i: 'q, 'e, K: Validate, T: Matching>(
+    there: &There<'q, 'i, '_, K>,
     evaluation: &'e LazyLocation<'e, 'e>,
     node: usize,
     matching: &mut T,
-    questions: &mut Vec<Question<'i>>,
+    questions: &mut Vec<Question<'q, 'i>>,
     observer: &mut Observer<'i>,
 ) -> Result<(), AllocError>
     requires known { AreKnown K.knows (T.matches matching.old).pattern (nodes_of there.now.here) }
@@ -508,12 +508,12 @@ fn tell_inside<'i, 'e, K: Validate, T: Matching>(
 
 // What the target of a reference tells, unless it is in progress at this place.
 #[cycle(telling)]
-fn tell_target<'i, 'e, K: Validate, T: Matching>(
-    there: &There<'i, '_, K>,
+fn tell_target<'q, 'i: 'q, 'e, K: Validate, T: Matching>(
+    there: &There<'q, 'i, '_, K>,
     evaluation: &'e LazyLocation<'e, 'e>,
     target: usize,
     matching: &mut T,
-    questions: &mut Vec<Question<'i>>,
+    questions: &mut Vec<Question<'q, 'i>>,
     observer: &mut Observer<'i>,
 ) -> Result<(), AllocError>
     requires known { AreKnown K.knows (T.matches matching.old).pattern (nodes_of there.now.here) }
@@ -550,8 +550,8 @@ fn tell_target<'i, 'e, K: Validate, T: Matching>(
 
 // What a node tells of a name, as a text of its own in the situation of its object. No reference is in progress there.
 #[cycle(telling)]
-fn tell_name<'i, K: Validate, T: Matching>(
-    graph: &'i Graph<K>,
+fn tell_name<'q, 'i: 'q, K: Validate, T: Matching>(
+    graph: &'q Graph<K>,
     node: usize,
     name: &'i str,
     object: Situation<'_, 'i>,

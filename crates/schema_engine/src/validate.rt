@@ -56,11 +56,11 @@ pub trait Validate: Drop {
     /// # Errors
     ///
     /// Where memory was refused. Some questions may have been pushed then.
-    fn questions<'i, T: Matching>(
-        &'i self,
+    fn questions<'q, 'i: 'q, T: Matching>(
+        &'q self,
         place: Place<'i>,
         matching: &mut T,
-        into: &mut Vec<Question<'i>>,
+        into: &mut Vec<Question<'q, 'i>>,
     ) -> Result<(), AllocError>
         requires { knows self.now (T.matches matching.old).pattern }
         ensures same { OnOk result (T.matches matching.new ≡ T.matches matching.old) }

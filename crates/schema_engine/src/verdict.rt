@@ -25,13 +25,13 @@ use std::alloc::AllocError;
 ///
 /// Where memory was refused.
 #[cycle(verdict)]
-pub fn accepts_node<'i, K: Validate, T: Matching>(
-    graph: &'i Graph<K>,
+pub fn accepts_node<'q, 'i: 'q, K: Validate, T: Matching>(
+    graph: &'q Graph<K>,
     node: usize,
     place: Place<'i>,
     progress: &Progress<'_>,
     matching: &mut T,
-    questions: &mut Vec<Question<'i>>,
+    questions: &mut Vec<Question<'q, 'i>>,
 ) -> Result<bool, AllocError>
     requires known { AreKnown K.knows (T.matches matching.old).pattern graph.now.nodes.items }
     requires there { node < length graph.now.nodes.items }
@@ -57,11 +57,11 @@ pub fn accepts_node<'i, K: Validate, T: Matching>(
 
 // Whether a keyword of a node accepts what is at a place.
 #[cycle(verdict)]
-fn accepts_keyword<'i, K: Validate, T: Matching>(
-    here: &Here<'i, '_, K>,
-    keyword: &'i K,
+fn accepts_keyword<'q, 'i: 'q, K: Validate, T: Matching>(
+    here: &Here<'q, 'i, '_, K>,
+    keyword: &'q K,
     matching: &mut T,
-    questions: &mut Vec<Question<'i>>,
+    questions: &mut Vec<Question<'q, 'i>>,
 ) -> Result<bool, AllocError>
     requires known { AreKnown K.knows (T.matches matching.old).pattern here.now.graph.now.nodes.items }
     requires stands { In keyword.now (keywords_at here.now.graph.now.nodes.items here.now.node) }
@@ -84,12 +84,12 @@ fn accepts_keyword<'i, K: Validate, T: Matching>(
 
 // The verdict by the answers to the questions from `start` on.
 #[cycle(verdict)]
-pub(crate) fn accepts_combined<'i, K: Validate, T: Matching>(
-    here: &Here<'i, '_, K>,
+pub(crate) fn accepts_combined<'q, 'i: 'q, K: Validate, T: Matching>(
+    here: &Here<'q, 'i, '_, K>,
     combination: Combination,
     start: usize,
     matching: &mut T,
-    questions: &mut Vec<Question<'i>>,
+    questions: &mut Vec<Question<'q, 'i>>,
 ) -> Result<bool, AllocError>
     requires known { AreKnown K.knows (T.matches matching.old).pattern here.now.graph.now.nodes.items }
     requires asked { EachMayAsk here.now.graph.now.nodes.items (rank_at here.now.graph.now.nodes.items here.now.node) (value_at here.now.place) (map call_of (drop start questions.old.items)) }
@@ -115,12 +115,12 @@ pub(crate) fn accepts_combined<'i, K: Validate, T: Matching>(
 
 // Whether each of the questions from `start` on is answered yes that stands beside this answer to a condition.
 #[cycle(verdict)]
-fn accepts_each<'i, K: Validate, T: Matching>(
-    here: &Here<'i, '_, K>,
+fn accepts_each<'q, 'i: 'q, K: Validate, T: Matching>(
+    here: &Here<'q, 'i, '_, K>,
     beside: bool,
     start: usize,
     matching: &mut T,
-    questions: &mut Vec<Question<'i>>,
+    questions: &mut Vec<Question<'q, 'i>>,
 ) -> Result<bool, AllocError>
     requires known { AreKnown K.knows (T.matches matching.old).pattern here.now.graph.now.nodes.items }
     requires asked { EachMayAsk here.now.graph.now.nodes.items (rank_at here.now.graph.now.nodes.items here.now.node) (value_at here.now.place) (map call_of (drop start questions.old.items)) }
@@ -144,13 +144,13 @@ fn accepts_each<'i, K: Validate, T: Matching>(
 
 // Whether the number of the questions from `start` on that are answered yes is within bounds.
 #[cycle(verdict)]
-fn accepts_counted<'i, K: Validate, T: Matching>(
-    here: &Here<'i, '_, K>,
+fn accepts_counted<'q, 'i: 'q, K: Validate, T: Matching>(
+    here: &Here<'q, 'i, '_, K>,
     least: usize,
     most: Option<usize>,
     start: usize,
     matching: &mut T,
-    questions: &mut Vec<Question<'i>>,
+    questions: &mut Vec<Question<'q, 'i>>,
 ) -> Result<bool, AllocError>
     requires known { AreKnown K.knows (T.matches matching.old).pattern here.now.graph.now.nodes.items }
     requires asked { EachMayAsk here.now.graph.now.nodes.items (rank_at here.now.graph.now.nodes.items here.now.node) (value_at here.now.place) (map call_of (drop start questions.old.items)) }
@@ -176,11 +176,11 @@ fn accepts_counted<'i, K: Validate, T: Matching>(
 
 // The verdict where the first of the questions from `start` on is a condition.
 #[cycle(verdict)]
-fn accepts_conditional<'i, K: Validate, T: Matching>(
-    here: &Here<'i, '_, K>,
+fn accepts_conditional<'q, 'i: 'q, K: Validate, T: Matching>(
+    here: &Here<'q, 'i, '_, K>,
     start: usize,
     matching: &mut T,
-    questions: &mut Vec<Question<'i>>,
+    questions: &mut Vec<Question<'q, 'i>>,
 ) -> Result<bool, AllocError>
     requires known { AreKnown K.knows (T.matches matching.old).pattern here.now.graph.now.nodes.items }
     requires asked { EachMayAsk here.now.graph.now.nodes.items (rank_at here.now.graph.now.nodes.items here.now.node) (value_at here.now.place) (map call_of (drop start questions.old.items)) }
@@ -200,11 +200,11 @@ fn accepts_conditional<'i, K: Validate, T: Matching>(
 
 // The answer to a question.
 #[cycle(verdict)]
-pub(crate) fn accepts_question<'i, K: Validate, T: Matching>(
-    here: &Here<'i, '_, K>,
-    question: Question<'i>,
+pub(crate) fn accepts_question<'q, 'i: 'q, K: Validate, T: Matching>(
+    here: &Here<'q, 'i, '_, K>,
+    question: Question<'q, 'i>,
     matching: &mut T,
-    questions: &mut Vec<Question<'i>>,
+    questions: &mut Vec<Question<'q, 'i>>,
 ) -> Result<bool, AllocError>
     requires known { AreKnown K.knows (T.matches matching.old).pattern here.now.graph.now.nodes.items }
     requires asked { MayAsk here.now.graph.now.nodes.items (rank_at here.now.graph.now.nodes.items here.now.node) (value_at here.now.place) (call_of question) }
@@ -258,11 +258,11 @@ pub(crate) fn accepts_question<'i, K: Validate, T: Matching>(
 
 // Whether the target of a reference accepts. Where it is in progress at this place, it does.
 #[cycle(verdict)]
-fn accepts_target<'i, K: Validate, T: Matching>(
-    here: &Here<'i, '_, K>,
+fn accepts_target<'q, 'i: 'q, K: Validate, T: Matching>(
+    here: &Here<'q, 'i, '_, K>,
     target: usize,
     matching: &mut T,
-    questions: &mut Vec<Question<'i>>,
+    questions: &mut Vec<Question<'q, 'i>>,
 ) -> Result<bool, AllocError>
     requires known { AreKnown K.knows (T.matches matching.old).pattern here.now.graph.now.nodes.items }
     requires there { target < length here.now.graph.now.nodes.items }
