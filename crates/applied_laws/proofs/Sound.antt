@@ -1,5 +1,5 @@
 -- Each question of a keyword whose verdict is by the number of answers that are yes.
-use Rattle.std.proofs.Common.{◌≡◌, ℕ, suc, List, [], ◌∷◌, ◌++◌, map, Bool, true, false, codes, Option, None, Some, Bor, refl, subst, sym}
+use Rattle.std.proofs.Common.{◌≡◌, ℕ, suc, List, [], ◌∷◌, ◌++◌, map, Bool, true, false, Option, None, Some, Bor, refl, subst, sym}
 use Rattle.std.specs.List.{AllByRecursion, filter}
 use Rattle.std.specs.Prelude.{⊤}
 use Rattle.serde_json.specs.Data.{Data, null, Items, no_items, item}

@@ -41,7 +41,7 @@ use Rattle.fault_paths.proofs.AddedFacts.{added_parts, added_text}
 use Rattle.fault_paths.proofs.UnnamedFacts.{asks_no_name}
 use Rattle.schema_patterns.specs.Read.{reads}
 use Rattle.fault_checks.specs.Passed.{AreAsked}
-use Rattle.fault_checks.specs.Scenes.{Scene, reading_of, Meets}
+use Rattle.fault_checks.specs.Scenes.{Scene, reading_of}
 use Rattle.fault_checks.specs.Rows.{applied_row, applied_questions}
 use Rattle.fault_checks.specs.Verdicts.{AppliesIn}
 use Rattle.fault_checks.proofs.Passed.{Child}
@@ -51,7 +51,7 @@ use Rattle.fault_checks.proofs.Children.{meets_shallow, child_meets}
 use Rattle.fault_checks.specs.declared.walk.Walk.{Walk}
 use Rattle.fault_checks.specs.declared.walk.Step.{Step}
 use Rattle.fault_checks.specs.declared.walk.Step.TheVariants.{Answered, On, Named}
-use Rattle.fault_checks.specs.Steps.{path_at, IsLeft, IsMore, IsNotLonger, GoesInto, LeadsInto, PassesThrough}
+use Rattle.fault_checks.specs.Steps.{IsLeft, IsMore, IsNotLonger, GoesInto, LeadsInto, PassesThrough}
 use Rattle.fault_paths.specs.Obliged.{obliges_by, obliges}
 use Rattle.applicators.proofs.Asking.{by_answers}
 use Rattle.fault_checks.proofs.ObligedFacts.{AllOrNone, all_or_none}
@@ -171,7 +171,7 @@ applied_never w a after qs are values more never = record {
       let d = view w.value.now in
       let of = stage.named.0 in
       let plain = stage.plain _ first in
-      let here = asked_there w.site (path_at w) d a qs are x s stage.meets in
+      let here = asked_there w.site d a qs are x s stage.meets in
       let g = going_by (reading_of x) d (the_rule x s d a values n of plain) [] _ _ (steps_are x s d a values n of plain qs here false never)
       (not_here x s d a values n of plain w.instance after more) h in
       elim g.asked [ ];
@@ -184,7 +184,7 @@ applied_nowhere w a after qs are values more obliging nowhere = record {
       let d = view w.value.now in
       let of = stage.named.0 in
       let plain = stage.plain _ first in
-      let here = asked_there w.site (path_at w) d a qs are x s stage.meets in
+      let here = asked_there w.site d a qs are x s stage.meets in
       let g = going_by (reading_of x) d (the_rule x s d a values n of plain) (applied_questions a d x s) _ _ (steps_are x s d a values n of plain qs here true obliging)
       (not_here x s d a values n of plain w.instance after more) h in
       let c = came x s d a values n of plain qs here obliging (text_left w.instance) (text_left after) g in
@@ -200,7 +200,7 @@ applied_on w v a after qs b are applies values more obliging once ahead into = r
       let e = 47 ∷ (n ++ text_left after) in
       let of = stage.named.0 in
       let plain = stage.plain _ first in
-      let here = asked_there w.site (path_at w) d a qs are x s stage.meets in
+      let here = asked_there w.site d a qs are x s stage.meets in
       let row = applied_row a x s in
       let site = below x.documents s in
       let q = b.question in
@@ -212,10 +212,10 @@ applied_on w v a after qs b are applies values more obliging once ahead into = r
       let asked = asked_here x s d a values n of plain qs here q ahead.among in
       let sound = questions_are_sound site x.matches d a applies.by_answers asks_it asked in
       let unnamed : called_after None (step_of q.asked) ≡ None = asks_no_name site x.matches d asks_it a values asked in
-      let decided = told_there x s d (meets_shallow w.site (path_at w) x s stage.meets w.shallow) stage.straight in
+      let decided = told_there x s d (meets_shallow w.site x s stage.meets w.shallow) stage.straight in
       let bs = answers_there (reading_of x) s d _ decided the (rules_stand x.documents x.makes x.matches s row d stage.stands the first) in
       let child : Child w.site v.site schema = record { contents = into.contents; documents = into.documents; scope = into.scope; stands = λ t added. into.stands t added; matches = into.matches } in
-      let meets = child_meets w.site v.site schema (added_at q.subschema.keyword.now q.subschema.entry) (path_at w) x s child stage.meets (right_on x s row inner stage.meets.right stage.stands sound.led) in
+      let meets = child_meets w.site v.site schema (added_at q.subschema.keyword.now q.subschema.entry) x s child stage.meets (right_on x s row inner stage.meets.right stage.stands sound.led) in
       let spelled_at = λ (f : Data) (t u : Option (Bor (List ℕ))). AreSpelled (reading_of x) inner f (text_left t) (text_left u) in
       let shift = λ (h : AreSpelled (reading_of x) inner (value_after d (step_of q.asked)) (text_left b.instance) (text_left b.evaluation)).
       subst (λ (f : Data). spelled_at f v.instance v.evaluation) (sym (into.value unnamed))
@@ -227,7 +227,7 @@ applied_on w v a after qs b are applies values more obliging once ahead into = r
       (subst (λ (f : Data). spelled_at f v.instance v.evaluation) (into.value unnamed) h)) in
       record {
         site = inner;
-        meets = subst (λ p. Meets v.site p x inner) (sym into.path) meets;
+        meets = meets;
         back = λ circular.
             asked_back x s row d (shape_of site a) asks_it stage.stands first asked (subst (λ (f : Data). IsCircular (reading_of x) inner (whole f)) (into.value unnamed) circular);
         to = λ h.

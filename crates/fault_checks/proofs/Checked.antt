@@ -28,18 +28,17 @@ use Rattle.schema_registries.specs.Matched.{AreReadOf}
 use Rattle.schema_registries.proofs.Found.{finds_one, leads_somewhere}
 use Rattle.schema_registries.proofs.Matched.{same_matches}
 use Rattle.fault_checks.specs.Checked.{IsChecked, DecidesRoot}
-use Rattle.fault_checks.specs.Steps.{path_at, Passes}
+use Rattle.fault_checks.specs.Steps.{Passes}
 
-pub decided_at : (w : Walk) (t : Target) (docs : Documents) (m : Bor Matches) (b : Bool) → documents_at w.site ≡ docs → w.site.matches ≡ m → Stands w.site (root_site t) → scope_of w.site.resolver ≡ t.base ∷ [] → path_at w ≡ []
+pub decided_at : (w : Walk) (t : Target) (docs : Documents) (m : Bor Matches) (b : Bool) → documents_at w.site ≡ docs → w.site.matches ≡ m → Stands w.site (root_site t) → scope_of w.site.resolver ≡ t.base ∷ []
     → Passes w (Answered b) → DecidesRoot t docs m.now (view w.value.now) (text_left w.instance) (text_left w.evaluation) b
-decided_at w t docs m b same matched stands scope path p = record {
+decided_at w t docs m b same matched stands scope p = record {
   decides = λ makes right straight.
       p.outcome (record { documents = docs; makes = makes; matches = reads m.now }) (root_site t)
       (record {
         documents = sym same;
         stands = stands;
         scope = sym scope;
-        schema_path = sym path;
         matches = ap (λ (m : Bor Matches). reads m.now) (sym matched);
         right = right;
       }) straight;

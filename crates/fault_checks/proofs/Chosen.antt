@@ -1,9 +1,8 @@
 -- Whether `if` refuses, by the verdicts of its schema and of the one that it chooses.
-use Rattle.std.proofs.Common.{◌≡◌, ◌∙◌, ◌++◌, ◌≤◌, ℕ, List, [], ◌∷◌, Bool, true, false, true≢false, not, codes, Bor, Option, Some, None, IfSome, option_map, sym, ap, subst}
+use Rattle.std.proofs.Common.{◌≡◌, ◌∙◌, ◌≤◌, ℕ, List, [], ◌∷◌, Bool, true, false, true≢false, not, codes, Bor, Option, Some, None, IfSome, option_map, sym, ap, subst}
 use Rattle.serde_json.specs.Data.{Data, depth}
 use Rattle.serde_json.specs.View.{view}
 use Rattle.serde_json.specs.declared.value.Value.{Value}
-use Rattle.json_values.specs.Parts.{Part}
 use Rattle.schema_meaning.specs.Members.{In, first, later}
 use Rattle.schema_meaning.specs.Places.{whole}
 use Rattle.schema_meaning.specs.Questions.{Question, at, here}
@@ -19,9 +18,9 @@ use Rattle.certificate_laws.proofs.Answers.{answers_there}
 use Rattle.plain_reader.specs.Passed.{documents_at, row_of, site_at}
 use Rattle.plain_reader.specs.Passed as code
 use Rattle.plain_reader.specs.Choices.{IsInside, AreInside}
-use Rattle.plain_reader.proofs.ItemTelling.{Child}
+use Rattle.plain_reader.proofs.ChildVerdicts.{Child}
 use Rattle.certificate_laws.proofs.Begun.{rules_stand}
-use Rattle.fault_checks.specs.Scenes.{Scene, reading_of, IsRight, Meets, Stage}
+use Rattle.fault_checks.specs.Scenes.{Scene, reading_of, IsRight, Stage}
 use Rattle.fault_checks.specs.Verdicts.{IsVerdict, IsRefusalAt, IsInnerVerdict, chosen_of}
 use Rattle.fault_checks.proofs.Right.{told_there, right_on, asked_back}
 use Rattle.fault_checks.proofs.Children.{meets_shallow, child_meets}
@@ -31,7 +30,7 @@ use Rattle.fault_checks.proofs.Choices.{name_of, the_choice, asked_of, added_so,
 one_part : (k n : List ℕ) → at k ≡ at n → k ≡ n
 one_part k n e = cc
 
-module _ (c : code.Site) (path : List Part) (d : Data) (schema : Bor Value) (then_schema else_schema : Option (Bor Value)) (shallow : depth (view c.contents.now) ≤ deepest (documents_at c)) where
+module _ (c : code.Site) (d : Data) (schema : Bor Value) (then_schema else_schema : Option (Bor Value)) (shallow : depth (view c.contents.now) ≤ deepest (documents_at c)) where
   abbrev pub the_row : Scene → Site → Row
   the_row x s = row_of x.documents s (code.If schema then_schema else_schema)
 
@@ -63,11 +62,11 @@ module _ (c : code.Site) (path : List Part) (d : Data) (schema : Bor Value) (the
   none_chosen true x s e = ap (option_map (λ (v : Bor Value). site_at x.documents s (codes "then") (view v.now))) e
   none_chosen false x s e = ap (option_map (λ (v : Bor Value). site_at x.documents s (codes "else") (view v.now))) e
 
-  module _ (n : List ℕ) (x : Scene) (s : Site) (stage : Stage c path d n (the_row x s) x s) where
+  module _ (n : List ℕ) (x : Scene) (s : Site) (stage : Stage c d n (the_row x s) x s) where
     -- each of its questions has an answer
     pub if_answers : (bs : List Bool) × AreAnswers (reading_of x) (whole d) (the_rule x s) bs
     if_answers =
-        let decided = told_there x s d (meets_shallow c path x s stage.meets shallow) stage.straight in
+        let decided = told_there x s d (meets_shallow c x s stage.meets shallow) stage.straight in
         answers_there (reading_of x) s d _ decided (the_rule x s) (rules_stand x.documents x.makes x.matches s (the_row x s) d stage.stands (the_rule x s) first)
 
     pub part_right : (b : Bool) (part : Bor Value) → chosen_of b then_schema else_schema ≡ Some part → IsRight x (part_site (name_of b) x s part)
@@ -76,7 +75,7 @@ module _ (c : code.Site) (path : List Part) (d : Data) (schema : Bor Value) (the
     part_right false part e =
         else_right x s stage.meets.right (condition_site x s) (then_site x s) (else_site x s) stage.stands (part_site (codes "else") x s part) (site_chosen false x s part e)
 
-    module _ (b : Bool) (verdict : IsInnerVerdict c path d (codes "if") (view schema.now) b) where
+    module _ (b : Bool) (verdict : IsInnerVerdict c d (codes "if") (view schema.now) b) where
       condition_told : IsTold verdicts (reading_of x) (condition_site x s) (whole d) b
       condition_told =
           verdict.told x s stage.meets (right_on x s (the_row x s) (condition_site x s) stage.meets.right stage.stands first)
@@ -113,23 +112,23 @@ module _ (c : code.Site) (path : List Part) (d : Data) (schema : Bor Value) (the
           pub part_back : IsCircular (reading_of x) the_site (whole d) → IsCircular (reading_of x) s (whole d)
           part_back circular = asked_back x s (the_row x s) d (the_shape x s) (here (name_of b) the_site) stage.stands first one_asked circular
 
-          part_accepts : (v : Bool) → IsInnerVerdict c path d (name_of b) (view part.now) v → accepts (the_rule x s) bs ≡ v
+          part_accepts : (v : Bool) → IsInnerVerdict c d (name_of b) (view part.now) v → accepts (the_rule x s) bs ≡ v
           part_accepts v h =
               one_so (reading_of x) d (condition_site x s) (then_site x s) (else_site x s) bs are b condition_told the_site (site_chosen b x s part chooses) v
               (h.told x s stage.meets (part_right b part chooses) (λ circular. stage.straight (part_back circular)))
 
   -- ---- under a name
 
-  module _ (n : List ℕ) (b : Bool) (verdict : IsInnerVerdict c path d (codes "if") (view schema.now) b) where
+  module _ (n : List ℕ) (b : Bool) (verdict : IsInnerVerdict c d (codes "if") (view schema.now) b) where
     abbrev Decides : Bool → Type 0
-    Decides v = IsRefusalAt c path d (code.If schema then_schema else_schema) n v
+    Decides v = IsRefusalAt c d (code.If schema then_schema else_schema) n v
 
     -- it refuses by none of its answers under the name
-    never : ((x : Scene) (s : Site) → Stage c path d n (the_row x s) x s → (bs : List Bool) → AreAnswers (reading_of x) (whole d) (the_rule x s) bs
+    never : ((x : Scene) (s : Site) → Stage c d n (the_row x s) x s → (bs : List Bool) → AreAnswers (reading_of x) (whole d) (the_rule x s) bs
         → accepts (the_rule x s) bs ≡ false → refuses_at (the_rule x s) bs ≡ at n → ⊥) → Decides false
     never none = record { decides = λ x s stage h. by x s stage h.0 h.1 h.2 h.3 h.4 h.5 }
       where
-        by : (x : Scene) (s : Site) → Stage c path d n (the_row x s) x s → (k : Rule Site) (bs : List Bool) → In k (the_rule x s ∷ []) → AreAnswers (reading_of x) (whole d) k bs
+        by : (x : Scene) (s : Site) → Stage c d n (the_row x s) x s → (k : Rule Site) (bs : List Bool) → In k (the_rule x s ∷ []) → AreAnswers (reading_of x) (whole d) k bs
             → accepts k bs ≡ false → refuses_at k bs ≡ at n → ⊥
         by x s stage _ bs first are wrong named = none x s stage bs are wrong named
         by x s stage k bs (later i) are wrong named = elim i [ ]
@@ -140,7 +139,7 @@ module _ (c : code.Site) (path : List Part) (d : Data) (schema : Bor Value) (the
     pub by_no_part : chosen_of b then_schema else_schema ≡ None → Decides false
     by_no_part none = never (λ x s stage bs are wrong named. true≢false (sym (none_accepts n x s stage b verdict bs are none) ∙ wrong))
 
-    pub by_part : (part : Bor Value) → chosen_of b then_schema else_schema ≡ Some part → name_of b ≡ n → (v : Bool) → IsInnerVerdict c path d (name_of b) (view part.now) (not v) → Decides v
+    pub by_part : (part : Bor Value) → chosen_of b then_schema else_schema ≡ Some part → name_of b ≡ n → (v : Bool) → IsInnerVerdict c d (name_of b) (view part.now) (not v) → Decides v
     by_part part chooses same true h = record {
       decides = λ x s stage.
           let w = if_answers n x s stage in
@@ -157,11 +156,10 @@ chosen_inside c then_schema else_schema h false part e = subst (λ (o : Option (
 
 -- ---- the verdict of a schema at a keyword
 
-pub inner_verdict : (c inner : code.Site) (path road : List Part) (d : Data) (k : List ℕ) (schema : Data) (b : Bool) → Child c inner schema → road ≡ at k ++ path → IsVerdict inner road d b
-    → IsInnerVerdict c path d k schema b
-inner_verdict c inner path road d k schema b child same verdict = record {
+pub inner_verdict : (c inner : code.Site) (d : Data) (k : List ℕ) (schema : Data) (b : Bool) → Child c inner schema → IsVerdict inner d b
+    → IsInnerVerdict c d k schema b
+inner_verdict c inner d k schema b child verdict = record {
   told = λ x s meets right straight.
       let there = site_at x.documents s k schema in
-      let at_it = child_meets c inner schema (at k) path x s child meets right in
-      verdict.told x there (subst (λ p. Meets inner p x there) (sym same) at_it) straight;
+      let at_it = child_meets c inner schema (at k) x s child meets right in verdict.told x there at_it straight;
 }

@@ -21,7 +21,7 @@ use Rattle.certificate_laws.specs.Words.{IsRest}
 use Rattle.certificate_laws.proofs.Cuts.{rest_of}
 use Rattle.fault_paths.specs.Texts.{text_left}
 use Rattle.fault_checks.specs.Passed as code
-use Rattle.fault_checks.specs.Scenes.{Scene, reading_of, Meets, Stage}
+use Rattle.fault_checks.specs.Scenes.{Scene, reading_of, Stage}
 use Rattle.fault_checks.specs.Verdicts.{IsInnerVerdict, chosen_of}
 use Rattle.fault_checks.proofs.Passed.{Child}
 use Rattle.fault_checks.proofs.Children.{child_meets}
@@ -30,7 +30,7 @@ use Rattle.fault_checks.proofs.Chosen.{the_row, the_rule, part_site, if_answers,
 use Rattle.fault_checks.specs.declared.walk.Walk.{Walk}
 use Rattle.fault_checks.specs.declared.walk.Step.{Step}
 use Rattle.fault_checks.specs.declared.walk.Step.TheVariants.{Answered, On, Named}
-use Rattle.fault_checks.specs.Steps.{path_at, IsLeft, IsMore, IsNotLonger, GoesInto, LeadsInto, PassesBy}
+use Rattle.fault_checks.specs.Steps.{IsLeft, IsMore, IsNotLonger, GoesInto, LeadsInto, PassesBy}
 use Rattle.fault_checks.proofs.Going.{not_named, one_begun}
 
 -- what the walk goes on with: the schema at its keyword, and the value itself
@@ -39,7 +39,7 @@ into_part w k part after =
     record { question = record { subschema = record { keyword = k; entry = entry.Whole; schema = part }; asked = asked.Value }; instance = w.instance; evaluation = after }
 
 module _ (w : Walk) (schema : Bor Value) (then_schema else_schema : Option (Bor Value)) (n : List ℕ) (after : Option (Bor (List ℕ))) (more : IsMore w.instance after) (b : Bool)
-    (verdict : IsInnerVerdict w.site (path_at w) (view w.value.now) (codes "if") (view schema.now) b) where
+    (verdict : IsInnerVerdict w.site (view w.value.now) (codes "if") (view schema.now) b) where
   abbrev d : Data
   d = view w.value.now
 
@@ -47,13 +47,13 @@ module _ (w : Walk) (schema : Bor Value) (then_schema else_schema : Option (Bor 
   e = 47 ∷ (n ++ text_left after)
 
   abbrev row : Scene → Site → Row
-  row x s = the_row w.site (path_at w) d schema then_schema else_schema w.shallow x s
+  row x s = the_row w.site d schema then_schema else_schema w.shallow x s
 
   abbrev if_rule : Scene → Site → Rule Site
-  if_rule x s = the_rule w.site (path_at w) d schema then_schema else_schema w.shallow x s
+  if_rule x s = the_rule w.site d schema then_schema else_schema w.shallow x s
 
   abbrev Staged : Scene → Site → Type 0
-  Staged x s = Stage w.site (path_at w) d n (row x s) x s
+  Staged x s = Stage w.site d n (row x s) x s
 
   abbrev Spelled : Scene → Site → Type 0
   Spelled x s = AreSpelledBy (reading_of x) d (if_rule x s ∷ []) (text_left w.instance) e
@@ -62,7 +62,7 @@ module _ (w : Walk) (schema : Bor Value) (then_schema else_schema : Option (Bor 
   begun_by : (x : Scene) (s : Site) → Staged x s → (bs : List Bool) → AreAnswers (reading_of x) (whole d) (if_rule x s) bs → (q : Question Site) → In q (obliged (if_rule x s) bs)
       → (i rest : List ℕ) → AreSpelled (reading_of x) q.site (value_after d q.step) i rest → e ≡ path_text q.added ++ rest → (n ≡ name_of b) × (text_left after ≡ rest)
   begun_by x s stage bs are q o i rest under on_e =
-      let added = added_under w.site (path_at w) d schema then_schema else_schema w.shallow n x s stage b verdict bs are q o in
+      let added = added_under w.site d schema then_schema else_schema w.shallow n x s stage b verdict bs are q o in
       one_begun n (name_of b) rest after (stage.plain _ first) (subst IsRest (sym under.evaluation_text) (rest_of _))
       (on_e ∙ ap (λ ps. path_text ps ++ rest) added ∙ ap (λ t. 47 ∷ (t ++ rest)) (append-nil (escape (name_of b))))
 
@@ -70,7 +70,7 @@ module _ (w : Walk) (schema : Bor Value) (then_schema else_schema : Option (Bor 
       → e ≡ path_text (refuses_at (if_rule x s) bs) → ⊥
   no_end x s stage bs are at_i on_e =
       not_named w.instance after n (name_of b) more (stage.plain _ first) at_i
-      (on_e ∙ ap path_text (refuses_under w.site (path_at w) d schema then_schema else_schema w.shallow n x s stage b verdict bs are))
+      (on_e ∙ ap path_text (refuses_under w.site d schema then_schema else_schema w.shallow n x s stage b verdict bs are))
 
   -- where nothing that is obliged stands at the name
   stops : ((x : Scene) (s : Site) → Staged x s → (bs : List Bool) → AreAnswers (reading_of x) (whole d) (if_rule x s) bs → (q : Question Site) → In q (obliged (if_rule x s) bs)
@@ -89,17 +89,17 @@ module _ (w : Walk) (schema : Bor Value) (then_schema else_schema : Option (Bor 
   pub no_part : chosen_of b then_schema else_schema ≡ None → PassesBy w (code.If schema then_schema else_schema) n after (Answered false)
   no_part none =
       stops (λ x s stage bs are q o same.
-      elim (subst (λ qs. In q qs) (none_obliged w.site (path_at w) d schema then_schema else_schema w.shallow n x s stage b verdict bs are none) o) [ ])
+      elim (subst (λ qs. In q qs) (none_obliged w.site d schema then_schema else_schema w.shallow n x s stage b verdict bs are none) o) [ ])
 
   module _ (part : Bor Value) (chooses : chosen_of b then_schema else_schema ≡ Some part) (same : name_of b ≡ n) where
     abbrev site : Scene → Site → Site
-    site x s = part_site w.site (path_at w) d schema then_schema else_schema w.shallow (name_of b) x s part
+    site x s = part_site w.site d schema then_schema else_schema w.shallow (name_of b) x s part
 
     abbrev asks_it : Scene → Site → Question Site
     asks_it x s = here (name_of b) (site x s)
 
     one_is : (x : Scene) (s : Site) → Staged x s → (bs : List Bool) → AreAnswers (reading_of x) (whole d) (if_rule x s) bs → obliged (if_rule x s) bs ≡ asks_it x s ∷ []
-    one_is x s stage bs are = one_obliged w.site (path_at w) d schema then_schema else_schema w.shallow n x s stage b verdict bs are part chooses
+    one_is x s stage bs are = one_obliged w.site d schema then_schema else_schema w.shallow n x s stage b verdict bs are part chooses
 
     only_one : (p q : Question Site) → In q (p ∷ []) → q ≡ p
     only_one p q first = refl
@@ -120,28 +120,27 @@ module _ (w : Walk) (schema : Bor Value) (then_schema else_schema : Option (Bor 
 
     back : (x : Scene) (s : Site) → Staged x s → AreSpelled (reading_of x) (site x s) d (text_left w.instance) (text_left after) → Spelled x s
     back x s stage under =
-        let bs = if_answers w.site (path_at w) d schema then_schema else_schema w.shallow n x s stage in
+        let bs = if_answers w.site d schema then_schema else_schema w.shallow n x s stage in
         goes (if_rule x s) bs.0 (asks_it x s) (text_left w.instance) (text_left after) first bs.1 (subst (λ qs. In (asks_it x s) qs) (sym (one_is x s stage bs.0 bs.1)) first) under refl
         (ap (λ t. 47 ∷ (t ++ text_left after)) (sym (stage.plain _ first) ∙ ap escape (sym same) ∙ sym (append-nil (escape (name_of b)))))
 
     pub into_chosen : (v : Walk) (k : Bor (List ℕ)) → k.now ≡ name_of b → GoesInto w (into_part w k part after) v → PassesBy w (code.If schema then_schema else_schema) n after (On v)
     into_chosen v k named into = record {
       outcome = λ x s stage.
-          let bs = if_answers w.site (path_at w) d schema then_schema else_schema w.shallow n x s stage in
+          let bs = if_answers w.site d schema then_schema else_schema w.shallow n x s stage in
           let inner = site x s in
           let child : Child w.site v.site (view part.now) = record { contents = into.contents; documents = into.documents; scope = into.scope; stands = λ t added. into.stands t added; matches = into.matches } in
-          let right = part_right w.site (path_at w) d schema then_schema else_schema w.shallow n x s stage b part chooses in
-          let meets = child_meets w.site v.site (view part.now) (at (name_of b)) (path_at w) x s child stage.meets right in
-          let path : path_at v ≡ at (name_of b) ++ path_at w = into.path ∙ ap (λ m. at m ++ path_at w) named in
+          let right = part_right w.site d schema then_schema else_schema w.shallow n x s stage b part chooses in
+          let meets = child_meets w.site v.site (view part.now) (at (name_of b)) x s child stage.meets right in
           let left : IsLeft x v inner ≡ AreSpelled (reading_of x) inner d (text_left w.instance) (text_left after) =
           ap (λ f. AreSpelled (reading_of x) inner f (text_left v.instance) (text_left v.evaluation)) (into.value refl)
           ∙ ap (λ t. AreSpelled (reading_of x) inner d (text_left t) (text_left v.evaluation)) into.instance
           ∙ ap (λ t. AreSpelled (reading_of x) inner d (text_left w.instance) (text_left t)) into.evaluation in
           record {
             site = inner;
-            meets = subst (λ p. Meets v.site p x inner) (sym path) meets;
+            meets = meets;
             back = λ circular.
-                part_back w.site (path_at w) d schema then_schema else_schema w.shallow n x s stage b verdict bs.0 bs.1 part chooses
+                part_back w.site d schema then_schema else_schema w.shallow n x s stage b verdict bs.0 bs.1 part chooses
                 (subst (λ f. IsCircular (reading_of x) inner (whole f)) (into.value refl) circular);
             to = λ h. subst (λ P. P) (sym left) (onward x s stage h);
             from = λ under. back x s stage (subst (λ P. P) left under);

@@ -2,7 +2,6 @@
 use Rattle.std.proofs.Common.{◌≡◌, ◌+◌, ◌≤◌, ℕ, suc, List, [], ◌∷◌, length, map, Bool, true, false, true≢false, not, Option, Some, None, refl, sym, ap, subst, ◌∙◌, arith}
 use Rattle.serde_json.specs.Data.{Data, depth}
 use Rattle.serde_json.specs.View.{view}
-use Rattle.json_values.specs.Parts.{Part}
 use Rattle.schema_meaning.specs.Members.{In, first, later, known_too, all_known, count_true}
 use Rattle.schema_meaning.specs.Places.{whole, value_after}
 use Rattle.schema_meaning.specs.Questions as asking
@@ -66,12 +65,12 @@ module _ (r : Reading Site) (d : Data) (n : ℕ) where
 
 -- ---- the answers to the code's questions
 
-module _ (c : code.Site) (path : List Part) (d : Data) where
+module _ (c : code.Site) (d : Data) where
   abbrev pub AreAnswered : List Question → List Bool → Type 0
   AreAnswered [] [] = Unit {0}
   AreAnswered [] (b ∷ bs) = ⊥
   AreAnswered (q ∷ qs) [] = ⊥
-  AreAnswered (q ∷ qs) (b ∷ bs) = IsAnswered c path d q b × AreAnswered qs bs
+  AreAnswered (q ∷ qs) (b ∷ bs) = IsAnswered c d q b × AreAnswered qs bs
 
   as_many : (qs : List Question) (bs : List Bool) → AreAnswered qs bs → length bs ≡ length qs
   as_many [] [] h = refl
@@ -87,7 +86,7 @@ module _ (c : code.Site) (path : List Part) (d : Data) where
   pub tallied_first : (all : List Question) → Tallied all all 0
   tallied_first all = record { among = λ q i. i; answers = λ cs h. (cs, h, omega arith) }
 
-  pub tallied_yes : (all rest : List Question) (q : Question) (n : ℕ) → IsAnswered c path d q true → Tallied all (q ∷ rest) n → Tallied all rest (n + 1)
+  pub tallied_yes : (all rest : List Question) (q : Question) (n : ℕ) → IsAnswered c d q true → Tallied all (q ∷ rest) n → Tallied all rest (n + 1)
   tallied_yes all rest q n answer t = record {
     among = λ p i. t.among p (later i);
     answers = λ cs h.
@@ -95,24 +94,24 @@ module _ (c : code.Site) (path : List Part) (d : Data) where
         let counted : count_true w.0 ≡ n + suc (count_true cs) = w.2 in (w.0, w.1, omega (arith, counted));
   }
 
-  pub tallied_no : (all rest : List Question) (q : Question) (n : ℕ) → IsAnswered c path d q false → Tallied all (q ∷ rest) n → Tallied all rest n
+  pub tallied_no : (all rest : List Question) (q : Question) (n : ℕ) → IsAnswered c d q false → Tallied all (q ∷ rest) n → Tallied all rest n
   tallied_no all rest q n answer t = record {
     among = λ p i. t.among p (later i);
     answers = λ cs h. let w = t.answers (false ∷ cs) (answer, h) in (w.0, w.1, w.2);
   }
 
   module _ (a : Applicator) (all : List Question) (are : AreAsked (reads c.matches.now) a d all) (by_answers : is_by_answers a ≡ true) where
-    are_told : (x : Scene) (s : Site) (k : List ℕ) → Stage c path d k (applied_row a x s) x s → (qs : List Question) (bs : List Bool) → ((q : Question) → In q qs → In q all) → AreAnswered qs bs
+    are_told : (x : Scene) (s : Site) (k : List ℕ) → Stage c d k (applied_row a x s) x s → (qs : List Question) (bs : List Bool) → ((q : Question) → In q qs → In q all) → AreAnswered qs bs
         → AreTold (reading_of x) d (questions_of (below x.documents s) qs) bs
     are_told x s k stage [] [] among h = tt
     are_told x s k stage [] (b ∷ bs) among h = elim h [ ]
     are_told x s k stage (q ∷ qs) [] among h = elim h [ ]
     are_told x s k stage (q ∷ qs) (b ∷ bs) among h =
         let site = below x.documents s in
-        let there = subst (λ ks. In (question_of site q) ks) (asked_there c path d a all are x s stage.meets) (in_mapped (question_of site) q all (among q first)) in
+        let there = subst (λ ks. In (question_of site q) ks) (asked_there c d a all are x s stage.meets) (in_mapped (question_of site) q all (among q first)) in
         (h.0.told a by_answers x s k there stage, are_told x s k stage qs bs (λ p i. among p (later i)) h.1)
 
-    pub tallied : (n : ℕ) → depth (view c.contents.now) ≤ deepest (documents_at c) → Tallied all [] n → AreCounted c path d a (length all) n
+    pub tallied : (n : ℕ) → depth (view c.contents.now) ≤ deepest (documents_at c) → Tallied all [] n → AreCounted c d a (length all) n
     tallied n shallow t = record {
       answers = λ x s k stage.
           let w = t.answers [] tt in
@@ -121,9 +120,9 @@ module _ (c : code.Site) (path : List Part) (d : Data) where
           let row = applied_row a x s in
           let r = reading_of x in
           let word : Rule Site = rule x.matches d (shape_of site a) in
-          let here = told_there x s d (meets_shallow c path x s stage.meets shallow) stage.straight in
+          let here = told_there x s d (meets_shallow c x s stage.meets shallow) stage.straight in
           let known = answers_there r s d _ here word (rules_stand x.documents x.makes x.matches s row d stage.stands word first) in
-          let each = subst (λ qs. AreTold r d qs bs) (asked_there c path d a all are x s stage.meets) (are_told x s k stage all bs (λ q i. i) w.1) in
+          let each = subst (λ qs. AreTold r d qs bs) (asked_there c d a all are x s stage.meets) (are_told x s k stage all bs (λ q i. i) w.1) in
           let same : known.0 ≡ bs = known_told r d known.1.unfoldings (asks word) bs known.0 each known.1.are in
           let counted : count_true bs ≡ n + 0 = w.2 in
           (bs, subst (λ xs. AreAnswers r (whole d) word xs) same known.1, as_many all bs w.1, omega (arith, counted));
@@ -131,12 +130,12 @@ module _ (c : code.Site) (path : List Part) (d : Data) where
 
 -- ---- the keyword
 
-module _ (c : code.Site) (path : List Part) (d : Data) (a : Applicator) (n m : ℕ) (name : List ℕ) (by_answers : is_by_answers a ≡ true) (plain : has_notes a ≡ false) (counted : AreCounted c path d a n m) where
+module _ (c : code.Site) (d : Data) (a : Applicator) (n m : ℕ) (name : List ℕ) (by_answers : is_by_answers a ≡ true) (plain : has_notes a ≡ false) (counted : AreCounted c d a n m) where
   abbrev the_rule : Scene → Site → Rule Site
   the_rule x s = rule x.matches d (shape_of (below x.documents s) a)
 
   abbrev Staged : Scene → Site → Type 0
-  Staged x s = Stage c path d name (applied_row a x s) x s
+  Staged x s = Stage c d name (applied_row a x s) x s
 
   abbrev Refuses : Scene → Site → Type 0
   Refuses x s = SomeRefusesAt name (reading_of x) d (the_rule x s ∷ [])
@@ -165,11 +164,11 @@ module _ (c : code.Site) (path : List Part) (d : Data) (a : Applicator) (n m : �
       let w = by_them x s stage h in
       true≢false (sym (decides.is by_answers plain (below x.documents s) x.matches w.0 w.1 w.2) ∙ w.3)
 
-  pub by_count : (b : Bool) → Decides a d n m b → refused_name a m ≡ name → IsRefusalAt c path d (code.Applicator a) name (not b)
+  pub by_count : (b : Bool) → Decides a d n m b → refused_name a m ≡ name → IsRefusalAt c d (code.Applicator a) name (not b)
   by_count b decides same = record { decides = λ x s stage. decided_by b x s decides same stage }
 
   -- under no other name
-  pub by_other : (refused_name a m ≡ name → ⊥) → IsRefusalAt c path d (code.Applicator a) name false
+  pub by_other : (refused_name a m ≡ name → ⊥) → IsRefusalAt c d (code.Applicator a) name false
   by_other other = record {
     decides = λ x s stage h.
         let w = counted.answers x s name stage in

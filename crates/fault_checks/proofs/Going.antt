@@ -12,8 +12,6 @@ use Rattle.schema_meaning.specs.Certificates.{AreAnswers}
 use Rattle.schema_definitions.specs.Sites.{Site}
 use Rattle.schema_definitions.specs.PathTexts.{path_text}
 use Rattle.certificate_laws.specs.Spelled.{AreSpelled, AreSpelledBy, refuses, goes}
-use Rattle.fault_checks.specs.Roads.{part_of}
-use Rattle.fault_checks.specs.declared.road.RoadPart.{RoadPart}
 use Rattle.serde_json.specs.View.{view}
 use Rattle.fault_checks.specs.Passed.{Finds}
 use Rattle.fault_checks.specs.Passed.{AsksInside}
@@ -27,7 +25,6 @@ use Rattle.fault_checks.specs.declared.walk.Step.{Step}
 use Rattle.fault_checks.specs.declared.walk.Step.TheVariants.{Answered, On, Named}
 use Rattle.fault_paths.specs.Texts.{text_left}
 use Rattle.fault_paths.proofs.TextFacts.{rest_left, tail_is, behind_same, no_part}
-use Rattle.fault_checks.specs.Scenes.{behind}
 use Rattle.fault_checks.specs.Verdicts.{LiesIn}
 use Rattle.fault_checks.specs.Steps.{IsMore, IsDone, Ends, IsNotLonger, IsShorter}
 
@@ -113,11 +110,6 @@ none_here d instance b is same = record {
 pub not_false_here : (d : Data) (instance : Option (Bor (List ℕ))) → (d ≡ boolean false → ⊥) → Ends d instance false
 not_false_here d instance other = record { ends = λ e. absurd (true≢false (sym e)); only = λ e none. absurd (other e) }
 
--- a part at the end of a path
-pub behind_more : (ps : List RoadPart) (p : RoadPart) (path : List Part) → behind (ps ++ p ∷ []) path ≡ part_of p ∷ behind ps path
-behind_more [] p path = refl
-behind_more (q ∷ ps) p path = behind_more ps p (part_of q ∷ path)
-
 -- ---- less is left
 
 pub shorter_by : (step : Step) (text token : List ℕ) (after : Option (Bor (List ℕ))) → cuts text ≡ token ∷ cuts_behind (text_left after) → IsNotLonger after step → IsShorter (47 ∷ text) step
@@ -140,9 +132,3 @@ lies_in c d (code.If schema then_schema else_schema) f h i = record { inside = s
 lies_in c d (code.Consequent k schema) f h i = tt
 lies_in c d (code.Applicator a) f h i = record { by_answers = f; inside = i }
 lies_in c d (code.Reference by text target) f h i = f
-
--- two parts at the end of a path
-pub behind_twice : (ps qs rs : List RoadPart) (p q : RoadPart) → qs ≡ ps ++ p ∷ [] → rs ≡ qs ++ q ∷ [] → behind rs [] ≡ part_of q ∷ part_of p ∷ behind ps []
-behind_twice ps qs rs p q e f =
-    ap (λ (x : List RoadPart). behind x []) f ∙ behind_more qs q [] ∙ ap (λ (x : List RoadPart). part_of q ∷ behind x []) e
-    ∙ ap (λ (x : List Part). part_of q ∷ x) (behind_more ps p [])

@@ -61,8 +61,8 @@ only_named (code.Consequent k schema) n docs s one h = tt
 only_named (code.Applicator a) n docs s one h = (one_name (below docs s) a n one h.0, tt)
 only_named (code.Reference keyword text target) n docs s one h = h
 
-pub under_name : (c : code.Site) (path : List Part) (d : Data) (k : code.Keyword) (n : List ℕ) (b : Bool) → HasOneName k → IsRefusal c path d k b → IsRefusalAt c path d k n b
-under_name c path d k n true one h = record {
+pub under_name : (c : code.Site) (d : Data) (k : code.Keyword) (n : List ℕ) (b : Bool) → HasOneName k → IsRefusal c d k b → IsRefusalAt c d k n b
+under_name c d k n true one h = record {
   decides = λ x s stage.
       let shapes = (row_of x.documents s k).shapes in
       let f = h.decides x s n stage in
@@ -71,7 +71,7 @@ under_name c path d k n true one h = record {
       let at_k : refuses_at f.0 f.1 ≡ at n = subst (λ (r : Rule Site). refuses_at r f.1 ≡ at n) shape.2 ((shape_begins x.matches d n shape.0 named).own f.1) in
       (f.0, f.1, f.2, f.3, f.4, at_k);
 }
-under_name c path d k n false one h = record { decides = λ x s stage f. h.decides x s n stage (f.0, f.1, f.2, f.3, f.4) }
+under_name c d k n false one h = record { decides = λ x s stage f. h.decides x s n stage (f.0, f.1, f.2, f.3, f.4) }
 
 -- ---- the name by the number of answers that are yes
 

@@ -1,6 +1,6 @@
 -- Steps by `propertyNames`, and walks at the names of an object.
 use Rattle.std.proofs.Common.{◌≡◌, ◌∙◌, ◌++◌, ◌<◌, ℕ, List, [], ◌∷◌, map, Bool, true, false, Bor, codes, refl, sym, ap, subst}
-use Rattle.serde_json.specs.Data.{Data, null, boolean, number, string, array, object, depth, Members, no_members, member}
+use Rattle.serde_json.specs.Data.{Data, null, string, object, depth, Members, no_members, member}
 use Rattle.serde_json.specs.View.{view}
 use Rattle.serde_json.specs.declared.value.Value.{Value}
 use Rattle.json_values.specs.Parts.{Part}
@@ -46,7 +46,7 @@ use Rattle.fault_checks.proofs.Children.{meets_shallow, child_meets}
 use Rattle.fault_checks.specs.declared.walk.AtNames.{AtNames}
 use Rattle.fault_checks.specs.declared.walk.Walk.{Walk}
 use Rattle.fault_checks.specs.declared.walk.Step.TheVariants.{Answered, Named}
-use Rattle.fault_checks.specs.Steps.{path_at, names_site, IsLeftAt, SomeLeft, IsLeft, IsMore, Passes, PassesThrough}
+use Rattle.fault_checks.specs.Steps.{names_site, IsLeftAt, SomeLeft, IsLeft, IsMore, Passes, PassesThrough}
 use Rattle.fault_checks.specs.NamedSteps.{IsAtName, IsLeftAtName, IsLeftAtSome}
 use Rattle.fault_checks.proofs.Going.{going_by, gone_by, name_text, not_named}
 
@@ -148,7 +148,7 @@ module _ (n : AtNames) (a : Applicator) (of : AreOfNames a (view n.schema.now)) 
         let after = text_left n.evaluation in
         let plain : escape name ≡ name = stage.plain _ first in
         let begins : path_text (at keyword) ≡ 47 ∷ name = name_text keyword name (of.named site name stage.named.0) plain in
-        let decided = told_there x s d (meets_shallow n.walk.site (path_at n.walk) x s stage.meets n.walk.shallow) stage.straight in
+        let decided = told_there x s d (meets_shallow n.walk.site x s stage.meets n.walk.shallow) stage.straight in
         let bs = answers_there (reading_of x) s d _ decided the (rules_stand x.documents x.makes x.matches s row d stage.stands the first) in
         let among : (k : List ℕ) → In k (names_of d) → In (asks_it x s k) qs = λ k j. elements.in_mapped (asks_it x s) k (names_of d) j in
         record {
@@ -209,7 +209,7 @@ at_one_name n k v b there p = record {
         stands = λ t added. there.stands t added;
         matches = there.matches;
       } in
-      let here = subst (λ (path : List Part). Meets v.site path x inner) (sym there.path) (child_meets n.walk.site v.site (view n.schema.now) (at keyword) (path_at n.walk) x s child meets right) in
+      let here = child_meets n.walk.site v.site (view n.schema.now) (at keyword) x s child meets right in
       let left : IsLeft x v inner ≡ IsLeftAt x n s k =
       ap (λ f. AreSpelled (reading_of x) inner f (text_left v.instance) (text_left v.evaluation)) there.value
       ∙ ap (λ t. AreSpelled (reading_of x) inner (string k) (text_left t) (text_left v.evaluation)) there.instance
@@ -225,7 +225,7 @@ names_in ms = map (λ m. m.0) (listed_members ms)
 -- where what is left is spelled at none of the rest, it is at none
 pub record NamesLeft (n : AtNames) (rest : Members) : Type 0 where
   pub among : (k : List ℕ) → In k (names_in rest) → In k (names_of (view n.walk.value.now))
-  pub none : (x : Scene) (s : Site) → Meets n.walk.site (path_at n.walk) x s → IsRight x (names_site x n s)
+  pub none : (x : Scene) (s : Site) → Meets n.walk.site x s → IsRight x (names_site x n s)
       → ((k : List ℕ) → In k (names_of (view n.walk.value.now)) → IsStraight x (names_site x n s) (string k))
       → ((k : List ℕ) → In k (names_in rest) → IsLeftAt x n s k → ⊥) → SomeLeft x n s → ⊥
 
@@ -241,7 +241,7 @@ names_more n k e ms refused l = record {
   none = λ x s meets right straight h. l.none x s meets right straight (λ j i. either x s meets right straight h j i);
 }
   where
-    either : (x : Scene) (s : Site) → Meets n.walk.site (path_at n.walk) x s → IsRight x (names_site x n s)
+    either : (x : Scene) (s : Site) → Meets n.walk.site x s → IsRight x (names_site x n s)
         → ((j : List ℕ) → In j (names_of (view n.walk.value.now)) → IsStraight x (names_site x n s) (string j))
         → ((j : List ℕ) → In j (names_in ms) → IsLeftAt x n s j → ⊥) → (j : List ℕ) → In j (names_in (member k e ms)) → IsLeftAt x n s j → ⊥
     either x s meets right straight h _ first = refused.decides x s meets right (straight k (l.among k first))
@@ -252,15 +252,3 @@ names_found n k e ms spelled l = record { decides = λ x s meets right straight.
 
 pub names_none : (n : AtNames) → NamesLeft n no_members → IsLeftAtSome n false
 names_none n l = record { decides = λ x s meets right straight. l.none x s meets right straight (λ k i. elim i [ ]) }
-
--- a value that is no object has no names
-pub no_object : (n : AtNames) → ((ms : Members) → view n.walk.value.now ≡ object ms → ⊥) → IsLeftAtSome n false
-no_object n other = record { decides = λ x s meets right straight some. nameless (view n.walk.value.now) other some.0 some.1 }
-  where
-    nameless : (d : Data) → ((ms : Members) → d ≡ object ms → ⊥) → (k : List ℕ) → In k (names_of d) → ⊥
-    nameless null h k i = elim i [ ]
-    nameless (boolean b) h k i = elim i [ ]
-    nameless (number m) h k i = elim i [ ]
-    nameless (string t) h k i = elim i [ ]
-    nameless (array ds) h k i = elim i [ ]
-    nameless (object ms) h k i = h ms refl

@@ -11,7 +11,7 @@ use Rattle.schema_meaning.specs.Questions as asking
 use Rattle.schema_meaning.specs.Rules.{every}
 use Rattle.schema_meaning.specs.Keywords.{Assertion, named, asserts, reference, rule, wrong}
 use Rattle.schema_meaning.specs.Readings.{Reading}
-use Rattle.schema_definitions.specs.Sites.{Site, target_site, path_of_reference}
+use Rattle.schema_definitions.specs.Sites.{Site, target_site}
 use Rattle.schema_definitions.specs.Rows.{Row}
 use Rattle.fault_checks.specs.Passed.{target_in}
 use Rattle.fault_checks.specs.Passed.{Resolved}
@@ -26,8 +26,8 @@ use Rattle.fault_checks.specs.declared.walk.Walk.{Walk}
 use Rattle.fault_checks.specs.declared.walk.Step.{Step}
 use Rattle.fault_checks.specs.declared.walk.Step.TheVariants.{Answered, On}
 use Rattle.fault_paths.specs.Texts.{text_left}
-use Rattle.fault_checks.specs.Steps.{path_at, IsMore, Outcome, PassesThrough, PassesBy}
-use Rattle.fault_checks.specs.Scenes.{Scene, reading_of, Meets, Stage}
+use Rattle.fault_checks.specs.Steps.{IsMore, Outcome, PassesThrough, PassesBy}
+use Rattle.fault_checks.specs.Scenes.{Scene, reading_of, Stage}
 use Rattle.fault_checks.specs.Passed.{kind_of, name_of}
 use Rattle.fault_checks.specs.Passed.{ReferenceKeyword}
 use Rattle.fault_checks.specs.Rows.{reference_row, reference_questions}
@@ -41,8 +41,8 @@ only_one x y first = refl
 only_one x y (later i) = elim i [ ]
 
 pub reference_on : (w v : Walk) (by : ReferenceKeyword) (text : List ℕ) (target : Resolved) (after : Option (Bor (List ℕ))) → IsMore w.instance after → AtTarget w.site v.site by text target
-    → path_at v ≡ path_of_reference text → v.value ≡ w.value → v.instance ≡ w.instance → v.evaluation ≡ after → PassesThrough w (reference_row by text (target_in target)) after (On v)
-reference_on w v by text target after more at path value instance left = record {
+    → v.value ≡ w.value → v.instance ≡ w.instance → v.evaluation ≡ after → PassesThrough w (reference_row by text (target_in target)) after (On v)
+reference_on w v by text target after more at value instance left = record {
   outcome = λ x s n stage.
       let t = target_in target in
       let d = view w.value.now in
@@ -50,12 +50,12 @@ reference_on w v by text target after more at path value instance left = record 
       let row = reference_row by text t x s in
       let site = target_site s text t in
       let qs = reference_questions by text t x s in
-      let told = told_there x s d (meets_shallow w.site (path_at w) x s stage.meets w.shallow) stage.straight in
+      let told = told_there x s d (meets_shallow w.site x s stage.meets w.shallow) stage.straight in
       let bs = answers_there (reading_of x) s d _ told (every (asking.at (name_of by)) [] qs) (rules_stand x.documents x.makes x.matches s row d stage.stands _ first) in
       let same : view v.value.now ≡ d = ap (λ (b : Bor _). view b.now) value in
       record {
         site = site;
-        meets = subst (λ q. Meets v.site q x site) (sym path) (target_meets w.site v.site by text target (path_at w) x s at stage.meets (right_on x s row site stage.meets.right stage.stands first));
+        meets = target_meets w.site v.site by text target x s at stage.meets (right_on x s row site stage.meets.right stage.stands first);
         back = λ circular. asked_back x s row d (reference (kind_of by) site) _ stage.stands first first (subst (λ e. IsCircular (reading_of x) site (whole e)) same circular);
         to = λ h.
             let g = going (reading_of x) d (asking.at (name_of by)) [] qs _ _ (not_last w.instance after (name_of by) n more stage.named.0 plain) h in
@@ -120,5 +120,5 @@ by_row w k row n after step is h = record {
   outcome = λ x s stage.
       let d = view w.value.now in
       subst (λ (r : Row). Outcome x s d (AreSpelledBy (reading_of x) d (map (rule x.matches d) r.shapes) (text_left w.instance) (47 ∷ (n ++ text_left after))) step) (sym (is x s))
-      (h.outcome x s n (subst (λ r. Stage w.site (path_at w) d n r x s) (is x s) stage));
+      (h.outcome x s n (subst (λ r. Stage w.site d n r x s) (is x s) stage));
 }

@@ -5,7 +5,6 @@ use Rattle.serde_json.specs.View.{view}
 use Rattle.json_values.specs.Parts.{Part}
 use Rattle.schema_meaning.specs.Members.{In, first, later, all_true, is_empty}
 use Rattle.schema_meaning.specs.Places.{whole, value_after}
-use Rattle.schema_meaning.specs.Faults.{Faults, none, is_none}
 use Rattle.schema_meaning.specs.Questions.{Question}
 use Rattle.schema_meaning.specs.Rules.{Rule, Note, every, accepts}
 use Rattle.schema_meaning.specs.Keywords.{rule}
@@ -16,62 +15,34 @@ use Rattle.schema_definitions.specs.Sites.{Site}
 use Rattle.schema_definitions.specs.Rows.{Row, rows_at}
 use Rattle.schema_definitions.specs.Plain.{deepest, plain}
 use Rattle.schema_definitions.specs.AllKeys.{keys_of}
-use Rattle.meaning_laws.proofs.Verdicts.{cut_agrees}
 use Rattle.plain_reader.specs.Passed.{documents_at}
 use Rattle.plain_reader.specs.Passed as code
-use Rattle.schema_reports.specs.Stands.{verdict_stands}
-use Rattle.schema_reports.specs.declared.verdict.Verdict.{Verdict}
-use Rattle.schema_reports.specs.declared.first_fault.FirstFault.{FirstFault}
-use Rattle.schema_reports.specs.declared.all_faults.AllFaults.{AllFaults}
-use Rattle.schema_reports.specs.declared.observer.Observation.TheVariants as kept
-use Rattle.schema_reports.specs.declared.observer.Observer.TheVariants as observers
-use Rattle.plain_reader.specs.Tellings.{AreRead}
+use Rattle.plain_reader.specs.Verdicts.{AreRead}
 use Rattle.schema_patterns.specs.Read.{reads}
-use Rattle.plain_reader.specs.Sites.{TellsSite}
+use Rattle.plain_reader.specs.Sites.{SiteAccepts}
 use Rattle.certificate_laws.proofs.Answers.{answers_there, some_refused, refused_some, not_both}
 use Rattle.certificate_laws.proofs.Begun.{rules_stand}
-use Rattle.fault_checks.specs.Scenes.{Scene, reading_of, Meets}
+use Rattle.fault_checks.specs.Scenes.{Scene, reading_of}
 use Rattle.fault_checks.specs.Verdicts.{IsDecided, IsVerdict, SomeRefuses, Answers}
 use Rattle.fault_checks.proofs.Right.{right_read, told_there}
 use Rattle.fault_checks.proofs.Children.{meets_shallow}
 
 -- ---- the verdict of a schema
 
-module _ (c : code.Site) (path : List Part) (d : Data) where
-  verdict_heard : (old new : Verdict) (b : Bool) → verdict_stands old none → ((fs : Faults) → verdict_stands new fs → b ≡ is_none fs)
-      → TellsSite c path d (observers.Verdict old) (observers.Verdict new) → (x : Scene) (s : Site) → Meets c path x s
-      → b ≡ cut verdicts (reading_of x) (keys_of x.documents d) [] s (whole d)
-  verdict_heard old new b before says t x s m =
+pub site_verdict : (c : code.Site) (d : Data) (b : Bool) → depth (view c.contents.now) ≤ deepest (documents_at c) → SiteAccepts c d b → IsVerdict c d (not (not b))
+site_verdict c d b shallow answer = record {
+  told = λ x s m straight.
       let read : AreRead (documents_at c) x.makes s = subst (λ docs. AreRead docs x.makes s) m.documents (right_read x s m.right) in
-      let heard = says _ (t.tells x.makes s m.stands m.scope m.schema_path read kept.Verdict none before) in
+      let verdict : b ≡ cut verdicts (reading_of x) (keys_of x.documents d) [] s (whole d) =
       subst (λ (matches : List ℕ → List ℕ → Bool). b ≡ cut verdicts (plain x.documents x.makes matches) (keys_of x.documents d) [] s (whole d)) (sym m.matches)
       (subst (λ docs. b ≡ cut verdicts (plain docs x.makes (reads c.matches.now)) (keys_of docs d) [] s (whole d)) (sym m.documents)
-      (heard ∙ cut_agrees Site (plain (documents_at c) x.makes (reads c.matches.now)) (keys_of (documents_at c) d) [] s (whole d)))
-
-  twice : (b : Bool) → not (not b) ≡ b
-  twice true = refl
-  twice false = refl
-
-  pub verdict_told : (old new : Verdict) (b : Bool) → verdict_stands old none → ((fs : Faults) → verdict_stands new fs → b ≡ is_none fs)
-      → depth (view c.contents.now) ≤ deepest (documents_at c)
-      → TellsSite c path d (observers.Verdict old) (observers.Verdict new) → IsVerdict c path d (not (not b))
-  verdict_told old new b before says shallow t = record {
-    told = λ x s m straight.
-        subst (λ v. IsTold verdicts (reading_of x) s (whole d) v) (sym (twice b ∙ verdict_heard old new b before says t x s m))
-        (told_there x s d (meets_shallow c path x s m shallow) straight);
-  }
-
-  pub first_told : (old : Verdict) (new : FirstFault) (b : Bool) → verdict_stands old none → TellsSite c path d (observers.Verdict old) (observers.First new) → IsVerdict c path d b
-  first_told old new b before t = record {
-    told = λ x s m straight.
-        absurd (t.tells x.makes s m.stands m.scope m.schema_path (subst (λ docs. AreRead docs x.makes s) m.documents (right_read x s m.right)) kept.Verdict none before);
-  }
-
-  pub all_told : (old : Verdict) (new : AllFaults) (b : Bool) → verdict_stands old none → TellsSite c path d (observers.Verdict old) (observers.All new) → IsVerdict c path d b
-  all_told old new b before t = record {
-    told = λ x s m straight.
-        absurd (t.tells x.makes s m.stands m.scope m.schema_path (subst (λ docs. AreRead docs x.makes s) m.documents (right_read x s m.right)) kept.Verdict none before);
-  }
+      (answer.is x.makes s m.stands m.scope read)) in
+      subst (λ v. IsTold verdicts (reading_of x) s (whole d) v) (sym (twice b ∙ verdict)) (told_there x s d (meets_shallow c x s m shallow) straight);
+}
+  where
+    twice : (b : Bool) → not (not b) ≡ b
+    twice true = refl
+    twice false = refl
 
 -- ---- by questions
 

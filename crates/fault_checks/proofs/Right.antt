@@ -19,7 +19,7 @@ use Rattle.meaning_laws.proofs.Obliged.{in_map}
 use Rattle.reading_laws.proofs.Nested.{nested}
 use Rattle.reading_laws.proofs.PlainKeys.{all_keys}
 use Rattle.reading_laws.proofs.Reaching.{row_cause}
-use Rattle.plain_reader.specs.Tellings.{AreRead}
+use Rattle.plain_reader.specs.Verdicts.{AreRead}
 use Rattle.plain_reader.proofs.Reading.{reached_on}
 use Rattle.certificate_laws.proofs.Straight.{circular_above}
 use Rattle.certificate_laws.proofs.Begun.{rules_stand}

@@ -35,7 +35,7 @@ use Rattle.fault_checks.specs.declared.walk.Walk.{Walk}
 use Rattle.fault_checks.specs.declared.walk.Step.{Step}
 use Rattle.fault_checks.specs.declared.walk.Step.TheVariants.{Answered, On, Named}
 use Rattle.fault_paths.specs.Texts.{text_left}
-use Rattle.fault_checks.specs.Steps.{path_at, Outcome, IsLeft, Passes, PassesAs, PassesBy}
+use Rattle.fault_checks.specs.Steps.{Outcome, IsLeft, Passes, PassesAs, PassesBy}
 use Rattle.fault_checks.specs.Names.{bears}
 use Rattle.fault_checks.specs.Scenes.{Scene, reading_of, IsRight, Meets, Stage}
 use Rattle.fault_checks.specs.Verdicts.{SomeRefusesAt, rules_by, IsRefusalAt}
@@ -75,14 +75,6 @@ passes_on w v step p q = record {
 
 pub passes_first : (w : Walk) → Passes w (On w)
 passes_first w = record { outcome = λ x s meets straight. record { site = s; meets = meets; back = λ c. c; to = λ p. p; from = λ u. u } }
-
--- ---- the keyword of a member under a name
-
-pub as_other : (w : Walk) (k : Keyword) (n member : List ℕ) (after : Option (Bor (List ℕ))) → bears k member n ≡ false → PassesAs w k n member after (Answered false)
-as_other w k n member after other = record { same = λ e. absurd (true≢false (sym e ∙ other)); other = λ e. refl }
-
-pub as_own : (w : Walk) (k : Keyword) (n member : List ℕ) (after : Option (Bor (List ℕ))) (step : Step) → bears k member n ≡ true → PassesBy w k n after step → PassesAs w k n member after step
-as_own w k n member after step same p = record { same = λ e. p; other = λ e. absurd (true≢false (sym same ∙ e)) }
 
 -- ---- the shape by whose rule a certificate begins
 
@@ -184,7 +176,7 @@ module _ (w : Walk) (text : List ℕ) (is : text_left w.evaluation ≡ 47 ∷ te
     joined : 47 ∷ text ≡ 47 ∷ (token ++ text_left after)
     joined = ap (λ t. 47 ∷ t) (cut_joined text token (text_left after) cut (rest_left after))
 
-    found_here : (x : Scene) (s : Site) → Meets w.site (path_at w) x s → IsLeft x w s → (v : Data) × (get_member member ms ≡ Some v)
+    found_here : (x : Scene) (s : Site) → Meets w.site x s → IsLeft x w s → (v : Data) × (get_member member ms ≡ Some v)
         × AreSpelledBy (reading_of x) (view w.value.now) (rules_of x.documents x.makes x.matches s ms (view w.value.now) member v) (text_left w.instance) (47 ∷ text)
     found_here x s meets h =
         let d = view w.value.now in
@@ -204,7 +196,7 @@ module _ (w : Walk) (text : List ℕ) (is : text_left w.evaluation ≡ 47 ∷ te
 
     module _ (v : Data) (k : Keyword) (found : get_member member ms ≡ Some v)
         (read : (makes : List ℕ → Bool) (s : Site) → Stands w.site s → s.scope ≡ scope_of w.site.resolver → IsRowOf (context_at w.site ms makes s) member (row_at (context_at w.site ms makes s) member v) k) where
-      row_here : (x : Scene) (s : Site) → Meets w.site (path_at w) x s → row_at (context x.documents x.makes x.matches s ms) member v ≡ row_of x.documents s k
+      row_here : (x : Scene) (s : Site) → Meets w.site x s → row_at (context x.documents x.makes x.matches s ms) member v ≡ row_of x.documents s k
       row_here x s meets =
           let row = row_at (context x.documents x.makes x.matches s ms) member v in
           let is : IsRowOf (context x.documents x.makes x.matches s ms) member row k =
@@ -212,7 +204,7 @@ module _ (w : Walk) (text : List ℕ) (is : text_left w.evaluation ≡ 47 ∷ te
           (read x.makes s meets.stands meets.scope) in
           is.made (is.right (row_right x s row meets.right (member_row x.documents x.makes x.matches s ms member v (meets.stands.contents ∙ contents) (found_listed member v ms found))))
 
-      spelled_here : (x : Scene) (s : Site) → Meets w.site (path_at w) x s → IsLeft x w s
+      spelled_here : (x : Scene) (s : Site) → Meets w.site x s → IsLeft x w s
           → AreSpelledBy (reading_of x) (view w.value.now) (rules_by x s (view w.value.now) k) (text_left w.instance) (47 ∷ text)
       spelled_here x s meets h =
           let d = view w.value.now in
@@ -221,7 +213,7 @@ module _ (w : Walk) (text : List ℕ) (is : text_left w.evaluation ≡ 47 ∷ te
           (subst (λ u. AreSpelledBy (reading_of x) d (rules_of x.documents x.makes x.matches s ms d member u) (text_left w.instance) (47 ∷ text))
           (some_one (get_member member ms) f.0 v f.1 found) f.2)
 
-      under_here : (x : Scene) (s : Site) → Meets w.site (path_at w) x s → AllByRecursion (IsUnder (is_draft_4 s.dialect.draft) member) (row_of x.documents s k).shapes
+      under_here : (x : Scene) (s : Site) → Meets w.site x s → AllByRecursion (IsUnder (is_draft_4 s.dialect.draft) member) (row_of x.documents s k).shapes
       under_here x s meets =
           subst (λ (r : Row). AllByRecursion (IsUnder (is_draft_4 s.dialect.draft) member) r.shapes) (row_here x s meets)
           (shapes_are_under (context x.documents x.makes x.matches s ms) member v)
@@ -235,7 +227,7 @@ module _ (w : Walk) (text : List ℕ) (is : text_left w.evaluation ≡ 47 ∷ te
             subst (λ r. In r (rows_at x.documents x.makes s)) (row_here x s meets)
             (member_row x.documents x.makes x.matches s ms member v (meets.stands.contents ∙ contents) (found_listed member v ms found)) in
             let own = own_named (is_draft_4 s.dialect.draft) member token k x.documents s (under_here x s meets) same in
-            let stage : Stage w.site (path_at w) d token (row_of x.documents s k) x s = record {
+            let stage : Stage w.site d token (row_of x.documents s k) x s = record {
               meets = meets;
               straight = straight;
               stands = stands;
@@ -310,7 +302,7 @@ by_refuses x d shapes n after i named plain h =
     (rule x.matches d u.0, b.answers, in_map (rule x.matches d) u.0 shapes u.1, b.are, b.wrong, b.under ∙ ap at (sym same))
 
 pub last_passes : (w : Walk) (k : Keyword) (n : List ℕ) (after : Option (Bor (List ℕ))) (b : Bool) → text_left w.instance ≡ [] → text_left after ≡ []
-    → IsRefusalAt w.site (path_at w) (view w.value.now) k n b → PassesBy w k n after (Answered b)
+    → IsRefusalAt w.site (view w.value.now) k n b → PassesBy w k n after (Answered b)
 last_passes w k n after true at_i on_e h = record {
   outcome = λ x s stage.
       let d = view w.value.now in

@@ -1,4 +1,3 @@
-pub mod Roads
 pub mod Scenes
 pub mod Rows
 pub mod Verdicts

@@ -17,5 +17,4 @@ pub use Rattle.plain_reader.specs.Passed.{Applicator, Assertion, Consequent, If,
 pub use Rattle.plain_reader.specs.Passed.{Refusal}
 pub use Rattle.plain_reader.specs.Passed.{ReferenceKeyword}
 pub use Rattle.plain_reader.specs.Passed.{Site}
-pub use Rattle.plain_reader.specs.Roots.{TellsRoot}
-pub use Rattle.plain_reader.specs.Tellings.{AreRead}
+pub use Rattle.plain_reader.specs.Verdicts.{AreRead}

@@ -1,11 +1,8 @@
 -- The sites of the plain reading that the code's stand for.
-use Rattle.std.specs.Prelude.{◌≡◌, ℕ, List, [], ◌∷◌, Bool}
+use Rattle.std.specs.Prelude.{◌≡◌, ℕ, List, Bool}
 use Rattle.serde_json.specs.Data.{Data}
-use Rattle.json_values.specs.Parts.{Part}
 use Rattle.json_values.specs.Pointers.{escape}
 use Rattle.std.specs.List.{AllByRecursion}
-use Rattle.fault_checks.specs.Roads.{part_of}
-use Rattle.fault_checks.specs.declared.road.RoadPart.{RoadPart}
 use Rattle.schema_meaning.specs.Members.{In}
 use Rattle.schema_meaning.specs.Places.{whole}
 use Rattle.schema_meaning.specs.Keywords.{Shape}
@@ -35,12 +32,11 @@ reading_of x = plain x.documents x.makes x.matches
 pub record IsRight (x : Scene) (s : Site) : Type 0 where
   pub none : (cause : BuildCause) → IsCauseOf x.documents x.makes s cause → ⊥
 
--- a site of the plain reading that the code's stands for, under this schema path, by the matches that were read
-pub record Meets (c : code.Site) (path : List Part) (x : Scene) (s : Site) : Type 0 where
+-- a site of the plain reading that the code's stands for, by the matches that were read
+pub record Meets (c : code.Site) (x : Scene) (s : Site) : Type 0 where
   pub documents : x.documents ≡ documents_at c
   pub stands : Stands c s
   pub scope : s.scope ≡ scope_of c.resolver
-  pub schema_path : s.schema_path ≡ path
   pub matches : x.matches ≡ reads c.matches.now
   pub right : IsRight x s
 
@@ -49,14 +45,9 @@ abbrev pub IsStraight : Scene → Site → Data → Type 0
 IsStraight x s d = IsCircular (reading_of x) s (whole d) → ⊥
 
 -- a row of the site, of a keyword that may refuse under this name
-pub record Stage (c : code.Site) (path : List Part) (d : Data) (keyword : List ℕ) (row : Row) (x : Scene) (s : Site) : Type 0 where
-  pub meets : Meets c path x s
+pub record Stage (c : code.Site) (d : Data) (keyword : List ℕ) (row : Row) (x : Scene) (s : Site) : Type 0 where
+  pub meets : Meets c x s
   pub straight : IsStraight x s d
   pub stands : In row (rows_at x.documents x.makes s)
   pub named : AllByRecursion (Bears keyword) row.shapes
   pub plain : (shape : Shape Site) → In shape row.shapes → escape keyword ≡ keyword
-
--- the path by these parts, the first of them first
-abbrev pub behind : List RoadPart → List Part → List Part
-behind [] path = path
-behind (p ∷ parts) path = behind parts (part_of p ∷ path)

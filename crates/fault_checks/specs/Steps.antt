@@ -10,12 +10,10 @@ use Rattle.schema_meaning.specs.Questions.{at, names_of}
 use Rattle.schema_meaning.specs.Circular.{IsCircular}
 use Rattle.schema_meaning.specs.Keywords.{rule}
 use Rattle.schema_definitions.specs.Scopes.{entered_scope}
-use Rattle.schema_definitions.specs.Sites.{Site, below, path_of_reference}
-use Rattle.applicators.specs.Shapes.{added_at}
+use Rattle.schema_definitions.specs.Sites.{Site, below}
 use Rattle.applicators.specs.Questions.{step_of}
 use Rattle.fault_paths.specs.declared.ahead.Ahead.{Ahead}
 use Rattle.schema_definitions.specs.Rows.{Row}
-use Rattle.schema_reports.specs.References.{text_of}
 use Rattle.fault_checks.specs.Passed.{row_of, documents_at, Stands, base_of, scope_of}
 use Rattle.fault_checks.specs.Passed.{Keyword}
 use Rattle.certificate_laws.specs.Spelled.{AreSpelled, AreSpelledBy}
@@ -25,12 +23,8 @@ use Rattle.fault_checks.specs.declared.walk.AtNames.{AtNames}
 use Rattle.fault_checks.specs.declared.walk.Step.{Step}
 use Rattle.fault_checks.specs.declared.walk.Step.TheVariants.{Answered, On, Named}
 use Rattle.fault_paths.specs.Texts.{text_left}
-use Rattle.fault_checks.specs.Scenes.{Scene, reading_of, IsRight, Meets, IsStraight, Stage, behind}
+use Rattle.fault_checks.specs.Scenes.{Scene, reading_of, IsRight, Meets, IsStraight, Stage}
 use Rattle.fault_checks.specs.Verdicts.{IsDecided, rules_by}
-
--- the path of the schema where a walk has come to
-abbrev pub path_at : Walk → List Part
-path_at w = behind w.parts.items [] ++ path_of_reference (text_of w.reference)
 
 -- what is left of a walk's paths is spelled from a site
 abbrev pub IsLeft : Scene → Walk → Site → Type 0
@@ -39,7 +33,7 @@ IsLeft x w s = AreSpelled (reading_of x) s (view w.value.now) (text_left w.insta
 -- the walk goes on at a site, from which what is left is spelled exactly where P holds
 pub record GoesOn (x : Scene) (s : Site) (d : Data) (P : Type 0) (w : Walk) : Type 0 where
   pub site : Site
-  pub meets : Meets w.site (path_at w) x site
+  pub meets : Meets w.site x site
   pub back : IsCircular (reading_of x) site (whole (view w.value.now)) → IsCircular (reading_of x) s (whole d)
   pub to : P → IsLeft x w site
   pub from : IsLeft x w site → P
@@ -58,7 +52,7 @@ SomeLeft x n s = (k : List ℕ) × In k (names_of (view n.walk.value.now)) × Is
 -- the walk goes on at names: at one of them what is left is spelled exactly where P holds
 pub record GoesOnAt (x : Scene) (s : Site) (d : Data) (P : Type 0) (n : AtNames) : Type 0 where
   pub site : Site
-  pub meets : Meets n.walk.site (path_at n.walk) x site
+  pub meets : Meets n.walk.site x site
   pub right : IsRight x (names_site x n site)
   pub back : (k : List ℕ) → In k (names_of (view n.walk.value.now)) → IsCircular (reading_of x) (names_site x n site) (whole (string k)) → IsCircular (reading_of x) s (whole d)
   pub to : P → SomeLeft x n site
@@ -71,11 +65,11 @@ Outcome x s d P (Named n) = GoesOnAt x s d P n
 
 -- the step of a walk
 pub record Passes (w : Walk) (step : Step) : Type 0 where
-  pub outcome : (x : Scene) (s : Site) → Meets w.site (path_at w) x s → IsStraight x s (view w.value.now) → Outcome x s (view w.value.now) (IsLeft x w s) step
+  pub outcome : (x : Scene) (s : Site) → Meets w.site x s → IsStraight x s (view w.value.now) → Outcome x s (view w.value.now) (IsLeft x w s) step
 
 -- the step by a keyword under a name, `after` being what is left of the evaluation path behind it
 pub record PassesBy (w : Walk) (k : Keyword) (name : List ℕ) (after : Option (Bor (List ℕ))) (step : Step) : Type 0 where
-  pub outcome : (x : Scene) (s : Site) → Stage w.site (path_at w) (view w.value.now) name (row_of x.documents s k) x s
+  pub outcome : (x : Scene) (s : Site) → Stage w.site (view w.value.now) name (row_of x.documents s k) x s
       → Outcome x s (view w.value.now) (AreSpelledBy (reading_of x) (view w.value.now) (rules_by x s (view w.value.now) k) (text_left w.instance) (47 ∷ (name ++ text_left after))) step
 
 -- the same by the keyword of a member under a name
@@ -85,7 +79,7 @@ pub record PassesAs (w : Walk) (k : Keyword) (n member : List ℕ) (after : Opti
 
 -- the same by its row, for the keywords that ask
 pub record PassesThrough (w : Walk) (row : Scene → Site → Row) (after : Option (Bor (List ℕ))) (step : Step) : Type 0 where
-  pub outcome : (x : Scene) (s : Site) (name : List ℕ) → Stage w.site (path_at w) (view w.value.now) name (row x s) x s
+  pub outcome : (x : Scene) (s : Site) (name : List ℕ) → Stage w.site (view w.value.now) name (row x s) x s
       → Outcome x s (view w.value.now) (AreSpelledBy (reading_of x) (view w.value.now) (map (rule x.matches (view w.value.now)) (row x s).shapes) (text_left w.instance) (47 ∷ (name ++ text_left after))) step
 
 -- the walk goes on at a question's subschema and at what it asks of, which is no name
@@ -95,7 +89,6 @@ pub record GoesInto (w : Walk) (a : Ahead) (v : Walk) : Type 0 where
   pub scope : scope_of v.site.resolver ≡ entered_scope (base_of v.site.resolver) (base_of w.site.resolver) (scope_of w.site.resolver)
   pub stands : (s : Site) (added : List Part) → Stands w.site s → Stands v.site (below (documents_at w.site) s added (view a.question.subschema.schema.now))
   pub matches : v.site.matches ≡ w.site.matches
-  pub path : path_at v ≡ added_at a.question.subschema.keyword.now a.question.subschema.entry ++ path_at w
   pub value : called_after None (step_of a.question.asked) ≡ None → view v.value.now ≡ value_after (view w.value.now) (step_of a.question.asked)
   pub instance : v.instance ≡ a.instance
   pub evaluation : v.evaluation ≡ a.evaluation

@@ -3,7 +3,6 @@ use Rattle.std.specs.Prelude.{◌≡◌, ℕ, List, map, length, Bool, true, fal
 use Rattle.std.specs.Borrow.{Bor}
 use Rattle.serde_json.specs.Data.{Data}
 use Rattle.serde_json.specs.declared.value.Value.{Value}
-use Rattle.json_values.specs.Parts.{Part}
 use Rattle.schema_meaning.specs.Members.{In, count_true}
 use Rattle.schema_meaning.specs.Places.{whole, value_after}
 use Rattle.schema_meaning.specs.Questions.{Question, at}
@@ -32,8 +31,8 @@ IsDecided true P = P
 IsDecided false P = P → ⊥
 
 -- the schema's verdict
-pub record IsVerdict (c : code.Site) (path : List Part) (d : Data) (b : Bool) : Type 0 where
-  pub told : (x : Scene) (s : Site) → Meets c path x s → IsStraight x s d → IsTold verdicts (reading_of x) s (whole d) b
+pub record IsVerdict (c : code.Site) (d : Data) (b : Bool) : Type 0 where
+  pub told : (x : Scene) (s : Site) → Meets c x s → IsStraight x s d → IsTold verdicts (reading_of x) s (whole d) b
 
 -- one of these rules refuses
 abbrev pub SomeRefuses : Reading Site → Data → List (Rule Site) → Type 0
@@ -51,8 +50,8 @@ Answers true r d qs = SomeRefused r d qs
 Answers false r d qs = AllAccepted r d qs
 
 -- whether questions are refused that a keyword asks
-pub record AreRefused (c : code.Site) (path : List Part) (d : Data) (row : Scene → Site → Row) (questions : Scene → Site → List (Question Site)) (b : Bool) : Type 0 where
-  pub answers : (x : Scene) (s : Site) (name : List ℕ) → Stage c path d name (row x s) x s → Answers b (reading_of x) d (questions x s)
+pub record AreRefused (c : code.Site) (d : Data) (row : Scene → Site → Row) (questions : Scene → Site → List (Question Site)) (b : Bool) : Type 0 where
+  pub answers : (x : Scene) (s : Site) (name : List ℕ) → Stage c d name (row x s) x s → Answers b (reading_of x) d (questions x s)
 
 -- the rules of a keyword at a value
 abbrev pub rules_by : Scene → Site → Data → Keyword → List (Rule Site)
@@ -63,12 +62,12 @@ abbrev pub SomeRefusesAt : List ℕ → Reading Site → Data → List (Rule Sit
 SomeRefusesAt n r d ks = (k : Rule Site) × (bs : List Bool) × In k ks × AreAnswers r (whole d) k bs × (accepts k bs ≡ false) × (refuses_at k bs ≡ at n)
 
 -- whether the keyword refuses
-pub record IsRefusal (c : code.Site) (path : List Part) (d : Data) (k : Keyword) (b : Bool) : Type 0 where
-  pub decides : (x : Scene) (s : Site) (name : List ℕ) → Stage c path d name (row_of x.documents s k) x s → IsDecided b (SomeRefuses (reading_of x) d (rules_by x s d k))
+pub record IsRefusal (c : code.Site) (d : Data) (k : Keyword) (b : Bool) : Type 0 where
+  pub decides : (x : Scene) (s : Site) (name : List ℕ) → Stage c d name (row_of x.documents s k) x s → IsDecided b (SomeRefuses (reading_of x) d (rules_by x s d k))
 
 -- whether it refuses under a name
-pub record IsRefusalAt (c : code.Site) (path : List Part) (d : Data) (k : Keyword) (name : List ℕ) (b : Bool) : Type 0 where
-  pub decides : (x : Scene) (s : Site) → Stage c path d name (row_of x.documents s k) x s → IsDecided b (SomeRefusesAt name (reading_of x) d (rules_by x s d k))
+pub record IsRefusalAt (c : code.Site) (d : Data) (k : Keyword) (name : List ℕ) (b : Bool) : Type 0 where
+  pub decides : (x : Scene) (s : Site) → Stage c d name (row_of x.documents s k) x s → IsDecided b (SomeRefusesAt name (reading_of x) d (rules_by x s d k))
 
 -- what the verdict of `if` chooses of two
 abbrev pub chosen_of : {A : Type 0} → Bool → A → A → A
@@ -76,8 +75,8 @@ chosen_of true then_one else_one = then_one
 chosen_of false then_one else_one = else_one
 
 -- the verdict of a schema at a keyword of the one at a site
-pub record IsInnerVerdict (c : code.Site) (path : List Part) (d : Data) (k : List ℕ) (schema : Data) (b : Bool) : Type 0 where
-  pub told : (x : Scene) (s : Site) → Meets c path x s → IsRight x (site_at x.documents s k schema) → IsStraight x (site_at x.documents s k schema) d
+pub record IsInnerVerdict (c : code.Site) (d : Data) (k : List ℕ) (schema : Data) (b : Bool) : Type 0 where
+  pub told : (x : Scene) (s : Site) → Meets c x s → IsRight x (site_at x.documents s k schema) → IsStraight x (site_at x.documents s k schema) d
       → IsTold verdicts (reading_of x) (site_at x.documents s k schema) (whole d) b
 
 -- the schemas of `if`, and of `then` and `else` beside, lie in the schema
@@ -101,12 +100,12 @@ LiesIn c (Applicator a) = AppliesIn c a
 LiesIn c (Reference keyword text target) = FindsTarget c keyword text.now target
 
 -- the answer to a question, where an applicator asks it
-pub record IsAnswered (c : code.Site) (path : List Part) (d : Data) (q : asking.Question) (b : Bool) : Type 0 where
+pub record IsAnswered (c : code.Site) (d : Data) (q : asking.Question) (b : Bool) : Type 0 where
   pub told : (a : applied.Applicator) → is_by_answers a ≡ true → (x : Scene) (s : Site) (k : List ℕ)
-      → In (question_of (below x.documents s) q) (asks (rule x.matches d (shape_of (below x.documents s) a))) → Stage c path d k (applied_row a x s) x s
+      → In (question_of (below x.documents s) q) (asks (rule x.matches d (shape_of (below x.documents s) a))) → Stage c d k (applied_row a x s) x s
       → IsTold verdicts (reading_of x) (place_of (below x.documents s) q.subschema) (whole (value_after d (step_of q.asked))) b
 
 -- an applicator's questions have answers, so many, and so many of them are yes
-pub record AreCounted (c : code.Site) (path : List Part) (d : Data) (a : applied.Applicator) (asked accepted : ℕ) : Type 0 where
-  pub answers : (x : Scene) (s : Site) (k : List ℕ) → Stage c path d k (applied_row a x s) x s
+pub record AreCounted (c : code.Site) (d : Data) (a : applied.Applicator) (asked accepted : ℕ) : Type 0 where
+  pub answers : (x : Scene) (s : Site) (k : List ℕ) → Stage c d k (applied_row a x s) x s
       → (bs : List Bool) × AreAnswers (reading_of x) (whole d) (rule x.matches d (shape_of (below x.documents s) a)) bs × (length bs ≡ asked) × (count_true bs ≡ accepted)

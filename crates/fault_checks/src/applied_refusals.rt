@@ -1,23 +1,20 @@
 //! What keywords that apply subschemas ask of a value, by those subschemas.
-ghost use Rattle.std.specs.Prelude.{◌<◌, ◌≡◌, length, IfOk, true, not};
+ghost use Rattle.std.specs.Prelude.{◌<◌, ◌≡◌, length, IfOk, true};
 ghost use Rattle.serde_json.specs.Data.{depth};
 ghost use Rattle.serde_json.specs.View.{view};
-ghost use Rattle.schema_meaning.specs.Members.{is_empty};
-ghost use Rattle.applicators.specs.Combined.{is_by_answers, notes_by};
+ghost use Rattle.applicators.specs.Combined.{is_by_answers};
 ghost use Rattle.plain_reader.specs.Applied.{EachInside};
 ghost use Rattle.plain_reader.specs.Passed as code;
 ghost use Rattle.fault_checks.specs.Verdicts.{AppliesIn};
-ghost use Rattle.fault_checks.specs.Trials.{IsOtherRefused, IsAskedRefused, IsEntryRefused, IsQuestionRefused};
+ghost use Rattle.fault_checks.specs.Trials.{IsOtherRefused, IsAskedRefused, IsQuestionRefused};
 ghost use Rattle.fault_checks.specs.Trials.{AreItsQuestions, IsSomeRefused, CountsAccepted, KeywordRefuses};
 
 use crate::refusing::is_refused;
 use crate::trial::Trial;
 use applicators::applicator::Applicator;
-use applicators::asks::Asks;
 use applicators::question::{Asked, Question};
 use applicators::questions::questions;
-use applicators::subschema::Entry;
-use assertions::missing::first_missing_beside;
+use plain_reader::notes::is_noted;
 use serde_json::Value;
 use std::alloc::AllocError;
 
@@ -28,8 +25,6 @@ fn is_other_refused(trial: &Trial<'_, '_, '_>, value: &Value) -> Result<bool, Al
     let other = Trial {
         alloc: trial.alloc,
         site: trial.site,
-        schema: trial.schema,
-        reference: trial.reference,
         value,
     };
     is_refused(&other)
@@ -59,49 +54,12 @@ fn is_question_refused<'r>(
     ensures { IfOk result (λ b. IsQuestionRefused trial.now question.entry b) }
 {
     let inner = trial.site.below(trial.alloc, question.subschema.schema)?;
-    let road = trial.schema.push_name(question.subschema.keyword);
     let below = Trial {
         alloc: trial.alloc,
         site: &inner,
-        schema: &road,
-        reference: trial.reference,
         value: trial.value,
     };
-    is_entry_refused(&below, question)
-}
-
-// Whether a question's answer is no, from its keyword on.
-fn is_entry_refused<'r>(
-    trial: &Trial<'_, 'r, '_>,
-    question: Question<'r, '_>,
-) -> Result<bool, AllocError>
-    ensures { IfOk result (λ b. IsEntryRefused trial.now question.entry b) }
-{
-    match question.subschema.entry {
-        Entry::Whole => is_asked_refused(trial, question.asked),
-        Entry::Name(name) => {
-            let road = trial.schema.push_name(name);
-            let below = Trial {
-                alloc: trial.alloc,
-                site: trial.site,
-                schema: &road,
-                reference: trial.reference,
-                value: trial.value,
-            };
-            is_asked_refused(&below, question.asked)
-        }
-        Entry::Index(index) => {
-            let road = trial.schema.push_index(index);
-            let below = Trial {
-                alloc: trial.alloc,
-                site: trial.site,
-                schema: &road,
-                reference: trial.reference,
-                value: trial.value,
-            };
-            is_asked_refused(&below, question.asked)
-        }
-    }
+    is_asked_refused(&below, question.asked)
 }
 
 // Whether one of them is answered no.
@@ -141,16 +99,6 @@ fn accepted_of<'r>(
         }
     }
     Ok(accepted)
-}
-
-// Whether it notes something of the value itself.
-fn is_noted(applicator: &Applicator<'_>, value: &Value) -> bool
-    ensures { result ≡ not (is_empty (notes_by applicator.now (view value.now))) }
-{
-    match applicator.asks() {
-        Asks::Dependencies(entries) => first_missing_beside(entries, value).is_some(),
-        _ => false,
-    }
 }
 
 /// Whether an applicator refuses a value under a name, where it may refuse under that name.

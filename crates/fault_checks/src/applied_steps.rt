@@ -1,13 +1,11 @@
 //! Steps by other keywords that apply subschemas.
-ghost use Rattle.std.specs.Prelude.{◌≡◌, ◌<◌, ◌++◌, [], IfOk, OnOk, length, None, true};
+ghost use Rattle.std.specs.Prelude.{◌≡◌, ◌<◌, IfOk, length, None, true};
 ghost use Rattle.serde_json.specs.Data.{depth};
 ghost use Rattle.serde_json.specs.View.{view};
 ghost use Rattle.schema_meaning.specs.Places.{value_after, called_after};
 ghost use Rattle.applicators.specs.Combined.{asks_values};
-ghost use Rattle.applicators.specs.Shapes.{added_at};
 ghost use Rattle.applicators.specs.Questions.{step_of};
 ghost use Rattle.schema_patterns.specs.Read.{reads};
-ghost use Rattle.fault_checks.specs.Scenes.{behind};
 ghost use Rattle.fault_checks.specs.Passed.{AreAsked};
 ghost use Rattle.fault_checks.specs.Rows.{applied_row};
 ghost use Rattle.fault_checks.specs.Verdicts.{AppliesIn};
@@ -15,13 +13,11 @@ ghost use Rattle.fault_paths.specs.Laws.{OneAhead};
 ghost use Rattle.fault_paths.specs.Obliged.{obliges};
 ghost use Rattle.fault_checks.specs.Steps.{PassesThrough, LeadsInto, IsMore, IsNotLonger};
 
-use crate::road::RoadPart;
 use crate::walk::{AtNames, Step, Walk};
 use applicators::applicator::Applicator;
 use applicators::asks::Asks;
 use applicators::question::{Asked, Question};
 use applicators::questions::questions;
-use applicators::subschema::Entry;
 use fault_paths::ahead::{Ahead, question_ahead};
 use fault_paths::obliging::obliges;
 use fault_paths::once::one_ahead;
@@ -40,28 +36,6 @@ fn value_of<'i>(asked: Asked<'i>, value: &'i Value) -> &'i Value
     }
 }
 
-// The parts that a question adds to the road.
-fn push_road<'r>(
-    parts: &mut Vec<RoadPart<'r>>,
-    keyword: &'static str,
-    entry: Entry<'r>,
-) -> Result<(), AllocError>
-    ensures { OnOk result (behind parts.new.items [] ≡ added_at keyword.now entry.entry ++ behind parts.old.items []) }
-{
-    parts.push(RoadPart::Name(keyword))?;
-    match entry {
-        Entry::Whole => Ok(()),
-        Entry::Name(name) => {
-            parts.push(RoadPart::Name(name))?;
-            Ok(())
-        }
-        Entry::Index(index) => {
-            parts.push(RoadPart::Index(index))?;
-            Ok(())
-        }
-    }
-}
-
 /// The step to what a question asks of.
 pub(crate) fn to_question<'r, 'i, 'p>(
     alloc: Global,
@@ -71,14 +45,9 @@ pub(crate) fn to_question<'r, 'i, 'p>(
     requires inside { depth (view ahead.question.subschema.schema.now) < depth (view walk.site.contents.now) }
     ensures { IfOk result (LeadsInto walk.entry ahead.entry) }
 {
-    let subschema = ahead.question.subschema;
-    let site = walk.site.below(alloc, subschema.schema)?;
-    let mut parts = walk.parts;
-    push_road(&mut parts, subschema.keyword, subschema.entry)?;
+    let site = walk.site.below(alloc, ahead.question.subschema.schema)?;
     Ok(Step::On(Walk {
         site,
-        parts,
-        reference: walk.reference,
         value: value_of(ahead.question.asked, walk.value),
         instance: ahead.instance,
         evaluation: ahead.evaluation,

@@ -17,7 +17,6 @@ use fault_paths::parts::opened;
 use schema_patterns::PatternMaker;
 use schema_patterns::matches::Matches;
 use schema_registries::SchemaRegistry;
-use schema_reports::Reference;
 use serde_json::Value;
 use std::alloc::{AllocError, Global};
 
@@ -56,8 +55,6 @@ fn is_spelled(
     let site = at_root(root, matches)?;
     let walk = Walk {
         site,
-        parts: Vec::new(alloc),
-        reference: Reference::none(),
         value,
         instance,
         evaluation,

@@ -5,10 +5,9 @@ ghost use Rattle.serde_json.specs.View.{view};
 ghost use Rattle.schema_meaning.specs.Rules.{chosen_name};
 ghost use Rattle.plain_reader.specs.Passed as code;
 ghost use Rattle.fault_checks.specs.Verdicts.{ChoosesIn, chosen_of};
-ghost use Rattle.fault_checks.specs.Trials.{IsInnerRefused, IsRefusedBehind, KeywordRefuses};
+ghost use Rattle.fault_checks.specs.Trials.{IsInnerRefused, KeywordRefuses};
 
 use crate::refusing::is_refused;
-use crate::road::RoadPart;
 use crate::trial::Trial;
 use serde_json::Value;
 use std::alloc::AllocError;
@@ -29,51 +28,22 @@ pub const fn chosen<'r>(
     }
 }
 
-// Whether a schema at a keyword refuses the value.
-fn is_inner_refused<'a, 'r>(
-    trial: &Trial<'a, 'r, '_>,
-    name: &'a str,
+/// Whether a schema at a keyword refuses the value.
+pub fn is_inner_refused<'r>(
+    trial: &Trial<'_, 'r, '_>,
+    name: &'static str,
     part: &'r Value,
 ) -> Result<bool, AllocError>
     requires inside { depth (view part.now) < depth (view trial.now.site.now.contents.now) }
     ensures { IfOk result (λ b. IsInnerRefused trial.now name.now (view part.now) b) }
 {
     let inner = trial.site.below(trial.alloc, part)?;
-    let road = trial.schema.push_name(name);
     let below = Trial {
         alloc: trial.alloc,
         site: &inner,
-        schema: &road,
-        reference: trial.reference,
         value: trial.value,
     };
     is_refused(&below)
-}
-
-/// Whether a schema at a keyword refuses the value, where the path goes on from the one given by these parts.
-pub fn is_refused_inside<'a, 'r>(
-    trial: &Trial<'a, 'r, '_>,
-    parts: &'a [RoadPart<'r>],
-    name: &'static str,
-    part: &'r Value,
-) -> Result<bool, AllocError>
-    requires inside { depth (view part.now) < depth (view trial.now.site.now.contents.now) }
-    ensures { IfOk result (λ b. IsRefusedBehind parts.now trial.now name.now (view part.now) b) }
-{
-    match parts.split_first() {
-        Some((first, rest)) => {
-            let schema = first.below(trial.schema);
-            let below = Trial {
-                alloc: trial.alloc,
-                site: trial.site,
-                schema: &schema,
-                reference: trial.reference,
-                value: trial.value,
-            };
-            is_refused_inside(&below, rest, name, part)
-        }
-        None => is_inner_refused(trial, name, part),
-    }
 }
 
 /// Whether `if` refuses a value under a name: that of what it chooses, where that schema refuses.

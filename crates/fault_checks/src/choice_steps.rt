@@ -5,13 +5,12 @@ ghost use Rattle.fault_checks.specs.Passed as code;
 ghost use Rattle.fault_checks.specs.Steps.{PassesBy, IsMore, IsNotLonger};
 
 use crate::applied_steps::to_question;
-use crate::choice_refusals::{chosen, is_refused_inside};
+use crate::choice_refusals::{chosen, is_inner_refused};
 use crate::trial::Trial;
 use crate::walk::{Step, Walk};
 use applicators::question::{Asked, Question};
 use applicators::subschema::{Entry, Subschema};
 use fault_paths::ahead::Ahead;
-use schema_reports::LazyLocation;
 use serde_json::Value;
 use std::alloc::{AllocError, Global};
 
@@ -31,15 +30,12 @@ pub fn through_condition<'r, 'i, 'p>(
     ensures passes { IfOk result (PassesBy walk.entry (code.If condition.entry then_schema.entry else_schema.entry) name.now after.entry) }
     ensures shorter { IfOk result (IsNotLonger after.entry) }
 {
-    let start = LazyLocation::new();
     let trial = Trial {
         alloc,
         site: &walk.site,
-        schema: &start,
-        reference: walk.reference,
         value: walk.value,
     };
-    let refused = is_refused_inside(&trial, &walk.parts, "if", condition)?;
+    let refused = is_inner_refused(&trial, "if", condition)?;
     let (keyword, part) = chosen(!refused, then_schema, else_schema);
     if keyword != name {
         return Ok(Step::Answered(false));

@@ -9,13 +9,11 @@ mod choice_steps;
 mod names;
 pub mod reading;
 pub mod refusing;
-pub mod road;
 pub mod stepping;
 pub mod trial;
 pub mod walk;
 pub mod walking;
 
-pub use plain_reader::root::tell_root;
 pub use plain_reader::{
     Applicator, Assertion, Error, Keyword, ReferenceKeyword, Refusal, Resolved, Site, at_root,
     at_target, keyword,

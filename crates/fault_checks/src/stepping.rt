@@ -11,13 +11,12 @@ ghost use Rattle.fault_checks.specs.Steps.{Passes, PassesAs, PassesBy, PassesThr
 use crate::applied_steps::through_applicator;
 use crate::choice_steps::through_condition;
 use crate::names::{bears, member_of};
-use crate::refusing::refuses;
+use crate::refusing::keyword_refuses;
 use crate::trial::Trial;
 use crate::walk::{Step, Walk};
 use crate::{Keyword, ReferenceKeyword, Refusal, Resolved, at_target, keyword as read_keyword};
 use fault_paths::members::member_named;
 use fault_paths::parts::first_part;
-use schema_reports::{LazyLocation, Reference};
 use serde_json::Value;
 use std::alloc::{AllocError, Global};
 use value_checks::rising::entries_rise;
@@ -39,8 +38,6 @@ fn through_reference<'r, 'i, 'p>(
     let site = at_target(&target, walk.site.matches)?;
     Ok(Step::On(Walk {
         site,
-        parts: Vec::new(alloc),
-        reference: Reference::followed(text),
         value: walk.value,
         instance: walk.instance,
         evaluation: after,
@@ -111,15 +108,12 @@ fn by_keyword<'r, 'i, 'p>(
     if is_more(walk.instance, after) {
         return through(alloc, walk, keyword, name, after);
     }
-    let start = LazyLocation::new();
     let trial = Trial {
         alloc,
         site: &walk.site,
-        schema: &start,
-        reference: walk.reference,
         value: walk.value,
     };
-    let refused = refuses(&trial, &walk.parts, keyword, name)?;
+    let refused = keyword_refuses(&trial, keyword, name)?;
     Ok(Step::Answered(refused))
 }
 

@@ -6,17 +6,12 @@ ghost use Rattle.schema_definitions.specs.Plain.{deepest};
 ghost use Rattle.fault_checks.specs.Passed.{documents_at};
 
 use crate::Site;
-use crate::road::RoadPart;
-use schema_reports::Reference;
 use serde_json::Value;
 
-/// A schema on the way with its path from the reference that was followed last, a value, and what is left of the two paths: the text
-/// behind the next `/`, and none where nothing is left.
+/// A schema on the way, a value, and what is left of the two paths: the text behind the next `/`, and none where nothing is left.
 #[derive(Drop)]
 pub struct Walk<'r, 'i, 'p> {
     pub site: Site<'r>,
-    pub parts: Vec<RoadPart<'r>>,
-    pub reference: Reference<'r>,
     pub value: &'i Value,
     pub instance: Option<&'p str>,
     pub evaluation: Option<&'p str>,

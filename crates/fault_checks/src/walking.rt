@@ -1,21 +1,13 @@
 //! Walks to their end.
-ghost use Rattle.std.specs.Prelude.{◌≡◌, IfOk};
+ghost use Rattle.std.specs.Prelude.{IfOk};
 ghost use Rattle.serde_json.specs.View.{view};
 ghost use Rattle.fault_checks.specs.Steps.{Passes};
 ghost use Rattle.fault_checks.specs.NamedSteps.{IsAtName, IsLeftAtName, IsLeftAtSome};
 
-use crate::road::RoadPart;
 use crate::stepping::step;
 use crate::walk::{AtNames, Step, Walk};
 use serde_json::Value;
 use std::alloc::{AllocError, Global};
-
-// The same parts.
-fn shared_parts<'r>(alloc: Global, parts: &[RoadPart<'r>]) -> Result<Vec<RoadPart<'r>>, AllocError>
-    ensures { IfOk result (λ v. v.items ≡ parts.now) }
-{
-    Vec::from_slice(alloc, parts)
-}
 
 // The walk at a name, by its text.
 fn at_text<'a, 'r>(
@@ -26,12 +18,8 @@ fn at_text<'a, 'r>(
     ensures { IfOk result (IsAtName names.now (view text.now)) }
 {
     let site = names.walk.site.below(alloc, names.schema)?;
-    let mut parts = shared_parts(alloc, &names.walk.parts)?;
-    parts.push(RoadPart::Name("propertyNames"))?;
     Ok(Walk {
         site,
-        parts,
-        reference: names.walk.reference,
         value: text,
         instance: names.walk.instance,
         evaluation: names.evaluation,

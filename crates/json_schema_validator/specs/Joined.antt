@@ -2,11 +2,11 @@
 use Rattle.std.specs.Prelude.{◌≡◌, ℕ, List, [], ◌∷◌, Bool}
 use Rattle.serde_json.specs.Data.{Data}
 use Rattle.schema_meaning.specs.Faults.{Fault, Faults, none, also, instance_path, evaluation_path}
-use Rattle.schema_meaning.specs.Readings.{bags}
 use Rattle.schema_definitions.specs.Lookup.{Target}
 use Rattle.schema_definitions.specs.PathTexts.{path_text}
 use Rattle.schema_registries.specs.Roots.{Root, Patterns, Finds}
-use Rattle.schema_registries.specs.Answers.{Finish, ComesBack, IsAnswer}
+use Rattle.schema_registries.specs.Answers.{Finish, ComesBack}
+use Rattle.schema_validators.specs.Answered.{AreFaults}
 use Rattle.fault_checks.specs.Checked.{IsChecked}
 use Rattle.fault_checks.specs.declared.checking.CheckAnswer.{CheckAnswer}
 use Rattle.fault_checks.specs.declared.checking.CheckAnswer.TheVariants.{Accepted}
@@ -26,5 +26,5 @@ each_accepted (also f fs) = Accepted ∷ each_accepted fs
 -- one answer for each of the faults, and where the matches finish and no references come back each accepts
 pub record AreAccepted (p : Patterns) (r : Root) (d : Data) (answers : List CheckAnswer) : Type 0 where
   pub faults : Faults
-  pub told : IsAnswer bags p r d faults
+  pub told : AreFaults p r d faults
   pub accepted : WhereStraight p r d (answers ≡ each_accepted faults)

@@ -5,13 +5,12 @@ ghost use Rattle.serde_json.specs.View.{view};
 ghost use Rattle.schema_meaning.specs.Readings.{verdicts};
 ghost use Rattle.schema_reports.specs.Left.{errors_left};
 ghost use Rattle.schema_reports.specs.Told.{fault_of, faults_of};
-ghost use Rattle.schema_registries.specs.Roots.{Patterns, IsSound, root_on};
+ghost use Rattle.schema_registries.specs.Roots.{Patterns, Root, IsSound, root_on};
 ghost use Rattle.schema_registries.specs.Answers.{IsAnswer};
 ghost use Rattle.schema_registries.specs.Whole.{only_whole};
 ghost use Rattle.schema_registries.specs.Certified.{HasCertificate, HaveCertificates};
 ghost use Rattle.fault_checks.specs.Checked.{AreReadIn, IsChecked};
 ghost use Rattle.schema_validators.specs.Made.{IsMadeBy};
-ghost use Rattle.schema_validators.specs.Seen.{root_in};
 ghost use Rattle.json_schema_validator.specs.Joined.{IsFaultChecked, WhereStraight, AreAccepted, each_accepted};
 
 use fault_checks::checking::{CheckAnswer, FaultPath, check_by, check_fault};
@@ -102,8 +101,7 @@ pub fn check_errors<M: PatternMatcher, P: PatternMaker>(
     value: &Value,
 ) -> Result<Vec<CheckAnswer>, AllocError>
     requires whole { only_whole (view value.now) ≡ true }
-    requires built { root_in validator.now ≡ root_on registry.now root.now }
-    ensures accepted { IfOk result (λ v. IsMadeBy M.finds (P.patterns maker.now) validator.now → AreAccepted (P.patterns maker.now) (root_in validator.now) (view value.now) v.items) }
+    ensures accepted { IfOk result (λ v. IsMadeBy (P.patterns maker.now) (root_on registry.now root.now) validator.now → AreAccepted (P.patterns maker.now) (root_on registry.now root.now) (view value.now) v.items) }
 {
     let errors = validator.iter_errors(value)?;
     let matches = read_matches(alloc, registry, root, maker, value)?;
@@ -127,9 +125,8 @@ pub fn check_first<M: PatternMatcher, P: PatternMaker>(
     value: &Value,
 ) -> Result<Option<CheckAnswer>, AllocError>
     requires whole { only_whole (view value.now) ≡ true }
-    requires built { root_in validator.now ≡ root_on registry.now root.now }
-    ensures verdict { IfOk result (λ o. (p : Patterns) → IsMadeBy M.finds p validator.now → IsAnswer verdicts p (root_in validator.now) (view value.now) (is_none o)) }
-    ensures accepted { IfOk result (λ o. IfSome o (λ a. IsMadeBy M.finds (P.patterns maker.now) validator.now → WhereStraight (P.patterns maker.now) (root_in validator.now) (view value.now) (a ≡ CheckAnswer.Accepted))) }
+    ensures verdict { IfOk result (λ o. (p : Patterns) (r : Root) → IsMadeBy p r validator.now → IsAnswer verdicts p r (view value.now) (is_none o)) }
+    ensures accepted { IfOk result (λ o. IfSome o (λ a. IsMadeBy (P.patterns maker.now) (root_on registry.now root.now) validator.now → WhereStraight (P.patterns maker.now) (root_on registry.now root.now) (view value.now) (a ≡ CheckAnswer.Accepted))) }
 {
     match validator.validate(value)? {
         Ok(()) => Ok(None),
@@ -158,10 +155,9 @@ pub fn check_path<M: PatternMatcher, P: PatternMaker>(
     path: FaultPath<'_>,
 ) -> Result<(CheckAnswer, bool), AllocError>
     requires whole { only_whole (view value.now) ≡ true }
-    requires built { root_in validator.now ≡ root_on registry.now root.now }
-    ensures checked { IfOk result (λ both. IsMadeBy M.finds (P.patterns maker.now) validator.now → IsChecked (P.patterns maker.now) (root_in validator.now) (view value.now) path.entry.instance_path.now path.entry.evaluation_path.now both.0) }
-    ensures verdict { IfOk result (λ both. (p : Patterns) → IsMadeBy M.finds p validator.now → IsAnswer verdicts p (root_in validator.now) (view value.now) both.1) }
-    ensures refused { IfOk result (λ both. IsMadeBy M.finds (P.patterns maker.now) validator.now → both.0 ≡ CheckAnswer.Accepted → WhereStraight (P.patterns maker.now) (root_in validator.now) (view value.now) (both.1 ≡ false)) }
+    ensures checked { IfOk result (λ both. IsMadeBy (P.patterns maker.now) (root_on registry.now root.now) validator.now → IsChecked (P.patterns maker.now) (root_on registry.now root.now) (view value.now) path.entry.instance_path.now path.entry.evaluation_path.now both.0) }
+    ensures verdict { IfOk result (λ both. (p : Patterns) (r : Root) → IsMadeBy p r validator.now → IsAnswer verdicts p r (view value.now) both.1) }
+    ensures refused { IfOk result (λ both. IsMadeBy (P.patterns maker.now) (root_on registry.now root.now) validator.now → both.0 ≡ CheckAnswer.Accepted → WhereStraight (P.patterns maker.now) (root_on registry.now root.now) (view value.now) (both.1 ≡ false)) }
 {
     let answer = check_fault(alloc, registry, root, maker, value, path)?;
     let verdict = validator.is_valid(value)?;

@@ -14,6 +14,18 @@ const CARRIED: &str = r##"
     7 :: ExclusiveMaximum of 7 # #/exclusiveMaximum #/exclusiveMaximum; ExclusiveMaximum { limit: Number(0) } Minimum of 7 # #/minimum #/minimum; Minimum { limit: Number(18446744073709551615) } MultipleOf of 7 # #/multipleOf #/multipleOf; MultipleOf { multiple_of: Number(3) }
 - {"$schema":"http://json-schema.org/draft-04/schema#","maximum":-9223372036854775808,"exclusiveMaximum":true}
     0 :: ExclusiveMaximum of 0 # #/exclusiveMaximum #/exclusiveMaximum; ExclusiveMaximum { limit: Number(-9223372036854775808) }
+- {"type":"null","const":{"a":1}}
+    {} :: Constant of {} # #/const #/const; Constant { expected_value: Object {"a": Number(1)} } Types of {} # #/type #/type; Types { names: One(Null) }
+- {"exclusiveMinimum":3,"multipleOf":2}
+    3 :: ExclusiveMinimum of 3 # #/exclusiveMinimum #/exclusiveMinimum; ExclusiveMinimum { limit: Number(3) } MultipleOf of 3 # #/multipleOf #/multipleOf; MultipleOf { multiple_of: Number(2) }
+- {"maxLength":1,"pattern":"^\\S*$"}
+    "a b" :: MaxLength of "a b" # #/maxLength #/maxLength; MaxLength { limit: 1 } Pattern of "a b" # #/pattern #/pattern; Pattern { pattern: "^\\S*$" }
+- {"minLength":1,"pattern":"^a"}
+    "" :: MinLength of "" # #/minLength #/minLength; MinLength { limit: 1 } Pattern of "" # #/pattern #/pattern; Pattern { pattern: "^a" }
+- {"maxItems":0,"minItems":3,"uniqueItems":true}
+    [1,1] :: MaxItems of [1,1] # #/maxItems #/maxItems; MaxItems { limit: 0 } MinItems of [1,1] # #/minItems #/minItems; MinItems { limit: 3 } UniqueItems of [1,1] # #/uniqueItems #/uniqueItems; UniqueItems
+- {"dependentRequired":{"a":["b"]},"maxProperties":0}
+    {"a":1} :: Required of {"a":1} # #/dependentRequired #/dependentRequired; Required { property: "b" } MaxProperties of {"a":1} # #/maxProperties #/maxProperties; MaxProperties { limit: 0 }
 - {"anyOf":[{"minimum":0},{"enum":[]}]}
     -1 :: AnyOf of -1 # #/anyOf #/anyOf; [ Minimum of -1 # #/anyOf/0/minimum #/anyOf/0/minimum; ] [ Enumeration of -1 # #/anyOf/1/enum #/anyOf/1/enum; ]
 - {"anyOf":[{"minimum":2,"type":"null"},{"items":{}},false]}

@@ -56,6 +56,20 @@ fn write_paths(rt: &impl Abort, alloc: Global, text: &mut String, error: &Valida
     write!(text, "#{instance} #{evaluation}; ").expect(rt, "memory");
 }
 
+fn write_error(
+    rt: &impl Abort,
+    alloc: Global,
+    text: &mut String,
+    error: &ValidationError<'_>,
+    is_detailed: bool,
+) {
+    if is_detailed {
+        write_details(rt, alloc, text, error);
+    } else {
+        write_paths(rt, alloc, text, error);
+    }
+}
+
 fn assert_accepted(
     rt: &impl Abort,
     alloc: Global,
@@ -93,23 +107,43 @@ fn told(
     let mut text = String::new(alloc);
     for error in errors {
         assert_accepted(rt, alloc, registry, value, &error);
-        if is_detailed {
-            write_details(rt, alloc, &mut text, &error);
-        } else {
-            write_paths(rt, alloc, &mut text, &error);
-        }
+        write_error(rt, alloc, &mut text, &error, is_detailed);
     }
     text
 }
 
-// The other two observers have to agree.
-fn assert_verdict(rt: &impl Abort, validator: &Validator, value: &Value, is_valid: bool)
+fn first_told(
+    rt: &impl Abort,
+    alloc: Global,
+    validator: &Validator,
+    value: &Value,
+    is_detailed: bool,
+) -> String
     requires whole { only_whole (view value.now) ≡ true }
 {
-    let answer = validator.validate(value).expect(rt, "memory");
+    let mut text = String::new(alloc);
+    if let Err(error) = validator.validate(value).expect(rt, "memory") {
+        write_error(rt, alloc, &mut text, &error, is_detailed);
+    }
+    text
+}
+
+// The other two observers have to agree: one keeps the first of all the faults, the other the verdict.
+fn assert_verdict(
+    rt: &impl Abort,
+    alloc: Global,
+    validator: &Validator,
+    value: &Value,
+    all: &str,
+    is_detailed: bool,
+)
+    requires whole { only_whole (view value.now) ≡ true }
+{
+    let first = first_told(rt, alloc, validator, value, is_detailed);
     let accepts = validator.is_valid(value).expect(rt, "memory");
+    assert!(rt; all.starts_with(first.as_str()), "{value}");
     assert!(rt;
-        answer.is_ok() == is_valid && accepts == is_valid,
+        first.is_empty() == all.is_empty() && accepts == all.is_empty(),
         "{value}"
     );
 }
@@ -127,7 +161,7 @@ fn told_on(
     let validator = validator_on(rt, alloc, registry);
     let errors = errors_of(rt, &validator, value);
     let text = told(rt, alloc, registry, value, errors, is_detailed);
-    assert_verdict(rt, &validator, value, text.is_empty());
+    assert_verdict(rt, alloc, &validator, value, text.as_str(), is_detailed);
     text
 }
 

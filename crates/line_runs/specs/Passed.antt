@@ -1,5 +1,5 @@
 -- What crates above need of those below, passed on to them.
-pub use Rattle.schema_validators.specs.Seen.{root_in, root_of}
+pub use Rattle.schema_validators.specs.Seen.{root_of}
 pub use Rattle.schema_validators.specs.Made.{IsMadeBy}
 pub use Rattle.schema_validators.specs.Built.{IsBuilt}
 pub use Rattle.schema_validators.specs.Prepared.{asking_by, meta_schemas_given, documents_alone}

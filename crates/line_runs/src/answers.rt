@@ -1,8 +1,8 @@
 //! What is written for a line.
-ghost use Rattle.std.specs.Prelude.{◌≡◌, ◌++◌, ℕ, List, true, IfSome, OnOk, option_map, string_bytes};
+ghost use Rattle.std.specs.Prelude.{◌≡◌, ◌++◌, ℕ, List, Some, true, OnOk, string_bytes};
 ghost use Rattle.serde_json.specs.View.{view};
 ghost use Rattle.schema_registries.specs.Whole.{only_whole};
-ghost use Rattle.line_runs.specs.Runs.{IsLineTextBy, ValueTextBy};
+ghost use Rattle.line_runs.specs.Runs.{IsLineTextBy, IsTextBy};
 
 use crate::{line_value, write_faults};
 use line_cuts::LineAnswers;
@@ -13,13 +13,13 @@ use std::alloc::{AllocError, Global};
 
 // Answers each line with the faults of its value.
 #[derive(Drop)]
-pub(crate) struct LineFaults<'v, M> {
+pub(crate) struct LineFaults<'v, M: PatternMatcher> {
     pub(crate) alloc: Global,
     pub(crate) validator: &'v Validator<M>,
 }
 
 impl<M: PatternMatcher> LineAnswers for LineFaults<'_, M> {
-    ghost answers = { λ s. IsLineTextBy M.finds s.validator.now };
+    ghost answers = { λ s. IsLineTextBy s.validator.now };
 
     fn answer(&self, line: &[u8], text: &mut String) -> Result<(), AllocError> {
         answer_line(self.alloc, self.validator, line, text)
@@ -32,29 +32,32 @@ fn answer_line<M: PatternMatcher>(
     line: &[u8],
     text: &mut String,
 ) -> Result<(), AllocError>
-    ensures { OnOk result ((written : List ℕ) × IsLineTextBy M.finds validator.now line.now written × (string_bytes text.new ≡ string_bytes text.old ++ written)) }
+    ensures { OnOk result ((written : List ℕ) × IsLineTextBy validator.now line.now written × (string_bytes text.new ≡ string_bytes text.old ++ written)) }
 {
     let value = line_value(alloc, line)?;
-    answer_value(alloc, validator, value, text)?;
+    match value {
+        Some(value) => answer_value(alloc, validator, &value, text)?,
+        None => text.push_str("null")?,
+    }
     text.push_str("\n")?;
     Ok(())
 }
 
+// The text of the faults of a value. Its verdict is asked first, and the faults are told only where that is no.
 fn answer_value<M: PatternMatcher>(
     alloc: Global,
     validator: &Validator<M>,
-    value: Option<Value>,
+    value: &Value,
     text: &mut String,
 ) -> Result<(), AllocError>
-    requires whole { IfSome value (λ v. only_whole (view v) ≡ true) }
-    ensures { OnOk result ((written : List ℕ) × ValueTextBy M.finds validator.now (option_map (λ v. view v) value) written × (string_bytes text.new ≡ string_bytes text.old ++ written)) }
+    requires whole { only_whole (view value.now) ≡ true }
+    ensures { OnOk result ((written : List ℕ) × IsTextBy validator.now (Some (view value.now)) written × (string_bytes text.new ≡ string_bytes text.old ++ written)) }
 {
-    match value {
-        Some(value) => {
-            let errors = validator.iter_errors(&value)?;
-            write_faults(alloc, errors, text)?;
-        }
-        None => text.push_str("null")?,
+    if validator.is_valid(value)? {
+        text.push_str("[]")?;
+        return Ok(());
     }
+    let errors = validator.iter_errors(value)?;
+    write_faults(alloc, errors, text)?;
     Ok(())
 }

@@ -1,12 +1,11 @@
 //! Runs over all lines of a reader.
 ghost use Rattle.std.specs.Prelude.{◌≡◌, IfOk, IfErr, OnOk};
 ghost use Rattle.schema_definitions.specs.Lines as lines;
-ghost use Rattle.schema_validators.specs.Passed.{Patterns};
+ghost use Rattle.schema_validators.specs.Passed.{Patterns, Root};
 ghost use Rattle.schema_validators.specs.Made.{IsMadeBy};
-ghost use Rattle.schema_validators.specs.Seen.{root_in};
 ghost use Rattle.line_cuts.specs.Cuts.{lines_of};
 ghost use Rattle.line_cuts.specs.Runs.{Counts, RunsThrough, Stops};
-ghost use Rattle.line_runs.specs.Runs.{IsLineText};
+ghost use Rattle.line_runs.specs.Runs.{IsLineText, IsLineTextBy};
 
 use crate::answers::LineFaults;
 use line_cuts::{ByteSink, ByteSource, RunError, RunReport, answer_lines};
@@ -18,7 +17,8 @@ use std::alloc::Global;
 /// numbers of 64 bits.
 ///
 /// All lines that have ended are answered, and the answers written, before the next read. Besides one read's bytes and the answers to them
-/// one line is held at a time. Each line takes time in its length and in what its value is asked.
+/// one line is held at a time. Each line takes time in its length and in what its value is asked: the verdict first, and its faults only
+/// where that is no.
 ///
 /// # Errors
 ///
@@ -30,10 +30,11 @@ pub fn run<M: PatternMatcher, S: ByteSource, K: ByteSink>(
     writer: &mut K,
     validator: &Validator<M>,
 ) -> Result<RunReport, RunError>
-    ensures ok { IfOk result (λ report. (p : Patterns) → IsMadeBy M.finds p validator.now → RunsThrough (IsLineText p (root_in validator.now)) (S.remaining reader.old) (S.remaining reader.new) (K.contents writer.old) (K.contents writer.new) report) }
+    ensures nodes { IfOk result (RunsThrough (IsLineTextBy validator.now) (S.remaining reader.old) (S.remaining reader.new) (K.contents writer.old) (K.contents writer.new)) }
+    ensures ok { IfOk result (λ report. (p : Patterns) (r : Root) → IsMadeBy p r validator.now → RunsThrough (IsLineText p r) (S.remaining reader.old) (S.remaining reader.new) (K.contents writer.old) (K.contents writer.new) report) }
     ensures read_quiet { OnOk result (S.failures reader.new ≡ S.failures reader.old) }
     ensures write_quiet { OnOk result (K.failures writer.new ≡ K.failures writer.old) }
-    ensures stops { IfErr result (λ e. (p : Patterns) → IsMadeBy M.finds p validator.now → Stops (IsLineText p (root_in validator.now)) e (S.remaining reader.old) (S.remaining reader.new) (K.contents writer.old) (K.contents writer.new)) }
+    ensures stops { IfErr result (λ e. (p : Patterns) (r : Root) → IsMadeBy p r validator.now → Stops (IsLineText p r) e (S.remaining reader.old) (S.remaining reader.new) (K.contents writer.old) (K.contents writer.new)) }
     ensures counts { IfErr result (λ e. Counts e (S.failures reader.old) (S.failures reader.new) (K.failures writer.old) (K.failures writer.new)) }
 {
     let answers = LineFaults { alloc, validator };

@@ -27,7 +27,7 @@ use Rattle.schema_sites.specs.declared.keyword.Keyword.TheVariants as keyword
 use Rattle.schema_sites.specs.declared.site.Site as code
 use Rattle.schema_dialects.specs.Dialects.{dialect_of}
 use Rattle.plain_reader.specs.Settings.{Setting}
-use Rattle.plain_reader.specs.Tellings.{AreRead}
+use Rattle.plain_reader.specs.Verdicts.{AreRead}
 use Rattle.plain_reader.specs.Choices.{beside_leads, choice_leads, IsInside, AreInside}
 use Rattle.plain_reader.specs.Shapes.{context_in}
 use Rattle.plain_reader.proofs.Reading.{read_on, row_here}

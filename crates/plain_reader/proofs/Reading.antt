@@ -11,7 +11,7 @@ use Rattle.schema_definitions.specs.Rows.{Row, Context, row_at, rows_of, rows_at
 use Rattle.schema_definitions.specs.BuildCauses.{Reached, at_root, by_keyword}
 use Rattle.schema_definitions.specs.Plain.{keywords_at}
 use Rattle.applicators.specs.Made.{AreMade}
-use Rattle.plain_reader.specs.Tellings.{AreRead}
+use Rattle.plain_reader.specs.Verdicts.{AreRead}
 
 -- ---- what is reached
 

@@ -1,10 +1,10 @@
--- What keywords with subschemas ask, and what their questions tell.
-use Rattle.std.specs.Prelude.{◌≡◌, ◌<◌, ◌++◌, ℕ, List, [], ◌∷◌, Bool, Option, None, Some}
+-- What keywords with subschemas ask, and where.
+use Rattle.std.specs.Prelude.{◌≡◌, ◌<◌, ℕ, List, [], ◌∷◌, Bool, Option, Some}
 use Rattle.serde_json.specs.Data.{Data, depth}
 use Rattle.serde_json.specs.View.{view}
-use Rattle.json_values.specs.Parts.{Part, name, index}
+use Rattle.json_values.specs.Parts.{Part}
 use Rattle.schema_meaning.specs.Members.{In}
-use Rattle.schema_meaning.specs.Places.{Key, to_name, value_after, path_after, called_after}
+use Rattle.schema_meaning.specs.Places.{to_name, value_after, path_after}
 use Rattle.schema_meaning.specs.Questions as told
 use Rattle.schema_meaning.specs.Rules.{asks}
 use Rattle.schema_meaning.specs.Keywords.{Shape, rule}
@@ -15,19 +15,12 @@ use Rattle.applicators.specs.Questions.{step_of, question_of, questions_of}
 use Rattle.applicators.specs.Applied.{Applicator}
 use Rattle.applicators.specs.declared.question.Asked.{Asked}
 use Rattle.applicators.specs.declared.question.Question.{Question}
-use Rattle.applicators.specs.declared.subschema.Entry.{Entry}
-use Rattle.applicators.specs.declared.subschema.Entry.TheVariants as entry
 use Rattle.schema_sites.specs.Passed.{scope_of}
 use Rattle.schema_sites.specs.Seen.{documents_at, Stands}
 use Rattle.schema_sites.specs.declared.keyword.Keyword.{Keyword}
 use Rattle.schema_sites.specs.declared.keyword.Keyword.TheVariants as keyword
 use Rattle.schema_sites.specs.declared.site.Site as code
-use Rattle.schema_reports.specs.RoadPaths.{instance_in, schema_in, evaluation_in}
-use Rattle.schema_reports.specs.declared.roads.Roads.{Roads}
-use Rattle.schema_reports.specs.declared.observer.Observer.{Observer}
-use Rattle.plain_reader.specs.Spots.{Spots}
 use Rattle.plain_reader.specs.Settings.{Setting}
-use Rattle.plain_reader.specs.Tellings.{TellsCalled}
 use Rattle.plain_reader.specs.Choices.{AreInside}
 
 abbrev pub applied_leads : Applicator → Setting → List Site
@@ -68,17 +61,3 @@ AsksInside c (keyword.Reference by text target) = Unit {0}
 pub record IsPart (d : Data) (a : Asked) : Type 0 where
   pub spots : (path : List Part) (w : List Part × Option (List ℕ)) → In w (spots_in (path_after path (step_of a)) (value_after d (step_of a))) → In w (spots_in path d)
   pub named : (k : List ℕ) → step_of a ≡ to_name k → (path : List Part) → In (path, Some k) (spots_in path d)
-
--- the parts behind a keyword's name, last part first
-abbrev pub entry_parts : Entry → List Part
-entry_parts entry.Whole = []
-entry_parts (entry.Name n) = name n.now ∷ []
-entry_parts (entry.Index i) = index i ∷ []
-
--- the observer is told what the schema at a site tells of what is asked of, the roads going on by these parts
-pub record TellsAsked (c : code.Site) (whole : Spots) (d : Data) (roads : Roads) (keys : List Key) (asked : Asked) (parts : List Part) (old new : Observer) : Type 0 where
-  pub at : Roads
-  pub instance : instance_in at ≡ path_after (instance_in roads) (step_of asked)
-  pub schema : schema_in at ≡ parts ++ schema_in roads
-  pub evaluation : evaluation_in at ≡ parts ++ evaluation_in roads
-  pub told : TellsCalled c whole (value_after d (step_of asked)) at keys (called_after None (step_of asked)) old new

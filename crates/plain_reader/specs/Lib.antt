@@ -1,16 +1,13 @@
 pub mod Settings
 pub mod Spots
 pub mod Keys
-pub mod Tellings
+pub mod Verdicts
 pub mod Choices
 pub mod Shapes
 pub mod Applied
-pub mod Names
 pub mod Combined
-pub mod Refusals
 pub mod Targets
 pub mod Readings
-pub mod Roots
 pub mod Sites
 pub mod Passed
 pub mod PassedRefusals

@@ -1,10 +1,10 @@
--- What a reader tells of a schema's keywords where it stands.
+-- What a reader answers of a schema's keywords where it stands.
 use Rattle.std.specs.Prelude.{ℕ, List, Bool, None, map}
+use Rattle.schema_meaning.specs.Members.{all_true}
 use Rattle.schema_meaning.specs.Places.{Spot, Key}
-use Rattle.schema_meaning.specs.Faults.{Faults, join}
 use Rattle.schema_meaning.specs.Questions.{Question}
 use Rattle.schema_meaning.specs.Keywords.{Shape, rule}
-use Rattle.schema_meaning.specs.Readings.{Reading, bags}
+use Rattle.schema_meaning.specs.Readings.{Reading, verdicts}
 use Rattle.schema_meaning.specs.Cut.{cut_all, cut_asked, cut_within}
 use Rattle.schema_definitions.specs.Bearers.{Documents}
 use Rattle.schema_definitions.specs.Sites.{Site}
@@ -35,17 +35,17 @@ uncalled x = record {
 abbrev pub reading_in : Setting → Reading Site
 reading_in x = plain x.documents x.makes x.matches
 
--- the faults of a site with all its keywords
-abbrev pub told_in : Setting → Faults
-told_in x = cut_within bags (reading_in x) x.depth x.keys x.site x.spot
+-- whether the site accepts, by all its keywords
+abbrev pub accepts_in : Setting → Bool
+accepts_in x = cut_within verdicts (reading_in x) x.depth x.keys x.site x.spot
 
--- the faults of one question
-unfoldable pub asked_in : Setting → Question Site → Faults
-asked_in x q = cut_asked bags (reading_in x) (cut_within bags (reading_in x) x.depth) x.keys x.spot q
+-- the answer to one question
+unfoldable pub answer_in : Setting → Question Site → Bool
+answer_in x q = cut_asked verdicts (reading_in x) (cut_within verdicts (reading_in x) x.depth) x.keys x.spot q
 
--- the faults of questions, and those of keywords
-unfoldable pub asked_by : Setting → List (Question Site) → Faults
-asked_by x qs = join (map (asked_in x) qs)
+-- whether questions are all answered by yes, and whether keywords all accept
+unfoldable pub all_yes : Setting → List (Question Site) → Bool
+all_yes x qs = all_true (map (answer_in x) qs)
 
-unfoldable pub told_by : Setting → List (Shape Site) → Faults
-told_by x shapes = cut_all bags x.spot x.site.schema_path (asked_in x) (map (rule x.matches x.spot.value) shapes)
+unfoldable pub all_accept : Setting → List (Shape Site) → Bool
+all_accept x shapes = cut_all verdicts x.spot x.site.schema_path (answer_in x) (map (rule x.matches x.spot.value) shapes)

@@ -1,13 +1,13 @@
-//! The plain reader: what a schema tells of a value, each reference looked up anew.
+//! The plain reader: whether a schema accepts a value, each reference looked up anew.
 #![tactic(auto)]
 
+mod applied;
 mod asking;
 mod names;
-mod notes;
+pub mod notes;
 mod progress;
 mod read;
-mod refusals;
-pub mod root;
+mod settled;
 pub mod site;
 mod standing;
 mod whole;

@@ -1,43 +1,31 @@
-//! What a schema tells of an instance, from where it stands on.
-ghost use Rattle.std.specs.Prelude.{◌≤◌, OnOk};
+//! Whether a schema accepts an instance, from where it stands on.
+ghost use Rattle.std.specs.Prelude.{◌≤◌, IfOk};
 ghost use Rattle.serde_json.specs.Data.{depth};
 ghost use Rattle.serde_json.specs.View.{view};
 ghost use Rattle.schema_definitions.specs.Plain.{deepest};
 ghost use Rattle.schema_sites.specs.Seen.{documents_at};
-ghost use Rattle.plain_reader.specs.Sites.{TellsSite, path_from};
+ghost use Rattle.plain_reader.specs.Sites.{SiteAccepts};
 
-use crate::whole::read_alone;
-use schema_reports::{LazyLocation, Observer, Reference, Roads};
+use crate::whole::accepts_alone;
+use schema_reports::LazyLocation;
 use schema_sites::site::Site;
 use serde_json::Value;
 use std::alloc::{AllocError, Global};
 
-/// Tells an observer what the schema at a site tells of an instance, as if a root were there: no reference is in progress, and the paths of
-/// the instance and of the evaluation are empty. The schema's path is given.
+/// Whether the schema at a site accepts an instance, as if a root were there, where every schema reached from it is read; a reference that
+/// comes back to its target at one place of the instance is taken as accepting there. The matches of patterns are the site's.
 ///
-/// It costs what `tell_root` costs.
+/// It stops at the first keyword that refuses, and at the first answers that settle a keyword. Each keyword that asks walks the part of
+/// the instance that it applies to once, and each reference is looked up once for each value that it is asked of, and compared with those
+/// in progress.
 ///
 /// # Errors
 ///
-/// Where memory was refused or a count of owners is full. The observer may have been told of some faults then.
-pub fn tell_site<'a, 'r, 'i>(
-    alloc: Global,
-    site: &Site<'r>,
-    schema: &'a LazyLocation<'a, 'a>,
-    reference: Reference<'a>,
-    value: &'i Value,
-    observer: &mut Observer<'i>,
-) -> Result<(), AllocError>
+/// Where memory was refused or a count of owners is full.
+pub fn accepts_site(alloc: Global, site: &Site<'_>, value: &Value) -> Result<bool, AllocError>
     requires shallow { depth (view site.now.contents.now) ≤ deepest (documents_at site.now) }
-    ensures { OnOk result (TellsSite site.now (path_from schema.now reference.entry) (view value.now) observer.old observer.new) }
+    ensures { IfOk result (SiteAccepts site.now (view value.now)) }
 {
     let instance = LazyLocation::new();
-    let evaluation = LazyLocation::new();
-    let roads = Roads {
-        instance: &instance,
-        schema: &*schema,
-        reference,
-        evaluation: &evaluation,
-    };
-    read_alone(alloc, site, value, roads, observer)
+    accepts_alone(alloc, site, value, &instance)
 }

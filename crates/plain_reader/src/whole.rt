@@ -1,17 +1,17 @@
 //! What is read, and the reading of a value that stands alone.
-ghost use Rattle.std.specs.Prelude.{◌≤◌, [], OnOk};
+ghost use Rattle.std.specs.Prelude.{◌≤◌, [], IfOk};
 ghost use Rattle.serde_json.specs.Data.{depth};
 ghost use Rattle.serde_json.specs.View.{view};
 ghost use Rattle.schema_definitions.specs.AllKeys.{spots_in};
 ghost use Rattle.schema_definitions.specs.Plain.{deepest};
 ghost use Rattle.schema_sites.specs.Seen.{documents_at};
-ghost use Rattle.schema_reports.specs.RoadPaths.{instance_in};
-ghost use Rattle.plain_reader.specs.Tellings.{Tells};
+ghost use Rattle.schema_reports.specs.Locations.{location_of};
+ghost use Rattle.plain_reader.specs.Verdicts.{Accepts};
 
 use crate::progress::Progress;
-use crate::read::read_site;
+use crate::read::accepts_schema;
 use crate::standing::Reading;
-use schema_reports::{LazyLocation, Observer, Roads};
+use schema_reports::LazyLocation;
 use schema_sites::site::Site;
 use serde_json::Value;
 use std::alloc::{AllocError, Global};
@@ -23,29 +23,25 @@ pub struct Whole<'w, 'i> {
     pub at: &'w LazyLocation<'w, 'w>,
 }
 
-/// What a schema tells of a value that stands alone, at its place: no reference is in progress.
+/// Whether a schema accepts a value that stands alone, at its place: no reference is in progress.
 #[cycle(read)]
-pub(crate) fn read_alone<'r, 'i>(
+pub(crate) fn accepts_alone<'r, 'a>(
     alloc: Global,
     site: &Site<'r>,
-    value: &'i Value,
-    roads: Roads<'_>,
-    observer: &mut Observer<'i>,
-) -> Result<(), AllocError>
+    value: &Value,
+    at: &'a LazyLocation<'a, 'a>,
+) -> Result<bool, AllocError>
     requires shallow { depth (view site.now.contents.now) ≤ deepest (documents_at site.now) }
-    ensures { OnOk result (Tells site.now (spots_in (instance_in roads.entry) (view value.now)) (view value.now) roads.entry [] observer.old observer.new) }
+    ensures { IfOk result (Accepts site.now (spots_in (location_of at.now) (view value.now)) (view value.now) (location_of at.now) []) }
 {
     let nothing = Progress::Nothing;
     let alone = Reading {
         alloc,
-        whole: Whole {
-            value,
-            at: roads.instance,
-        },
+        whole: Whole { value, at: &*at },
         site,
         value,
-        roads,
+        at: &*at,
         progress: &nothing,
     };
-    read_site(&alone, observer)
+    accepts_schema(&alone)
 }

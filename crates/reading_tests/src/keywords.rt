@@ -1,9 +1,10 @@
 // How keywords that only assert are read, and what is wrong with values that they are asked of.
-use crate::observing::heard;
 use crate::rows::{cut, json};
 use assertions::assertion::Assertion;
 use assertions::reading::{Reading, read};
 use schema_drafts::draft::Draft;
+use schema_patterns::matches::Matches;
+use schema_patterns::pattern::accepts_text;
 use serde_json::Value;
 use std::alloc::Global;
 use std::process::Abort;
@@ -58,47 +59,42 @@ wrong :: maximum :: 3 :: 3 :: 0
 read :: exclusiveMaximum :: true :: nothing
 "#;
 
-// What observers keep.
-const TOLD: &str = r#"
-all :: type :: "null" :: 3 :: /0 /not/type /$ref/type Types { names: One(Null) };
-all :: enum :: [1,"a"] :: 3 :: /0 /not/enum /$ref/enum Enumeration { options: Array [Number(1), String("a")] };
-all :: const :: {"a":1} :: {} :: /0 /not/const /$ref/const Constant { expected_value: Object {"a": Number(1)} };
-all :: multipleOf :: 2 :: -3 :: /0 /not/multipleOf /$ref/multipleOf MultipleOf { multiple_of: Number(2) };
-all :: maximum :: -3 :: -2 :: /0 /not/maximum /$ref/maximum Maximum { limit: Number(-3) };
-all :: exclusiveMaximum :: 3 :: 3 :: /0 /not/exclusiveMaximum /$ref/exclusiveMaximum ExclusiveMaximum { limit: Number(3) };
-all :: minimum :: 18446744073709551615 :: 0 :: /0 /not/minimum /$ref/minimum Minimum { limit: Number(18446744073709551615) };
-all :: exclusiveMinimum :: 3 :: 3 :: /0 /not/exclusiveMinimum /$ref/exclusiveMinimum ExclusiveMinimum { limit: Number(3) };
-all :: maxLength :: 1 :: "ab" :: /0 /not/maxLength /$ref/maxLength MaxLength { limit: 1 };
-all :: minLength :: 1 :: "" :: /0 /not/minLength /$ref/minLength MinLength { limit: 1 };
-all :: maxItems :: 0 :: [1] :: /0 /not/maxItems /$ref/maxItems MaxItems { limit: 0 };
-all :: minItems :: 2 :: [1] :: /0 /not/minItems /$ref/minItems MinItems { limit: 2 };
-all :: uniqueItems :: true :: [1,1] :: /0 /not/uniqueItems /$ref/uniqueItems UniqueItems;
-all :: maxProperties :: 0 :: {"a":1} :: /0 /not/maxProperties /$ref/maxProperties MaxProperties { limit: 0 };
-all :: minProperties :: 1 :: {} :: /0 /not/minProperties /$ref/minProperties MinProperties { limit: 1 };
-all :: required :: ["a"] :: {} :: /0 /not/required /$ref/required Required { property: "a" };
-all :: dependentRequired :: {"a":["b"]} :: {"a":1} :: /0 /not/dependentRequired /$ref/dependentRequired Required { property: "b" };
-verdict :: required :: ["a","b","c"] :: {"b":1} :: refused
-first :: required :: ["a","b","c"] :: {"b":1} :: /0 /not/required /$ref/required Required { property: "a" };
-all :: required :: ["a","b","c"] :: {"b":1} :: /0 /not/required /$ref/required Required { property: "a" }; /0 /not/required /$ref/required Required { property: "c" };
-verdict :: required :: ["a","b","c"] :: [] ::
-first :: required :: ["a","b","c"] :: [] ::
-all :: required :: ["a","b","c"] :: [] ::
-all :: pattern :: "^a" :: "ba" :: /0 /not/pattern /$ref/pattern Pattern { pattern: "^a" };
-first :: pattern :: "^a" :: "ba" :: /0 /not/pattern /$ref/pattern Pattern { pattern: "^a" };
-verdict :: pattern :: "^a" :: "ba" :: refused
-all :: pattern :: "^a" :: "ab" ::
-first :: pattern :: "^a" :: "ab" ::
-verdict :: pattern :: "^a" :: "ab" ::
-all :: pattern :: "^a" :: 12 ::
-verdict :: pattern :: "^a" :: ["b"] ::
-all :: pattern :: "^\\S*$" :: "a b" :: /0 /not/pattern /$ref/pattern Pattern { pattern: "^\\S*$" };
-all :: pattern :: "a.c" :: "abc" :: /0 /not/pattern /$ref/pattern Pattern { pattern: "a.c" };
+// The same where `true` stands beside, which makes a limit strict in Draft 4 alone.
+const READ_BESIDE: &str = r#"
+wrong :: type :: "null" :: 3 :: 1
+wrong :: enum :: [1,"a"] :: 3 :: 1
+wrong :: const :: {"a":1} :: {} :: 1
+wrong :: multipleOf :: 2 :: -3 :: 1
+wrong :: maximum :: -3 :: -2 :: 1
+wrong :: maximum :: 3 :: 3 :: 0
+wrong :: exclusiveMaximum :: 3 :: 3 :: 1
+wrong :: minimum :: 18446744073709551615 :: 0 :: 1
+wrong :: exclusiveMinimum :: 3 :: 3 :: 1
+wrong :: maxLength :: 1 :: "ab" :: 1
+wrong :: minLength :: 1 :: "" :: 1
+wrong :: maxItems :: 0 :: [1] :: 1
+wrong :: minItems :: 2 :: [1] :: 1
+wrong :: uniqueItems :: true :: [1,1] :: 1
+wrong :: maxProperties :: 0 :: {"a":1} :: 1
+wrong :: minProperties :: 1 :: {} :: 1
+wrong :: required :: ["a"] :: {} :: 1
+wrong :: dependentRequired :: {"a":["b"]} :: {"a":1} :: 1
+wrong :: required :: ["a","b","c"] :: [] :: 0
 "#;
 
-// A limit below which `true` stands beside.
-const TOLD_IN_DRAFT_4: &str = r#"
+const READ_BESIDE_IN_DRAFT_4: &str = r#"
 wrong :: maximum :: 3 :: 3 :: 1
-all :: maximum :: 3 :: 3 :: /0 /not/exclusiveMaximum /$ref/exclusiveMaximum ExclusiveMaximum { limit: Number(3) };
+wrong :: maximum :: 3 :: 2 :: 0
+"#;
+
+// A pattern, a value, and whether it is accepted where no matches were read: those of literal forms need none.
+const TEXTS: &str = r#"
+"^a" :: "ba" :: false
+"^a" :: "ab" :: true
+"^a" :: 12 :: true
+"^a" :: ["b"] :: true
+"^\\S*$" :: "a b" :: false
+"a.c" :: "abc" :: false
 "#;
 
 fn is_at(want: &str, expected: &str, name: &str) -> bool {
@@ -130,25 +126,11 @@ fn are_wrong(
     accepts == (want == 0) && wrong.len() == want
 }
 
-fn is_heard(
-    rt: &impl Abort,
-    alloc: Global,
-    kept: &str,
-    assertion: Option<&Assertion<'_>>,
-    keyword: &Value,
-    value: &Value,
-    want: &str,
-) -> bool {
-    let text = heard(rt, alloc, kept, assertion, keyword, value);
-    text.trim() == want
-}
-
 // Whether the rest of a row, which is a value and the answer or the answer alone, is what is found for it.
 fn is_answer(
     rt: &impl Abort,
     alloc: Global,
     question: &str,
-    keyword: &Value,
     reading: Option<&Reading<'_>>,
     rest: &str,
 ) -> bool {
@@ -161,12 +143,8 @@ fn is_answer(
     };
     let (value, want) = cut(rt, rest);
     let value = json(rt, alloc, value);
-    if question == "wrong" {
-        let assertion = assertion.expect(rt, "an assertion");
-        are_wrong(rt, alloc, assertion, &value, want.parse().expect(rt, want))
-    } else {
-        is_heard(rt, alloc, question, assertion, keyword, &value, want)
-    }
+    let assertion = assertion.expect(rt, "an assertion");
+    are_wrong(rt, alloc, assertion, &value, want.parse().expect(rt, want))
 }
 
 fn reading<'s>(
@@ -186,7 +164,7 @@ fn assert_row(rt: &impl Abort, alloc: Global, draft: Draft, beside: Option<&Valu
     let (keyword, rest) = cut(rt, rest);
     let keyword = json(rt, alloc, keyword);
     let reading = reading(rt, alloc, draft, name, &keyword, beside);
-    let is_found = is_answer(rt, alloc, question, &keyword, reading.as_ref(), rest);
+    let is_found = is_answer(rt, alloc, question, reading.as_ref(), rest);
     assert!(rt; is_found, "{row}");
 }
 
@@ -205,6 +183,30 @@ fn keywords_alone(rt: HostRuntime) {
 #[test]
 fn keywords_beside_a_strict_limit(rt: HostRuntime) {
     let strict = Some(&Value::Bool(true));
-    assert_rows(&rt, rt.alloc(), Draft::Draft202012, strict, TOLD);
-    assert_rows(&rt, rt.alloc(), Draft::Draft4, strict, TOLD_IN_DRAFT_4);
+    assert_rows(&rt, rt.alloc(), Draft::Draft202012, strict, READ_BESIDE);
+    assert_rows(
+        &rt,
+        rt.alloc(),
+        Draft::Draft4,
+        strict,
+        READ_BESIDE_IN_DRAFT_4,
+    );
+}
+
+fn assert_text(rt: &impl Abort, alloc: Global, row: &str) {
+    let (pattern, rest) = cut(rt, row);
+    let (value, want) = cut(rt, rest);
+    let pattern = json(rt, alloc, pattern);
+    let pattern = pattern.as_str().expect(rt, "a pattern");
+    let value = json(rt, alloc, value);
+    let matches = Matches::none(alloc);
+    let accepts = accepts_text(alloc, &matches, pattern, &value).expect(rt, "memory");
+    assert!(rt; accepts == (want == "true"), "{row}");
+}
+
+#[test]
+fn patterns_without_matches(rt: HostRuntime) {
+    for row in TEXTS.trim().lines() {
+        assert_text(&rt, rt.alloc(), row);
+    }
 }

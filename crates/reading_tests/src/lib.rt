@@ -10,8 +10,6 @@ mod asking;
 #[cfg(test)]
 mod keywords;
 #[cfg(test)]
-mod observing;
-#[cfg(test)]
 mod orders;
 #[cfg(test)]
 mod reading;

@@ -1,15 +1,12 @@
 -- What is answered of a value from a root on.
-use Rattle.std.specs.Prelude.{◌≡◌, ℕ, List, [], Bool}
+use Rattle.std.specs.Prelude.{ℕ, List, Bool}
 use Rattle.serde_json.specs.Data.{Data}
 use Rattle.schema_meaning.specs.Places.{whole}
-use Rattle.schema_meaning.specs.Faults.{Fault, Faults, Told}
-use Rattle.schema_meaning.specs.Readings.{Telling, bags, IsTold}
+use Rattle.schema_meaning.specs.Readings.{Telling, IsTold}
 use Rattle.schema_meaning.specs.Circular.{IsCircular}
-use Rattle.schema_meaning.specs.Cut.{cut}
 use Rattle.schema_definitions.specs.Lookup.{Target}
 use Rattle.schema_definitions.specs.Sites.{Site, root_site}
 use Rattle.schema_definitions.specs.Plain.{plain}
-use Rattle.schema_definitions.specs.AllKeys.{keys_of}
 use Rattle.reading_laws.specs.Asked.{AreFinished}
 use Rattle.schema_registries.specs.Roots.{Root, Patterns, Finds}
 
@@ -17,25 +14,11 @@ use Rattle.schema_registries.specs.Roots.{Root, Patterns, Finds}
 abbrev pub Finish : Patterns → Root → (List ℕ → List ℕ → Bool) → Target → Data → Type 0
 Finish p r matches target d = AreFinished r.documents p.makes (root_site target) p.finished matches d
 
--- what the cut reading tells
-abbrev pub cut_at : {A : Type 0} → Telling Site A → Patterns → Root → (List ℕ → List ℕ → Bool) → Target → Data → A
-cut_at t p r matches target d = cut t (plain r.documents p.makes matches) (keys_of r.documents d) [] (root_site target) (whole d)
-
 -- a chain of references comes back to where it was
 abbrev pub ComesBack : Patterns → Root → (List ℕ → List ℕ → Bool) → Target → Data → Type 0
 ComesBack p r matches target d = IsCircular (plain r.documents p.makes matches) (root_site target) (whole d)
 
--- where the matches finish, the answer is the cut reading's
-abbrev pub IsCut : {A : Type 0} → Telling Site A → Patterns → Root → Data → A → Type 0
-IsCut t p r d answer = (matches : List ℕ → List ℕ → Bool) (target : Target) → Finds r target → Finish p r matches target d → answer ≡ cut_at t p r matches target d
-
--- where they finish and no references come back, the answer is the decided one
+-- where the matches finish and no references come back, the answer is the decided one
 abbrev pub IsAnswer : {A : Type 0} → Telling Site A → Patterns → Root → Data → A → Type 0
 IsAnswer t p r d answer = (matches : List ℕ → List ℕ → Bool) (target : Target) → Finds r target → Finish p r matches target d
     → (ComesBack p r matches target d → ⊥) → IsTold t (plain r.documents p.makes matches) (root_site target) (whole d) answer
-
--- one of the faults
-pub record IsFault (p : Patterns) (r : Root) (d : Data) (f : Fault) : Type 0 where
-  pub cut : (matches : List ℕ → List ℕ → Bool) (target : Target) → Finds r target → Finish p r matches target d → Told f (cut_at bags p r matches target d)
-  pub told : (matches : List ℕ → List ℕ → Bool) (target : Target) → Finds r target → Finish p r matches target d → (ComesBack p r matches target d → ⊥)
-      → (fs : Faults) × IsTold bags (plain r.documents p.makes matches) (root_site target) (whole d) fs × Told f fs

@@ -1,47 +1,60 @@
 -- Roots of registries of equal documents are built alike, and validators at one root answer alike.
 use Rattle.std.proofs.Common.{◌≡◌, ◌∙◌, inl, inr, ℕ, List, Bool, true, true≢false, Option, Some, None, option_map, Result, Ok, Err, IfOk, IfErr, refl, sym, ap, ap₂, subst, arith}
 use Rattle.serde_json.specs.Data.{Data}
-use Rattle.schema_meaning.specs.Faults.{Fault, fault, Faults, none, also, instance_path, evaluation_path}
-use Rattle.schema_meaning.specs.Order.{SameFault, same_fault, same_kind, SameFaults, same_none, same_also}
-use Rattle.schema_meaning.specs.Readings.{Telling, verdicts, bags}
+use Rattle.schema_meaning.specs.Faults.{Faults, instance_path, evaluation_path}
+use Rattle.schema_meaning.specs.Order.{SameFaults, by_way_of}
+use Rattle.schema_meaning.specs.Places.{whole}
+use Rattle.schema_meaning.specs.Readings.{Telling, verdicts, bags, IsTold}
+use Rattle.meaning_laws.proofs.Refuses.{told_once}
+use Rattle.linked_meanings.specs.Moved.{moved}
+use Rattle.linked_meanings.proofs.OrderLemmas.{faults_sym}
+use Rattle.reading_laws.specs.Spelled.{spelled}
+use Rattle.schema_definitions.specs.Plain.{plain}
 use Rattle.schema_definitions.specs.Bearers.{uri_in}
 use Rattle.schema_definitions.specs.Lookup.{Target}
 use Rattle.schema_definitions.specs.PathTexts.{path_text}
-use Rattle.schema_definitions.specs.Sites.{Site}
+use Rattle.schema_definitions.specs.Sites.{Site, root_site}
 use Rattle.schema_definitions.specs.Words.{has_text}
 use Rattle.schema_reports.specs.Told.{fault_of}
 use Rattle.schema_registries.specs.declared.registry.SharedRegistry.{SharedRegistry}
 use Rattle.schema_registries.specs.declared.registry.SchemaRegistry.{SchemaRegistry}
 use Rattle.schema_registries.specs.Seen.{documents_shared, retrieved_shared}
 use Rattle.schema_registries.specs.Roots.{Root, Patterns, Finds, IsSound, root_on}
-use Rattle.schema_registries.specs.Answers.{IsCut, IsAnswer}
+use Rattle.schema_patterns.specs.declared.matcher.PatternMatcher.{Ghosts}
+use Rattle.schema_registries.specs.Answers.{IsAnswer}
+use Rattle.schema_validators.specs.Answered.{WhereDecided, AreFaults}
 use Rattle.schema_registries.proofs.Found.{leads_somewhere}
 use Rattle.schema_validators.specs.Asked.{IsAsked, IsMet, Accepts, meta_root}
 use Rattle.schema_validators.specs.Counted.{IsWithin}
 use Rattle.schema_validators.specs.Made.{IsMadeBy}
 use Rattle.schema_validators.specs.Refused.{RefusesBuild, RefusesValue, RefusesAt, RefusesRoot}
-use Rattle.schema_validators.specs.Seen.{root_in, root_of}
+use Rattle.schema_validators.specs.Seen.{root_of}
 use Rattle.schema_validators.proofs.Certifying.{verdict_certified, fault_certified}
 use Rattle.schema_validators.specs.declared.error.BuildError.{BuildError}
 use Rattle.schema_validators.specs.declared.error.BuildError.TheVariants as error
 use Rattle.schema_validators.specs.declared.validator.Validator.{Validator}
-use Rattle.schema_validators.specs.Agreed.{AreAlike, AreBuiltAlike, IsMetaStraight, IsStraight, WhereFinished}
+use Rattle.schema_validators.specs.Agreed.{Answers, AreAlike, AreBuiltAlike, IsMetaStraight, IsStraight}
 
 -- ---- answers
 
-pub cut_equal : {A : Type 0} (t : Telling Site A) (p : Patterns) (r s : Root) (d : Data) (x y : A) → r ≡ s → IsCut t p r d x → IsCut t p s d y → WhereFinished p r d (x ≡ y)
-cut_equal {A} t p r s d x y same h k matches target found finish =
-    h matches target found finish ∙ sym (subst (λ (q : Root). IsCut t p q d y) (sym same) k matches target found finish)
+told_equal : {A : Type 0} (t : Telling Site A) (p : Patterns) (r : Root) (d : Data) (matches : List ℕ → List ℕ → Bool) (target : Target) (x y : A)
+    → IsTold t (plain r.documents p.makes matches) (root_site target) (whole d) x → IsTold t (plain r.documents p.makes matches) (root_site target) (whole d) y → x ≡ y
+told_equal t p r d matches target x y h k = told_once t (plain r.documents p.makes matches) h.unfoldings k.unfoldings (root_site target) (whole d) x y h.is k.is
 
-fault_itself : (f : Fault) → SameFault f f
-fault_itself (fault k d i s e) = same_fault same_kind
+pub verdicts_equal : (p : Patterns) (r : Root) (d : Data) (x y : Bool) → IsAnswer verdicts p r d x → IsAnswer verdicts p r d y → WhereDecided p r d (λ matches target. x ≡ y)
+verdicts_equal p r d x y h k matches target found finish straight =
+    told_equal verdicts p r d matches target x y (h matches target found finish straight) (k matches target found finish straight)
 
-faults_itself : (fs : Faults) → SameFaults fs fs
-faults_itself none = same_none
-faults_itself (also f fs) = same_also (fault_itself f) (faults_itself fs)
+pub faults_equal : (p : Patterns) (r : Root) (d : Data) (fs gs : Faults) → AreFaults p r d fs → AreFaults p r d gs → WhereDecided p r d (λ matches target. SameFaults fs gs)
+faults_equal p r d fs gs h k matches target found finish straight =
+    let a = h matches target found finish straight in
+    let b = k matches target found finish straight in
+    let same : a.faults ≡ b.faults = told_equal bags p r d matches target a.faults b.faults a.told b.told in
+    by_way_of (subst (λ x. SameFaults fs (moved spelled x)) same a.same) (faults_sym b.same)
 
-pub cut_same : (p : Patterns) (r s : Root) (d : Data) (fs gs : Faults) → r ≡ s → IsCut bags p r d fs → IsCut bags p s d gs → WhereFinished p r d (SameFaults fs gs)
-cut_same p r s d fs gs same h k matches target found finish = subst (SameFaults fs) (cut_equal bags p r s d fs gs same h k matches target found finish) (faults_itself fs)
+pub both_answered : (p : Patterns) (r : Root) (d : Data) (x y : Bool) (fs gs : Faults) → Answers p r d x fs → Answers p r d y gs → WhereDecided p r d (λ matches target. (x ≡ y) × SameFaults fs gs)
+both_answered p r d x y fs gs h k matches target found finish straight =
+    (verdicts_equal p r d x y h.verdict_is k.verdict_is matches target found finish straight, faults_equal p r d fs gs h.faults_are k.faults_are matches target found finish straight)
 
 -- ---- refusals of what may be built
 
@@ -147,22 +160,19 @@ module _ (p : Patterns) (limit : ℕ) (r s : SchemaRegistry) (reference : List �
 -- ---- what is built on each of two
 
 -- what is known of what is built at a root on a registry
-pub record IsBuiltOn {M : Type 0} (finds : M → List ℕ → Option Bool) (p : Patterns) (limit : ℕ) (r : SchemaRegistry) (start : Root) (x : Result (Validator M) BuildError) : Type 0 where
-  pub root : IfOk x (λ v. root_in v ≡ start)
-  pub made : IfOk x (IsMadeBy finds p)
-  pub within : IfOk x (λ v. IsWithin p limit (root_in v))
-  pub met : IfOk x (λ v. (t : Target) → Finds (root_in v) t → IsMet p limit r.parent t)
+pub record IsBuiltOn {M : Type 0} {G : Ghosts M} (p : Patterns) (limit : ℕ) (r : SchemaRegistry) (start : Root) (x : Result (Validator M G) BuildError) : Type 0 where
+  pub made : IfOk x (IsMadeBy p start)
+  pub within : IfOk x (λ v. IsWithin p limit start)
+  pub met : IfOk x (λ v. (t : Target) → Finds start t → IsMet p limit r.parent t)
   pub refused : IfErr x (RefusesRoot p limit r start)
 
-module _ {M : Type 0} (finds : M → List ℕ → Option Bool) (p : Patterns) (limit : ℕ) where
-  one_built : (r s : SchemaRegistry) (reference : List ℕ) → AreAlike r s → IsMetaStraight p r (root_on r reference) → (v : Validator M) (e : BuildError)
-      → IsBuiltOn finds p limit r (root_on r reference) (Ok v) → RefusesRoot p limit s (root_on s reference) e → e ≡ error.Memory
-  one_built r s reference alike straight v e b h =
-      refused_there p limit r s reference alike (subst (IsSound p) b.root b.made.sound) (subst (IsWithin p limit) b.root b.within)
-      (subst (λ (x : Root). (t : Target) → Finds x t → IsMet p limit r.parent t) b.root b.met) straight e h
+module _ {M : Type 0} {G : Ghosts M} (p : Patterns) (limit : ℕ) where
+  one_built : (r s : SchemaRegistry) (reference : List ℕ) → AreAlike r s → IsMetaStraight p r (root_on r reference) → (v : Validator M G) (e : BuildError)
+      → IsBuiltOn p limit r (root_on r reference) (Ok v) → RefusesRoot p limit s (root_on s reference) e → e ≡ error.Memory
+  one_built r s reference alike straight v e b h = refused_there p limit r s reference alike b.made.sound b.within b.met straight e h
 
-  pub built_alike : (r s : SchemaRegistry) (reference : List ℕ) (x y : Result (Validator M) BuildError)
-      → IsBuiltOn finds p limit r (root_on r reference) x → IsBuiltOn finds p limit s (root_on s reference) y
+  pub built_alike : (r s : SchemaRegistry) (reference : List ℕ) (x y : Result (Validator M G) BuildError)
+      → IsBuiltOn p limit r (root_on r reference) x → IsBuiltOn p limit s (root_on s reference) y
       → AreAlike r s → IsMetaStraight p r (root_on r reference) → AreBuiltAlike x y
   built_alike r s reference (Ok v) (Ok w) a b alike straight = tt
   built_alike r s reference (Ok v) (Err e) a b alike straight = one_built r s reference alike straight v e a b.refused
@@ -170,9 +180,8 @@ module _ {M : Type 0} (finds : M → List ℕ → Option Bool) (p : Patterns) (l
       one_built s r reference (alike_back r s alike) (meta_straight p limit r s reference alike straight) w e b a.refused
   built_alike r s reference (Err d) (Err e) a b alike straight = tt
 
--- two that are built begin at one root
-pub one_root : {M : Type 0} (r s : SchemaRegistry) (reference : List ℕ) (x y : Result (Validator M) BuildError)
-    → IfOk x (λ v. root_in v ≡ root_on r reference) → IfOk y (λ w. root_in w ≡ root_on s reference) → AreAlike r s → IfOk x (λ v. IfOk y (λ w. root_in v ≡ root_in w))
-one_root r s reference (Ok v) (Ok w) a b alike = a ∙ root_alike r s reference alike ∙ sym b
-one_root r s reference (Ok v) (Err e) a b alike = tt
-one_root r s reference (Err e) y a b alike = tt
+-- what is built on the second is made of the root on the first
+pub one_root : {M : Type 0} {G : Ghosts M} (p : Patterns) (r s : SchemaRegistry) (reference : List ℕ) (y : Result (Validator M G) BuildError)
+    → IfOk y (IsMadeBy p (root_on s reference)) → AreAlike r s → IfOk y (IsMadeBy p (root_on r reference))
+one_root p r s reference (Ok w) made alike = subst (λ (x : Root). IsMadeBy p x w) (sym (root_alike r s reference alike)) made
+one_root p r s reference (Err e) made alike = tt

@@ -41,24 +41,24 @@ one_named : (o : Option (List ℕ)) (u w : List ℕ) → o ≡ Some u → o ≡ 
 one_named o u w e f = cc (e, f)
 
 -- want of memory says nothing of a meta-schema
-pub of_memory : {T : Type 0} (Made : Patterns → Type 0) (r : Root) (d : Data) (x : Result T BuildError) → IsErrAnd x (λ e. e ≡ error.Memory)
-    → IfErr x (λ e. (p : Patterns) → Made p → (e ≡ error.Memory) ⊎ RefusesValue p r d e)
-of_memory Made r d (Ok y) h = tt
-of_memory Made r d (Err e) h = λ p made. inl h
+pub of_memory : {T : Type 0} (Made : Patterns → Root → Type 0) (d : Data) (x : Result T BuildError) → IsErrAnd x (λ e. e ≡ error.Memory)
+    → IfErr x (λ e. (p : Patterns) (r : Root) → Made p r → (e ≡ error.Memory) ⊎ RefusesValue p r d e)
+of_memory Made d (Ok y) h = tt
+of_memory Made d (Err e) h = λ p r made. inl h
 
 -- what a validator says of a value is said of the root that it validates by
-module _ (p : Patterns) (limit : ℕ) (Made : Patterns → Type 0) (made : Made p) (r other : Root) (d : Data) (is : r ≡ other) where
-  pub accepts_by : {T : Type 0} (x : Result T BuildError) → IsSound p r → IsWithin p limit r → OnOk x ((q : Patterns) → Made q → IsAnswer verdicts q r d true) → OnOk x (Accepts p limit other d)
-  accepts_by (Ok y) sound within h = subst (λ (s : Root). Accepts p limit s d) is (sound, within, h p made)
+module _ (p : Patterns) (limit : ℕ) (Made : Patterns → Root → Type 0) (r other : Root) (made : Made p r) (d : Data) (is : r ≡ other) where
+  pub accepts_by : {T : Type 0} (x : Result T BuildError) → IsSound p r → IsWithin p limit r → OnOk x ((q : Patterns) (s : Root) → Made q s → IsAnswer verdicts q s d true) → OnOk x (Accepts p limit other d)
+  accepts_by (Ok y) sound within h = subst (λ (s : Root). Accepts p limit s d) is (sound, within, h p r made)
   accepts_by (Err e) sound within h = tt
 
   by_reason : (e : BuildError) → (e ≡ error.Memory) ⊎ RefusesValue p r d e → RefusesAt p limit other d e
   by_reason e (inl memory) = inl (subst (RefusesBuild p limit other) (sym memory) tt)
   by_reason e (inr refused) = inr (subst (λ (s : Root). RefusesValue p s d e) is refused)
 
-  pub refuses_by : {T : Type 0} (x : Result T BuildError) → IfErr x (λ e. (q : Patterns) → Made q → (e ≡ error.Memory) ⊎ RefusesValue q r d e) → IfErr x (RefusesAt p limit other d)
+  pub refuses_by : {T : Type 0} (x : Result T BuildError) → IfErr x (λ e. (q : Patterns) (s : Root) → Made q s → (e ≡ error.Memory) ⊎ RefusesValue q s d e) → IfErr x (RefusesAt p limit other d)
   refuses_by (Ok y) h = tt
-  refuses_by (Err e) h = by_reason e (h p made)
+  refuses_by (Err e) h = by_reason e (h p r made)
 
 -- so it is for the meta-schema of a root
 module _ (p : Patterns) (limit : ℕ) (parent : SharedRegistry) (t : Target) (uri text : List ℕ) (d : Data) (named : meta_schema_of t ≡ Some uri) (is : text ≡ uri) (contents : d ≡ t.contents) where

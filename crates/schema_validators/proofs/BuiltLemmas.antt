@@ -1,11 +1,12 @@
 -- Validators built of documents that were prepared for them alone.
-use Rattle.std.proofs.Common.{◌≡◌, ◌⊎◌, inr, ℕ, List, [], Bool, Option, Result, Ok, Err, IfOk, IfErr, subst}
+use Rattle.std.proofs.Common.{◌≡◌, ◌⊎◌, inr, ℕ, List, [], Result, Ok, Err, IfOk, IfErr, subst}
 use Rattle.serde_json.specs.Data.{Data}
 use Rattle.schema_definitions.specs.Lookup.{Target}
 use Rattle.document_sources.specs.Given.{Given}
 use Rattle.schema_registries.specs.declared.registry.SchemaRegistry.{SchemaRegistry}
 use Rattle.schema_registries.specs.Roots.{Patterns, Finds, root_on}
-use Rattle.schema_validators.specs.Seen.{root_in}
+use Rattle.schema_patterns.specs.declared.matcher.PatternMatcher.{Ghosts}
+use Rattle.schema_validators.specs.Made.{IsMadeBy}
 use Rattle.schema_validators.specs.Counted.{IsWithin}
 use Rattle.schema_validators.specs.Asked.{IsMet}
 use Rattle.schema_validators.specs.Prepared.{IsRegistry}
@@ -21,21 +22,22 @@ use Rattle.schema_validators.specs.declared.validator.Validator.{Validator}
 
 module _ {P R : Type 0} (p : Patterns) (may_answer : R → List ℕ → Data → Type 0) (may_refuse : R → List ℕ → Type 0) (o : ValidationOptions P R) (given : List Given) (reference : List ℕ)
     (r : SchemaRegistry) (prepared : IsRegistry may_answer may_refuse o given r) where
-  pub built_by : {M : Type 0} (x : Result (Validator M) BuildError) → IfOk x (λ v. root_in v ≡ root_on r reference) → IfOk x (λ v. IsWithin p o.node_limit (root_in v))
-      → IfOk x (λ v. (target : Target) → Finds (root_in v) target → IsMet p o.node_limit r.parent target)
+  pub built_by : {M : Type 0} {G : Ghosts M} (x : Result (Validator M G) BuildError) → IfOk x (λ v. IsMadeBy p (root_on r reference) v)
+      → IfOk x (λ v. (target : Target) → Finds (root_on r reference) target → v.draft ≡ target.dialect.draft) → IfOk x (λ v. IsWithin p o.node_limit (root_on r reference))
+      → IfOk x (λ v. (target : Target) → Finds (root_on r reference) target → IsMet p o.node_limit r.parent target)
       → IfOk x (IsBuilt p may_answer may_refuse o given reference)
-  built_by (Ok v) is within met = record { registry = r; prepared = prepared; root = is; within = within; met = met }
-  built_by (Err e) is within met = tt
+  built_by (Ok v) made draft within met = record { registry = r; prepared = prepared; made = made; draft = draft; within = within; met = met }
+  built_by (Err e) made draft within met = tt
 
   pub building_refused : {T : Type 0} (x : Result T BuildError) → IfErr x (RefusesRoot p o.node_limit r (root_on r reference))
       → IfErr x (λ e. RefusesPreparing may_answer may_refuse o given e ⊎ RefusesBuilding p may_answer may_refuse o given reference e)
   building_refused (Ok v) why = tt
   building_refused (Err e) why = inr (record { registry = r; prepared = prepared; refused = why })
 
-  pub mapped_by : {M : Type 0} (finds : M → List ℕ → Option Bool) (x : Result (ValidatorMap M) BuildError) → IfOk x (λ m. IsMapAt finds p r reference o.node_limit m)
-      → IfOk x (IsMapBuilt finds p may_answer may_refuse o given reference)
-  mapped_by finds (Ok m) is = record { registry = r; prepared = prepared; is_map = is }
-  mapped_by finds (Err e) is = tt
+  pub mapped_by : {M : Type 0} {G : Ghosts M} (x : Result (ValidatorMap M G) BuildError) → IfOk x (λ m. IsMapAt p r reference o.node_limit m)
+      → IfOk x (IsMapBuilt p may_answer may_refuse o given reference)
+  mapped_by (Ok m) is = record { registry = r; prepared = prepared; is_map = is }
+  mapped_by (Err e) is = tt
 
   pub mapping_refused : {T : Type 0} (x : Result T BuildError) → IfErr x (λ e. RefusesMapAt p r reference o.node_limit e)
       → IfErr x (λ e. RefusesPreparing may_answer may_refuse o given e ⊎ RefusesMapping p may_answer may_refuse o given reference e)
@@ -45,7 +47,7 @@ module _ {P R : Type 0} (p : Patterns) (may_answer : R → List ℕ → Data →
 -- a validator of one schema, by the options that stand until it is said otherwise
 module _ {P R : Type 0} (patterns : P → Patterns) (may_answer : R → List ℕ → Data → Type 0) (may_refuse : R → List ℕ → Type 0)
     (o : ValidationOptions P R) (maker : P) (d : Data) (given : List Given) (default : AreDefault o) (is_maker : o.maker ≡ maker) (is : given ≡ alone d) where
-  pub new_by : {M : Type 0} (x : Result (Validator M) BuildError) → IfOk x (IsBuilt (patterns o.maker) may_answer may_refuse o given [])
+  pub new_by : {M : Type 0} {G : Ghosts M} (x : Result (Validator M G) BuildError) → IfOk x (IsBuilt (patterns o.maker) may_answer may_refuse o given [])
       → IfOk x (IsNew (patterns maker) may_answer may_refuse maker d)
   new_by (Ok v) built = record {
     options = o;

@@ -1,7 +1,7 @@
 -- Maps of validators, by what was checked of their places.
-use Rattle.std.proofs.Common.{◌≡◌, ◌∙◌, ℕ, zero, suc, List, [], ◌∷◌, ◌++◌, Bool, true, false, Option, Some, None, String, Global, bytes_eq, string_bytes, is_some, map, take, slice_get, append-nil, length, inl, inr, refl, sym, ap, subst}
+use Rattle.std.proofs.Common.{◌≡◌, ◌∙◌, ℕ, zero, suc, List, [], ◌∷◌, ◌++◌, Bool, true, false, Option, Some, None, String, Global, bytes_eq, string_bytes, is_some, IfSome, map, take, slice_get, append-nil, length, inl, inr, refl, sym, ap, subst, arith}
 use Rattle.std.specs.Bool.{Decides}
-use Rattle.std.specs.List.{AllByRecursion, AllZip, IsDistinct}
+use Rattle.std.specs.List.{All, AllByRecursion, AllZip, IsDistinct}
 use Rattle.std.specs.Map.{lookup}
 use Rattle.std.specs.Prelude.{if◌then◌else◌}
 use Rattle.std.proofs.lemmas.Bool.{false≢true, false_from_ne_true}
@@ -14,20 +14,21 @@ use Rattle.reached_sites.specs.Passed.{AreWithin}
 use Rattle.reached_sites.specs.declared.cause.BuildCause.{BuildCause}
 use Rattle.compiled_graphs.specs.Causes.{RefusesEach}
 use Rattle.compiled_graphs.specs.Starts.{sites_from}
-use Rattle.schema_registries.specs.Matched.{HoldsPatterns}
-use Rattle.schema_patterns.specs.Tables.{texts_of_table}
 use Rattle.schema_patterns.specs.declared.table.PatternTable.{PatternTable}
-use Rattle.schema_registries.specs.Roots.{Patterns, IsSound, IsSoundBySome}
+use Rattle.schema_patterns.specs.declared.matcher.PatternMatcher.{Ghosts}
+use Rattle.schema_registries.specs.Roots.{Patterns, IsSound}
 use Rattle.schema_engine.specs.declared.node.Node.{Node}
 use Rattle.compiled_keywords.specs.declared.keyword.Keyword.{Keyword}
-use Rattle.compiled_graphs.specs.Several.{root_from, AreDecided, AreBuilt}
+use Rattle.compiled_graphs.specs.Several.{AreDecided, StartsAtNode, AreBuilt}
+use Rattle.compiled_graphs.specs.declared.schemas.SchemaGraph.{SchemaGraph}
 use Rattle.schema_validators.specs.Maps as maps
 use Rattle.schema_validators.specs.Maps.{keys_of, entries_in, entry_at, place_root, SortsOut, ReadsPlace, IsMapOf, StandsAtPlace, PutsPlace, Enters, ArePlacesExceeded}
+use Rattle.schema_validators.specs.Meant.{Means, IsOfSome}
 use Rattle.schema_validators.specs.Refused.{IsOfPlaces}
 use Rattle.schema_validators.specs.declared.error.BuildError.{BuildError}
 use Rattle.schema_validators.specs.declared.validator.Validator.{Validator}
 use Rattle.schema_validators.specs.declared.validator_map.ValidatorMap.{ValidatorMap}
-use Rattle.schema_validators.proofs.Placing.{shared_made}
+use Rattle.schema_validators.proofs.Making.{made_over}
 
 -- ---- entries by their texts
 
@@ -99,35 +100,29 @@ differ-before (z ∷ xs) (suc i) x d e y (later j) = differ-before xs i x d.1 e 
 
 -- ---- validators that are put behind others
 
-module _ {M : Type 0} (own : List Document) (document : List ℕ) (table : PatternTable M) where
-  abbrev Entered : List (List ℕ) → List Bool → List (List ℕ × Validator M) → Type 0
-  Entered ks bs es = Enters own document table ks bs es
+module _ {M : Type 0} {G : Ghosts M} (own : List Document) (document : List ℕ) (schemas : SchemaGraph M G) where
+  abbrev Entered : List (List ℕ) → List (Option ℕ) → List (List ℕ × Validator M G) → Type 0
+  Entered ks os es = Enters own document schemas ks os es
 
-  one-entered : (k : List ℕ) (b : Bool) (new : List (List ℕ × Validator M)) → PutsPlace own document table k b [] new → Entered (k ∷ []) (b ∷ []) new
-  one-entered k true new h = subst (λ es. Entered (k ∷ []) (true ∷ []) es) (sym h.2) (maps.taken k h.0 h.1 maps.none)
-  one-entered k false new e = subst (λ es. Entered (k ∷ []) (false ∷ []) es) (sym e) (maps.left k maps.none)
+  behind : (ks : List (List ℕ)) (os : List (Option ℕ)) (es added : List (List ℕ × Validator M G)) (k : List ℕ) (o : Option ℕ) → Entered ks os es → Entered (k ∷ []) (o ∷ []) added
+      → Entered (ks ++ k ∷ []) (os ++ o ∷ []) (es ++ added)
+  behind _ _ _ added k o maps.none r = r
+  behind _ _ _ added k o (maps.taken {pointers = ks} {starts = os} {entries = es} n i v s rest) r = maps.taken n i v s (behind ks os es added k o rest r)
+  behind _ _ es added k o (maps.left {pointers = ks} {starts = os} n rest) r = maps.left n (behind ks os es added k o rest r)
 
-  abbrev Rest : List ℕ → Bool → List (List ℕ × Validator M) → Type 0
-  Rest k b added = Entered (k ∷ []) (b ∷ []) added
-
-  behind : (ks : List (List ℕ)) (bs : List Bool) (es added : List (List ℕ × Validator M)) (k : List ℕ) (b : Bool) → Entered ks bs es → Rest k b added → Entered (ks ++ k ∷ []) (bs ++ b ∷ []) (es ++ added)
-  behind _ _ _ added k b maps.none r = r
-  behind _ _ _ added k b (maps.taken {pointers = ks} {marks = bs} {entries = es} n v s rest) r = maps.taken n v s (behind ks bs es added k b rest r)
-  behind _ _ es added k b (maps.left {pointers = ks} {marks = bs} n rest) r = maps.left n (behind ks bs es added k b rest r)
-
-  pub entered-more : (ks : List (List ℕ)) (bs : List Bool) (old new : List (List ℕ × Validator M)) (k : List ℕ) (b : Bool) → Entered ks bs old → PutsPlace own document table k b old new
-      → Entered (ks ++ k ∷ []) (bs ++ b ∷ []) new
-  entered-more ks bs old new k true h p =
-      subst (λ es. Entered (ks ++ k ∷ []) (bs ++ true ∷ []) es) (sym p.2) (behind ks bs old ((k, p.0) ∷ []) k true h (maps.taken k p.0 p.1 maps.none))
-  entered-more ks bs old new k false h e =
-      subst (λ es. Entered (ks ++ k ∷ []) (bs ++ false ∷ []) es) (sym (e ∙ sym (append-nil old))) (behind ks bs old [] k false h (maps.left k maps.none))
+  pub entered-more : (ks : List (List ℕ)) (os : List (Option ℕ)) (old new : List (List ℕ × Validator M G)) (k : List ℕ) (o : Option ℕ) → Entered ks os old → PutsPlace own document schemas k o old new
+      → Entered (ks ++ k ∷ []) (os ++ o ∷ []) new
+  entered-more ks os old new k (Some i) h p =
+      subst (λ es. Entered (ks ++ k ∷ []) (os ++ Some i ∷ []) es) (sym p.2) (behind ks os old ((k, p.0) ∷ []) k (Some i) h (maps.taken k i p.0 p.1 maps.none))
+  entered-more ks os old new k None h e =
+      subst (λ es. Entered (ks ++ k ∷ []) (os ++ None ∷ []) es) (sym (e ∙ sym (append-nil old))) (behind ks os old [] k None h (maps.left k maps.none))
 
   -- the names of what was put down are among the pointers
-  pub entered-names : (ks : List (List ℕ)) (bs : List Bool) (es : List (List ℕ × Validator M)) → Entered ks bs es → (n : List ℕ) → In n (map (λ e. e.0) es) → In n ks
+  pub entered-names : (ks : List (List ℕ)) (os : List (Option ℕ)) (es : List (List ℕ × Validator M G)) → Entered ks os es → (n : List ℕ) → In n (map (λ e. e.0) es) → In n ks
   entered-names _ _ _ maps.none n i = elim i [ ]
-  entered-names _ _ _ (maps.taken k v s rest) _ first = first
-  entered-names _ _ _ (maps.taken {pointers = ks} {marks = bs} {entries = es} k v s rest) n (later i) = later (entered-names ks bs es rest n i)
-  entered-names _ _ es (maps.left {pointers = ks} {marks = bs} k rest) n i = later (entered-names ks bs es rest n i)
+  entered-names _ _ _ (maps.taken k j v s rest) _ first = first
+  entered-names _ _ _ (maps.taken {pointers = ks} {starts = os} {entries = es} k j v s rest) n (later i) = later (entered-names ks os es rest n i)
+  entered-names _ _ es (maps.left {pointers = ks} {starts = os} k rest) n i = later (entered-names ks os es rest n i)
 
   -- ---- by what was decided of each
 
@@ -135,108 +130,111 @@ module _ {M : Type 0} (own : List Document) (document : List ℕ) (table : Patte
     abbrev Sound : List ℕ → Type 0
     Sound k = IsSound p (place_root own document k)
 
-    abbrev Decided : List (List ℕ) → List Bool → Type 0
-    Decided ks bs = AllZip (λ k b. Decides b (Sound k)) ks bs
+    abbrev MeansAt : List ℕ → ℕ → Type 0
+    MeansAt k i = Means p (place_root own document k) schemas.graph.nodes.items i
 
-    pub record IsEntry (ks : List (List ℕ)) (k : List ℕ) (v : Validator M) : Type 0 where
-      pub stands : StandsAtPlace own document table k v
+    -- a start stands just where the place may be read, at a node that means it
+    abbrev IsStart : List ℕ → Option ℕ → Type 0
+    IsStart k o = Decides (is_some o) (Sound k) × IfSome o (MeansAt k)
+
+    abbrev AreStarts : List (List ℕ) → List (Option ℕ) → Type 0
+    AreStarts ks os = AllZip IsStart ks os
+
+    pub record IsEntry (ks : List (List ℕ)) (k : List ℕ) (v : Validator M G) : Type 0 where
+      pub start : ℕ
+      pub stands : StandsAtPlace own document schemas k start v
+      pub means : MeansAt k start
       pub listed : In k ks
       pub sound : Sound k
 
-    entry-later : (n : List ℕ) (ks : List (List ℕ)) (k : List ℕ) (v : Validator M) → IsEntry ks k v → IsEntry (n ∷ ks) k v
-    entry-later n ks k v h = record { stands = h.stands; listed = later h.listed; sound = h.sound }
+    entry-later : (n : List ℕ) (ks : List (List ℕ)) (k : List ℕ) (v : Validator M G) → IsEntry ks k v → IsEntry (n ∷ ks) k v
+    entry-later n ks k v h = record { start = h.start; stands = h.stands; means = h.means; listed = later h.listed; sound = h.sound }
 
-    pub each-entry : (ks : List (List ℕ)) (bs : List Bool) (es : List (List ℕ × Validator M)) → Entered ks bs es → Decided ks bs → (k : List ℕ) (v : Validator M) → In (k, v) es → IsEntry ks k v
+    pub each-entry : (ks : List (List ℕ)) (os : List (Option ℕ)) (es : List (List ℕ × Validator M G)) → Entered ks os es → AreStarts ks os → (k : List ℕ) (v : Validator M G) → In (k, v) es → IsEntry ks k v
     each-entry _ _ _ maps.none d k v i = elim i [ ]
-    each-entry _ _ _ (maps.taken n w s rest) d _ _ first = record { stands = s; listed = first; sound = d.0.0 refl }
-    each-entry _ _ _ (maps.taken {pointers = ks} {marks = bs} {entries = es} n w s rest) d k v (later i) = entry-later n ks k v (each-entry ks bs es rest d.1 k v i)
-    each-entry _ _ es (maps.left {pointers = ks} {marks = bs} n rest) d k v i = entry-later n ks k v (each-entry ks bs es rest d.1 k v i)
+    each-entry _ _ _ (maps.taken n j w s rest) d _ _ first = record { start = j; stands = s; means = d.0.1; listed = first; sound = d.0.0.0 refl }
+    each-entry _ _ _ (maps.taken {pointers = ks} {starts = os} {entries = es} n j w s rest) d k v (later i) = entry-later n ks k v (each-entry ks os es rest d.1 k v i)
+    each-entry _ _ es (maps.left {pointers = ks} {starts = os} n rest) d k v i = entry-later n ks k v (each-entry ks os es rest d.1 k v i)
 
-    abbrev HasEntry : List (List ℕ × Validator M) → List ℕ → Type 0
-    HasEntry es k = (v : Validator M) × In (k, v) es
+    abbrev HasEntry : List (List ℕ × Validator M G) → List ℕ → Type 0
+    HasEntry es k = (v : Validator M G) × In (k, v) es
 
-    more-entries : (e : List ℕ × Validator M) (es : List (List ℕ × Validator M)) (k : List ℕ) → HasEntry es k → HasEntry (e ∷ es) k
+    more-entries : (e : List ℕ × Validator M G) (es : List (List ℕ × Validator M G)) (k : List ℕ) → HasEntry es k → HasEntry (e ∷ es) k
     more-entries e es k h = (h.0, later h.1)
 
-    pub each-sound : (ks : List (List ℕ)) (bs : List Bool) (es : List (List ℕ × Validator M)) → Entered ks bs es → Decided ks bs → (k : List ℕ) → In k ks → Sound k → HasEntry es k
+    pub each-sound : (ks : List (List ℕ)) (os : List (Option ℕ)) (es : List (List ℕ × Validator M G)) → Entered ks os es → AreStarts ks os → (k : List ℕ) → In k ks → Sound k → HasEntry es k
     each-sound _ _ _ maps.none d k i sound = elim i [ ]
-    each-sound _ _ _ (maps.taken n v s rest) d _ first sound = (v, first)
-    each-sound _ _ _ (maps.taken {pointers = ks} {marks = bs} {entries = es} n v s rest) d k (later i) sound = more-entries (n, v) es k (each-sound ks bs es rest d.1 k i sound)
-    each-sound _ _ es (maps.left {pointers = ks} {marks = bs} n rest) d _ first sound = absurd (false≢true (d.0.1 sound))
-    each-sound _ _ es (maps.left {pointers = ks} {marks = bs} n rest) d k (later i) sound = each-sound ks bs es rest d.1 k i sound
+    each-sound _ _ _ (maps.taken n j v s rest) d _ first sound = (v, first)
+    each-sound _ _ _ (maps.taken {pointers = ks} {starts = os} {entries = es} n j v s rest) d k (later i) sound = more-entries (n, v) es k (each-sound ks os es rest d.1 k i sound)
+    each-sound _ _ es (maps.left {pointers = ks} {starts = os} n rest) d _ first sound = absurd (false≢true (d.0.0.1 sound))
+    each-sound _ _ es (maps.left {pointers = ks} {starts = os} n rest) d k (later i) sound = each-sound ks os es rest d.1 k i sound
 
-    pub sorted : (ks : List (List ℕ)) (bs : List Bool) (es : List (List ℕ × Validator M)) → Entered ks bs es → Decided ks bs → SortsOut p own document ks (map (λ e. e.0) es)
+    pub sorted : (ks : List (List ℕ)) (os : List (Option ℕ)) (es : List (List ℕ × Validator M G)) → Entered ks os es → AreStarts ks os → SortsOut p own document ks (map (λ e. e.0) es)
     sorted _ _ _ maps.none d = maps.none
-    sorted _ _ _ (maps.taken {pointers = ks} {marks = bs} {entries = es} n v s rest) d = maps.taken n (d.0.0 refl) (sorted ks bs es rest d.1)
-    sorted _ _ es (maps.left {pointers = ks} {marks = bs} n rest) d = maps.left n (λ sound. false≢true (d.0.1 sound)) (sorted ks bs es rest d.1)
+    sorted _ _ _ (maps.taken {pointers = ks} {starts = os} {entries = es} n j v s rest) d = maps.taken n (d.0.0.0 refl) (sorted ks os es rest d.1)
+    sorted _ _ es (maps.left {pointers = ks} {starts = os} n rest) d = maps.left n (λ sound. false≢true (d.0.0.1 sound)) (sorted ks os es rest d.1)
 
--- ---- what was built of the references is decided of the pointers
+    -- each start that stands is of some root
+    of-some : (k : List ℕ) (o : Option ℕ) → IsStart k o → IsOfSome schemas.graph.nodes.items o
+    of-some k None h = tt
+    of-some k (Some i) h = λ none. none p (place_root own document k) (h.0.0 refl) h.1
 
-abbrev pub AreMarked : Patterns → List Document → List ℕ → List (List ℕ) → List Bool → Type 0
-AreMarked p own base rs bs = AllZip (λ r b. Decides b (IsSound p (root_from own base r))) rs bs
+    pub starts-of-some : (ks : List (List ℕ)) (os : List (Option ℕ)) → AreStarts ks os → All (IsOfSome schemas.graph.nodes.items) os
+    starts-of-some [] [] h i d within = absurd (omega (within, arith))
+    starts-of-some [] (o ∷ os) h i d within = absurd h
+    starts-of-some (k ∷ ks) [] h i d within = absurd h
+    starts-of-some (k ∷ ks) (o ∷ os) h zero d within = of-some k o h.0
+    starts-of-some (k ∷ ks) (o ∷ os) h (suc i) d within = starts-of-some ks os h.1 i d (omega (within, arith))
 
-pub marks-decided : (p : Patterns) (own : List Document) (base : List ℕ) (rs : List (List ℕ)) (os : List (Option ℕ)) → AreDecided p own base rs os → AreMarked p own base rs (map is_some os)
-marks-decided p own base [] [] h = tt
-marks-decided p own base [] (o ∷ os) h = absurd h
-marks-decided p own base (r ∷ rs) [] h = absurd h
-marks-decided p own base (r ∷ rs) (o ∷ os) h = (h.0, marks-decided p own base rs os h.1)
+-- ---- what was built of the references is known of the pointers
 
-pub decided-of : (p : Patterns) (own : List Document) (document : List ℕ) (ks : List (List ℕ)) (bs : List Bool) → AreMarked p own document (map reference_to ks) bs
-    → AllZip (λ k b. Decides b (IsSound p (place_root own document k))) ks bs
-decided-of p own document [] [] h = tt
-decided-of p own document [] (b ∷ bs) h = absurd h
-decided-of p own document (k ∷ ks) [] h = absurd h
-decided-of p own document (k ∷ ks) (b ∷ bs) h = (h.0, decided-of p own document ks bs h.1)
-
--- what is decided to be right is sound by some patterns
-pub sound-by-some : (p : Patterns) (own : List Document) (document : List ℕ) (ks : List (List ℕ)) (bs : List Bool) → AllZip (λ k b. Decides b (IsSound p (place_root own document k))) ks bs
-    → AllZip (λ k b. b ≡ true → IsSoundBySome (place_root own document k)) ks bs
-sound-by-some p own document [] [] h = tt
-sound-by-some p own document [] (b ∷ bs) h = absurd h
-sound-by-some p own document (k ∷ ks) [] h = absurd h
-sound-by-some p own document (k ∷ ks) (b ∷ bs) h = ((λ t none. none p (h.0.0 t)), sound-by-some p own document ks bs h.1)
+pub starts-of : {M : Type 0} {G : Ghosts M} (p : Patterns) (own : List Document) (document : List ℕ) (schemas : SchemaGraph M G) (ks : List (List ℕ)) (os : List (Option ℕ)) → AreDecided p own document (map reference_to ks) os
+    → AllZip (StartsAtNode p.makes own document schemas.graph.nodes.items) (map reference_to ks) os → AreStarts own document schemas p ks os
+starts-of p own document schemas [] [] d h = tt
+starts-of p own document schemas [] (o ∷ os) d h = absurd h
+starts-of p own document schemas (k ∷ ks) [] d h = absurd h
+starts-of p own document schemas (k ∷ ks) (o ∷ os) d h = ((d.0, h.0), starts-of p own document schemas ks os d.1 h.1)
 
 reference-in : (ks : List (List ℕ)) (k : List ℕ) → In k ks → In (reference_to k) (map reference_to ks)
 reference-in [] k i = elim i [ ]
 reference-in (_ ∷ ks) k first = first
 reference-in (n ∷ ks) k (later i) = later (reference-in ks k i)
 
-module _ {M : Type 0} (finds : M → List ℕ → Option Bool) (p : Patterns) (own : List Document) (document : List ℕ) (ks : List (List ℕ)) (limit : ℕ) (nodes : List (Node Keyword)) (table : PatternTable M)
-    (starts : List (Option ℕ)) (m : ValidatorMap M) (checked : AreBuilt finds p own document (map reference_to ks) limit nodes table starts)
-    (entered : Enters own document table ks (map is_some starts) (entries_in m)) where
-  decided : AllZip (λ k b. Decides b (IsSound p (place_root own document k))) ks (map is_some starts)
-  decided = decided-of p own document ks (map is_some starts) (marks-decided p own document (map reference_to ks) starts checked.decided)
+module _ {M : Type 0} {G : Ghosts M} (p : Patterns) (own : List Document) (document : List ℕ) (ks : List (List ℕ)) (limit : ℕ) (schemas : SchemaGraph M G) (starts : List (Option ℕ)) (m : ValidatorMap M G)
+    (checked : AreBuilt G.finds p own document (map reference_to ks) limit schemas.graph.nodes.items schemas.table starts)
+    (entered : Enters own document schemas ks starts (entries_in m)) where
+  are-starts : AreStarts own document schemas p ks starts
+  are-starts = starts-of p own document schemas ks starts checked.decided checked.compiled
 
   there : (k : List ℕ) → entry_at m k ≡ found (entries_in m) k
   there k = same-found m.validators.entries k
 
-  entry-of : (k : List ℕ) (v : Validator M) → entry_at m k ≡ Some v → IsEntry own document table p ks k v
-  entry-of k v e = each-entry own document table p ks (map is_some starts) (entries_in m) entered decided k v (found-in (entries_in m) k v (sym (there k) ∙ e))
+  entry-of : (k : List ℕ) (v : Validator M G) → entry_at m k ≡ Some v → IsEntry own document schemas p ks k v
+  entry-of k v e = each-entry own document schemas p ks starts (entries_in m) entered are-starts k v (found-in (entries_in m) k v (sym (there k) ∙ e))
 
-  reads-place : (k : List ℕ) (v : Validator M) → IsEntry own document table p ks k v → ReadsPlace finds p own document k v
+  reads-place : (k : List ℕ) (v : Validator M G) → IsEntry own document schemas p ks k v → ReadsPlace p own document k v
   reads-place k v h = record {
-    root = h.stands.root;
-    made = record {
-      sound = subst (λ r. IsSound p r) (sym h.stands.root) h.sound;
-      patterns = subst (λ r. HoldsPatterns p r (texts_of_table v.table.value)) (sym h.stands.root)
-          (subst (λ (t : PatternTable M). HoldsPatterns p (place_root own document k) (texts_of_table t)) (sym h.stands.table_is) (checked.patterns (reference_to k) (reference-in ks k h.listed) h.sound));
-      made = shared_made finds p.finished table v.table.value h.stands.table_is checked.made;
-    };
+    made = made_over p (place_root own document k) v schemas h.start h.stands.schemas_are h.stands.start_is (record {
+      sound = h.sound;
+      means = h.means;
+      patterns = checked.patterns (reference_to k) (reference-in ks k h.listed) h.sound;
+      made = checked.made;
+    });
     draft = h.stands.draft;
   }
 
-  has-validator : (o : Option (Validator M)) (k : List ℕ) → entry_at m k ≡ o → is_some o ≡ true → In k ks × IsSound p (place_root own document k)
+  has-validator : (o : Option (Validator M G)) (k : List ℕ) → entry_at m k ≡ o → is_some o ≡ true → In k ks × IsSound p (place_root own document k)
   has-validator None k e t = absurd (false≢true t)
   has-validator (Some v) k e t = (let h = entry-of k v e in (h.listed, h.sound))
 
   has-entry : (k : List ℕ) → In k ks × IsSound p (place_root own document k) → is_some (entry_at m k) ≡ true
   has-entry k h =
-      let x = each-sound own document table p ks (map is_some starts) (entries_in m) entered decided k h.0 h.1 in
+      let x = each-sound own document schemas p ks starts (entries_in m) entered are-starts k h.0 h.1 in
       ap is_some (there k) ∙ in-found (entries_in m) k x.0 x.1
 
   keys-sorted : SortsOut p own document ks (keys_of m)
   keys-sorted =
-      subst (λ (x : List (List ℕ)). SortsOut p own document ks x) (sym (same-names m.validators.entries)) (sorted own document table p ks (map is_some starts) (entries_in m) entered decided)
+      subst (λ (x : List (List ℕ)). SortsOut p own document ks x) (sym (same-names m.validators.entries)) (sorted own document schemas p ks starts (entries_in m) entered are-starts)
 
   abbrev Readable : Document → List ℕ → Type 0
   Readable d k = In k (pointers_of own d) × IsSound p (place_root own d.uri k)
@@ -249,11 +247,11 @@ module _ {M : Type 0} (finds : M → List ℕ → Option Bool) (p : Patterns) (o
   exactly-back : (d : Document) → d.uri ≡ document → ks ≡ pointers_of own d → (k : List ℕ) → Readable d k → is_some (entry_at m k) ≡ true
   exactly-back d named are k h = has-entry k (subst (λ (x : List (List ℕ)). In k x) (sym are) h.0, subst (λ (u : List ℕ). IsSound p (place_root own u k)) named h.1)
 
-  pub is-map : (d : Document) → d.uri ≡ document → ks ≡ pointers_of own d → IsMapOf finds p own d limit m
+  pub is-map : (d : Document) → d.uri ≡ document → ks ≡ pointers_of own d → IsMapOf p own d limit m
   is-map d named are = record {
     keys = subst (λ (u : List ℕ). SortsOut p own u (pointers_of own d) (keys_of m)) (sym named) (subst (λ (x : List (List ℕ)). SortsOut p own document x (keys_of m)) are keys-sorted);
     exactly = λ k. (exactly-there d named are k, exactly-back d named are k);
-    reads = λ k v e. subst (λ (u : List ℕ). ReadsPlace finds p own u k v) (sym named) (reads-place k v (entry-of k v e));
+    reads = λ k v e. subst (λ (u : List ℕ). ReadsPlace p own u k v) (sym named) (reads-place k v (entry-of k v e));
     within = subst (λ (u : List ℕ). AreWithin own p.makes (sites_from own u (map reference_to (pointers_of own d))) limit) (sym named)
         (subst (λ (x : List (List ℕ)). AreWithin own p.makes (sites_from own document (map reference_to x)) limit) are checked.within);
   }
@@ -310,17 +308,10 @@ pub built-there : {M : Type 0} (finds : M → List ℕ → Option Bool) (p : Pat
 built-there finds p own other uri refs ks limit nodes table starts same texts h =
     subst (λ (x : List (List ℕ)). AreBuilt finds p own uri x limit nodes table starts) texts (subst (λ (ds : List Document). AreBuilt finds p ds uri refs limit nodes table starts) same h)
 
-pub sound-there : (p : Patterns) (own : List Document) (uri : List ℕ) (ps qs : List (String Global)) (bs cs : List Bool) → qs ≡ ps → cs ≡ bs → AreMarked p own uri (map reference_to (map string_bytes ps)) bs
-    → AllZip (λ k b. b ≡ true → IsSoundBySome (place_root own uri k)) (map string_bytes qs) cs
-sound-there p own uri ps qs bs cs e f h =
-    let here = sound-by-some p own uri (map string_bytes ps) bs (decided-of p own uri (map string_bytes ps) bs h) in
-    subst (λ (x : List Bool). AllZip (λ k b. b ≡ true → IsSoundBySome (place_root own uri k)) (map string_bytes qs) x) (sym f)
-    (subst (λ (x : List (String Global)). AllZip (λ k b. b ≡ true → IsSoundBySome (place_root own uri k)) (map string_bytes x) bs) (sym e) here)
-
-pub entered-there : {M : Type 0} (own : List Document) (uri : List ℕ) (table : PatternTable M) (ps qs : List (String Global)) (bs cs : List Bool) (m : ValidatorMap M) → qs ≡ ps → cs ≡ bs
-    → Enters own uri table (map string_bytes qs) cs (entries_in m) → Enters own uri table (map string_bytes ps) bs (entries_in m)
-entered-there own uri table ps qs bs cs m e f h =
-    subst (λ (x : List Bool). Enters own uri table (map string_bytes ps) x (entries_in m)) f (subst (λ (x : List (String Global)). Enters own uri table (map string_bytes x) cs (entries_in m)) e h)
+pub entered-there : {M : Type 0} {G : Ghosts M} (own : List Document) (uri : List ℕ) (schemas : SchemaGraph M G) (ps qs : List (String Global)) (os us : List (Option ℕ)) (m : ValidatorMap M G) → qs ≡ ps → us ≡ os
+    → Enters own uri schemas (map string_bytes qs) us (entries_in m) → Enters own uri schemas (map string_bytes ps) os (entries_in m)
+entered-there own uri schemas ps qs os us m e f h =
+    subst (λ (x : List (Option ℕ)). Enters own uri schemas (map string_bytes ps) x (entries_in m)) f (subst (λ (x : List (String Global)). Enters own uri schemas (map string_bytes x) us (entries_in m)) e h)
 
 places-refused : (p : Patterns) (own : List Document) (d : Document) (limit : ℕ) (e : BuildCause) (b : BuildError) → IsOfPlaces e b
     → RefusesEach own p.makes (sites_from own d.uri (map reference_to (pointers_of own d))) limit e → ArePlacesExceeded p own d limit b

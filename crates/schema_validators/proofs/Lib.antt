@@ -1,9 +1,12 @@
+mod Making
+mod ByNodes
 mod Hearing
 mod Certifying
 mod MissingLemmas
 mod Agreeing
 mod Asking
 mod BuiltLemmas
+pub mod Accepting
 pub mod Preparing
 pub mod Placing
 pub mod Entries

@@ -12,7 +12,7 @@ use Rattle.schema_meaning.specs.Faults.{fault, Faults, none, also, joined, join,
 use Rattle.schema_meaning.specs.Keywords.{Shape, asserts, required, missing, if_object, none_there, rule}
 use Rattle.schema_meaning.specs.Questions.{Question, at, asked_at}
 use Rattle.schema_meaning.specs.Rules.{Rule, every, conditional, consequents, chosen, if_same, own_faults, faults, asks}
-use Rattle.schema_meaning.specs.Readings.{Reading, rules, bags, verdicts, tell_one, told}
+use Rattle.schema_meaning.specs.Readings.{Reading, rules, bags, verdicts, tell_one, told, IsTold}
 use Rattle.meaning_laws.proofs.Known.{option_map-some, all_known-in}
 use Rattle.meaning_laws.proofs.Verdicts.{told_agrees}
 use Rattle.meaning_laws.proofs.Refuses.{told_once}
@@ -24,7 +24,10 @@ use Rattle.schema_definitions.specs.Sites.{Site, root_site}
 use Rattle.schema_definitions.specs.Plain.{keywords_at, plain}
 use Rattle.schema_definitions.specs.Values.{names_in, none_twice, if_none_twice}
 use Rattle.schema_registries.specs.Roots.{Root, Patterns}
-use Rattle.schema_registries.specs.Answers.{IsAnswer}
+use Rattle.schema_definitions.specs.Lookup.{Target}
+use Rattle.linked_meanings.specs.Moved.{moved}
+use Rattle.reading_laws.specs.Spelled.{spelled}
+use Rattle.schema_validators.specs.Answered.{AreFaults}
 use Rattle.document_laws.proofs.Inside.{HoldsMember, here, behind, held_found}
 use Rattle.document_laws.proofs.Listed.{in_flat_map}
 use Rattle.schema_validators.specs.Missing.{Requires, lacks, IsToldAt, itself, below, beside, AreAmong, nothing, taken, passed, missing_faults, TellsMissing, TellsEachMissing}
@@ -249,11 +252,42 @@ module _ (docs : Documents) (makes : List ℕ → Bool) (s : Site) (names : List
   pub required_stands : (k : Shape Site) → In k (unless_empty names) → In k (keywords_at docs makes s)
   required_stands k i = in_flat_map (λ r. r.shapes) (row_at context (codes "required") h.value) (rows_at docs makes s) k row_there (subst (λ (r : Row). In k r.shapes) (sym required_row) i)
 
+-- ---- schema paths as pointers spell them
+
+among_moved : (φ : List Part → List Part) {fs gs : Faults} → AreAmong fs gs → AreAmong (moved φ fs) (moved φ gs)
+among_moved φ nothing = nothing
+among_moved φ (taken h) = taken (among_moved φ h)
+among_moved φ (passed h) = passed (among_moved φ h)
+
+missing_moved : (w : Spot) (above : List Part) (ks : List (List ℕ)) → moved spelled (missing_faults w above ks) ≡ missing_faults w (spelled above) ks
+missing_moved w above [] = refl
+missing_moved w above (k ∷ ks) =
+    ap (also (fault (Required k) w.value w.path (name (codes "required") ∷ spelled above) (name (codes "required") ∷ w.road))) (missing_moved w above ks)
+
+missing_spelled : (names : List (List ℕ)) (w : Spot) (above : List Part) (fs : Faults) → TellsMissing names w above fs → TellsMissing names w (spelled above) (moved spelled fs)
+missing_spelled names w above fs h = record {
+  missing = h.missing;
+  once = h.once;
+  exactly = h.exactly;
+  told = subst (λ gs. AreAmong gs (moved spelled fs)) (missing_moved w above h.missing) (among_moved spelled h.told);
+}
+
 -- ---- what is answered from a root on
 
-pub each_missing : (p : Patterns) (r : Root) (d : Data) (fs : Faults) → IsAnswer bags p r d fs → TellsEachMissing p r d fs
-each_missing p r d fs answer matches target found finish straight s w t [] h = nothing_missing w s.schema_path fs
-each_missing p r d fs answer matches target found finish straight s w t (k ∷ ks) h =
-    let is = answer matches target found finish straight in
+missing_there : (p : Patterns) (r : Root) (d : Data) (matches : List ℕ → List ℕ → Bool) (target : Target) (fs : Faults)
+    → IsTold bags (plain r.documents p.makes matches) (root_site target) (whole d) fs
+    → (s : Site) (w : Spot) → IsToldAt (plain r.documents p.makes matches) (root_site target) (whole d) s w
+    → (names : List (List ℕ)) → Requires r.documents p.makes s names → TellsMissing names w s.schema_path fs
+missing_there p r d matches target fs is s w t [] h = nothing_missing w s.schema_path fs
+missing_there p r d matches target fs is s w t (k ∷ ks) h =
     missing_told (plain r.documents p.makes matches) is.unfoldings (root_site target) (whole d) fs is.is s w t (k ∷ ks) (required_once r.documents p.makes s (k ∷ ks) h)
     (required_stands r.documents p.makes s (k ∷ ks) h (asserts (required (k ∷ ks))) first)
+
+pub each_missing : (p : Patterns) (r : Root) (d : Data) (fs : Faults) → AreFaults p r d fs → TellsEachMissing p r d fs
+each_missing p r d fs answer matches target found finish straight s w t names h =
+    let is = answer matches target found finish straight in
+    record {
+      ordered = moved spelled is.faults;
+      same = is.same;
+      tells = missing_spelled names w s.schema_path is.faults (missing_there p r d matches target is.faults is.told s w t names h);
+    }

@@ -1,9 +1,5 @@
 -- What is known of a root once it was checked.
 use Rattle.std.proofs.Common.{◌≡◌, ℕ, List, [], ◌∷◌, Bool, true, Option, Ok, is_ok, refl, sym, ap, subst, ◌∙◌}
-use Rattle.schema_patterns.specs.Read.{IsReadBy}
-use Rattle.schema_patterns.specs.declared.matches.Matches.{Matches}
-use Rattle.schema_patterns.specs.Tables.{AreMadeBy, texts_of_table}
-use Rattle.schema_patterns.specs.declared.table.PatternTable.{PatternTable}
 use Rattle.std.specs.List.{list_all}
 use Rattle.schema_definitions.specs.Bearers.{Document}
 use Rattle.schema_definitions.specs.Lookup.{Target, lookup}
@@ -13,15 +9,15 @@ use Rattle.schema_definitions.specs.BuildCauses.{IsCauseOf}
 use Rattle.document_laws.specs.TargetLaws.{are_apart, contents_rise, by_reference}
 use Rattle.reached_sites.specs.Passed.{AreWithin}
 use Rattle.reached_sites.specs.Roots.{IsPlaced}
-use Rattle.schema_drafts.specs.declared.draft.Draft.{Draft}
 use Rattle.schema_registries.specs.Roots.{Root, Patterns, Finds, IsSound}
 use Rattle.schema_registries.proofs.Found.{finds_one}
 use Rattle.schema_registries.specs.Matched.{HoldsPatterns}
 use Rattle.reading_laws.specs.Asked.{AreAmong}
+use Rattle.schema_engine.specs.declared.node.Node.{Node}
+use Rattle.compiled_keywords.specs.declared.keyword.Keyword.{Keyword}
+use Rattle.compiled_graphs.specs.Linking.{IsCompiledAt}
 use Rattle.schema_validators.specs.Counted.{IsWithin}
-use Rattle.schema_validators.specs.Made.{IsMadeAt, IsMadeBy}
-use Rattle.schema_validators.specs.Seen.{root_in}
-use Rattle.schema_validators.specs.declared.validator.Validator.{Validator}
+use Rattle.schema_validators.specs.Meant.{Means}
 
 module _ (own : List Document) (base reference : List ℕ) (t : Target) (found : lookup own base reference ≡ Ok t)
     (apart : are_apart own ≡ true) (rise : list_all contents_rise own ≡ true) where
@@ -49,31 +45,13 @@ module _ (own : List Document) (base reference : List ℕ) (t : Target) (found :
     patterns_there patterns h r e = subst (λ (x : Root). HoldsPatterns p x patterns) e
         (λ u there. subst (λ (v : Target). AreAmong own p.makes (root_site v) patterns) (finds_one here t u found there) (h placed))
 
+    pub means_there : (nodes : List (Node Keyword)) (start : ℕ) → IsCompiledAt own p.makes nodes (root_site t) start → (r : Root) → here ≡ r → Means p r nodes start
+    means_there nodes start h r e = subst (λ (x : Root). Means p x nodes start) e
+        (λ u there. subst (λ (v : Target). IsCompiledAt own p.makes nodes (root_site v) start) (finds_one here t u found there) h)
+
 abbrev root_from : List Document → List ℕ → List ℕ → Root
 root_from own base reference = record { documents = own; base = base; reference = reference }
 
 pub one_root : {own other : List Document} {base other_base reference other_reference : List ℕ} → own ≡ other → base ≡ other_base → reference ≡ other_reference
     → root_from own base reference ≡ root_from other other_base other_reference
 one_root d b r = rw (d, b, r) refl
-
--- a table that several may have is the same
-module _ {M : Type 0} where
-  pub shared_made : (finds : M → List ℕ → Option Bool) (finished : List ℕ → List ℕ → Option Bool) (t u : PatternTable M) → u ≡ t → AreMadeBy finds finished t → AreMadeBy finds finished u
-  shared_made finds finished t u e h = subst (λ (x : PatternTable M). AreMadeBy finds finished x) (sym e) h
-
-  -- the matches that are read by it
-  pub read_by : (finds : M → List ℕ → Option Bool) (finished : List ℕ → List ℕ → Option Bool) (t u : PatternTable M) (texts : List (List ℕ)) (m : Matches) → u ≡ t
-      → ((f : List ℕ → List ℕ → Option Bool) → AreMadeBy finds f u → IsReadBy f (texts_of_table u) texts m) → AreMadeBy finds finished t → IsReadBy finished (texts_of_table t) texts m
-  read_by finds finished t u texts m e h made =
-      subst (λ (x : PatternTable M). IsReadBy finished (texts_of_table x) texts m) e (h finished (shared_made finds finished t u e made))
-
-  -- what was checked is said of the validator that has it
-  pub made_over : (finds : M → List ℕ → Option Bool) (p : Patterns) (v : Validator M) (r : Root) (t : PatternTable M) → root_in v ≡ r → v.table.value ≡ t → IsMadeAt finds p r t → IsMadeBy finds p v
-  made_over finds p v r t root table made =
-      subst (λ (x : Root). IsMadeAt finds p x v.table.value) (sym root) (subst (λ (u : PatternTable M). IsMadeAt finds p r u) (sym table) made)
-
-  pub draft_over : (v : Validator M) (r : Root) (d : Draft) → root_in v ≡ r → v.draft ≡ d → ((target : Target) → Finds r target → d ≡ target.dialect.draft) → (target : Target) → Finds (root_in v) target → v.draft ≡ target.dialect.draft
-  draft_over v r d root is drafted target found = is ∙ drafted target (subst (λ (x : Root). Finds x target) root found)
-
-  pub within_over : (p : Patterns) (limit : ℕ) (v : Validator M) (r : Root) → root_in v ≡ r → IsWithin p limit r → IsWithin p limit (root_in v)
-  within_over p limit v r root h = subst (IsWithin p limit) (sym root) h

@@ -11,6 +11,7 @@ use Rattle.schema_registries.specs.Pointers.{document_at, IsDocumentAt}
 use Rattle.schema_registries.specs.declared.registry.SharedRegistry.{SharedRegistry}
 use Rattle.schema_registries.specs.declared.registry.SchemaRegistry.{SchemaRegistry}
 use Rattle.schema_registries.specs.Seen.{documents_in_registry, documents_shared}
+use Rattle.schema_patterns.specs.declared.matcher.PatternMatcher.{Ghosts}
 use Rattle.schema_registries.specs.Roots.{Patterns, Finds, root_on}
 use Rattle.schema_validators.specs.Maps.{IsMapOf, IsMapAt, ArePlacesExceeded, RefusesMapAt}
 use Rattle.schema_validators.specs.declared.error.BuildError.{BuildError}
@@ -59,10 +60,10 @@ module _ (p : Patterns) (r : SchemaRegistry) (reference : List ℕ) (limit : ℕ
   more-there (Ok y) h = tt
   more-there (Err e) h = inr (record { target = t; found = found; document = its.document; is_at = its.is_at; exceeded = there (λ ds d. ArePlacesExceeded p ds d limit e) h })
 
-module _ {M : Type 0} (finds : M → List ℕ → Option Bool) (p : Patterns) (r : SchemaRegistry) (reference : List ℕ) (limit : ℕ) (t : Target) (found : Finds (root_on r reference) t)
+module _ {M : Type 0} {G : Ghosts M} (p : Patterns) (r : SchemaRegistry) (reference : List ℕ) (limit : ℕ) (t : Target) (found : Finds (root_on r reference) t)
     (o : SharedRegistry) (same : o ≡ r.own) (u : List ℕ) (named : u ≡ uri_in t.document) where
-  pub map-there : (x : Result (ValidatorMap M) BuildError) → IfOk x (λ m. (d : Document) → IsDocumentAt (documents_shared o) u d → IsMapOf finds p (documents_shared o) d limit m)
-      → IfOk x (λ m. IsMapAt finds p r reference limit m)
+  pub map-there : (x : Result (ValidatorMap M G) BuildError) → IfOk x (λ m. (d : Document) → IsDocumentAt (documents_shared o) u d → IsMapOf p (documents_shared o) d limit m)
+      → IfOk x (λ m. IsMapAt p r reference limit m)
   map-there (Err e) h = tt
   map-there (Ok m) h =
       let d = its p r reference limit t found o same u named in
@@ -71,5 +72,5 @@ module _ {M : Type 0} (finds : M → List ℕ → Option Bool) (p : Patterns) (r
         found = found;
         document = d.document;
         is_at = d.is_at;
-        is_map = there p r reference limit t found o same u named (λ ds d. IsMapOf finds p ds d limit m) h;
+        is_map = there p r reference limit t found o same u named (λ ds d. IsMapOf p ds d limit m) h;
       }

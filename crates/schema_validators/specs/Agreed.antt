@@ -1,18 +1,18 @@
 -- Registries of equal documents, and what is built and answered on each of two.
-use Rattle.std.specs.Prelude.{◌≡◌, ℕ, List, Bool, Option, Some, option_map, Result, Ok, Err}
+use Rattle.std.specs.Prelude.{◌≡◌, ℕ, List, Bool, Some, option_map, Result, Ok, Err}
 use Rattle.serde_json.specs.Data.{Data}
 use Rattle.schema_meaning.specs.Faults.{Faults}
-use Rattle.schema_meaning.specs.Readings.{Telling, verdicts, bags}
+use Rattle.schema_meaning.specs.Readings.{verdicts}
 use Rattle.schema_definitions.specs.Lookup.{Target}
-use Rattle.schema_definitions.specs.Sites.{Site}
+use Rattle.schema_patterns.specs.declared.matcher.PatternMatcher.{Ghosts}
 use Rattle.schema_registries.specs.declared.registry.SharedRegistry.{SharedRegistry}
 use Rattle.schema_registries.specs.declared.registry.SchemaRegistry.{SchemaRegistry}
 use Rattle.schema_registries.specs.Seen.{documents_shared, retrieved_shared, documents_in_registry}
 use Rattle.schema_registries.specs.Roots.{Root, Patterns, Finds}
-use Rattle.schema_registries.specs.Answers.{Finish, ComesBack, IsCut}
+use Rattle.schema_registries.specs.Answers.{Finish, ComesBack, IsAnswer}
 use Rattle.schema_validators.specs.Asked.{IsAsked, meta_root}
+use Rattle.schema_validators.specs.Answered.{WhereDecided, AreFaults}
 use Rattle.schema_validators.specs.Made.{IsMadeBy}
-use Rattle.schema_validators.specs.Seen.{root_in}
 use Rattle.schema_validators.specs.declared.error.BuildError.{BuildError}
 use Rattle.schema_validators.specs.declared.error.BuildError.TheVariants as error
 use Rattle.schema_validators.specs.declared.validator.Validator.{Validator}
@@ -42,33 +42,20 @@ IsMetaStraight p registry root =
     (parent : SharedRegistry) (target : Target) (uri : List ℕ) → registry.parent ≡ Some parent → Finds root target → IsAsked parent target uri
     → IsStraight p (meta_root parent uri) target.contents
 
--- this holds where the matches finish
-abbrev pub WhereFinished : Patterns → Root → Data → Type 0 → Type 0
-WhereFinished p r d T = (matches : List ℕ → List ℕ → Bool) (target : Target) → Finds r target → Finish p r matches target d → T
-
--- verdict and faults of a value from a root on, where the matches finish
+-- verdict and faults of a value from a root on
 pub record Answers (p : Patterns) (r : Root) (d : Data) (verdict : Bool) (fs : Faults) : Type 0 where
-  pub verdict_is : IsCut verdicts p r d verdict
-  pub faults_are : IsCut bags p r d fs
+  pub verdict_is : IsAnswer verdicts p r d verdict
+  pub faults_are : AreFaults p r d fs
 
 -- ---- validators
 
 -- want of memory aside, one is built where the other is
-abbrev pub AreBuiltAlike : {M : Type 0} → Result (Validator M) BuildError → Result (Validator M) BuildError → Type 0
+abbrev pub AreBuiltAlike : {M : Type 0} {G : Ghosts M} → Result (Validator M G) BuildError → Result (Validator M G) BuildError → Type 0
 AreBuiltAlike (Ok v) (Ok w) = Unit {0}
 AreBuiltAlike (Ok v) (Err e) = e ≡ error.Memory
 AreBuiltAlike (Err d) (Ok w) = d ≡ error.Memory
 AreBuiltAlike (Err d) (Err e) = Unit {0}
 
-module _ {M : Type 0} (finds : M → List ℕ → Option Bool) where
-  -- the answer of a validator is that of the cut reading, where the matches finish
-  abbrev pub IsCutBy : {A : Type 0} → Telling Site A → Validator M → Data → A → Type 0
-  IsCutBy t v d x = (p : Patterns) → IsMadeBy finds p v → IsCut t p (root_in v) d x
-
-  -- this holds where the matches that a value asks of a validator finish
-  abbrev pub WhereFinishedBy : Validator M → Data → Type 0 → Type 0
-  WhereFinishedBy v d T = (p : Patterns) → IsMadeBy finds p v → WhereFinished p (root_in v) d T
-
-  -- and where two begin at one root, by the patterns of one maker
-  abbrev pub WhereAlike : Validator M → Validator M → Data → Type 0 → Type 0
-  WhereAlike v w d T = root_in v ≡ root_in w → (p : Patterns) → IsMadeBy finds p v → IsMadeBy finds p w → WhereFinished p (root_in v) d T
+-- this holds where two begin at one root, by the patterns of one maker, the matches that a value asks for finish and no references come back
+abbrev pub WhereAlike : {M : Type 0} {G : Ghosts M} → Validator M G → Validator M G → Data → Type 0 → Type 0
+WhereAlike v w d T = (p : Patterns) (r : Root) → IsMadeBy p r v → IsMadeBy p r w → WhereDecided p r d (λ matches target. T)

@@ -1,7 +1,11 @@
+pub mod Meant
+pub mod Heard
+pub mod Answered
 pub mod Seen
 pub mod Made
+pub mod Told
+pub mod ByNodes
 pub mod Numbers
-pub mod Heard
 pub mod Missing
 pub mod Counted
 pub mod Asked

@@ -1,10 +1,11 @@
 -- Validators for the schemas of a document, by their JSON Pointers.
-use Rattle.std.specs.Prelude.{◌≡◌, ◌↔◌, ◌⊎◌, ℕ, List, [], ◌∷◌, ◌++◌, map, Bool, true, false, Option, Some, is_some, string_bytes}
+use Rattle.std.specs.Prelude.{◌≡◌, ◌↔◌, ◌⊎◌, ℕ, List, [], ◌∷◌, ◌++◌, map, true, Option, Some, None, is_some, string_bytes}
 use Rattle.std.specs.HashMap.{get_by_text}
 use Rattle.schema_meaning.specs.Members.{In}
 use Rattle.schema_definitions.specs.Bearers.{Document, uri_in}
 use Rattle.schema_definitions.specs.Lookup.{Target}
-use Rattle.schema_patterns.specs.declared.table.PatternTable.{PatternTable}
+use Rattle.schema_patterns.specs.declared.matcher.PatternMatcher.{Ghosts}
+use Rattle.compiled_graphs.specs.declared.schemas.SchemaGraph.{SchemaGraph}
 use Rattle.schema_registries.specs.Pointers.{pointers_of, reference_to, IsDocumentAt}
 use Rattle.reached_sites.specs.Passed.{AreWithin}
 use Rattle.compiled_graphs.specs.Causes.{AreExceeded}
@@ -13,7 +14,7 @@ use Rattle.schema_registries.specs.declared.registry.SchemaRegistry.{SchemaRegis
 use Rattle.schema_registries.specs.Seen.{documents_in_registry}
 use Rattle.schema_registries.specs.Roots.{Root, Patterns, Finds, IsSound, root_on}
 use Rattle.schema_validators.specs.Refused.{RefusesReference}
-use Rattle.schema_validators.specs.Seen.{root_of, root_in}
+use Rattle.schema_validators.specs.Seen.{root_of}
 use Rattle.schema_validators.specs.Made.{IsMadeBy}
 use Rattle.schema_validators.specs.declared.error.BuildError.{BuildError}
 use Rattle.schema_validators.specs.declared.error.BuildError.TheVariants as error
@@ -21,15 +22,15 @@ use Rattle.schema_validators.specs.declared.validator.Validator.{Validator}
 use Rattle.schema_validators.specs.declared.validator_map.ValidatorMap.{ValidatorMap}
 
 -- the pointers, in their order
-abbrev pub keys_of : {M : Type 0} → ValidatorMap M → List (List ℕ)
+abbrev pub keys_of : {M : Type 0} {G : Ghosts M} → ValidatorMap M G → List (List ℕ)
 keys_of m = map (λ e. string_bytes e.0) m.validators.entries
 
 -- the pointers with their validators, in their order
-abbrev pub entries_in : {M : Type 0} → ValidatorMap M → List (List ℕ × Validator M)
+abbrev pub entries_in : {M : Type 0} {G : Ghosts M} → ValidatorMap M G → List (List ℕ × Validator M G)
 entries_in m = map (λ e. (string_bytes e.0, e.1)) m.validators.entries
 
 -- the validator under a pointer
-abbrev pub entry_at : {M : Type 0} → ValidatorMap M → List ℕ → Option (Validator M)
+abbrev pub entry_at : {M : Type 0} {G : Ghosts M} → ValidatorMap M G → List ℕ → Option (Validator M G)
 entry_at m pointer = get_by_text m.validators pointer
 
 -- a schema place as a root: the pointer is looked up, as a fragment, from its document's URI
@@ -43,48 +44,47 @@ pub data SortsOut (p : Patterns) (own : List Document) (document : List ℕ) : L
   left : {pointers keys : List (List ℕ)} (k : List ℕ) → (IsSound p (place_root own document k) → ⊥) → SortsOut p own document pointers keys → SortsOut p own document (k ∷ pointers) keys
 
 -- a validator at a schema place, of its draft
-pub record ReadsPlace {M : Type 0} (finds : M → List ℕ → Option Bool) (p : Patterns) (own : List Document) (document pointer : List ℕ) (v : Validator M) : Type 0 where
-  pub root : root_in v ≡ place_root own document pointer
-  pub made : IsMadeBy finds p v
-  pub draft : (target : Target) → Finds (root_in v) target → v.draft ≡ target.dialect.draft
+pub record ReadsPlace {M : Type 0} {G : Ghosts M} (p : Patterns) (own : List Document) (document pointer : List ℕ) (v : Validator M G) : Type 0 where
+  pub made : IsMadeBy p (place_root own document pointer) v
+  pub draft : (target : Target) → Finds (place_root own document pointer) target → v.draft ≡ target.dialect.draft
 
 -- the schema places of a document at which nothing is wrong, each with a validator that reads it, and no more compile keys than a limit that are reached from all places together
-pub record IsMapOf {M : Type 0} (finds : M → List ℕ → Option Bool) (p : Patterns) (own : List Document) (d : Document) (limit : ℕ) (m : ValidatorMap M) : Type 0 where
+pub record IsMapOf {M : Type 0} {G : Ghosts M} (p : Patterns) (own : List Document) (d : Document) (limit : ℕ) (m : ValidatorMap M G) : Type 0 where
   pub keys : SortsOut p own d.uri (pointers_of own d) (keys_of m)
   pub exactly : (k : List ℕ) → (is_some (entry_at m k) ≡ true) ↔ (In k (pointers_of own d) × IsSound p (place_root own d.uri k))
-  pub reads : (k : List ℕ) (v : Validator M) → entry_at m k ≡ Some v → ReadsPlace finds p own d.uri k v
+  pub reads : (k : List ℕ) (v : Validator M G) → entry_at m k ≡ Some v → ReadsPlace p own d.uri k v
   pub within : AreWithin own p.makes (sites_from own d.uri (map reference_to (pointers_of own d))) limit
 
 -- ---- how it is made
 
--- a validator at a schema place, by a table of patterns
-pub record StandsAtPlace {M : Type 0} (own : List Document) (document : List ℕ) (table : PatternTable M) (pointer : List ℕ) (v : Validator M) : Type 0 where
-  pub root : root_in v ≡ place_root own document pointer
-  pub table_is : v.table.value ≡ table
-  pub draft : (target : Target) → Finds (root_in v) target → v.draft ≡ target.dialect.draft
+-- a validator at a schema place, over a graph from a node on
+pub record StandsAtPlace {M : Type 0} {G : Ghosts M} (own : List Document) (document : List ℕ) (schemas : SchemaGraph M G) (pointer : List ℕ) (start : ℕ) (v : Validator M G) : Type 0 where
+  pub schemas_are : v.schemas.value ≡ schemas
+  pub start_is : v.start ≡ start
+  pub draft : (target : Target) → Finds (place_root own document pointer) target → v.draft ≡ target.dialect.draft
 
--- a validator was put behind others where a mark says so
-abbrev pub PutsPlace : {M : Type 0} → List Document → List ℕ → PatternTable M → List ℕ → Bool → List (List ℕ × Validator M) → List (List ℕ × Validator M) → Type 0
-PutsPlace own document table pointer false old new = new ≡ old
-PutsPlace {M = M} own document table pointer true old new = (v : Validator M) × StandsAtPlace own document table pointer v × (new ≡ old ++ (pointer, v) ∷ [])
+-- a validator was put behind others where there is a start
+abbrev pub PutsPlace : {M : Type 0} {G : Ghosts M} → List Document → List ℕ → SchemaGraph M G → List ℕ → Option ℕ → List (List ℕ × Validator M G) → List (List ℕ × Validator M G) → Type 0
+PutsPlace own document schemas pointer None old new = new ≡ old
+PutsPlace {M = M} {G = G} own document schemas pointer (Some i) old new = (v : Validator M G) × StandsAtPlace own document schemas pointer i v × (new ≡ old ++ (pointer, v) ∷ [])
 
--- one for each pointer that is marked, in their order
-pub data Enters {M : Type 0} (own : List Document) (document : List ℕ) (table : PatternTable M) : List (List ℕ) → List Bool → List (List ℕ × Validator M) → Type 0 where
-  none : Enters own document table [] [] []
-  taken : {pointers : List (List ℕ)} {marks : List Bool} {entries : List (List ℕ × Validator M)} (k : List ℕ) (v : Validator M) → StandsAtPlace own document table k v
-      → Enters own document table pointers marks entries → Enters own document table (k ∷ pointers) (true ∷ marks) ((k, v) ∷ entries)
-  left : {pointers : List (List ℕ)} {marks : List Bool} {entries : List (List ℕ × Validator M)} (k : List ℕ) → Enters own document table pointers marks entries
-      → Enters own document table (k ∷ pointers) (false ∷ marks) entries
+-- one for each pointer that has a start, in their order
+pub data Enters {M : Type 0} {G : Ghosts M} (own : List Document) (document : List ℕ) (schemas : SchemaGraph M G) : List (List ℕ) → List (Option ℕ) → List (List ℕ × Validator M G) → Type 0 where
+  none : Enters own document schemas [] [] []
+  taken : {pointers : List (List ℕ)} {starts : List (Option ℕ)} {entries : List (List ℕ × Validator M G)} (k : List ℕ) (i : ℕ) (v : Validator M G) → StandsAtPlace own document schemas k i v
+      → Enters own document schemas pointers starts entries → Enters own document schemas (k ∷ pointers) (Some i ∷ starts) ((k, v) ∷ entries)
+  left : {pointers : List (List ℕ)} {starts : List (Option ℕ)} {entries : List (List ℕ × Validator M G)} (k : List ℕ) → Enters own document schemas pointers starts entries
+      → Enters own document schemas (k ∷ pointers) (None ∷ starts) entries
 
 -- ---- of a root
 
 -- a map of the document under whose URI a root lies, an own one before a parent's
-pub record IsMapAt {M : Type 0} (finds : M → List ℕ → Option Bool) (p : Patterns) (r : SchemaRegistry) (reference : List ℕ) (limit : ℕ) (m : ValidatorMap M) : Type 0 where
+pub record IsMapAt {M : Type 0} {G : Ghosts M} (p : Patterns) (r : SchemaRegistry) (reference : List ℕ) (limit : ℕ) (m : ValidatorMap M G) : Type 0 where
   pub target : Target
   pub found : Finds (root_on r reference) target
   pub document : Document
   pub is_at : IsDocumentAt (documents_in_registry r) (uri_in target.document) document
-  pub is_map : IsMapOf finds p (documents_in_registry r) document limit m
+  pub is_map : IsMapOf p (documents_in_registry r) document limit m
 
 -- from the schema places of a document more compile keys are reached than a limit
 abbrev pub ArePlacesExceeded : Patterns → List Document → Document → ℕ → BuildError → Type 0

@@ -6,18 +6,19 @@ use Rattle.json_values.specs.Parts.{Part, name}
 use Rattle.schema_meaning.specs.Members.{In, is_listed}
 use Rattle.schema_meaning.specs.Places.{Spot, whole}
 use Rattle.schema_meaning.specs.Faults.{Fault, fault, Faults, none, also, Required}
+use Rattle.schema_meaning.specs.Order.{SameFaults}
 use Rattle.schema_meaning.specs.Keywords.{none_there}
 use Rattle.schema_meaning.specs.Questions.{Question, asked_at}
 use Rattle.schema_meaning.specs.Rules.{Note, every, conditional}
 use Rattle.schema_meaning.specs.Readings.{Reading, rules, IsTold, verdicts}
 use Rattle.schema_definitions.specs.Bearers.{Documents}
-use Rattle.schema_definitions.specs.Lookup.{Target}
 use Rattle.schema_definitions.specs.Plain.{plain}
 use Rattle.schema_definitions.specs.Rows.{counts_here}
 use Rattle.schema_definitions.specs.Sites.{Site, root_site}
 use Rattle.schema_definitions.specs.Values.{unique_names, none_twice}
-use Rattle.schema_registries.specs.Roots.{Root, Patterns, Finds}
-use Rattle.schema_registries.specs.Answers.{Finish, ComesBack}
+use Rattle.schema_registries.specs.Roots.{Root, Patterns}
+use Rattle.reading_laws.specs.Spelled.{spelled}
+use Rattle.schema_validators.specs.Answered.{WhereDecided}
 
 -- `required` stands at a schema, counts, and lists these names, each once
 pub record Requires (docs : Documents) (makes : List ℕ → Bool) (s : Site) (names : List (List ℕ)) : Type 0 where
@@ -65,9 +66,15 @@ pub record TellsMissing (names : List (List ℕ)) (w : Spot) (above : List Part)
   pub exactly : (k : List ℕ) → is_listed k missing ≡ (is_listed k names && lacks w.value k)
   pub told : AreAmong (missing_faults w above missing) fs
 
+-- so it is among the same faults in some order
+pub record TellsMissingSomewhere (names : List (List ℕ)) (w : Spot) (above : List Part) (fs : Faults) : Type 0 where
+  pub ordered : Faults
+  pub same : SameFaults fs ordered
+  pub tells : TellsMissing names w above ordered
+
 -- Where the matches finish and no references come back, so it is for each application of `required` whose faults are told as they are:
--- at the root, and where chains of such questions lead from there.
+-- at the root, and where chains of such questions lead from there. Schema paths are as pointers spell them.
 abbrev pub TellsEachMissing : Patterns → Root → Data → Faults → Type 0
-TellsEachMissing p r d fs = (matches : List ℕ → List ℕ → Bool) (target : Target) → Finds r target → Finish p r matches target d → (ComesBack p r matches target d → ⊥)
-    → (s : Site) (w : Spot) → IsToldAt (plain r.documents p.makes matches) (root_site target) (whole d) s w
-    → (names : List (List ℕ)) → Requires r.documents p.makes s names → TellsMissing names w s.schema_path fs
+TellsEachMissing p r d fs = WhereDecided p r d (λ matches target.
+    (s : Site) (w : Spot) → IsToldAt (plain r.documents p.makes matches) (root_site target) (whole d) s w
+    → (names : List (List ℕ)) → Requires r.documents p.makes s names → TellsMissingSomewhere names w (spelled s.schema_path) fs)

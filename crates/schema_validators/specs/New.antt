@@ -7,6 +7,7 @@ use Rattle.schema_registries.specs.Seen.{given_under}
 use Rattle.schema_registries.specs.Refused.{RefusesValue}
 use Rattle.schema_registries.specs.declared.error.DocumentError.{DocumentError}
 use Rattle.schema_registries.specs.declared.error.DocumentError.TheVariants as document
+use Rattle.schema_patterns.specs.declared.matcher.PatternMatcher.{Ghosts}
 use Rattle.schema_registries.specs.Roots.{Patterns}
 use Rattle.schema_validators.specs.Refused.{RefusesPreparing}
 use Rattle.schema_validators.specs.Built.{IsBuilt, RefusesBuilding}
@@ -30,7 +31,7 @@ abbrev pub alone : Data → List Given
 alone d = given_under [] d ∷ []
 
 -- the validator at its root, by the maker
-pub record IsNew {P R M : Type 0} (p : Patterns) (may_answer : R → List ℕ → Data → Type 0) (may_refuse : R → List ℕ → Type 0) (maker : P) (d : Data) (v : Validator M) : Type 0 where
+pub record IsNew {P R M : Type 0} {G : Ghosts M} (p : Patterns) (may_answer : R → List ℕ → Data → Type 0) (may_refuse : R → List ℕ → Type 0) (maker : P) (d : Data) (v : Validator M G) : Type 0 where
   pub options : ValidationOptions P R
   pub default : AreDefault options
   pub is_maker : options.maker ≡ maker

@@ -19,7 +19,7 @@ use Rattle.schema_registries.specs.declared.registry.SharedRegistry.{SharedRegis
 use Rattle.schema_registries.specs.declared.registry.SchemaRegistry.{SchemaRegistry}
 use Rattle.schema_registries.specs.Retrieval.{IsPrepared, beside}
 use Rattle.schema_registries.specs.Roots.{Root, Patterns, Finds, IsSound}
-use Rattle.schema_registries.specs.Answers.{IsFault}
+use Rattle.schema_validators.specs.Answered.{IsFault}
 use Rattle.schema_validators.specs.Asked.{IsAsked, meta_root}
 use Rattle.schema_validators.specs.Prepared.{asking_by, layer_by, layer_beside, meta_schemas_given}
 use Rattle.schema_validators.specs.declared.options.ValidationOptions.{ValidationOptions}

@@ -1,7 +1,10 @@
--- The roots of validators, and what options say.
-use Rattle.std.specs.Prelude.{ℕ, List, string_bytes}
+-- Roots, what validators have, and what options say.
+use Rattle.std.specs.Prelude.{ℕ, List}
 use Rattle.schema_definitions.specs.Bearers.{Document}
-use Rattle.reached_sites.specs.Passed.{documents_of}
+use Rattle.schema_engine.specs.declared.node.Node.{Node}
+use Rattle.compiled_keywords.specs.declared.keyword.Keyword.{Keyword}
+use Rattle.schema_patterns.specs.declared.matcher.PatternMatcher.{Ghosts}
+use Rattle.schema_patterns.specs.declared.table.PatternTable.{PatternTable}
 use Rattle.schema_registries.specs.Roots.{Root}
 use Rattle.schema_validators.specs.declared.options.ValidationOptions.{ValidationOptions}
 use Rattle.schema_validators.specs.declared.validator.Validator.{Validator}
@@ -10,8 +13,12 @@ use Rattle.schema_validators.specs.declared.validator.Validator.{Validator}
 abbrev pub root_of : List Document → List ℕ → List ℕ → Root
 root_of documents base reference = record { documents = documents; base = base; reference = reference }
 
-abbrev pub root_in : {M : Type 0} → Validator M → Root
-root_in v = root_of (documents_of v.registry.value) v.base (string_bytes v.root)
+-- the nodes of a validator, and its patterns
+abbrev pub nodes_in : {M : Type 0} {G : Ghosts M} → Validator M G → List (Node Keyword)
+nodes_in v = v.schemas.value.graph.nodes.items
+
+abbrev pub table_in : {M : Type 0} {G : Ghosts M} → Validator M G → PatternTable M
+table_in v = v.schemas.value.table
 
 abbrev pub maker_in : {P R : Type 0} → ValidationOptions P R → P
 maker_in o = o.maker

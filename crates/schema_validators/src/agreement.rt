@@ -3,15 +3,16 @@
 ghost use Rattle.std.specs.Prelude.{◌≡◌, true, IfOk, IfErr};
 ghost use Rattle.serde_json.specs.View.{view};
 ghost use Rattle.schema_meaning.specs.Order.{SameFaults};
-ghost use Rattle.schema_meaning.specs.Readings.{verdicts, bags};
 ghost use Rattle.schema_reports.specs.Left.{errors_left};
 ghost use Rattle.schema_reports.specs.Told.{faults_of};
 ghost use Rattle.schema_registries.specs.Roots.{root_on};
 ghost use Rattle.schema_registries.specs.Whole.{only_whole};
 ghost use Rattle.schema_validators.specs.Made.{IsMadeBy};
 ghost use Rattle.schema_validators.specs.Refused.{RefusesRoot};
-ghost use Rattle.schema_validators.specs.Seen.{root_in, maker_in, node_limit_in};
-ghost use Rattle.schema_validators.specs.Agreed.{Answers, AreAlike, AreBuiltAlike, IsCutBy, IsMetaStraight, WhereAlike, WhereFinished, WhereFinishedBy};
+ghost use Rattle.schema_validators.specs.Answered.{WhereDecided};
+ghost use Rattle.schema_validators.specs.Seen.{maker_in, node_limit_in};
+ghost use Rattle.schema_validators.specs.Told.{verdict_by, faults_by};
+ghost use Rattle.schema_validators.specs.Agreed.{Answers, AreAlike, AreBuiltAlike, IsMetaStraight, WhereAlike};
 
 use crate::error::BuildError;
 use crate::options::ValidationOptions;
@@ -25,7 +26,7 @@ use std::alloc::AllocError;
 
 /// What is built at one root on each of two registries.
 #[derive(Drop)]
-pub struct BothValidators<M = RegexMatcher> {
+pub struct BothValidators<M: PatternMatcher = RegexMatcher> {
     pub left: Result<Validator<M>, BuildError>,
     pub right: Result<Validator<M>, BuildError>,
 }
@@ -43,19 +44,17 @@ pub fn build_on_both<P: PatternMaker + Drop, R: Drop>(
     right: &SchemaRegistry,
     root: &str,
 ) -> BothValidators<P::Matcher>
-    ensures left_root { IfOk result.left (λ v. root_in v ≡ root_on left.now root.now) }
-    ensures right_root { IfOk result.right (λ v. root_in v ≡ root_on right.now root.now) }
     ensures left_made { let p = P.patterns (maker_in options.now) in
-        IfOk result.left (IsMadeBy P.Matcher.finds p) }
+        IfOk result.left (IsMadeBy p (root_on left.now root.now)) }
     ensures right_made { let p = P.patterns (maker_in options.now) in
-        IfOk result.right (IsMadeBy P.Matcher.finds p) }
+        IfOk result.right (IsMadeBy p (root_on right.now root.now)) }
     ensures left_refused { let p = P.patterns (maker_in options.now) in IfErr result.left
         (RefusesRoot p (node_limit_in options.now) left.now (root_on left.now root.now)) }
     ensures right_refused { let p = P.patterns (maker_in options.now) in IfErr result.right
         (RefusesRoot p (node_limit_in options.now) right.now (root_on right.now root.now)) }
 
-    ensures one_root { AreAlike left.now right.now
-        → IfOk result.left (λ v. IfOk result.right (λ w. root_in v ≡ root_in w)) }
+    ensures one_root { let p = P.patterns (maker_in options.now) in AreAlike left.now right.now
+        → IfOk result.right (IsMadeBy p (root_on left.now root.now)) }
 
     // The one is built where the other is.
     ensures alike { let p = P.patterns (maker_in options.now) in AreAlike left.now right.now
@@ -68,32 +67,31 @@ pub fn build_on_both<P: PatternMaker + Drop, R: Drop>(
     }
 }
 
-/// Whether a value is valid by each of two validators: where both begin at one root, by the patterns of one maker, and every match that
-/// the value asks for finishes, both say the same. It costs what `is_valid` costs of both.
+/// Whether a value is valid by each of two validators: where both begin at one root, by the patterns of one maker, every match that the
+/// value asks for finishes and no references come back, both say the same. It costs what `is_valid` costs of both.
 ///
 /// # Errors
 ///
-/// Where memory was refused or a count of owners is full.
+/// Where memory was refused.
 pub fn is_valid_by_both<M: PatternMatcher>(
     left: &Validator<M>,
     right: &Validator<M>,
     value: &Value,
 ) -> Result<(bool, bool), AllocError>
     requires whole { only_whole (view value.now) ≡ true }
-    ensures left { IfOk result (λ both.
-        IsCutBy M.finds verdicts left.now (view value.now) both.0) }
-    ensures right { IfOk result (λ both.
-        IsCutBy M.finds verdicts right.now (view value.now) both.1) }
+    ensures left { IfOk result (λ both. both.0 ≡ verdict_by left.now (view value.now)) }
+    ensures right { IfOk result (λ both. both.1 ≡ verdict_by right.now (view value.now)) }
     ensures equal { IfOk result (λ both.
-        WhereAlike M.finds left.now right.now (view value.now) (both.0 ≡ both.1)) }
+        WhereAlike left.now right.now (view value.now) (both.0 ≡ both.1)) }
 {
     let first = left.is_valid(value)?;
     let second = right.is_valid(value)?;
     Ok((first, second))
 }
 
-/// The faults of a value by each of two validators: where both begin at one root, by the patterns of one maker, and every match that the
-/// value asks for finishes, both give the same faults, each as often, if in another order. It costs what `iter_errors` costs of both.
+/// The faults of a value by each of two validators: where both begin at one root, by the patterns of one maker, every match that the
+/// value asks for finishes and no references come back, both give the same faults, each as often, if in another order. It costs what
+/// `iter_errors` costs of both.
 ///
 /// # Errors
 ///
@@ -105,10 +103,10 @@ pub fn iter_errors_by_both<'i, M: PatternMatcher>(
 ) -> Result<(ErrorIterator<'i>, ErrorIterator<'i>), AllocError>
     requires whole { only_whole (view value.now) ≡ true }
     ensures left { IfOk result (λ both.
-        IsCutBy M.finds bags left.now (view value.now) (faults_of (errors_left both.0))) }
+        faults_of (errors_left both.0) ≡ faults_by left.now (view value.now)) }
     ensures right { IfOk result (λ both.
-        IsCutBy M.finds bags right.now (view value.now) (faults_of (errors_left both.1))) }
-    ensures equal { IfOk result (λ both. WhereAlike M.finds left.now right.now (view value.now)
+        faults_of (errors_left both.1) ≡ faults_by right.now (view value.now)) }
+    ensures equal { IfOk result (λ both. WhereAlike left.now right.now (view value.now)
         (SameFaults (faults_of (errors_left both.0)) (faults_of (errors_left both.1)))) }
 {
     let first = left.iter_errors(value)?;
@@ -125,8 +123,9 @@ pub struct BothAnswers<'i> {
 
 /// What a value is told by validators that are built on two registries, at the schema that one reference leads to.
 ///
-/// Where the registries have equal documents, as `build_on_both` has it, and every match that the value asks for finishes, the verdicts
-/// are equal, and so are the faults, each as often, if in another order. It costs what `build_on`, `is_valid` and `iter_errors` cost on both.
+/// Where the registries have equal documents, as `build_on_both` has it, every match that the value asks for finishes and no references
+/// come back, the verdicts are equal, and so are the faults, each as often, if in another order. It costs what `build_on`, `is_valid` and
+/// `iter_errors` cost on both.
 ///
 /// # Errors
 ///
@@ -147,38 +146,39 @@ pub fn answers_on_both<'i, P: PatternMaker + Drop, R: Drop>(
         both.verdicts.1 (faults_of (errors_left both.errors.1))) }
     ensures equal { let p = P.patterns (maker_in options.now) in
         AreAlike left.now right.now → IfOk result (λ both.
-        WhereFinished p (root_on left.now root.now) (view value.now)
-        ((both.verdicts.0 ≡ both.verdicts.1) × SameFaults
+        WhereDecided p (root_on left.now root.now) (view value.now) (λ matches target.
+        (both.verdicts.0 ≡ both.verdicts.1) × SameFaults
         (faults_of (errors_left both.errors.0)) (faults_of (errors_left both.errors.1)))) }
 {
     let first = options.build_on(left, root)?;
     let second = options.build_on(right, root)?;
-    let verdicts = is_valid_by_both(&first, &second, value)?;
-    let errors = iter_errors_by_both(&first, &second, value)?;
-    Ok(BothAnswers { verdicts, errors })
+    let accepts = first.is_valid(value)?;
+    let also_accepts = second.is_valid(value)?;
+    let errors = first.iter_errors(value)?;
+    let others = second.iter_errors(value)?;
+    Ok(BothAnswers {
+        verdicts: (accepts, also_accepts),
+        errors: (errors, others),
+    })
 }
 
-/// What `is_valid` says of a value when it is asked twice: the same, where every match that the value asks for finishes. It costs twice
-/// what `is_valid` costs.
+/// What `is_valid` says of a value when it is asked twice: the same. It costs twice what `is_valid` costs.
 ///
 /// # Errors
 ///
-/// Where memory was refused or a count of owners is full.
+/// Where memory was refused.
 pub fn is_valid_twice<M: PatternMatcher>(
     validator: &Validator<M>,
     value: &Value,
 ) -> Result<(bool, bool), AllocError>
     requires whole { only_whole (view value.now) ≡ true }
-    ensures first { IfOk result (λ both.
-        IsCutBy M.finds verdicts validator.now (view value.now) both.0) }
-    ensures equal { IfOk result (λ both.
-        WhereFinishedBy M.finds validator.now (view value.now) (both.0 ≡ both.1)) }
+    ensures first { IfOk result (λ both. both.0 ≡ verdict_by validator.now (view value.now)) }
+    ensures equal { IfOk result (λ both. both.0 ≡ both.1) }
 {
     is_valid_by_both(validator, validator, value)
 }
 
-/// What `iter_errors` gives of a value when it is asked twice: the same faults, each as often, if in another order, where every match that
-/// the value asks for finishes. It costs twice what `iter_errors` costs.
+/// What `iter_errors` gives of a value when it is asked twice: the same faults, in the same order. It costs twice what `iter_errors` costs.
 ///
 /// # Errors
 ///
@@ -189,9 +189,9 @@ pub fn iter_errors_twice<'i, M: PatternMatcher>(
 ) -> Result<(ErrorIterator<'i>, ErrorIterator<'i>), AllocError>
     requires whole { only_whole (view value.now) ≡ true }
     ensures first { IfOk result (λ both.
-        IsCutBy M.finds bags validator.now (view value.now) (faults_of (errors_left both.0))) }
-    ensures equal { IfOk result (λ both. WhereFinishedBy M.finds validator.now (view value.now)
-        (SameFaults (faults_of (errors_left both.0)) (faults_of (errors_left both.1)))) }
+        faults_of (errors_left both.0) ≡ faults_by validator.now (view value.now)) }
+    ensures equal { IfOk result (λ both.
+        faults_of (errors_left both.0) ≡ faults_of (errors_left both.1)) }
 {
     iter_errors_by_both(validator, validator, value)
 }

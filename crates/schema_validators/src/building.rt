@@ -1,41 +1,47 @@
 //! Validators at roots.
 
-ghost use Rattle.std.specs.Prelude.{◌≡◌, IfOk, IfErr};
+ghost use Rattle.std.specs.Prelude.{◌≡◌, ◌<◌, length, IfOk, IfErr};
 ghost use Rattle.schema_definitions.specs.Lookup.{Target};
 ghost use Rattle.schema_registries.specs.Seen.{documents_shared};
-ghost use Rattle.schema_registries.specs.Roots.{Finds, IsSoundBySome};
+ghost use Rattle.schema_registries.specs.Roots.{Finds};
 ghost use Rattle.schema_validators.specs.Counted.{IsWithin};
 ghost use Rattle.schema_validators.specs.Made.{IsMadeAt, IsMadeBy};
+ghost use Rattle.schema_validators.specs.Meant.{AreOfSome};
 ghost use Rattle.schema_validators.specs.Refused.{RefusesBuild};
-ghost use Rattle.schema_validators.specs.Seen.{root_in, root_of};
+ghost use Rattle.schema_validators.specs.Seen.{root_of};
 
 use crate::error::BuildError;
 use crate::validator::Validator;
-use compiled_graphs::graph::build;
+use compiled_graphs::graph::{Compiled, build};
+use compiled_graphs::schemas::SchemaGraph;
 use schema_drafts::draft::Draft;
-use schema_patterns::{PatternMaker, PatternMatcher, PatternTable};
+use schema_patterns::{PatternMaker, PatternMatcher};
 use schema_registries::SharedRegistry;
 use std::alloc::{AllocError, Global};
 use std::rc::Rc;
 use uri_references::uri::Uri;
 
-// A table that several may have.
-fn shared<M: Drop>(alloc: Global, table: PatternTable<M>) -> Result<Rc<PatternTable<M>>, AllocError>
-    ensures { IfOk result (λ shared. shared.value ≡ table) }
+// A graph that several may have.
+fn shared<M: PatternMatcher>(
+    alloc: Global,
+    schemas: SchemaGraph<M>,
+) -> Result<Rc<SchemaGraph<M>>, AllocError>
+    ensures { IfOk result (λ shared. shared.value ≡ schemas) }
 {
-    Ok(Rc::new(alloc, table)?)
+    Ok(Rc::new(alloc, schemas)?)
 }
 
-// What is kept of the schema that a reference leads to, where nothing is wrong there: its draft, and the patterns that are reached.
-fn check_at<P: PatternMaker>(
+// The schema that a reference leads to, where nothing is wrong there: its draft, and the graph from there.
+fn compile_at<P: PatternMaker>(
     alloc: Global,
     registry: &SharedRegistry,
     base: &Uri,
     root: &str,
     maker: &P,
     node_limit: usize,
-) -> Result<(Draft, PatternTable<P::Matcher>), BuildError>
-    ensures made { IfOk result (λ x. IsMadeAt P.Matcher.finds (P.patterns maker.now) (root_of (documents_shared registry.now) base.now root.now) x.1) }
+) -> Result<(Draft, Compiled<P::Matcher>), BuildError>
+    ensures made { IfOk result (λ x. IsMadeAt P.Matcher.finds (P.patterns maker.now) (root_of (documents_shared registry.now) base.now root.now)
+        x.1.schemas.graph.nodes.items x.1.start x.1.schemas.table) }
     ensures draft { IfOk result (λ x. (target : Target) → Finds (root_of (documents_shared registry.now) base.now root.now) target → x.0 ≡ target.dialect.draft) }
     ensures within { IfOk result (λ x. IsWithin (P.patterns maker.now) node_limit (root_of (documents_shared registry.now) base.now root.now)) }
     ensures refused { IfErr result (RefusesBuild (P.patterns maker.now) node_limit (root_of (documents_shared registry.now) base.now root.now)) }
@@ -48,13 +54,17 @@ fn check_at<P: PatternMaker>(
     registry.documents_are_apart();
     registry.registry().names_rise();
     match build(alloc, &found, maker, node_limit) {
-        Ok(compiled) => Ok((found.draft(), compiled.schemas.table)),
+        Ok(compiled) => Ok((found.draft(), compiled)),
         Err(cause) => Err(BuildError::of_schema(cause)),
     }
 }
 
 // The draft of the schema that a reference leads to.
-fn draft_at(registry: &SharedRegistry, base: &Uri, root: &str) -> Result<Draft, AllocError>
+pub(crate) fn draft_at(
+    registry: &SharedRegistry,
+    base: &Uri,
+    root: &str,
+) -> Result<Draft, AllocError>
     ensures { IfOk result (λ d. (target : Target) → Finds (root_of (documents_shared registry.now) base.now root.now) target → d ≡ target.dialect.draft) }
 {
     let resolver = registry.registry().resolver(base.clone()?)?;
@@ -65,28 +75,25 @@ fn draft_at(registry: &SharedRegistry, base: &Uri, root: &str) -> Result<Draft, 
 }
 
 impl<M: PatternMatcher> Validator<M> {
-    // A validator that has these.
-    fn with(
+    // A validator over a graph, from a node on.
+    pub(crate) fn over(
         alloc: Global,
-        registry: &SharedRegistry,
-        base: &Uri,
-        root: &str,
+        schemas: Rc<SchemaGraph<M>>,
+        start: usize,
         draft: Draft,
-        table: &Rc<PatternTable<M>>,
-    ) -> Result<Validator<M>, AllocError>
-        requires sound { IsSoundBySome (root_of (documents_shared registry.now) base.now root.now) }
-        ensures root { IfOk result (λ v. root_in v ≡ root_of (documents_shared registry.now) base.now root.now) }
-        ensures draft { IfOk result (λ v. v.draft ≡ draft) }
-        ensures table { IfOk result (λ v. v.table.value ≡ table.now.value) }
+    ) -> Validator<M>
+        requires there { start < length schemas.value.graph.nodes.items }
+        requires of_some { AreOfSome schemas.value.graph.nodes.items start }
+        ensures schemas { result.schemas.value ≡ schemas.value }
+        ensures start { result.start ≡ start }
+        ensures draft { result.draft ≡ draft }
     {
-        Ok(Validator {
+        Validator {
             alloc,
-            registry: registry.share()?,
-            base: base.clone()?,
-            root: String::from_str(alloc, root)?,
+            schemas,
+            start,
             draft,
-            table: table.clone()?,
-        })
+        }
     }
 
     // A validator by the schema that a reference leads to, whether it has a meta-schema or not.
@@ -98,31 +105,14 @@ impl<M: PatternMatcher> Validator<M> {
         maker: &P,
         node_limit: usize,
     ) -> Result<Validator<M>, BuildError>
-        ensures root { IfOk result (λ v. root_in v ≡ root_of (documents_shared registry.now) base.now root.now) }
-        ensures made { IfOk result (IsMadeBy M.finds (P.patterns maker.now)) }
-        ensures draft { IfOk result (λ v. (target : Target) → Finds (root_in v) target → v.draft ≡ target.dialect.draft) }
-        ensures within { IfOk result (λ v. IsWithin (P.patterns maker.now) node_limit (root_in v)) }
+        ensures made { IfOk result (IsMadeBy (P.patterns maker.now) (root_of (documents_shared registry.now) base.now root.now)) }
+        ensures draft { IfOk result (λ v. (target : Target) → Finds (root_of (documents_shared registry.now) base.now root.now) target → v.draft ≡ target.dialect.draft) }
+        ensures within { IfOk result (λ v. IsWithin (P.patterns maker.now) node_limit (root_of (documents_shared registry.now) base.now root.now)) }
         ensures refused { IfErr result (RefusesBuild (P.patterns maker.now) node_limit (root_of (documents_shared registry.now) base.now root.now)) }
     {
-        let (draft, table) = check_at(alloc, registry, base, root, maker, node_limit)?;
-        let table = shared(alloc, table)?;
-        Ok(Validator::with(alloc, registry, base, root, draft, &table)?)
-    }
-
-    // A validator by the schema that a reference leads to, where nothing is wrong, with a table of the patterns that are reached from there.
-    pub(crate) fn over(
-        alloc: Global,
-        registry: &SharedRegistry,
-        base: &Uri,
-        root: &str,
-        table: &Rc<PatternTable<M>>,
-    ) -> Result<Validator<M>, AllocError>
-        requires sound { IsSoundBySome (root_of (documents_shared registry.now) base.now root.now) }
-        ensures root { IfOk result (λ v. root_in v ≡ root_of (documents_shared registry.now) base.now root.now) }
-        ensures table { IfOk result (λ v. v.table.value ≡ table.now.value) }
-        ensures draft { IfOk result (λ v. (target : Target) → Finds (root_in v) target → v.draft ≡ target.dialect.draft) }
-    {
-        let draft = draft_at(registry, base, root)?;
-        Validator::with(alloc, registry, base, root, draft, table)
+        let (draft, compiled) = compile_at(alloc, registry, base, root, maker, node_limit)?;
+        let start = compiled.start;
+        let schemas = shared(alloc, compiled.schemas)?;
+        Ok(Validator::over(alloc, schemas, start, draft))
     }
 }

@@ -1,18 +1,21 @@
 //! How maps of validators are built.
 
-ghost use Rattle.std.specs.Prelude.{◌≡◌, ◌∷◌, [], ℕ, List, map, true, bytes_eq, string_bytes, length, slice_get, ◌<◌, IfOk, IfErr, OnOk, None, Some, is_some};
-ghost use Rattle.std.specs.List.{AllZip, IsDistinct};
+ghost use Rattle.std.specs.Prelude.{◌≡◌, map, bytes_eq, string_bytes, length, slice_get, ◌<◌, IfOk, IfErr, IfSome, OnOk, None, Some};
+ghost use Rattle.std.specs.List.{All, IsDistinct};
 ghost use Rattle.schema_definitions.specs.Bearers.{Document};
 ghost use Rattle.schema_registries.specs.Pointers as places;
 ghost use Rattle.schema_registries.specs.Seen.{documents_shared};
-ghost use Rattle.schema_registries.specs.Roots.{IsSoundBySome};
-ghost use Rattle.schema_validators.specs.Maps.{entries_in, entry_at, place_root, PutsPlace, Enters, IsMapOf, IsMapAt, ArePlacesExceeded, RefusesMapAt};
+ghost use Rattle.compiled_graphs.specs.Marked.{IsNode};
+ghost use Rattle.schema_validators.specs.Maps.{entries_in, entry_at, PutsPlace, Enters, IsMapOf, IsMapAt, ArePlacesExceeded, RefusesMapAt};
+ghost use Rattle.schema_validators.specs.Meant.{IsOfSome};
 
+use crate::building::draft_at;
 use crate::error::BuildError;
 use crate::validator::Validator;
 use crate::validator_map::ValidatorMap;
+use compiled_graphs::schemas::SchemaGraph;
 use compiled_graphs::several::build_each;
-use schema_patterns::{PatternMaker, PatternMatcher, PatternTable};
+use schema_patterns::{PatternMaker, PatternMatcher};
 use schema_registries::place_pointers::{pointers_in, reference_to};
 use schema_registries::{SchemaRegistry, SharedRegistry};
 use std::alloc::{AllocError, Global};
@@ -30,36 +33,27 @@ fn references_to(alloc: Global, pointers: &[String]) -> Result<Vec<String>, Allo
     Ok(references)
 }
 
-// A mark for each start, whether there is one.
-fn marks_of(alloc: Global, starts: &[Option<usize>]) -> Result<Vec<bool>, AllocError>
-    ensures { IfOk result (λ v. v.items ≡ map is_some starts.now) }
-{
-    let mut marks = Vec::new(alloc);
-    for start in starts {
-        marks.push(start.is_some())?;
-    }
-    Ok(marks)
-}
-
-// Puts the validator of a place behind others, where the place may be read.
+// Puts the validator of a place behind others, where the place has a node at which it starts.
 fn put<M: PatternMatcher>(
     alloc: Global,
     registry: &SharedRegistry,
     document: &Uri,
     pointer: &str,
-    is_right: bool,
-    table: &Rc<PatternTable<M>>,
+    start: Option<usize>,
+    schemas: &Rc<SchemaGraph<M>>,
     map: &mut ValidatorMap<M>,
 ) -> Result<(), AllocError>
-    requires sound { is_right ≡ true → IsSoundBySome (place_root (documents_shared registry.now) document.now pointer.now) }
+    requires there { IsNode (length schemas.now.value.graph.nodes.items) start }
+    requires of_some { IsOfSome schemas.now.value.graph.nodes.items start }
     requires absent { entry_at map.old pointer.now ≡ None }
-    ensures { OnOk result (PutsPlace (documents_shared registry.now) document.now table.now.value pointer.now is_right (entries_in map.old) (entries_in map.new)) }
+    ensures { OnOk result (PutsPlace (documents_shared registry.now) document.now schemas.now.value pointer.now start (entries_in map.old) (entries_in map.new)) }
 {
-    if !is_right {
+    let Some(start) = start else {
         return Ok(());
-    }
+    };
     let reference = reference_to(alloc, pointer)?;
-    let validator = Validator::over(alloc, registry, document, reference.as_str(), table)?;
+    let draft = draft_at(registry, document, reference.as_str())?;
+    let validator = Validator::over(alloc, schemas.clone()?, start, draft);
     let key = String::from_str(alloc, pointer)?;
     match map.validators.insert(key, validator) {
         Ok(_) => Ok(()),
@@ -67,34 +61,34 @@ fn put<M: PatternMatcher>(
     }
 }
 
-fn is_marked(marks: &[bool], position: usize) -> bool
-    requires { position < length marks.now }
-    ensures { slice_get marks.now position ≡ Some result }
+fn start_at(starts: &[Option<usize>], position: usize) -> Option<usize>
+    requires { position < length starts.now }
+    ensures { slice_get starts.now position ≡ Some result }
 {
-    marks[position]
+    starts[position]
 }
 
-// The validators of the places that are marked.
+// The validators of the places that have a node at which they start.
 fn validators_at<M: PatternMatcher>(
     alloc: Global,
     registry: &SharedRegistry,
     document: &Uri,
     pointers: &[String],
-    right: &[bool],
-    table: PatternTable<M>,
+    starts: &[Option<usize>],
+    schemas: SchemaGraph<M>,
 ) -> Result<ValidatorMap<M>, AllocError>
-    requires sound { AllZip (λ k b. b ≡ true → IsSoundBySome (place_root (documents_shared registry.now) document.now k)) (map string_bytes pointers.now) right.now }
+    requires long { length starts.now ≡ length pointers.now }
+    requires there { All (IsNode (length schemas.graph.nodes.items)) starts.now }
+    requires of_some { All (IsOfSome schemas.graph.nodes.items) starts.now }
     requires distinct { IsDistinct bytes_eq (map string_bytes pointers.now) }
-    ensures { IfOk result (λ m. Enters (documents_shared registry.now) document.now table (map string_bytes pointers.now) right.now (entries_in m)) }
+    ensures { IfOk result (λ m. Enters (documents_shared registry.now) document.now schemas (map string_bytes pointers.now) starts.now (entries_in m)) }
 {
-    let table = Rc::new(alloc, table)?;
+    let shared = Rc::new(alloc, schemas)?;
     let mut map = ValidatorMap::new(alloc);
     for position in 0..pointers.len() {
-        let is_right = is_marked(right, position);
+        let start = start_at(starts, position);
         let pointer = pointers[position].as_str();
-        put(
-            alloc, registry, document, pointer, is_right, &table, &mut map,
-        )?;
+        put(alloc, registry, document, pointer, start, &shared, &mut map)?;
     }
     Ok(map)
 }
@@ -107,7 +101,7 @@ fn map_of<P: PatternMaker>(
     maker: &P,
     node_limit: usize,
 ) -> Result<ValidatorMap<P::Matcher>, BuildError>
-    ensures built { IfOk result (λ m. (d : Document) → places.IsDocumentAt (documents_shared registry.now) document.now d → IsMapOf P.Matcher.finds (P.patterns maker.now) (documents_shared registry.now) d node_limit m) }
+    ensures built { IfOk result (λ m. (d : Document) → places.IsDocumentAt (documents_shared registry.now) document.now d → IsMapOf (P.patterns maker.now) (documents_shared registry.now) d node_limit m) }
     ensures refused { IfErr result (λ e. (d : Document) → places.IsDocumentAt (documents_shared registry.now) document.now d → ArePlacesExceeded (P.patterns maker.now) (documents_shared registry.now) d node_limit e) }
 {
     let pointers = pointers_in(alloc, registry.registry(), document)?;
@@ -125,15 +119,14 @@ fn map_of<P: PatternMaker>(
         Ok(built) => built,
         Err(cause) => return Err(BuildError::of_places(cause)),
     };
-    let right = marks_of(alloc, built.starts.as_slice())?;
-    let schemas = built.schemas;
+    let starts = built.starts;
     let map = validators_at(
         alloc,
         registry,
         document,
         pointers.as_slice(),
-        right.as_slice(),
-        schemas.table,
+        starts.as_slice(),
+        built.schemas,
     )?;
     Ok(map)
 }
@@ -150,7 +143,7 @@ pub(crate) fn map_at<P: PatternMaker>(
     maker: &P,
     node_limit: usize,
 ) -> Result<ValidatorMap<P::Matcher>, BuildError>
-    ensures built { IfOk result (IsMapAt P.Matcher.finds (P.patterns maker.now) registry.now root.now node_limit) }
+    ensures built { IfOk result (IsMapAt (P.patterns maker.now) registry.now root.now node_limit) }
     ensures refused { IfErr result (RefusesMapAt (P.patterns maker.now) registry.now root.now node_limit) }
 {
     let resolver = registry.registry().resolver(registry.base().clone()?)?;

@@ -8,17 +8,16 @@ ghost use Rattle.schema_definitions.specs.Words.{has_text};
 ghost use Rattle.reached_sites.specs.Passed.{target_in};
 ghost use Rattle.schema_registries.specs.Passed.{retrieved_by};
 ghost use Rattle.schema_registries.specs.Answers.{IsAnswer};
-ghost use Rattle.schema_registries.specs.Roots.{Patterns};
+ghost use Rattle.schema_registries.specs.Roots.{Root, Patterns};
 ghost use Rattle.schema_validators.specs.Asked.{schema_of_draft, schema_text, meta_schema_of, meta_root, Accepts, IsHandedIn, IsMetIn};
 ghost use Rattle.schema_validators.specs.Made.{IsMadeBy};
 ghost use Rattle.schema_validators.specs.Refused.{RefusesAt, RefusesByMeta, RefusesValue};
-ghost use Rattle.schema_validators.specs.Seen.{root_in};
 ghost use Rattle.schema_validators.specs.declared.error.BuildError.TheVariants.{Memory};
 
 use crate::error::BuildError;
 use crate::validator::Validator;
-use plain_reader::Resolved;
 use reached_sites::{Error, Registry};
+use referencing::Resolved;
 use schema_dialects::bases::resolved;
 use schema_dialects::identifiers::schema_in_force;
 use schema_drafts::draft::Draft;
@@ -110,8 +109,8 @@ fn ask<M: PatternMatcher>(
     meta_schema: &Validator<M>,
     value: &Value,
 ) -> Result<(), BuildError>
-    ensures accepted { OnOk result ((p : Patterns) → IsMadeBy M.finds p meta_schema.now → IsAnswer verdicts p (root_in meta_schema.now) (view value.now) true) }
-    ensures refused { IfErr result (λ e. (p : Patterns) → IsMadeBy M.finds p meta_schema.now → (e ≡ Memory) ⊎ RefusesValue p (root_in meta_schema.now) (view value.now) e) }
+    ensures accepted { OnOk result ((p : Patterns) (r : Root) → IsMadeBy p r meta_schema.now → IsAnswer verdicts p r (view value.now) true) }
+    ensures refused { IfErr result (λ e. (p : Patterns) (r : Root) → IsMadeBy p r meta_schema.now → (e ≡ Memory) ⊎ RefusesValue p r (view value.now) e) }
 {
     match meta_schema.first_fault(value)? {
         Ok(()) => Ok(()),

@@ -16,7 +16,6 @@ ghost use Rattle.schema_validators.specs.Prepared.{asking_by, layer_by, meta_sch
 ghost use Rattle.schema_validators.specs.Refused.{RefusesGiven, RefusesPreparing, RefusesRoot};
 ghost use Rattle.schema_validators.specs.Built.{IsBuilt, RefusesBuilding};
 ghost use Rattle.schema_validators.specs.Mapped.{IsMapBuilt, RefusesMapping};
-ghost use Rattle.schema_validators.specs.Seen.{root_in};
 
 use crate::error::BuildError;
 use crate::mapping::map_at;
@@ -212,7 +211,8 @@ impl<P: PatternMaker + Drop, R: Drop> ValidationOptions<P, R> {
     /// A validator by the schema that a reference leads to, against the registry's base. Where meta-schemas were handed in, that of the
     /// root is asked. No document is retrieved.
     ///
-    /// It walks what is reached from there once, and makes each pattern there once. The registry is shared.
+    /// It walks what is reached from there once, compiles each schema there once, and makes each pattern there once. The validator keeps
+    /// nothing of the registry.
     ///
     /// # Errors
     ///
@@ -224,11 +224,10 @@ impl<P: PatternMaker + Drop, R: Drop> ValidationOptions<P, R> {
         registry: &SchemaRegistry,
         root: &str,
     ) -> Result<Validator<P::Matcher>, BuildError>
-        ensures root { IfOk result (λ v. root_in v ≡ root_on registry.now root.now) }
-        ensures made { IfOk result (IsMadeBy P.Matcher.finds (P.patterns self.now.maker)) }
-        ensures draft { IfOk result (λ v. (target : Target) → Finds (root_in v) target → v.draft ≡ target.dialect.draft) }
-        ensures within { IfOk result (λ v. IsWithin (P.patterns self.now.maker) self.now.node_limit (root_in v)) }
-        ensures met { IfOk result (λ v. (target : Target) → Finds (root_in v) target → IsMet (P.patterns self.now.maker) self.now.node_limit registry.now.parent target) }
+        ensures made { IfOk result (IsMadeBy (P.patterns self.now.maker) (root_on registry.now root.now)) }
+        ensures draft { IfOk result (λ v. (target : Target) → Finds (root_on registry.now root.now) target → v.draft ≡ target.dialect.draft) }
+        ensures within { IfOk result (λ v. IsWithin (P.patterns self.now.maker) self.now.node_limit (root_on registry.now root.now)) }
+        ensures met { IfOk result (λ v. (target : Target) → Finds (root_on registry.now root.now) target → IsMet (P.patterns self.now.maker) self.now.node_limit registry.now.parent target) }
         ensures refused { IfErr result (RefusesRoot (P.patterns self.now.maker) self.now.node_limit registry.now (root_on registry.now root.now)) }
     {
         let (alloc, limit) = (self.alloc, self.node_limit);
@@ -317,8 +316,6 @@ impl<P: PatternMaker + Drop, R: Retrieve + Drop> ValidationOptions<P, R> {
         root: &str,
     ) -> Result<Validator<P::Matcher>, BuildError>
         ensures built { IfOk result (IsBuilt (P.patterns self.now.maker) R.may_answer R.may_refuse self.now (documents_given documents.now) root.now) }
-        ensures made { IfOk result (IsMadeBy P.Matcher.finds (P.patterns self.now.maker)) }
-        ensures draft { IfOk result (λ v. (target : Target) → Finds (root_in v) target → v.draft ≡ target.dialect.draft) }
         ensures refused { IfErr result (λ e. RefusesPreparing R.may_answer R.may_refuse self.now (documents_given documents.now) e ⊎ RefusesBuilding (P.patterns self.now.maker) R.may_answer R.may_refuse self.now (documents_given documents.now) root.now e) }
     {
         let registry = self.prepare(documents)?;
@@ -328,7 +325,7 @@ impl<P: PatternMaker + Drop, R: Retrieve + Drop> ValidationOptions<P, R> {
     /// A validator for each schema of the document under whose URI a root lies, an own one before a parent's, by its JSON Pointer: those of its schema places at which nothing is wrong
     /// and from which nothing wrong is reached. Each begins where looking its pointer up, as a fragment, leads from the document's URI.
     ///
-    /// All that is reached from the places is walked once. The patterns are made once for all of them, and each validator reads the matches of all.
+    /// All that is reached from the places is walked once, and compiled into one graph, with its patterns, that all of them share.
     /// No meta-schema is asked.
     ///
     /// # Errors
@@ -339,7 +336,7 @@ impl<P: PatternMaker + Drop, R: Retrieve + Drop> ValidationOptions<P, R> {
         documents: &Documents,
         root: &str,
     ) -> Result<ValidatorMap<P::Matcher>, BuildError>
-        ensures built { IfOk result (IsMapBuilt P.Matcher.finds (P.patterns self.now.maker) R.may_answer R.may_refuse self.now (documents_given documents.now) root.now) }
+        ensures built { IfOk result (IsMapBuilt (P.patterns self.now.maker) R.may_answer R.may_refuse self.now (documents_given documents.now) root.now) }
         ensures refused { IfErr result (λ e. RefusesPreparing R.may_answer R.may_refuse self.now (documents_given documents.now) e ⊎ RefusesMapping (P.patterns self.now.maker) R.may_answer R.may_refuse self.now (documents_given documents.now) root.now e) }
     {
         let registry = self.prepare(documents)?;

@@ -1,54 +1,44 @@
 //! Validators.
 
-ghost use Rattle.std.specs.Prelude.{◌≡◌, ◌≤◌, OnOk, ◌∷◌, [], IfOk, IfErr, is_ok, codes, string_bytes, None, true, false};
-ghost use Rattle.serde_json.specs.Data.{depth};
+ghost use Rattle.std.specs.Prelude.{◌≡◌, ◌<◌, length, OnOk, IfOk, IfErr, is_ok, codes, None, true, false};
 ghost use Rattle.serde_json.specs.View.{view};
-ghost use Rattle.schema_definitions.specs.Plain.{deepest};
-ghost use Rattle.plain_reader.specs.Roots.{TellsRoot};
 ghost use Rattle.schema_drafts.specs.Drafts as drafts;
-ghost use Rattle.schema_meaning.specs.Faults.{Faults};
-ghost use Rattle.schema_meaning.specs.Readings.{verdicts, bags};
-ghost use Rattle.reached_sites.specs.Passed.{documents_in, documents_of, target_in};
+ghost use Rattle.schema_meaning.specs.Faults.{Faults, Told, is_none};
+ghost use Rattle.schema_meaning.specs.Readings.{verdicts};
 ghost use Rattle.schema_reports.specs.Left.{errors_left};
 ghost use Rattle.schema_reports.specs.Stands.{first_stands};
 ghost use Rattle.schema_reports.specs.Told.{fault_of, faults_of, error_is_proper, are_proper};
-ghost use Rattle.schema_validators.specs.Heard.{StillKeeps, SaysOne};
-ghost use Rattle.schema_registries.specs.Answers.{IsCut, IsAnswer, IsFault};
+ghost use Rattle.schema_validators.specs.Heard.{SaysOne};
+ghost use Rattle.schema_validators.specs.Meant.{AreOfSome};
+ghost use Rattle.schema_registries.specs.Answers.{IsAnswer};
 ghost use Rattle.schema_registries.specs.Certified.{IsCertified, HasCertificate, HaveCertificates};
-ghost use Rattle.schema_registries.specs.Roots.{Patterns, IsSoundBySome};
+ghost use Rattle.schema_registries.specs.Roots.{Root, Patterns};
 ghost use Rattle.schema_registries.specs.Whole.{only_whole};
-ghost use Rattle.schema_validators.specs.Missing.{TellsEachMissing};
 ghost use Rattle.schema_validators.specs.Numbers.{NamesOther};
 
 use crate::error::{BuildError, NumberError};
 use crate::options::ValidationOptions;
-use plain_reader::Resolved;
-use plain_reader::root::tell_root;
-use reached_sites::Registry;
+use compiled_graphs::schemas::SchemaGraph;
 use regex_patterns::RegexMatcher;
 use schema_drafts::draft::Draft;
-use schema_patterns::matches::Matches;
-use schema_patterns::{PatternMaker, PatternMatcher, PatternTable};
+use schema_patterns::{PatternMaker, PatternMatcher};
 use schema_registries::{DefaultRetriever, Documents, Retrieve, has_only_whole, other_number};
-use schema_reports::{AllFaults, ErrorIterator, FirstFault, Observer, ValidationError, Verdict};
+use schema_reports::{AllFaults, ErrorIterator, FirstFault, Observer, ValidationError};
 use serde_json::Value;
 use std::alloc::{AllocError, Global};
 use std::rc::Rc;
-use uri_references::uri::Uri;
 
-/// A schema to validate by: the one that a reference leads to in documents that were prepared.
+/// A schema to validate by: the one that a reference leads to in documents that were prepared, with all that is reached from there.
 ///
-/// It shares the documents and keeps the patterns that were made, looks its root up anew in each call, and reads the matches of a value
-/// before the value's schemas.
+/// It has them compiled into a graph, with the patterns that were made, and no document. The validators of a map share one graph.
 #[derive(Drop)]
-pub struct Validator<M = RegexMatcher> {
+pub struct Validator<M: PatternMatcher = RegexMatcher> {
     pub(crate) alloc: Global,
-    pub(crate) registry: Rc<Registry<'static>>,
-    pub(crate) base: Uri,
-    pub(crate) root: String,
+    pub(crate) schemas: Rc<SchemaGraph<M>>,
+    pub(crate) start: usize,
     pub(crate) draft: Draft,
-    pub(crate) table: Rc<PatternTable<M>>,
-    ghost sound: { IsSoundBySome (record { documents = documents_of registry.value; base = base; reference = string_bytes root }) },
+    ghost there: { start < length schemas.value.graph.nodes.items },
+    ghost of_some: { AreOfSome schemas.value.graph.nodes.items start },
 }
 
 impl Validator {
@@ -71,10 +61,13 @@ impl Validator {
 }
 
 impl<M: PatternMatcher> Validator<M> {
-    ghost use Rattle.schema_validators.specs.Seen.{root_in};
+    ghost use Rattle.schema_validators.specs.Answered.{AreFaults, IsFault};
     ghost use Rattle.schema_validators.specs.Made.{IsMadeBy};
-    ghost use Rattle.schema_validators.specs.Heard.{HearsCut};
+    ghost use Rattle.schema_validators.specs.Missing.{TellsEachMissing};
     ghost use Rattle.schema_validators.specs.New.{IsNew, Refuses};
+    ghost use Rattle.schema_validators.specs.Seen.{nodes_in};
+    ghost use Rattle.schema_validators.specs.Told.{verdict_by, faults_by};
+    ghost use Rattle.schema_validators.specs.ByNodes.{HearsBy, AreFaultsBy, HaveCertificatesBy};
 
     /// A validator of a schema by a maker of patterns, and by the options that stand until it is said otherwise: the schema is the document
     /// at the base URI, and the root of validation.
@@ -90,7 +83,6 @@ impl<M: PatternMatcher> Validator<M> {
         maker: P,
     ) -> Result<Validator<M>, BuildError>
         ensures built { IfOk result (IsNew (P.patterns maker) ⟦<DefaultRetriever as Retrieve>⟧.may_answer ⟦<DefaultRetriever as Retrieve>⟧.may_refuse maker (view schema)) }
-        ensures made { IfOk result (IsMadeBy M.finds (P.patterns maker)) }
         ensures refused { IfErr result (Refuses (P.patterns maker) ⟦<DefaultRetriever as Retrieve>⟧.may_answer ⟦<DefaultRetriever as Retrieve>⟧.may_refuse maker (view schema)) }
     {
         let options = Validator::options(alloc)?.with_pattern_maker(maker);
@@ -101,10 +93,9 @@ impl<M: PatternMatcher> Validator<M> {
         }
     }
 
-    /// Where it begins leads somewhere, and by the patterns of some maker nothing is wrong at the schemas reached from there. It does
-    /// nothing.
+    /// There is a root, and a maker of patterns, by which nothing is wrong at the schemas reached, that its nodes mean. It does nothing.
     pub fn root_is_sound(&self)
-        ensures { IsSoundBySome (root_in self.now) }
+        ensures { AreOfSome (nodes_in self.now) self.now.start }
     {}
 
     /// The draft of the root.
@@ -116,25 +107,20 @@ impl<M: PatternMatcher> Validator<M> {
 
     /// Whether a value is valid.
     ///
-    /// Its numbers are whole numbers of 64 bits, as `has_only_whole` tells; `check_json` tests that by itself. It stops at the first fault,
-    /// and keeps none. A value at which references come back to where they were is read as the cut
-    /// reading does: the return is accepted.
+    /// Its numbers are whole numbers of 64 bits, as `has_only_whole` tells; `check_json` tests that by itself. It stops as soon as that is
+    /// decided, and takes no memory but for one stack of questions. A value at which references come back to where they were is read as
+    /// the cut reading does: the return is accepted.
     ///
     /// # Errors
     ///
-    /// Where memory was refused or a count of owners is full.
+    /// Where memory was refused.
     pub fn is_valid(&self, value: &Value) -> Result<bool, AllocError>
         requires whole { only_whole (view value.now) ≡ true }
-        ensures cut { IfOk result (λ b. (p : Patterns) → IsMadeBy M.finds p self.now → IsCut verdicts p (root_in self.now) (view value.now) b) }
-        ensures verdict { IfOk result (λ b. (p : Patterns) → IsMadeBy M.finds p self.now → IsAnswer verdicts p (root_in self.now) (view value.now) b) }
-        ensures certified { IfOk result (λ b. (p : Patterns) → IsMadeBy M.finds p self.now → IsCertified p (root_in self.now) (view value.now) b) }
+        ensures cut { IfOk result (λ b. b ≡ verdict_by self.now (view value.now)) }
+        ensures verdict { IfOk result (λ b. (p : Patterns) (r : Root) → IsMadeBy p r self.now → IsAnswer verdicts p r (view value.now) b) }
+        ensures certified { IfOk result (λ b. (p : Patterns) (r : Root) → IsMadeBy p r self.now → IsCertified p r (view value.now) b) }
     {
-        let observer = self.told(value, Observer::Verdict(Verdict::new()))?;
-        match observer {
-            Observer::Verdict(verdict) => Ok(verdict.accepts()),
-            Observer::First(_first) => unreachable!(),
-            Observer::All(_all) => unreachable!(),
-        }
+        self.schemas.is_valid(self.alloc, self.start, value)
     }
 
     /// Nothing where a value is valid, and else one of its faults: the first that is met.
@@ -150,11 +136,12 @@ impl<M: PatternMatcher> Validator<M> {
         value: &'i Value,
     ) -> Result<Result<(), ValidationError<'i>>, AllocError>
         requires whole { only_whole (view value.now) ≡ true }
-        ensures cut { IfOk result (λ answer. (p : Patterns) → IsMadeBy M.finds p self.now → IsCut verdicts p (root_in self.now) (view value.now) (is_ok answer)) }
-        ensures verdict { IfOk result (λ answer. (p : Patterns) → IsMadeBy M.finds p self.now → IsAnswer verdicts p (root_in self.now) (view value.now) (is_ok answer)) }
-        ensures fault { IfOk result (λ answer. IfErr answer (λ e. (p : Patterns) → IsMadeBy M.finds p self.now → IsFault p (root_in self.now) (view value.now) (fault_of e))) }
+        ensures cut { IfOk result (λ answer. is_ok answer ≡ verdict_by self.now (view value.now)) }
+        ensures one { IfOk result (λ answer. IfErr answer (λ e. Told (fault_of e) (faults_by self.now (view value.now)))) }
+        ensures verdict { IfOk result (λ answer. (p : Patterns) (r : Root) → IsMadeBy p r self.now → IsAnswer verdicts p r (view value.now) (is_ok answer)) }
+        ensures fault { IfOk result (λ answer. IfErr answer (λ e. (p : Patterns) (r : Root) → IsMadeBy p r self.now → IsFault p r (view value.now) (fault_of e))) }
         ensures proper { IfOk result (λ answer. IfErr answer (λ e. error_is_proper e ≡ true)) }
-        ensures certified { IfOk result (λ answer. IfErr answer (λ e. (p : Patterns) → IsMadeBy M.finds p self.now → HasCertificate p (root_in self.now) (view value.now) (fault_of e))) }
+        ensures certified { IfOk result (λ answer. IfErr answer (λ e. (p : Patterns) (r : Root) → IsMadeBy p r self.now → HasCertificate p r (view value.now) (fault_of e))) }
     {
         self.first_fault(value)
     }
@@ -164,11 +151,12 @@ impl<M: PatternMatcher> Validator<M> {
         &self,
         value: &'i Value,
     ) -> Result<Result<(), ValidationError<'i>>, AllocError>
-        ensures cut { IfOk result (λ answer. (p : Patterns) → IsMadeBy M.finds p self.now → IsCut verdicts p (root_in self.now) (view value.now) (is_ok answer)) }
-        ensures verdict { IfOk result (λ answer. (p : Patterns) → IsMadeBy M.finds p self.now → IsAnswer verdicts p (root_in self.now) (view value.now) (is_ok answer)) }
-        ensures fault { IfOk result (λ answer. IfErr answer (λ e. (p : Patterns) → IsMadeBy M.finds p self.now → IsFault p (root_in self.now) (view value.now) (fault_of e))) }
+        ensures cut { IfOk result (λ answer. is_ok answer ≡ verdict_by self.now (view value.now)) }
+        ensures one { IfOk result (λ answer. IfErr answer (λ e. Told (fault_of e) (faults_by self.now (view value.now)))) }
+        ensures verdict { IfOk result (λ answer. (p : Patterns) (r : Root) → IsMadeBy p r self.now → IsAnswer verdicts p r (view value.now) (is_ok answer)) }
+        ensures fault { IfOk result (λ answer. IfErr answer (λ e. (p : Patterns) (r : Root) → IsMadeBy p r self.now → IsFault p r (view value.now) (fault_of e))) }
         ensures proper { IfOk result (λ answer. IfErr answer (λ e. error_is_proper e ≡ true)) }
-        ensures certified { IfOk result (λ answer. IfErr answer (λ e. (p : Patterns) → IsMadeBy M.finds p self.now → HasCertificate p (root_in self.now) (view value.now) (fault_of e))) }
+        ensures certified { IfOk result (λ answer. IfErr answer (λ e. (p : Patterns) (r : Root) → IsMadeBy p r self.now → HasCertificate p r (view value.now) (fault_of e))) }
     {
         let observer = self.told(value, Observer::First(FirstFault::new()))?;
         match observer {
@@ -191,10 +179,11 @@ impl<M: PatternMatcher> Validator<M> {
         value: &'i Value,
     ) -> Result<Result<(), ValidationError<'i>>, NumberError>
         ensures whole { OnOk result (only_whole (view value.now) ≡ true) }
-        ensures verdict { IfOk result (λ answer. (p : Patterns) → IsMadeBy M.finds p self.now → IsAnswer verdicts p (root_in self.now) (view value.now) (is_ok answer)) }
-        ensures fault { IfOk result (λ answer. IfErr answer (λ e. (p : Patterns) → IsMadeBy M.finds p self.now → IsFault p (root_in self.now) (view value.now) (fault_of e))) }
+        ensures cut { IfOk result (λ answer. is_ok answer ≡ verdict_by self.now (view value.now)) }
+        ensures verdict { IfOk result (λ answer. (p : Patterns) (r : Root) → IsMadeBy p r self.now → IsAnswer verdicts p r (view value.now) (is_ok answer)) }
+        ensures fault { IfOk result (λ answer. IfErr answer (λ e. (p : Patterns) (r : Root) → IsMadeBy p r self.now → IsFault p r (view value.now) (fault_of e))) }
         ensures proper { IfOk result (λ answer. IfErr answer (λ e. error_is_proper e ≡ true)) }
-        ensures certified { IfOk result (λ answer. IfErr answer (λ e. (p : Patterns) → IsMadeBy M.finds p self.now → HasCertificate p (root_in self.now) (view value.now) (fault_of e))) }
+        ensures certified { IfOk result (λ answer. IfErr answer (λ e. (p : Patterns) (r : Root) → IsMadeBy p r self.now → HasCertificate p r (view value.now) (fault_of e))) }
         ensures refused { IfErr result (NamesOther (view value.now)) }
     {
         if !has_only_whole(value) {
@@ -216,12 +205,13 @@ impl<M: PatternMatcher> Validator<M> {
     /// Where memory was refused or a count of owners is full.
     pub fn iter_errors<'i>(&self, value: &'i Value) -> Result<ErrorIterator<'i>, AllocError>
         requires whole { only_whole (view value.now) ≡ true }
-        ensures cut { IfOk result (λ errors. (p : Patterns) → IsMadeBy M.finds p self.now → IsCut bags p (root_in self.now) (view value.now) (faults_of (errors_left errors))) }
-        ensures faults { IfOk result (λ errors. (p : Patterns) → IsMadeBy M.finds p self.now → IsAnswer bags p (root_in self.now) (view value.now) (faults_of (errors_left errors))) }
+        ensures cut { IfOk result (λ errors. faults_of (errors_left errors) ≡ faults_by self.now (view value.now)) }
+        ensures agree { OnOk result (is_none (faults_by self.now (view value.now)) ≡ verdict_by self.now (view value.now)) }
+        ensures faults { IfOk result (λ errors. (p : Patterns) (r : Root) → IsMadeBy p r self.now → AreFaults p r (view value.now) (faults_of (errors_left errors))) }
         ensures proper { IfOk result (λ errors. are_proper (errors_left errors) ≡ true) }
-        ensures certified { IfOk result (λ errors. (p : Patterns) → IsMadeBy M.finds p self.now → HaveCertificates p (root_in self.now) (view value.now) (faults_of (errors_left errors))) }
-        ensures missing { IfOk result (λ errors. (p : Patterns) → IsMadeBy M.finds p self.now
-            → TellsEachMissing p (root_in self.now) (view value.now) (faults_of (errors_left errors))) }
+        ensures certified { IfOk result (λ errors. (p : Patterns) (r : Root) → IsMadeBy p r self.now → HaveCertificates p r (view value.now) (faults_of (errors_left errors))) }
+        ensures missing { IfOk result (λ errors. (p : Patterns) (r : Root) → IsMadeBy p r self.now
+            → TellsEachMissing p r (view value.now) (faults_of (errors_left errors))) }
     {
         let observer = self.told(value, Observer::All(AllFaults::new(self.alloc)))?;
         match observer {
@@ -237,33 +227,15 @@ impl<M: PatternMatcher> Validator<M> {
         value: &'i Value,
         mut observer: Observer<'i>,
     ) -> Result<Observer<'i>, AllocError>
-        ensures heard { IfOk result (λ o. (p : Patterns) → IsMadeBy M.finds p self.now → HearsCut p (root_in self.now) (view value.now) observer.entry o) }
-        ensures kept { IfOk result (StillKeeps observer.entry) }
+        ensures heard { IfOk result (λ o. HearsBy self.now (view value.now) observer.entry o) }
+        ensures agree { OnOk result (is_none (faults_by self.now (view value.now)) ≡ verdict_by self.now (view value.now)) }
+        ensures faults { OnOk result (AreFaultsBy self.now (view value.now)) }
+        ensures certified { OnOk result (HaveCertificatesBy self.now (view value.now)) }
     {
-        let resolver = self.registry.resolver(self.base.clone()?)?;
-        match resolver.lookup(self.root.as_str()) {
-            Ok(root) => {
-                let matches = Matches::read(self.alloc, &*self.table, value)?;
-                tell_at(self.alloc, &root, &matches, value, &mut observer)?;
-                Ok(observer)
-            }
-            Err(_) => Err(AllocError),
-        }
+        self.schemas
+            .tell_faults(self.alloc, self.start, value, &mut observer)?;
+        Ok(observer)
     }
-}
-
-// What a root tells, by matches that live no longer than the call.
-fn tell_at<'i>(
-    alloc: Global,
-    root: &Resolved<'_>,
-    matches: &Matches,
-    value: &'i Value,
-    observer: &mut Observer<'i>,
-) -> Result<(), AllocError>
-    requires shallow { depth (target_in root.now).contents ≤ deepest (documents_in root.now.resolver) }
-    ensures { OnOk result (TellsRoot (target_in root.now) (documents_in root.now.resolver) matches.now (view value.now) observer.old observer.new) }
-{
-    tell_root(alloc, root, matches, value, observer)
 }
 
 // The error that was kept, if any was.

@@ -8,12 +8,12 @@ use crate::validator::Validator;
 use indexmap::IndexMap;
 use indexmap::map::Keys;
 use regex_patterns::RegexMatcher;
+use schema_patterns::PatternMatcher;
 use std::alloc::Global;
 
-/// A validator for each schema of a document that may be read, by its JSON Pointer: the document and what it refers to are shared, and so
-/// are the patterns.
+/// A validator for each schema of a document that may be read, by its JSON Pointer: all share one graph, with its patterns.
 #[derive(Drop)]
-pub struct ValidatorMap<M = RegexMatcher> {
+pub struct ValidatorMap<M: PatternMatcher = RegexMatcher> {
     pub(crate) validators: IndexMap<String, Validator<M>>,
 }
 
@@ -28,7 +28,7 @@ fn pointer_in(text: &str) -> &str
     }
 }
 
-impl<M> ValidatorMap<M> {
+impl<M: PatternMatcher> ValidatorMap<M> {
     ghost use Rattle.schema_validators.specs.Maps.{keys_of, entries_in, entry_at};
 
     // A map of none.

@@ -3,13 +3,13 @@ use Rattle.std.proofs.Common.{◌≡◌, ℕ, List, Option, if◌then◌else◌,
 use Rattle.clap.specs.Words.{Row}
 use Rattle.program_inputs.specs.Read.{HasWordsOf}
 use Rattle.program_inputs.specs.declared.words.ProgramWords.{ProgramWords}
-use Rattle.regex_patterns.specs.Matchers.{finds_by_regex}
+use Rattle.schema_patterns.specs.declared.matcher.PatternMatcher.{Ghosts}
 use Rattle.regex_patterns.specs.declared.RegexMatcher.{RegexMatcher}
 use Rattle.line_cuts.specs.Runs.{RunsThrough, Stops}
 use Rattle.line_cuts.specs.declared.report.RunReport.{RunReport}
 use Rattle.line_cuts.specs.declared.report.RunError.{RunError}
 use Rattle.line_runs.specs.Runs.{IsLineText}
-use Rattle.line_runs.specs.Passed.{root_in, IsMadeBy}
+use Rattle.line_runs.specs.Passed.{IsMadeBy}
 use Rattle.line_runs.specs.Passed.{Root, Patterns}
 use Rattle.program_inputs.specs.Held.{Held}
 use Rattle.line_runs.specs.Passed.{Validator}
@@ -23,11 +23,11 @@ named_by rows held w root has built =
     let same : words_of w ≡ words_in w.schema.now rows = rw (has.files, has.base, has.draft, has.meta, has.ref_siblings) refl in
     record { schema = w.schema.now; is_schema = has.schema; built = subst (λ (words : Words). IsBuiltOf held words root) same built }
 
-module _ (rows : List Row) (held : List ℕ → Held) (v : Validator RegexMatcher) (named : IsNamed rows held (root_in v)) (made : IsMadeBy finds_by_regex patterns_of_regex v)
+module _ {G : Ghosts RegexMatcher} (rows : List Row) (held : List ℕ → Held) (v : Validator RegexMatcher G) (root : Root) (named : IsNamed rows held root) (made : IsMadeBy patterns_of_regex root v)
     (from to before after : Option (List ℕ)) where
-  pub answers_all : (report : RunReport) → ((p : Patterns) → IsMadeBy finds_by_regex p v → RunsThrough (IsLineText p (root_in v)) from to before after report)
+  pub answers_all : (report : RunReport) → ((p : Patterns) (r : Root) → IsMadeBy p r v → RunsThrough (IsLineText p r) from to before after report)
       → AnswersAll rows held from to before after (if report.any_refused then 1 else 0)
-  answers_all report h = record { root = root_in v; named = named; report = report; answered = h patterns_of_regex made; is_status = refl }
+  answers_all report h = record { root = root; named = named; report = report; answered = h patterns_of_regex root made; is_status = refl }
 
-  pub stops_early : (e : RunError) → ((p : Patterns) → IsMadeBy finds_by_regex p v → Stops (IsLineText p (root_in v)) e from to before after) → StopsEarly rows held from to before after
-  stops_early e h = record { root = root_in v; named = named; error = e; stopped = h patterns_of_regex made }
+  pub stops_early : (e : RunError) → ((p : Patterns) (r : Root) → IsMadeBy p r v → Stops (IsLineText p r) e from to before after) → StopsEarly rows held from to before after
+  stops_early e h = record { root = root; named = named; error = e; stopped = h patterns_of_regex root made }

@@ -1,4 +1,5 @@
 pub mod Given
 pub mod Built
+pub mod Prepared
 pub mod Answered
 pub mod Status

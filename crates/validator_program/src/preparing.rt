@@ -2,12 +2,12 @@
 
 ghost use Rattle.std.specs.Prelude.{◌≡◌, IfOk, Some, option_map};
 ghost use Rattle.document_sources.specs.Seen.{layer_of};
-ghost use Rattle.line_runs.specs.Passed.{meta_schemas_given, root_in, IsMadeBy};
-ghost use Rattle.regex_patterns.specs.Matchers.{finds_by_regex};
+ghost use Rattle.line_runs.specs.Passed.{meta_schemas_given};
 ghost use Rattle.schema_drafts.specs.Drafts.{draft_among};
 ghost use Rattle.schema_registries.specs.Seen.{documents_given};
 ghost use Rattle.validator_program.specs.Given.{MayBeMetaSchemas, base_of, draft_of, draft_words, words_of};
-ghost use Rattle.validator_program.specs.Built.{patterns_of_regex, default_node_limit, IsBuiltOf};
+ghost use Rattle.validator_program.specs.Built.{default_node_limit};
+ghost use Rattle.validator_program.specs.Prepared.{IsValidatorOf};
 
 use crate::documents::{cut_words, read_documents};
 use crate::fault::ProgramFault;
@@ -118,8 +118,7 @@ pub(crate) fn prepare<'a, F: SchemaFiles>(
     words: &ProgramWords<'a>,
     files: &F,
 ) -> Result<Validator, ProgramFault<'a>>
-    ensures made { IfOk result (IsMadeBy finds_by_regex patterns_of_regex) }
-    ensures built { IfOk result (λ v. IsBuiltOf (F.held files.now) (words_of words.now) (root_in v)) }
+    ensures { IfOk result (IsValidatorOf (F.held files.now) (words_of words.now)) }
 {
     let further = cut_words(alloc, words.files.as_slice())?;
     let layer = read_layer(words.draft, words.ref_siblings)?;

@@ -90,11 +90,10 @@ fn assert_printed(rt: &impl Abort, alloc: Global, printed: &impl Debug, want: &s
     assert_eq!(rt; text.as_str(), want);
 }
 
-const VALIDATOR: &str =
-    r##"Validator { base: "http://a.test/r", root: "", draft: Draft202012, .. }"##;
+const VALIDATOR: &str = "Validator { schemas: 3, start: 0, draft: Draft202012, .. }";
 
 const MAP: &str =
-    r##"ValidatorMap { validators: {"": Validator { base: "json-schema:///", root: "#", draft: Draft202012, .. }} }"##;
+    r##"ValidatorMap { validators: {"": Validator { schemas: 1, start: 0, draft: Draft202012, .. }} }"##;
 
 #[test]
 fn printed(rt: HostRuntime) {

@@ -8,6 +8,8 @@ mod answers;
 #[cfg(test)]
 mod applying;
 #[cfg(test)]
+mod asking;
+#[cfg(test)]
 mod building;
 #[cfg(test)]
 mod cases;

@@ -1,208 +1,271 @@
-use Rattle.std.proofs.Common.{rules, string_bytes, arith, ◌≡◌, ℕ, List, [], ◌∷◌, ◌++◌, true, false, refl, sym, ap, ap₂, ◌∙◌, subst, ◌+◌, Bor, drop}
+use Rattle.std.proofs.Common.{rules, string_bytes, arith, ◌≡◌, ℕ, List, [], ◌∷◌, Bool, true, false, not, length, refl, sym, ap, ap₂, ◌∙◌, subst, ◌+◌, Bor, drop}
+use Rattle.std.proofs.lemmas.List.{drop_more, drop_all, length-drop}
+use Rattle.std.proofs.lemmas.Result.{IfOk-weaker}
+use Rattle.std.proofs.Math.Logic.{∥∥₁_map}
+use Rattle.serde_json.proofs.Views.{view-Object}
 use Rattle.serde_json.specs.Data.{member, object, string, boolean}
 use Rattle.serde_json.specs.View.{view, members_view}
-use Rattle.json_values.specs.Parts.{Part, name}
-use Rattle.schema_meaning.specs.Cut.{is_in_progress}
-use Rattle.schema_meaning.specs.Faults.{FalseSchema}
-use Rattle.schema_definitions.specs.Scopes.{entered_scope}
-use Rattle.schema_definitions.specs.Sites.{path_of_reference}
-use Rattle.schema_sites.specs.Passed.{base_of, scope_of, target_in}
-use Rattle.schema_sites.specs.References.{kind_of, name_of}
-use Rattle.document_index.specs.Seen as seen
-use Rattle.schema_sites.specs.Seen.{documents_at}
-use Rattle.schema_patterns.specs.Read.{reads}
-use Rattle.schema_reports.specs.RoadPaths.{instance_in, evaluation_in}
-use Rattle.plain_reader.specs.Spots.{spots_of}
-use Rattle.plain_reader.specs.Keys.{key, keys_in}
-use Rattle.plain_reader.proofs.Left.{MembersLeft, QuestionsLeft, NamedLeft, CountLeft, BranchesLeft}
-use Rattle.plain_reader.proofs.MemberTelling.{members_first, members_settled, members_step, members_last, members_listed}
-use Rattle.plain_reader.proofs.LookedLemmas.{looked_up_lies, looked_up_reads}
-use Rattle.plain_reader.proofs.TargetTelling.{target_deeper, target_back, target_on, falls_by_target, shallow_by_target, at_target_told}
-use Rattle.schema_meaning.specs.Members.{In, first}
-use Rattle.applicators.specs.declared.question.Question.{Question}
-use Rattle.applicators.specs.declared.question.Asked.TheVariants as asking
-use Rattle.applicators.specs.declared.subschema.Entry.TheVariants as entry
-use Rattle.schema_reports.specs.References.{text_of}
-use Rattle.plain_reader.specs.Shapes.{keyword_leads, keyword_shapes}
-use Rattle.std.proofs.lemmas.List.{drop_more, drop_all}
-use Rattle.serde_json.proofs.Views.{view-Object}
 use Rattle.serde_json.specs.declared.value.Value.{Value, the_lemmas}
 use Rattle.serde_json.specs.declared.value.Value.TheVariants as json
+use Rattle.json_values.specs.Parts.{Part}
+use Rattle.schema_meaning.specs.Members.{In, first, is_empty}
+use Rattle.schema_meaning.specs.Cut.{is_in_progress}
 use Rattle.schema_definitions.specs.AllKeys.{spots_in}
-use Rattle.plain_reader.proofs.ItemTelling.{Child, child_shallow}
-use Rattle.std.proofs.lemmas.Result.{on_ok_weaker}
-use Rattle.schema_sites.specs.Passed.{assertion_of}
-use Rattle.plain_reader.proofs.AppliedTelling.{part_within, asks_inside, question_inside, question_part, told_of_value, told_of_item, told_of_member, told_of_name, behind_entry, question_told, questions_init, questions_settled, questions_step, questions_done}
-use Rattle.std.proofs.lemmas.Bool.{false≢true}
-use Rattle.std.proofs.Math.Logic.{∥∥₁_map}
-use Rattle.plain_reader.specs.Combined.{HasBranches}
-use Rattle.plain_reader.specs.Refusals.{carries_branches}
-use Rattle.plain_reader.proofs.NameTelling.{are_uncalled, name_falls, stands_alone, name_told, named_init, named_settled, named_step, named_done}
+use Rattle.schema_definitions.specs.Scopes.{entered_scope}
+use Rattle.schema_patterns.specs.Read.{reads}
+use Rattle.applicators.specs.Combined.{notes_by, decided}
+use Rattle.applicators.specs.Combining.{decided_by}
+use Rattle.applicators.specs.declared.combining.Combining.{Combining}
 use Rattle.applicators.specs.Questions.{step_of}
-use Rattle.plain_reader.proofs.CombinedTelling.{count_yes, count_no, branches_step, branches_done, combined_accepted, combined_heard, combined_told}
+use Rattle.applicators.specs.declared.question.Question.{Question}
+use Rattle.applicators.specs.declared.question.Asked.TheVariants as asking
+use Rattle.document_index.specs.Seen as seen
+use Rattle.schema_sites.specs.Passed.{assertion_of, base_of, scope_of, target_in}
+use Rattle.schema_sites.specs.References.{kind_of, name_of}
+use Rattle.schema_sites.specs.Seen.{documents_at}
+use Rattle.plain_reader.specs.Spots.{spots_of}
+use Rattle.plain_reader.specs.Keys.{key, keys_in}
+use Rattle.plain_reader.specs.Readings.{path_in}
+use Rattle.plain_reader.specs.Applied.{AreAsked}
+use Rattle.plain_reader.specs.Combined.{settles}
+use Rattle.plain_reader.specs.Shapes.{keyword_leads, keyword_shapes}
+use Rattle.plain_reader.proofs.Left.{MembersLeft, QuestionsLeft, CountLeft}
+use Rattle.plain_reader.proofs.LookedLemmas.{looked_up_lies}
 use Rattle.plain_reader.proofs.Reading.{member_inside}
-use Rattle.plain_reader.proofs.ChoiceTelling.{value_part, asked_inside_of, some_inside, then_told, else_told, beside_told, none_told}
-use Rattle.plain_reader.proofs.KeywordTelling.{tells_nothing, tells_assertion, tells_pattern, tells_every, tells_applicator, tells_choice, tells_reference, tells_member, tells_refused, tells_object, tells_false, tells_no_object}
-use Rattle.plain_reader.proofs.+read.Goals.{read::read_member-in-Memory, read::read_member-in_default, read::count_accepted-then-heard_none, read::count_accepted-else-heard_none, read::read_combined-then-carries_branches+in_ok-context, read::read_combined-else-carries_branches}
+use Rattle.plain_reader.proofs.MemberVerdicts.{members_first, members_step, members_refused, members_last, members_listed}
+use Rattle.plain_reader.proofs.KeywordVerdicts.{nothing_accepts, assertion_accepts, pattern_accepts, noted_refuses, every_accepts, applicator_accepts, choice_accepts, reference_accepts, member_accepts, refused_accepts, object_accepts, false_refuses, other_accepts}
+use Rattle.plain_reader.proofs.ChoiceVerdicts.{value_part, asked_inside_of, some_inside, then_accepts, else_accepts, beside_accepts, none_accepts}
+use Rattle.plain_reader.proofs.ChildVerdicts.{Child, child_shallow}
+use Rattle.plain_reader.proofs.QuestionVerdicts.{part_within, asks_inside, question_inside, question_part, of_value, of_item, of_member, of_name, question_accepts, questions_init, questions_step, questions_refused, questions_done}
+use Rattle.plain_reader.proofs.Counting.{count_first, count_yes, count_no, count_done, count_settled, combined_accepts}
+use Rattle.plain_reader.proofs.NameVerdicts.{are_uncalled, name_falls, stands_alone, name_accepts}
+use Rattle.plain_reader.proofs.TargetVerdicts.{target_deeper, back_accepts, target_accepts, falls_by_target, shallow_by_target, at_target_accepts}
+use Rattle.plain_reader.proofs.+read.Goals.{read::accepts_member-in-Memory, read::accepts_member-in_default, applied::count_accepted-then-branch, applied::count_accepted-else-branch}
 use Rattle.plain_reader.proofs.+read.Goals as goal
 
-pub read::read_keyword-returns-in-Nothing : goal.read::read_keyword-returns-in-Nothing
-read::read_keyword-returns-in-Nothing t c =
-    let r = c.args.reading.now in
-    let whole = spots_of r.whole in
-    let d = view r.value.now in
-    let keys = keys_in r.progress.now in
-    tells_nothing r.site.now whole d r.roads keys (keyword_leads c.args.keyword) (keyword_shapes c.args.keyword) c.args.observer.now λ x fits. ap (λ k. keyword_shapes k x) c.in-Nothing.is
+not_empty : (e b : Bool) → b ≡ not e → b ≡ true → e ≡ false
+not_empty true b is said = cc
+not_empty false b is said = refl
 
-pub read::read_keyword-returns-in-Assertion : goal.read::read_keyword-returns-in-Assertion
-read::read_keyword-returns-in-Assertion t c =
-    let r = c.args.reading.now in
-    let whole = spots_of r.whole in
-    let d = view r.value.now in
-    let keys = keys_in r.progress.now in
-    on_ok_weaker c.tell_assertion.result (tells_assertion r.site.now whole d r.roads keys c.args.keyword (assertion_of c.in-Assertion.assertion) c.args.observer.now c.tell_assertion.new.observer (λ x. ap (λ k. keyword_shapes k x) c.in-Assertion.is)) c.tell_assertion.ensures
+is_plain : (e b : Bool) → b ≡ not e → b ≡ false → e ≡ true
+is_plain true b is said = refl
+is_plain false b is said = cc
 
-pub read::read_keyword-returns-in-Pattern : goal.read::read_keyword-returns-in-Pattern
-read::read_keyword-returns-in-Pattern t c =
-    let r = c.args.reading.now in
-    let whole = spots_of r.whole in
-    let d = view r.value.now in
-    let keys = keys_in r.progress.now in
-    on_ok_weaker c.tell_pattern.result
-    (tells_pattern r.site.now whole d r.roads keys c.args.keyword c.in-Pattern.pattern.now c.args.observer.now c.tell_pattern.new.observer (λ x. ap (λ k. keyword_shapes k x) c.in-Pattern.is))
-    c.tell_pattern.ensures
+-- ---- a schema
 
-pub read::read_keyword-returns-in-Reference : goal.read::read_keyword-returns-in-Reference
-read::read_keyword-returns-in-Reference t c =
+pub read::accepts_schema-returns-in-Bool-true : goal.read::accepts_schema-returns-in-Bool-true
+read::accepts_schema-returns-in-Bool-true t c =
     let r = c.args.reading.now in
-    let whole = spots_of r.whole in
-    let d = view r.value.now in
-    let keys = keys_in r.progress.now in
-    on_ok_weaker c.read_target.result
-    (tells_reference r.site.now whole d r.roads keys c.args.keyword (kind_of c.in-Reference.keyword) c.in-Reference.text.now (target_in c.in-Reference.target) c.args.observer.now c.read_target.new.observer (λ x. ap (λ k. keyword_leads k x) c.in-Reference.is) (λ x. ap (λ k. keyword_shapes k x) c.in-Reference.is))
-    c.read_target.ensures
+    let is : view r.site.now.contents.now ≡ boolean true = rw c.in-Bool-true.is (search (rules, the_lemmas)) in
+    other_accepts r.site.now (spots_of r.whole) (view r.value.now) (path_in r) (keys_in r.progress.now) (λ e. absurd (cc)) (λ ms e. absurd (cc))
 
-pub read::read_member-read_keyword-requires : goal.read::read_member-read_keyword-requires
-read::read_member-read_keyword-requires t c =
+pub read::accepts_schema-returns-in-Bool-false : goal.read::accepts_schema-returns-in-Bool-false
+read::accepts_schema-returns-in-Bool-false t c =
+    let r = c.args.reading.now in
+    let is : view r.site.now.contents.now ≡ boolean false = rw c.in-Bool-false.is (search (rules, the_lemmas)) in
+    false_refuses r.site.now (spots_of r.whole) (view r.value.now) (path_in r) (keys_in r.progress.now) is
+
+pub read::accepts_schema-returns-in-Object : goal.read::accepts_schema-returns-in-Object
+read::accepts_schema-returns-in-Object t c =
+    let r = c.args.reading.now in
+    let ms = members_view c.in-Object.members.entries in
+    let is : view r.site.now.contents.now ≡ object ms = ap view c.in-Object.is ∙ view-Object c.in-Object.members in
+    IfOk-weaker c.accepts_members.result _ _ (λ b h. object_accepts r.site.now (spots_of r.whole) (view r.value.now) (path_in r) (keys_in r.progress.now) ms b is h) c.accepts_members.ensures
+
+pub read::accepts_schema-returns-in_default : goal.read::accepts_schema-returns-in_default
+read::accepts_schema-returns-in_default t c =
+    let r = c.args.reading.now in
+    other_accepts r.site.now (spots_of r.whole) (view r.value.now) (path_in r) (keys_in r.progress.now) (search (rules, the_lemmas)) (search (rules, the_lemmas))
+
+-- ---- its members
+
+pub read::accepts_members-loop-name-init : goal.read::accepts_members-loop-name-init
+read::accepts_members-loop-name-init t c =
+    let r = c.args.reading.now in
+    let all = members_view c.args.members.now.entries in
+    let begun : c.into_iter-name-iterator.result ≡ c.args.members.now.entries = search rules in
+    let same : members_view c.into_iter-name-iterator.result ≡ all = ap (λ es. members_view es) begun in
+    record {
+      whole = same;
+      left = subst (λ ms. MembersLeft r.site.now (spots_of r.whole) (view r.value.now) (path_in r) (keys_in r.progress.now) all ms) (sym same)
+          (members_first r.site.now (spots_of r.whole) (view r.value.now) (path_in r) (keys_in r.progress.now) all);
+    }
+
+pub read::accepts_members-accepts_member-requires : goal.read::accepts_members-accepts_member-requires
+read::accepts_members-accepts_member-requires t c =
+    let r = c.args.reading.now in
+    let all = members_view c.args.members.now.entries in
+    let left_one = subst (λ es. MembersLeft r.site.now (spots_of r.whole) (view r.value.now) (path_in r) (keys_in r.progress.now) all (members_view es)) c.in-Some.ensures.steps c.loop-name.invariant.left in
+    let left = subst (λ k. MembersLeft r.site.now (spots_of r.whole) (view r.value.now) (path_in r) (keys_in r.progress.now) all (member k (view c.in-Some.part.now) (members_view c.next.new.self))) (sym c.as_str.ensures.value) left_one in
+    (omega arith, (c.requires.members, members_listed r.site.now (spots_of r.whole) (view r.value.now) (path_in r) (keys_in r.progress.now) all (members_view c.next.new.self) _ _ left))
+
+pub read::accepts_members-returns-then-not-branch : goal.read::accepts_members-returns-then-not-branch
+read::accepts_members-returns-then-not-branch t c =
+    let r = c.args.reading.now in
+    let all = members_view c.args.members.now.entries in
+    let left_one = subst (λ es. MembersLeft r.site.now (spots_of r.whole) (view r.value.now) (path_in r) (keys_in r.progress.now) all (members_view es)) c.in-Some.ensures.steps c.loop-name.invariant.left in
+    let left = subst (λ k. MembersLeft r.site.now (spots_of r.whole) (view r.value.now) (path_in r) (keys_in r.progress.now) all (member k (view c.in-Some.part.now) (members_view c.next.new.self))) (sym c.as_str.ensures.value) left_one in
+    members_refused r.site.now (spots_of r.whole) (view r.value.now) (path_in r) (keys_in r.progress.now) all (members_view c.next.new.self) _ _ _ c.if-not-branch.true left c.in_ok-accepts_member.ensures
+
+pub read::accepts_members-loop-name-preserved : goal.read::accepts_members-loop-name-preserved
+read::accepts_members-loop-name-preserved t c =
+    let r = c.args.reading.now in
+    let all = members_view c.args.members.now.entries in
+    let left_one = subst (λ es. MembersLeft r.site.now (spots_of r.whole) (view r.value.now) (path_in r) (keys_in r.progress.now) all (members_view es)) c.in-Some.ensures.steps c.loop-name.invariant.left in
+    let left = subst (λ k. MembersLeft r.site.now (spots_of r.whole) (view r.value.now) (path_in r) (keys_in r.progress.now) all (member k (view c.in-Some.part.now) (members_view c.next.new.self))) (sym c.as_str.ensures.value) left_one in
+    record {
+      whole = c.loop-name.invariant.whole;
+      left = members_step r.site.now (spots_of r.whole) (view r.value.now) (path_in r) (keys_in r.progress.now) all (members_view c.next.new.self) _ _ _ c.if-not-branch.false left c.in_ok-accepts_member.ensures;
+    }
+
+pub read::accepts_members-returns : goal.read::accepts_members-returns
+read::accepts_members-returns t c =
+    let r = c.args.reading.now in
+    let all = members_view c.args.members.now.entries in
+    members_last r.site.now (spots_of r.whole) (view r.value.now) (path_in r) (keys_in r.progress.now) all
+    (subst (λ es. MembersLeft r.site.now (spots_of r.whole) (view r.value.now) (path_in r) (keys_in r.progress.now) all (members_view es)) c.in-None.ensures.steps.0 c.loop-name.invariant.left)
+
+pub read::accepts_member-accepts_keyword-requires : goal.read::accepts_member-accepts_keyword-requires
+read::accepts_member-accepts_keyword-requires t c =
     let r = c.args.reading.now in
     let inside = member_inside (view r.site.now.contents.now) (members_view c.args.members.now.entries) c.args.name.now (view c.args.part.now) c.requires.1.1.0 c.requires.1.1.1 in
     (omega arith, (inside, (c.in-Ok.ensures.found, asks_inside r.site.now (members_view c.args.members.now.entries) c.args.name.now (view c.args.part.now) c.in-Ok.keyword c.requires.1.1.0 c.requires.1.1.1 c.in-Ok.ensures.read c.in-Ok.ensures.found)))
 
-pub read::read_member-returns-in-Ok : goal.read::read_member-returns-in-Ok
-read::read_member-returns-in-Ok t c =
+pub read::accepts_member-returns-in-Ok : goal.read::accepts_member-returns-in-Ok
+read::accepts_member-returns-in-Ok t c =
     let r = c.args.reading.now in
-    let whole = spots_of r.whole in
-    let d = view r.value.now in
-    let keys = keys_in r.progress.now in
-    on_ok_weaker c.read_keyword.result
-    (tells_member r.site.now whole d r.roads keys (members_view c.args.members.now.entries) c.args.name.now (view c.args.part.now) c.in-Ok.keyword c.args.observer.now c.read_keyword.new.observer c.requires.1.1.0 c.requires.1.1.1 c.in-Ok.ensures.read)
-    c.read_keyword.ensures
+    IfOk-weaker c.accepts_keyword.result _ _
+    (λ b h. member_accepts r.site.now (spots_of r.whole) (view r.value.now) (path_in r) (keys_in r.progress.now) (members_view c.args.members.now.entries) c.args.name.now (view c.args.part.now) c.in-Ok.keyword b c.requires.1.1.0 c.requires.1.1.1 c.in-Ok.ensures.read h)
+    c.accepts_keyword.ensures
 
-pub read::read_members-loop-name-init : goal.read::read_members-loop-name-init
-read::read_members-loop-name-init t c =
+pub read::accepts_member-returns-after-refusal : goal.read::accepts_member-returns-after-refusal
+read::accepts_member-returns-after-refusal t c =
     let r = c.args.reading.now in
-    let begun : c.into_iter-name-iterator.result ≡ c.args.members.now.entries = search rules in
-    let same : members_view c.into_iter-name-iterator.result ≡ members_view c.args.members.now.entries = ap (λ es. members_view es) begun in
-    record {
-      whole = same;
-      left = subst (λ ms. MembersLeft r.site.now (spots_of r.whole) (view r.value.now) r.roads (keys_in r.progress.now) (members_view c.args.members.now.entries) ms c.args.observer.now c.args.observer.now) (sym same)
-          (members_first r.site.now (spots_of r.whole) (view r.value.now) r.roads (keys_in r.progress.now) (members_view c.args.members.now.entries) c.args.observer.now);
-    }
+    elim c.match-refusal.branch [
+      | read::accepts_member-in-Memory w ↦ rw w.result-is (search rules)
+      | read::accepts_member-in_default w ↦ rw w.result-is (refused_accepts r.site.now (spots_of r.whole) (view r.value.now) (path_in r) (keys_in r.progress.now) (members_view c.args.members.now.entries) c.args.name.now (view c.args.part.now) c.in-Err.refusal w.in_default.not-Memory c.in-Err.ensures.refused)
+    ]
 
-pub read::read_members-returns-then-is_settled : goal.read::read_members-returns-then-is_settled
-read::read_members-returns-then-is_settled t c =
+-- ---- a keyword
+
+pub read::accepts_keyword-returns-in-Nothing : goal.read::accepts_keyword-returns-in-Nothing
+read::accepts_keyword-returns-in-Nothing t c =
     let r = c.args.reading.now in
-    members_settled r.site.now (spots_of r.whole) (view r.value.now) r.roads (keys_in r.progress.now) (members_view c.args.members.now.entries) (members_view c.loop-name.name-iterator)
-    c.args.observer.now c.loop-name.observer (c.is_settled.ensures c.if-is_settled.true) c.loop-name.invariant.left
+    nothing_accepts r.site.now (spots_of r.whole) (view r.value.now) (path_in r) (keys_in r.progress.now) (keyword_leads c.args.keyword) (keyword_shapes c.args.keyword) λ x fits. ap (λ k. keyword_shapes k x) c.in-Nothing.is
 
-pub read::read_members-read_member-requires : goal.read::read_members-read_member-requires
-read::read_members-read_member-requires t c =
+pub read::accepts_keyword-returns-in-Consequent : goal.read::accepts_keyword-returns-in-Consequent
+read::accepts_keyword-returns-in-Consequent t c =
     let r = c.args.reading.now in
-    let l = c.loop-name in
-    let all = members_view c.args.members.now.entries in
-    let left_one = subst (λ es. MembersLeft r.site.now (spots_of r.whole) (view r.value.now) r.roads (keys_in r.progress.now) all (members_view es) c.args.observer.now l.observer) c.in-Some.ensures.steps l.invariant.left in
-    let left = subst (λ k. MembersLeft r.site.now (spots_of r.whole) (view r.value.now) r.roads (keys_in r.progress.now) all (member k (view c.in-Some.part.now) (members_view c.next.new.self)) c.args.observer.now l.observer) (sym c.as_str.ensures.value) left_one in
-    (omega arith, (c.requires.members, members_listed r.site.now (spots_of r.whole) (view r.value.now) r.roads (keys_in r.progress.now) all (members_view c.next.new.self) _ _ c.args.observer.now l.observer left))
+    nothing_accepts r.site.now (spots_of r.whole) (view r.value.now) (path_in r) (keys_in r.progress.now) (keyword_leads c.args.keyword) (keyword_shapes c.args.keyword) λ x fits. ap (λ k. keyword_shapes k x) c.in-Consequent.is
 
-pub read::read_members-loop-name-preserved : goal.read::read_members-loop-name-preserved
-read::read_members-loop-name-preserved t c =
+pub read::accepts_keyword-returns-in-Assertion : goal.read::accepts_keyword-returns-in-Assertion
+read::accepts_keyword-returns-in-Assertion t c =
     let r = c.args.reading.now in
-    let l = c.loop-name in
-    let all = members_view c.args.members.now.entries in
-    let left_one = subst (λ es. MembersLeft r.site.now (spots_of r.whole) (view r.value.now) r.roads (keys_in r.progress.now) all (members_view es) c.args.observer.now l.observer) c.in-Some.ensures.steps l.invariant.left in
-    let left = subst (λ k. MembersLeft r.site.now (spots_of r.whole) (view r.value.now) r.roads (keys_in r.progress.now) all (member k (view c.in-Some.part.now) (members_view c.next.new.self)) c.args.observer.now l.observer) (sym c.as_str.ensures.value) left_one in
-    record {
-      whole = l.invariant.whole;
-      left = members_step r.site.now (spots_of r.whole) (view r.value.now) r.roads (keys_in r.progress.now) all (members_view c.next.new.self) _ _ c.args.observer.now l.observer c.read_member.new.observer left c.in_ok-read_member.ensures;
-    }
+    IfOk-weaker c.accept.result _ _
+    (λ b h. assertion_accepts r.site.now (spots_of r.whole) (view r.value.now) (path_in r) (keys_in r.progress.now) c.args.keyword (assertion_of c.in-Assertion.assertion) b (λ x. ap (λ k. keyword_shapes k x) c.in-Assertion.is) h)
+    c.accept.ensures
 
-pub read::read_members-returns : goal.read::read_members-returns
-read::read_members-returns t c =
+pub read::accepts_keyword-returns-in-Pattern : goal.read::accepts_keyword-returns-in-Pattern
+read::accepts_keyword-returns-in-Pattern t c =
     let r = c.args.reading.now in
-    let l = c.loop-name in
-    let all = members_view c.args.members.now.entries in
-    members_last r.site.now (spots_of r.whole) (view r.value.now) r.roads (keys_in r.progress.now) all c.args.observer.now l.observer
-    (subst (λ es. MembersLeft r.site.now (spots_of r.whole) (view r.value.now) r.roads (keys_in r.progress.now) all (members_view es) c.args.observer.now l.observer) c.in-None.ensures.steps.0 l.invariant.left)
+    IfOk-weaker c.accepts_text.result _ _
+    (λ b h. pattern_accepts r.site.now (spots_of r.whole) (view r.value.now) (path_in r) (keys_in r.progress.now) c.args.keyword c.in-Pattern.pattern.now b (λ x. ap (λ k. keyword_shapes k x) c.in-Pattern.is) h)
+    c.accepts_text.ensures
 
-pub read::read_site-returns-in-Bool-true : goal.read::read_site-returns-in-Bool-true
-read::read_site-returns-in-Bool-true t c =
+pub read::accepts_keyword-returns-in-Applicator : goal.read::accepts_keyword-returns-in-Applicator
+read::accepts_keyword-returns-in-Applicator t c =
     let r = c.args.reading.now in
-    let whole = spots_of r.whole in
-    let d = view r.value.now in
-    let keys = keys_in r.progress.now in
-    let is : view r.site.now.contents.now ≡ boolean true = rw c.in-Bool-true.is (search (rules, the_lemmas)) in
-    tells_no_object r.site.now whole d r.roads keys c.args.observer.now (λ e. absurd (cc)) (λ ms e. absurd (cc))
+    IfOk-weaker c.accepts_applicator.result _ _
+    (λ b h. applicator_accepts r.site.now (spots_of r.whole) (view r.value.now) (path_in r) (keys_in r.progress.now) c.args.keyword c.in-Applicator.applicator b c.in-Applicator.is h)
+    c.accepts_applicator.ensures
 
-pub read::read_site-returns-in-Bool-false : goal.read::read_site-returns-in-Bool-false
-read::read_site-returns-in-Bool-false t c =
+pub read::accepts_keyword-returns-in-If : goal.read::accepts_keyword-returns-in-If
+read::accepts_keyword-returns-in-If t c =
     let r = c.args.reading.now in
-    let whole = spots_of r.whole in
-    let d = view r.value.now in
-    let keys = keys_in r.progress.now in
-    let is : view r.site.now.contents.now ≡ boolean false = rw c.in-Bool-false.is (search (rules, the_lemmas)) in
-    on_ok_weaker c.tell.result
-    (λ told. tells_false r.site.now whole d r.roads keys c.args.observer.now c.tell.new.self is (told FalseSchema (record { kind = refl; proper = refl })))
-    c.tell.ensures
+    IfOk-weaker c.accepts_by_condition.result _ _
+    (λ b h. choice_accepts r.site.now (spots_of r.whole) (view r.value.now) (path_in r) (keys_in r.progress.now) c.args.keyword c.in-If.condition c.in-If.then_schema c.in-If.else_schema b c.in-If.is h)
+    c.accepts_by_condition.ensures
 
-pub read::read_site-returns-in-Object : goal.read::read_site-returns-in-Object
-read::read_site-returns-in-Object t c =
+pub read::accepts_keyword-returns-in-Reference : goal.read::accepts_keyword-returns-in-Reference
+read::accepts_keyword-returns-in-Reference t c =
     let r = c.args.reading.now in
-    let whole = spots_of r.whole in
-    let d = view r.value.now in
-    let keys = keys_in r.progress.now in
-    let is : view r.site.now.contents.now ≡ object (members_view c.in-Object.members.entries) = ap view c.in-Object.is ∙ view-Object c.in-Object.members in
-    on_ok_weaker c.read_members.result (tells_object r.site.now whole d r.roads keys (members_view c.in-Object.members.entries) c.args.observer.now c.read_members.new.observer is) c.read_members.ensures
+    IfOk-weaker c.accepts_target.result _ _
+    (λ b h. reference_accepts r.site.now (spots_of r.whole) (view r.value.now) (path_in r) (keys_in r.progress.now) c.args.keyword (kind_of c.in-Reference.keyword) c.in-Reference.text.now (target_in c.in-Reference.target) b
+    (λ x. ap (λ k. keyword_leads k x) c.in-Reference.is) (λ x. ap (λ k. keyword_shapes k x) c.in-Reference.is) h)
+    c.accepts_target.ensures
 
-pub read::read_site-returns-in_default : goal.read::read_site-returns-in_default
-read::read_site-returns-in_default t c =
+-- ---- `if`
+
+pub read::accepts_by_condition-accepts_question-requires : goal.read::accepts_by_condition-accepts_question-requires
+read::accepts_by_condition-accepts_question-requires t c =
+    let r = c.args.reading.now in (
+      omega arith,
+      (asked_inside_of r.site.now _ c.args.condition c.of_value-question.result c.of_value-question.ensures c.requires.inside, value_part (view r.value.now) _ c.args.condition c.of_value-question.result c.of_value-question.ensures),
+    )
+
+pub read::accepts_by_condition-returns-then-branch : goal.read::accepts_by_condition-returns-then-branch
+read::accepts_by_condition-returns-then-branch t c =
     let r = c.args.reading.now in
-    let whole = spots_of r.whole in
-    let d = view r.value.now in
-    let keys = keys_in r.progress.now in
-    tells_no_object r.site.now whole d r.roads keys c.args.observer.now (search (rules, the_lemmas)) (search (rules, the_lemmas))
+    IfOk-weaker c.accepts_beside.result _ _
+    (λ b h. then_accepts r.site.now (spots_of r.whole) (view r.value.now) (path_in r) (keys_in r.progress.now) _ c.args.condition c.args.then_schema c.args.else_schema c.of_value-question.result _ b refl c.of_value-question.ensures
+    c.in_ok-accepts_question.ensures c.if-branch.true h)
+    c.accepts_beside.ensures
 
-pub read::read_target-returns-then-is_in_progress : goal.read::read_target-returns-then-is_in_progress
-read::read_target-returns-then-is_in_progress t c =
+pub read::accepts_by_condition-returns-else-branch : goal.read::accepts_by_condition-returns-else-branch
+read::accepts_by_condition-returns-else-branch t c =
+    let r = c.args.reading.now in
+    IfOk-weaker c.accepts_beside-else-branch.result _ _
+    (λ b h. else_accepts r.site.now (spots_of r.whole) (view r.value.now) (path_in r) (keys_in r.progress.now) _ c.args.condition c.args.then_schema c.args.else_schema c.of_value-question.result _ b refl c.of_value-question.ensures
+    c.in_ok-accepts_question.ensures c.if-branch.false h)
+    c.accepts_beside-else-branch.ensures
+
+pub read::accepts_beside-accepts_question-requires : goal.read::accepts_beside-accepts_question-requires
+read::accepts_beside-accepts_question-requires t c =
+    let r = c.args.reading.now in (
+      omega (arith, c.requires.1.0),
+      (asked_inside_of r.site.now _ c.in-Some.schema c.of_value-question.result c.of_value-question.ensures (some_inside r.site.now c.args.schema c.in-Some.schema c.in-Some.is c.requires.1.1), value_part (view r.value.now) _ c.in-Some.schema c.of_value-question.result c.of_value-question.ensures),
+    )
+
+pub read::accepts_beside-returns-in-Some : goal.read::accepts_beside-returns-in-Some
+read::accepts_beside-returns-in-Some t c =
+    let r = c.args.reading.now in
+    IfOk-weaker c.accepts_question.result _ _
+    (λ b h. beside_accepts r.site.now (spots_of r.whole) (view r.value.now) (path_in r) (keys_in r.progress.now) c.args.keyword c.in-Some.schema c.args.schema c.of_value-question.result b c.in-Some.is c.of_value-question.ensures h)
+    c.accepts_question.ensures
+
+pub read::accepts_beside-returns-in-None : goal.read::accepts_beside-returns-in-None
+read::accepts_beside-returns-in-None t c =
+    let r = c.args.reading.now in
+    none_accepts r.site.now (spots_of r.whole) (view r.value.now) (path_in r) (keys_in r.progress.now) c.args.keyword.now c.args.schema c.in-None.is
+
+-- ---- a reference
+
+pub read::accepts_target-returns-then-is_in_progress : goal.read::accepts_target-returns-then-is_in_progress
+read::accepts_target-returns-then-is_in_progress t c =
     let r = c.args.reading.now in
     let t = target_in c.args.target in
-    let at = instance_in r.roads in
+    let at = path_in r in
     let progress = keys_in r.progress.now in
     let document : seen.name_of c.document_name-document.result.now ≡ t.document = c.document_name-document.ensures in
     let path : c.path-path.result.now ≡ t.path = c.path-path.ensures in
     let known : c.is_in_progress.result ≡ is_in_progress (key t.document t.path at) progress =
     c.is_in_progress.ensures ∙ ap₂ (λ (u : List ℕ) (p : List Part). is_in_progress (key u p at) progress) document path in
-    target_back r.site.now (spots_of r.whole) (view r.value.now) r.roads progress (name_of c.args.keyword) c.args.text.now t c.is_in_progress.result c.args.observer.now known c.if-is_in_progress.true
+    back_accepts r.site.now (spots_of r.whole) (view r.value.now) at progress (name_of c.args.keyword) c.args.text.now t c.is_in_progress.result known c.if-is_in_progress.true
 
-pub read::read_target-followed-requires : goal.read::read_target-followed-requires
-read::read_target-followed-requires t c =
-    let site = c.args.reading.now.site.now in
-    looked_up_reads c.args.keyword (documents_at site) (base_of site.resolver) (scope_of site.resolver) c.args.text.now (target_in c.args.target) c.requires.1.1.found c.requires.1.1.may_be
-
-pub read::read_target-read_site-requires : goal.read::read_target-read_site-requires
-read::read_target-read_site-requires t c =
+pub read::accepts_target-invariant_of-followed : goal.read::accepts_target-invariant_of-followed
+read::accepts_target-invariant_of-followed t c =
     let r = c.args.reading.now in
     let t = target_in c.args.target in
-    let at = instance_in r.roads in
+    let lies = looked_up_lies c.args.keyword (documents_at r.site.now) (base_of r.site.now.resolver) (scope_of r.site.now.resolver) c.args.text.now t c.requires.1.1.found in
+    let contents : t.contents ≡ view c.in_ok-inner.inner.contents.now = sym c.in_ok-inner.ensures.contents in
+    let docs : documents_at c.in_ok-inner.inner ≡ documents_at r.site.now = c.in_ok-inner.ensures.documents ∙ c.requires.1.1.documents in
+    record { shallow = shallow_by_target (documents_at r.site.now) (documents_at c.in_ok-inner.inner) t (view c.in_ok-inner.inner.contents.now) docs contents lies; within = r.within }
+
+pub read::accepts_target-accepts_schema-requires : goal.read::accepts_target-accepts_schema-requires
+read::accepts_target-accepts_schema-requires t c =
+    let r = c.args.reading.now in
+    let t = target_in c.args.target in
+    let at = path_in r in
     let progress = keys_in r.progress.now in
     let document : seen.name_of c.document_name-document.result.now ≡ t.document = c.document_name-document.ensures in
     let path : c.path-path.result.now ≡ t.path = c.path-path.ensures in
@@ -216,20 +279,11 @@ read::read_target-read_site-requires t c =
     let falls = falls_by_target (documents_at r.site.now) (documents_at c.in_ok-inner.inner) (spots_of r.whole) t (seen.name_of c.document_name-document.result.now) c.path-path.result.now at progress (view c.in_ok-inner.inner.contents.now) (view r.site.now.contents.now) c.document_name-document.ensures c.path-path.ensures docs contents less in
     omega (arith, falls)
 
-pub read::read_target-invariant_of-followed : goal.read::read_target-invariant_of-followed
-read::read_target-invariant_of-followed t c =
+pub read::accepts_target-returns : goal.read::accepts_target-returns
+read::accepts_target-returns t c =
     let r = c.args.reading.now in
     let t = target_in c.args.target in
-    let lies = looked_up_lies c.args.keyword (documents_at r.site.now) (base_of r.site.now.resolver) (scope_of r.site.now.resolver) c.args.text.now t c.requires.1.1.found in
-    let contents : t.contents ≡ view c.in_ok-inner.inner.contents.now = sym c.in_ok-inner.ensures.contents in
-    let docs : documents_at c.in_ok-inner.inner ≡ documents_at r.site.now = c.in_ok-inner.ensures.documents ∙ c.requires.1.1.documents in
-    record { shallow = shallow_by_target (documents_at r.site.now) (documents_at c.in_ok-inner.inner) t (view c.in_ok-inner.inner.contents.now) docs contents lies; within = r.within }
-
-pub read::read_target-returns : goal.read::read_target-returns
-read::read_target-returns t c =
-    let r = c.args.reading.now in
-    let t = target_in c.args.target in
-    let at = instance_in r.roads in
+    let at = path_in r in
     let progress = keys_in r.progress.now in
     let document : seen.name_of c.document_name-document.result.now ≡ t.document = c.document_name-document.ensures in
     let path : c.path-path.result.now ≡ t.path = c.path-path.ensures in
@@ -238,100 +292,164 @@ read::read_target-returns t c =
     let lies = looked_up_lies c.args.keyword (documents_at r.site.now) (base_of r.site.now.resolver) (scope_of r.site.now.resolver) c.args.text.now t c.requires.1.1.found in
     let contents : t.contents ≡ view c.in_ok-inner.inner.contents.now = sym c.in_ok-inner.ensures.contents in
     let docs : documents_at c.in_ok-inner.inner ≡ documents_at r.site.now = c.in_ok-inner.ensures.documents ∙ c.requires.1.1.documents in
-    on_ok_weaker c.read_site.result (λ told. target_on r.site.now (spots_of r.whole) (view r.value.now) r.roads progress (name_of c.args.keyword) c.args.text.now t c.is_in_progress.result c.in_ok-inner.inner _ c.args.observer.now c.read_site.new.observer
-    known c.if-is_in_progress.false lies r.within docs c.in_ok-inner.ensures.matches contents
+    IfOk-weaker c.accepts_schema.result _ _
+    (λ b h. target_accepts r.site.now (spots_of r.whole) (view r.value.now) at progress (name_of c.args.keyword) c.args.text.now t c.is_in_progress.result b c.in_ok-inner.inner
+    known c.if-is_in_progress.false docs c.in_ok-inner.ensures.matches contents lies r.within
     (λ s. c.in_ok-inner.ensures.stands s c.args.text.now)
-    (λ s b scope. ap₂ (λ (u : List ℕ) (us : List (List ℕ)). entered_scope t.base u us) b scope ∙ sym c.requires.1.1.scope ∙ sym c.in_ok-inner.ensures.scope)
-    refl (c.push_name-evaluation.ensures ∙ ap (λ (k : List ℕ). name k ∷ evaluation_in r.roads) c.as_str.ensures) (ap₂ (λ (ps : List Part) (r : List ℕ). ps ++ path_of_reference r) c.new-start.ensures c.followed.ensures)
-    (at_target_told c.in_ok-inner.inner (spots_of r.whole) (view r.value.now) _ t (seen.name_of c.document_name-document.result.now) c.path-path.result.now at progress c.args.observer.now c.read_site.new.observer c.document_name-document.ensures c.path-path.ensures told))
-    c.read_site.ensures
+    (λ s e scope. ap₂ (λ (u : List ℕ) (us : List (List ℕ)). entered_scope t.base u us) e scope ∙ sym c.requires.1.1.scope ∙ sym c.in_ok-inner.ensures.scope)
+    (at_target_accepts c.in_ok-inner.inner (spots_of r.whole) (view r.value.now) t (seen.name_of c.document_name-document.result.now) c.path-path.result.now at progress b c.document_name-document.ensures c.path-path.ensures h))
+    c.accepts_schema.ensures
 
-pub read::read_member-returns-after-refusal : goal.read::read_member-returns-after-refusal
-read::read_member-returns-after-refusal t c =
+-- ---- an applicator
+
+pub applied::accepts_applicator-returns-then-is_noted : goal.applied::accepts_applicator-returns-then-is_noted
+applied::accepts_applicator-returns-then-is_noted t c =
     let r = c.args.reading.now in
-    let whole = spots_of r.whole in
-    let d = view r.value.now in
-    let keys = keys_in r.progress.now in
-    elim c.match-refusal.branch [
-      | read::read_member-in-Memory w ↦ rw w.result-is (search rules)
-      | read::read_member-in_default w ↦ rw w.result-is (tells_refused r.site.now whole d r.roads keys (members_view c.args.members.now.entries) c.args.name.now (view c.args.part.now) c.in-Err.refusal c.args.observer.now w.in_default.not-Memory c.in-Err.ensures.refused)
+    let a = c.args.applicator.now in
+    let noted : is_empty (notes_by a (view r.value.now)) ≡ false = not_empty (is_empty (notes_by a (view r.value.now))) _ c.is_noted.ensures c.if-is_noted.true in
+    noted_refuses r.site.now (spots_of r.whole) (view r.value.now) (path_in r) (keys_in r.progress.now) a (sym c.is_every.ensures.every ∙ c.if-is_every.true) noted
+
+pub applied::accepts_applicator-returns-then-is_every : goal.applied::accepts_applicator-returns-then-is_every
+applied::accepts_applicator-returns-then-is_every t c =
+    let r = c.args.reading.now in
+    let a = c.args.applicator.now in
+    let plain : is_empty (notes_by a (view r.value.now)) ≡ true = is_plain (is_empty (notes_by a (view r.value.now))) _ c.is_noted.ensures c.if-is_noted.false in
+    IfOk-weaker c.accepts_each.result _ _
+    (λ b h. every_accepts r.site.now (spots_of r.whole) (view r.value.now) (path_in r) (keys_in r.progress.now) a b (sym c.is_every.ensures.every ∙ c.if-is_every.true) plain h)
+    c.accepts_each.ensures
+
+pub applied::accepts_applicator-returns : goal.applied::accepts_applicator-returns
+applied::accepts_applicator-returns t c =
+    let r = c.args.reading.now in
+    let a = c.args.applicator.now in
+    let qs = c.as_slice-asked.result.now in
+    let asked : AreAsked (reads r.site.now.matches.now) a (view r.value.now) qs = search rules in
+    let is : c.decides.result ≡ decided a (view r.value.now) (length qs) c.in_ok-accepted.accepted =
+    c.decides.ensures ∙ ap (λ (k : Combining). decided_by k (view r.value.now) (length qs) c.in_ok-accepted.accepted) c.combining.ensures in
+    combined_accepts r.site.now (spots_of r.whole) (view r.value.now) (path_in r) (keys_in r.progress.now) a qs asked c.in_ok-accepted.accepted c.decides.result c.requires.answers (sym c.is_every.ensures.every ∙ c.if-is_every.false)
+    c.in_ok-accepted.ensures is
+
+pub applied::accepts_each-loop-question-init : goal.applied::accepts_each-loop-question-init
+applied::accepts_each-loop-question-init t c =
+    let r = c.args.reading.now in
+    questions_init r.site.now (spots_of r.whole) (view r.value.now) (path_in r) (keys_in r.progress.now) c.args.applicator.now c.args.asked.now c.requires.asked
+
+pub applied::accepts_each-accepts_question-requires : goal.applied::accepts_each-accepts_question-requires
+applied::accepts_each-accepts_question-requires t c =
+    let r = c.args.reading.now in
+    let qs = c.args.asked.now in
+    let i = c.loop-question.question-index in
+    let q = c.question-item.result in
+    let next : drop i qs ≡ q ∷ drop (i + 1) qs = drop_more qs i q c.loop-question-test.true ∙ ap (λ x. x ∷ drop (i + 1) qs) (sym c.question-item.is) in
+    let among = c.loop-question.invariant.among q (subst (λ (xs : List Question). In q xs) (sym next) first) in
+    let a = c.args.applicator.now in
+    let m = reads r.site.now.matches.now in
+    let d = view r.value.now in (
+      omega arith,
+      (question_inside m a d qs c.requires.asked c.requires.answers q among r.site.now c.requires.inside, question_part m a d qs c.requires.asked c.requires.answers q among r.site.now),
+    )
+
+pub applied::accepts_each-returns-then-not-branch : goal.applied::accepts_each-returns-then-not-branch
+applied::accepts_each-returns-then-not-branch t c =
+    let r = c.args.reading.now in
+    let qs = c.args.asked.now in
+    let i = c.loop-question.question-index in
+    let q = c.question-item.result in
+    let next : drop i qs ≡ q ∷ drop (i + 1) qs = drop_more qs i q c.loop-question-test.true ∙ ap (λ x. x ∷ drop (i + 1) qs) (sym c.question-item.is) in
+    let a = c.args.applicator.now in
+    let left = subst (λ (xs : List Question). QuestionsLeft r.site.now (spots_of r.whole) (view r.value.now) (path_in r) (keys_in r.progress.now) a qs xs) next c.loop-question.invariant in
+    questions_refused r.site.now (spots_of r.whole) (view r.value.now) (path_in r) (keys_in r.progress.now) a qs c.requires.asked c.requires.answers (drop (i + 1) qs) q _ c.if-not-branch.true left c.in_ok-accepts_question.ensures
+
+pub applied::accepts_each-loop-question-preserved : goal.applied::accepts_each-loop-question-preserved
+applied::accepts_each-loop-question-preserved t c =
+    let r = c.args.reading.now in
+    let qs = c.args.asked.now in
+    let i = c.loop-question.question-index in
+    let q = c.question-item.result in
+    let next : drop i qs ≡ q ∷ drop (i + 1) qs = drop_more qs i q c.loop-question-test.true ∙ ap (λ x. x ∷ drop (i + 1) qs) (sym c.question-item.is) in
+    let a = c.args.applicator.now in
+    let left = subst (λ (xs : List Question). QuestionsLeft r.site.now (spots_of r.whole) (view r.value.now) (path_in r) (keys_in r.progress.now) a qs xs) next c.loop-question.invariant in
+    questions_step r.site.now (spots_of r.whole) (view r.value.now) (path_in r) (keys_in r.progress.now) a qs c.requires.asked c.requires.answers (drop (i + 1) qs) q _ c.if-not-branch.false left c.in_ok-accepts_question.ensures
+
+pub applied::accepts_each-returns : goal.applied::accepts_each-returns
+applied::accepts_each-returns t c =
+    let r = c.args.reading.now in
+    let qs = c.args.asked.now in
+    let a = c.args.applicator.now in
+    let nothing : drop c.loop-question.question-index qs ≡ [] = drop_all c.loop-question.question-index qs (omega (arith, c.loop-question-test.false)) in
+    let left = subst (λ (xs : List Question). QuestionsLeft r.site.now (spots_of r.whole) (view r.value.now) (path_in r) (keys_in r.progress.now) a qs xs) nothing c.loop-question.invariant in
+    questions_done r.site.now (spots_of r.whole) (view r.value.now) (path_in r) (keys_in r.progress.now) a qs c.requires.asked left
+
+-- ---- counting
+
+pub applied::count_accepted-loop-answered-init : goal.applied::count_accepted-loop-answered-init
+applied::count_accepted-loop-answered-init t c =
+    let r = c.args.reading.now in
+    record {
+      few = omega arith;
+      left = count_first r.site.now (spots_of r.whole) (view r.value.now) (path_in r) (keys_in r.progress.now) c.args.applicator.now c.args.asked.now c.requires.asked;
+    }
+
+pub applied::count_accepted-returns-then-settles : goal.applied::count_accepted-returns-then-settles
+applied::count_accepted-returns-then-settles t c =
+    let r = c.args.reading.now in
+    let qs = c.args.asked.now in
+    let a = c.args.applicator.now in
+    let i = c.loop-answered.answered in
+    let n = c.loop-answered.accepted in
+    let many : i + length (drop i qs) ≡ length qs = omega (arith, length-drop i qs) in
+    count_settled r.site.now (spots_of r.whole) (view r.value.now) (path_in r) (keys_in r.progress.now) a qs c.requires.asked (drop i qs) i n c.settles.result
+    (c.settles.ensures ∙ ap (λ (k : Combining). settles k i n) c.combining.ensures) c.if-settles.true many (omega arith) c.loop-answered.invariant.left
+
+pub applied::count_accepted-accepts_question-requires : goal.applied::count_accepted-accepts_question-requires
+applied::count_accepted-accepts_question-requires t c =
+    let r = c.args.reading.now in
+    let qs = c.args.asked.now in
+    let i = c.loop-answered.answered in
+    let q = c.index-asked-answered.result in
+    let next : drop i qs ≡ q ∷ drop (i + 1) qs = drop_more qs i q c.loop-answered-test.true ∙ ap (λ x. x ∷ drop (i + 1) qs) (sym c.index-asked-answered.is) in
+    let among = c.loop-answered.invariant.left.among q (subst (λ (xs : List Question). In q xs) (sym next) first) in
+    let a = c.args.applicator.now in
+    let m = reads r.site.now.matches.now in
+    let d = view r.value.now in (
+      omega arith,
+      (question_inside m a d qs c.requires.asked c.requires.answers q among r.site.now c.requires.inside, question_part m a d qs c.requires.asked c.requires.answers q among r.site.now),
+    )
+
+pub applied::count_accepted-loop-answered-preserved : goal.applied::count_accepted-loop-answered-preserved
+applied::count_accepted-loop-answered-preserved t c =
+    let r = c.args.reading.now in
+    let qs = c.args.asked.now in
+    let a = c.args.applicator.now in
+    let i = c.loop-answered.answered in
+    let n = c.loop-answered.accepted in
+    let q = c.index-asked-answered.result in
+    let next : drop i qs ≡ q ∷ drop (i + 1) qs = drop_more qs i q c.loop-answered-test.true ∙ ap (λ x. x ∷ drop (i + 1) qs) (sym c.index-asked-answered.is) in
+    let left = subst (λ (xs : List Question). CountLeft r.site.now (spots_of r.whole) (view r.value.now) (path_in r) (keys_in r.progress.now) a qs xs n) next c.loop-answered.invariant.left in
+    elim c.if-branch.branch [
+      | applied::count_accepted-then-branch w ↦ rw w.accepted-is (record {
+        few = omega (arith, c.loop-answered.invariant.few);
+        left = count_yes r.site.now (spots_of r.whole) (view r.value.now) (path_in r) (keys_in r.progress.now) a qs c.requires.asked (drop (i + 1) qs) q n _ c.requires.answers c.in_ok-accepts_question.ensures w.if-branch.true left;
+      })
+      | applied::count_accepted-else-branch w ↦ rw w.accepted-is (record {
+        few = omega (arith, c.loop-answered.invariant.few);
+        left = count_no r.site.now (spots_of r.whole) (view r.value.now) (path_in r) (keys_in r.progress.now) a qs c.requires.asked (drop (i + 1) qs) q n _ c.requires.answers c.in_ok-accepts_question.ensures w.if-branch.false left;
+      })
     ]
 
-pub read::read_part-returns-in-Value : goal.read::read_part-returns-in-Value
-read::read_part-returns-in-Value t c =
+pub applied::count_accepted-returns : goal.applied::count_accepted-returns
+applied::count_accepted-returns t c =
     let r = c.args.reading.now in
-    on_ok_weaker c.read_site.result (told_of_value r.site.now _ _ r.roads _ c.args.asked _ _ c.in-Value.is) c.read_site.ensures
+    let qs = c.args.asked.now in
+    let a = c.args.applicator.now in
+    let nothing : drop c.loop-answered.answered qs ≡ [] = drop_all c.loop-answered.answered qs (omega (arith, c.loop-answered-test.false)) in
+    let left = subst (λ (xs : List Question). CountLeft r.site.now (spots_of r.whole) (view r.value.now) (path_in r) (keys_in r.progress.now) a qs xs c.loop-answered.accepted) nothing c.loop-answered.invariant.left in
+    count_done r.site.now (spots_of r.whole) (view r.value.now) (path_in r) (keys_in r.progress.now) a qs c.requires.asked c.loop-answered.accepted left
 
-pub read::read_part-invariant_of-at : goal.read::read_part-invariant_of-at
-read::read_part-invariant_of-at t c =
-    let r = c.args.reading.now in
-    record {
-      shallow = r.shallow;
-      within = part_within (view r.value.now) (spots_of r.whole) (instance_in r.roads) _ c.args.asked (asking.Item c.in-Item.index c.in-Item.item) c.requires.part c.in-Item.is c.push_index-instance.ensures r.within;
-    }
+-- ---- a question
 
-pub read::read_part-returns-in-Item : goal.read::read_part-returns-in-Item
-read::read_part-returns-in-Item t c =
-    let r = c.args.reading.now in
-    on_ok_weaker c.read_site-in-Item.result
-    (told_of_item r.site.now _ _ r.roads _ _ c.args.asked c.in-Item.index c.in-Item.item _ _ c.in-Item.is c.push_index-instance.ensures refl refl)
-    c.read_site-in-Item.ensures
-
-pub read::read_part-invariant_of-at-in-Member : goal.read::read_part-invariant_of-at-in-Member
-read::read_part-invariant_of-at-in-Member t c =
-    let r = c.args.reading.now in
-    record {
-      shallow = r.shallow;
-      within = part_within (view r.value.now) (spots_of r.whole) (instance_in r.roads) _ c.args.asked (asking.Member c.in-Member.name c.in-Member.member) c.requires.part c.in-Member.is c.push_name-instance.ensures r.within;
-    }
-
-pub read::read_part-returns-in-Member : goal.read::read_part-returns-in-Member
-read::read_part-returns-in-Member t c =
-    let r = c.args.reading.now in
-    on_ok_weaker c.read_site-in-Member.result
-    (told_of_member r.site.now _ _ r.roads _ _ c.args.asked c.in-Member.name c.in-Member.member _ _ c.in-Member.is c.push_name-instance.ensures refl refl)
-    c.read_site-in-Member.ensures
-
-pub read::read_part-read_name-requires : goal.read::read_part-read_name-requires
-read::read_part-read_name-requires t c =
-    let r = c.args.reading.now in
-    let name = c.in-Name.name in
-    let step = ap step_of c.in-Name.is in
-    (omega arith, ∥∥₁_map r.within (λ w. w.spots _ (c.requires.part.named name.now step (instance_in r.roads))))
-
-pub read::read_part-returns-in-Name : goal.read::read_part-returns-in-Name
-read::read_part-returns-in-Name t c =
-    let r = c.args.reading.now in
-    on_ok_weaker c.read_name.result (told_of_name r.site.now _ _ r.roads _ c.args.asked c.in-Name.name _ _ c.in-Name.is) c.read_name.ensures
-
-pub read::read_entry-returns-in-Name : goal.read::read_entry-returns-in-Name
-read::read_entry-returns-in-Name t c =
-    let r = c.args.reading.now in
-    let road = λ (p : List Part). p ++ path_of_reference (text_of r.roads.reference) in
-    on_ok_weaker c.read_part-in-Name.result
-    (behind_entry r.site.now _ _ r.roads _ _ c.args.question.asked c.args.question.subschema.entry (entry.Name c.in-Name.name) _ _ c.in-Name.is refl (ap road c.push_name-schema.ensures) c.push_name-evaluation.ensures)
-    c.read_part-in-Name.ensures
-
-pub read::read_entry-returns-in-Index : goal.read::read_entry-returns-in-Index
-read::read_entry-returns-in-Index t c =
-    let r = c.args.reading.now in
-    let road = λ (p : List Part). p ++ path_of_reference (text_of r.roads.reference) in
-    on_ok_weaker c.read_part-in-Index.result
-    (behind_entry r.site.now _ _ r.roads _ _ c.args.question.asked c.args.question.subschema.entry (entry.Index c.in-Index.index) _ _ c.in-Index.is refl (ap road c.push_index-schema.ensures) c.push_index-evaluation.ensures)
-    c.read_part-in-Index.ensures
-
-pub read::read_keyword-returns-in-Applicator : goal.read::read_keyword-returns-in-Applicator
-read::read_keyword-returns-in-Applicator t c =
-    let r = c.args.reading.now in
-    let whole = spots_of r.whole in
-    let d = view r.value.now in
-    let keys = keys_in r.progress.now in
-    on_ok_weaker c.read_applicator.result
-    (tells_applicator r.site.now whole d r.roads keys c.args.keyword c.in-Applicator.applicator c.args.observer.now c.read_applicator.new.observer c.in-Applicator.is)
-    c.read_applicator.ensures
-
-pub read::read_question-invariant_of-below : goal.read::read_question-invariant_of-below
-read::read_question-invariant_of-below t c =
+pub applied::accepts_question-invariant_of-below : goal.applied::accepts_question-invariant_of-below
+applied::accepts_question-invariant_of-below t c =
     let r = c.args.reading.now in
     let child : Child r.site.now c.in_ok-inner.inner (view c.args.question.subschema.schema.now) = record {
       contents = ap (λ (b : Bor Value). view b.now) c.in_ok-inner.ensures.contents;
@@ -342,8 +460,8 @@ read::read_question-invariant_of-below t c =
     } in
     record { shallow = child_shallow r.site.now c.in_ok-inner.inner _ child c.requires.inside r.shallow; within = r.within }
 
-pub read::read_question-returns : goal.read::read_question-returns
-read::read_question-returns t c =
+pub applied::accepts_question-returns : goal.applied::accepts_question-returns
+applied::accepts_question-returns t c =
     let r = c.args.reading.now in
     let q = c.args.question in
     let child : Child r.site.now c.in_ok-inner.inner (view q.subschema.schema.now) = record {
@@ -353,331 +471,87 @@ read::read_question-returns t c =
       stands = λ s added. c.in_ok-inner.ensures.stands s added;
       matches = c.in_ok-inner.ensures.matches;
     } in
-    let road = λ (p : List Part). p ++ path_of_reference (text_of r.roads.reference) in
-    on_ok_weaker c.read_entry.result
-    (question_told r.site.now _ _ r.roads _ c.in_ok-inner.inner _ q _ _ child c.requires.inside refl (ap road c.push_name-schema.ensures) c.push_name-evaluation.ensures)
-    c.read_entry.ensures
+    IfOk-weaker c.accepts_part.result _ _
+    (λ b h. question_accepts r.site.now (spots_of r.whole) (view r.value.now) (path_in r) (keys_in r.progress.now) q b c.in_ok-inner.inner child c.requires.inside h)
+    c.accepts_part.ensures
 
-pub read::read_questions-loop-question-init : goal.read::read_questions-loop-question-init
-read::read_questions-loop-question-init t c =
+pub applied::accepts_part-returns-in-Value : goal.applied::accepts_part-returns-in-Value
+applied::accepts_part-returns-in-Value t c =
     let r = c.args.reading.now in
-    questions_init r.site.now _ _ r.roads _ c.args.applicator.now c.args.asked.now c.args.observer.now c.requires.asked
+    IfOk-weaker c.accepts_schema.result _ _ (λ b h. of_value r.site.now (spots_of r.whole) (view r.value.now) (path_in r) (keys_in r.progress.now) b c.args.asked c.in-Value.is h) c.accepts_schema.ensures
 
-pub read::read_questions-returns-then-is_settled : goal.read::read_questions-returns-then-is_settled
-read::read_questions-returns-then-is_settled t c =
+pub applied::accepts_part-invariant_of-at : goal.applied::accepts_part-invariant_of-at
+applied::accepts_part-invariant_of-at t c =
     let r = c.args.reading.now in
-    questions_settled r.site.now _ _ r.roads _ c.args.applicator.now c.args.asked.now _ _ c.loop-question.observer (λ kept gs hs h. c.is_settled.ensures c.if-is_settled.true kept gs hs h)
-    c.loop-question.invariant
+    record {
+      shallow = r.shallow;
+      within = part_within (view r.value.now) (spots_of r.whole) (path_in r) _ c.args.asked (asking.Item c.in-Item.index c.in-Item.item) c.requires.part c.in-Item.is c.push_index-instance.ensures r.within;
+    }
 
-pub read::read_questions-read_question-requires : goal.read::read_questions-read_question-requires
-read::read_questions-read_question-requires t c =
+pub applied::accepts_part-returns-in-Item : goal.applied::accepts_part-returns-in-Item
+applied::accepts_part-returns-in-Item t c =
     let r = c.args.reading.now in
-    let qs = c.args.asked.now in
-    let i = c.loop-question.question-index in
-    let q = c.question-item.result in
-    let next : drop i qs ≡ q ∷ drop (i + 1) qs = drop_more qs i q c.loop-question-test.true ∙ ap (λ x. x ∷ drop (i + 1) qs) (sym c.question-item.is) in
-    let among = c.loop-question.invariant.among q (subst (λ (xs : List Question). In q xs) (sym next) first) in
-    let a = c.args.applicator.now in
-    let m = reads r.site.now.matches.now in
-    let d = view r.value.now in (
-      omega arith,
-      (question_inside m a d qs c.requires.asked c.requires.answers q among r.site.now c.requires.inside, question_part m a d qs c.requires.asked c.requires.answers q among r.site.now),
-    )
+    IfOk-weaker c.accepts_schema-in-Item.result _ _
+    (λ b h. of_item r.site.now (spots_of r.whole) (view r.value.now) (path_in r) (keys_in r.progress.now) b c.args.asked c.in-Item.index c.in-Item.item _ c.in-Item.is c.push_index-instance.ensures h)
+    c.accepts_schema-in-Item.ensures
 
-pub read::read_questions-loop-question-preserved : goal.read::read_questions-loop-question-preserved
-read::read_questions-loop-question-preserved t c =
+pub applied::accepts_part-invariant_of-at-in-Member : goal.applied::accepts_part-invariant_of-at-in-Member
+applied::accepts_part-invariant_of-at-in-Member t c =
     let r = c.args.reading.now in
-    let qs = c.args.asked.now in
-    let i = c.loop-question.question-index in
-    let q = c.question-item.result in
-    let next : drop i qs ≡ q ∷ drop (i + 1) qs = drop_more qs i q c.loop-question-test.true ∙ ap (λ x. x ∷ drop (i + 1) qs) (sym c.question-item.is) in
-    let whole = spots_of r.whole in
-    let d = view r.value.now in
-    let keys = keys_in r.progress.now in
-    let left = subst (λ (xs : List Question). QuestionsLeft r.site.now whole d r.roads keys c.args.applicator.now qs xs c.args.observer.now c.loop-question.observer) next c.loop-question.invariant in
-    questions_step r.site.now whole d r.roads keys c.args.applicator.now qs (drop (i + 1) qs) q c.args.observer.now c.loop-question.observer c.read_question.new.observer c.requires.asked c.requires.answers
-    c.in_ok-read_question.ensures left
+    record {
+      shallow = r.shallow;
+      within = part_within (view r.value.now) (spots_of r.whole) (path_in r) _ c.args.asked (asking.Member c.in-Member.name c.in-Member.member) c.requires.part c.in-Member.is c.push_name-instance.ensures r.within;
+    }
 
-pub read::read_questions-returns : goal.read::read_questions-returns
-read::read_questions-returns t c =
+pub applied::accepts_part-returns-in-Member : goal.applied::accepts_part-returns-in-Member
+applied::accepts_part-returns-in-Member t c =
     let r = c.args.reading.now in
-    let qs = c.args.asked.now in
-    let whole = spots_of r.whole in
-    let d = view r.value.now in
-    let keys = keys_in r.progress.now in
-    let nothing : drop c.loop-question.question-index qs ≡ [] = drop_all c.loop-question.question-index qs (omega (arith, c.loop-question-test.false)) in
-    let left = subst (λ (xs : List Question). QuestionsLeft r.site.now whole d r.roads keys c.args.applicator.now qs xs c.args.observer.now c.loop-question.observer) nothing c.loop-question.invariant in
-    questions_done r.site.now whole d r.roads keys c.args.applicator.now qs c.args.observer.now c.loop-question.observer left
+    IfOk-weaker c.accepts_schema-in-Member.result _ _
+    (λ b h. of_member r.site.now (spots_of r.whole) (view r.value.now) (path_in r) (keys_in r.progress.now) b c.args.asked c.in-Member.name c.in-Member.member _ c.in-Member.is c.push_name-instance.ensures h)
+    c.accepts_schema-in-Member.ensures
 
-pub read::read_applicator-returns-then-is_every : goal.read::read_applicator-returns-then-is_every
-read::read_applicator-returns-then-is_every t c =
+pub applied::accepts_part-accepts_name-requires : goal.applied::accepts_part-accepts_name-requires
+applied::accepts_part-accepts_name-requires t c =
     let r = c.args.reading.now in
-    let whole = spots_of r.whole in
-    let d = view r.value.now in
-    let keys = keys_in r.progress.now in
-    let a = c.args.applicator.now in
-    on_ok_weaker c.read_questions.result
-    (tells_every r.site.now whole d r.roads keys a c.args.observer.now c.tell_notes.new.observer c.read_questions.new.observer (sym c.is_every.ensures.every ∙ c.if-is_every.true) c.in_ok-tell_notes.ensures)
-    c.read_questions.ensures
+    let name = c.in-Name.name in
+    let step = ap step_of c.in-Name.is in
+    (omega arith, ∥∥₁_map r.within (λ w. w.spots _ (c.requires.part.named name.now step (path_in r))))
 
-pub names::read_named-loop-question-init : goal.names::read_named-loop-question-init
-names::read_named-loop-question-init t c =
+pub applied::accepts_part-returns-in-Name : goal.applied::accepts_part-returns-in-Name
+applied::accepts_part-returns-in-Name t c =
     let r = c.args.reading.now in
-    named_init r.site.now _ _ r.roads _ c.args.applicator.now c.args.asked.now c.args.observer.now c.requires.asked
+    IfOk-weaker c.accepts_name.result _ _
+    (λ b h. of_name r.site.now (spots_of r.whole) (view r.value.now) (path_in r) (keys_in r.progress.now) b c.args.asked c.in-Name.name c.in-Name.is h)
+    c.accepts_name.ensures
 
-pub names::read_named-returns-then-is_settled : goal.names::read_named-returns-then-is_settled
-names::read_named-returns-then-is_settled t c =
-    let r = c.args.reading.now in
-    named_settled r.site.now _ _ r.roads _ c.args.applicator.now c.args.asked.now _ _ c.loop-question.observer c.requires.named
-    (λ kept gs hs h. c.is_settled.ensures c.if-is_settled.true kept gs hs h) c.loop-question.invariant
+-- ---- a name
 
-pub names::read_named-read_question-requires : goal.names::read_named-read_question-requires
-names::read_named-read_question-requires t c =
-    let r = c.args.reading.now in
-    let qs = c.args.asked.now in
-    let i = c.loop-question.question-index in
-    let q = c.question-item.result in
-    let next : drop i qs ≡ q ∷ drop (i + 1) qs = drop_more qs i q c.loop-question-test.true ∙ ap (λ x. x ∷ drop (i + 1) qs) (sym c.question-item.is) in
-    let among = c.loop-question.invariant.among q (subst (λ (xs : List Question). In q xs) (sym next) first) in
-    let a = c.args.applicator.now in
-    let m = reads r.site.now.matches.now in
-    let d = view r.value.now in (
-      omega arith,
-      (question_inside m a d qs c.requires.asked c.requires.answers q among r.site.now c.requires.inside, question_part m a d qs c.requires.asked c.requires.answers q among r.site.now),
-    )
-
-pub names::read_named-loop-question-preserved : goal.names::read_named-loop-question-preserved
-names::read_named-loop-question-preserved t c =
-    let r = c.args.reading.now in
-    let qs = c.args.asked.now in
-    let i = c.loop-question.question-index in
-    let q = c.question-item.result in
-    let next : drop i qs ≡ q ∷ drop (i + 1) qs = drop_more qs i q c.loop-question-test.true ∙ ap (λ x. x ∷ drop (i + 1) qs) (sym c.question-item.is) in
-    let whole = spots_of r.whole in
-    let d = view r.value.now in
-    let keys = keys_in r.progress.now in
-    let left = subst (λ (xs : List Question). NamedLeft r.site.now whole d r.roads keys c.args.applicator.now qs xs c.args.observer.now c.loop-question.observer) next c.loop-question.invariant in
-    named_step r.site.now whole d r.roads keys c.args.applicator.now qs (drop (i + 1) qs) q c.args.observer.now c.loop-question.observer c.fresh-heard.result c.read_question.new.observer c.absorb_names.new.self
-    c.requires.asked c.requires.answers c.fresh-heard.ensures c.in_ok-read_question.ensures c.in_ok-absorb_names.ensures left
-
-pub names::read_named-returns : goal.names::read_named-returns
-names::read_named-returns t c =
-    let r = c.args.reading.now in
-    let qs = c.args.asked.now in
-    let whole = spots_of r.whole in
-    let d = view r.value.now in
-    let keys = keys_in r.progress.now in
-    let nothing : drop c.loop-question.question-index qs ≡ [] = drop_all c.loop-question.question-index qs (omega (arith, c.loop-question-test.false)) in
-    let left = subst (λ (xs : List Question). NamedLeft r.site.now whole d r.roads keys c.args.applicator.now qs xs c.args.observer.now c.loop-question.observer) nothing c.loop-question.invariant in
-    named_done r.site.now whole d r.roads keys c.args.applicator.now qs c.args.observer.now c.loop-question.observer c.requires.named left
-
-pub names::read_name-read_alone-requires : goal.names::read_name-read_alone-requires
-names::read_name-read_alone-requires t c =
+pub names::accepts_name-accepts_alone-requires : goal.names::accepts_name-accepts_alone-requires
+names::accepts_name-accepts_alone-requires t c =
     let r = c.args.reading.now in
     let site = r.site.now in
     let keys = keys_in r.progress.now in
     let text = json.String c.in_ok-from_str.field-0 in
     let viewed : view text ≡ string (string_bytes c.in_ok-from_str.field-0) = search (rules, the_lemmas) in
     let is : view text ≡ string c.args.name.now = viewed ∙ ap string c.in_ok-from_str.ensures.ok in
-    let path = instance_in r.roads in
+    let path = path_in r in
     let alone = spots_in path (view text) in
     let falls = name_falls (documents_at site) (spots_of r.whole) alone path c.args.name.now keys (view site.contents.now) (stands_alone path (view text) c.args.name.now is) (are_uncalled r.progress.now) c.requires.1.1 in
     (omega (arith, falls, c.requires.1.0), r.shallow)
 
-pub names::read_name-returns : goal.names::read_name-returns
-names::read_name-returns t c =
+pub names::accepts_name-returns : goal.names::accepts_name-returns
+names::accepts_name-returns t c =
     let r = c.args.reading.now in
     let text = json.String c.in_ok-from_str.field-0 in
     let viewed : view text ≡ string (string_bytes c.in_ok-from_str.field-0) = search (rules, the_lemmas) in
     let is : view text ≡ string c.args.name.now = viewed ∙ ap string c.in_ok-from_str.ensures.ok in
-    let path = instance_in r.roads in
+    let path = path_in r in
     let alone = spots_in path (view text) in
-    on_ok_weaker c.absorb.result
-    (name_told r.site.now (spots_of r.whole) c.args.name.now r.roads (keys_in r.progress.now) alone (view text) c.args.observer.now c.fresh-heard.result c.read_alone.new.observer c.absorb.new.self
-    is (stands_alone path (view text) c.args.name.now is) (are_uncalled r.progress.now) c.requires.1.1 c.fresh-heard.ensures c.in_ok-read_alone.ensures)
-    c.absorb.ensures
+    IfOk-weaker c.accepts_alone.result _ _
+    (λ b h. name_accepts r.site.now (spots_of r.whole) c.args.name.now path (keys_in r.progress.now) alone (view text) b is (stands_alone path (view text) c.args.name.now is) (are_uncalled r.progress.now) c.requires.1.1 h)
+    c.accepts_alone.ensures
 
-pub read::count_accepted-read_question-requires : goal.read::count_accepted-read_question-requires
-read::count_accepted-read_question-requires t c =
-    let r = c.args.reading.now in
-    let qs = c.args.asked.now in
-    let i = c.loop-question.question-index in
-    let q = c.question-item.result in
-    let next : drop i qs ≡ q ∷ drop (i + 1) qs = drop_more qs i q c.loop-question-test.true ∙ ap (λ x. x ∷ drop (i + 1) qs) (sym c.question-item.is) in
-    let among = c.loop-question.invariant.left.among q (subst (λ (xs : List Question). In q xs) (sym next) first) in
-    let a = c.args.applicator.now in
-    let m = reads r.site.now.matches.now in
-    let d = view r.value.now in (
-      omega arith,
-      (question_inside m a d qs c.requires.asked c.requires.answers q among r.site.now c.requires.inside, question_part m a d qs c.requires.asked c.requires.answers q among r.site.now),
-    )
+-- ---- a value that stands alone
 
-pub read::count_accepted-loop-question-preserved : goal.read::count_accepted-loop-question-preserved
-read::count_accepted-loop-question-preserved t c =
-    let r = c.args.reading.now in
-    let qs = c.args.asked.now in
-    let i = c.loop-question.question-index in
-    let q = c.question-item.result in
-    let next : drop i qs ≡ q ∷ drop (i + 1) qs = drop_more qs i q c.loop-question-test.true ∙ ap (λ x. x ∷ drop (i + 1) qs) (sym c.question-item.is) in
-    let whole = spots_of r.whole in
-    let d = view r.value.now in
-    let keys = keys_in r.progress.now in
-    let a = c.args.applicator.now in
-    let n = c.loop-question.accepted in
-    let left = subst (λ (xs : List Question). CountLeft r.site.now whole d r.roads keys a qs xs n) next c.loop-question.invariant.left in
-    elim c.if-heard_none.branch [
-      | read::count_accepted-then-heard_none w ↦ rw w.accepted-is (record {
-        few = omega (arith, c.loop-question.invariant.few);
-        left = count_yes r.site.now whole d r.roads keys a qs (drop (i + 1) qs) q n c.heard_none.result _ c.read_question.new.observer c.requires.asked c.requires.answers c.new.ensures
-            c.in_ok-read_question.ensures c.heard_none.ensures w.if-heard_none.true left;
-      })
-      | read::count_accepted-else-heard_none w ↦ rw w.accepted-is (record {
-        few = omega (arith, c.loop-question.invariant.few);
-        left = count_no r.site.now whole d r.roads keys a qs (drop (i + 1) qs) q n c.heard_none.result _ c.read_question.new.observer c.requires.asked c.requires.answers c.new.ensures
-            c.in_ok-read_question.ensures c.heard_none.ensures w.if-heard_none.false left;
-      })
-    ]
-
-pub read::read_branches-read_question-requires : goal.read::read_branches-read_question-requires
-read::read_branches-read_question-requires t c =
-    let r = c.args.reading.now in
-    let qs = c.args.asked.now in
-    let i = c.loop-question.question-index in
-    let q = c.question-item.result in
-    let next : drop i qs ≡ q ∷ drop (i + 1) qs = drop_more qs i q c.loop-question-test.true ∙ ap (λ x. x ∷ drop (i + 1) qs) (sym c.question-item.is) in
-    let among = c.loop-question.invariant.among q (subst (λ (xs : List Question). In q xs) (sym next) first) in
-    let a = c.args.applicator.now in
-    let m = reads r.site.now.matches.now in
-    let d = view r.value.now in (
-      omega arith,
-      (question_inside m a d qs c.requires.asked c.requires.answers q among r.site.now c.requires.inside, question_part m a d qs c.requires.asked c.requires.answers q among r.site.now),
-    )
-
-pub read::read_branches-loop-question-preserved : goal.read::read_branches-loop-question-preserved
-read::read_branches-loop-question-preserved t c =
-    let r = c.args.reading.now in
-    let qs = c.args.asked.now in
-    let i = c.loop-question.question-index in
-    let q = c.question-item.result in
-    let next : drop i qs ≡ q ∷ drop (i + 1) qs = drop_more qs i q c.loop-question-test.true ∙ ap (λ x. x ∷ drop (i + 1) qs) (sym c.question-item.is) in
-    let whole = spots_of r.whole in
-    let d = view r.value.now in
-    let keys = keys_in r.progress.now in
-    let a = c.args.applicator.now in
-    let context = c.loop-question.context.items in
-    let left = subst (λ (xs : List Question). BranchesLeft r.site.now whole d r.roads keys a qs xs context) next c.loop-question.invariant in
-    branches_step r.site.now whole d r.roads keys a qs (drop (i + 1) qs) q context c.push.new.self.items c.all_heard.result _ c.read_question.new.observer c.requires.asked c.requires.answers c.new.ensures
-    c.in_ok-read_question.ensures c.all_heard.ensures c.in_ok-push.ensures.items left
-
-pub read::read_branches-returns : goal.read::read_branches-returns
-read::read_branches-returns t c =
-    let r = c.args.reading.now in
-    let qs = c.args.asked.now in
-    let nothing : drop c.loop-question.question-index qs ≡ [] = drop_all c.loop-question.question-index qs (omega (arith, c.loop-question-test.false)) in
-    let whole = spots_of r.whole in
-    let d = view r.value.now in
-    let keys = keys_in r.progress.now in
-    let a = c.args.applicator.now in
-    let context = c.loop-question.context.items in
-    let left = subst (λ (xs : List Question). BranchesLeft r.site.now whole d r.roads keys a qs xs context) nothing c.loop-question.invariant in
-    branches_done r.site.now whole d r.roads keys a qs context left
-
-pub read::read_combined-returns-then-accepts : goal.read::read_combined-returns-then-accepts
-read::read_combined-returns-then-accepts t c =
-    let r = c.args.reading.now in
-    let whole = spots_of r.whole in
-    let d = view r.value.now in
-    let keys = keys_in r.progress.now in
-    let a = c.args.applicator.now in
-    combined_accepted r.site.now whole d r.roads keys a c.args.asked.now c.requires.answers c.requires.once c.requires.together c.requires.asked c.in_ok-accepted.accepted c.accepts.result c.args.observer.now
-    c.in_ok-accepted.ensures c.accepts.ensures c.if-accepts.true
-
-pub read::read_combined-returns-then-not-hear : goal.read::read_combined-returns-then-not-hear
-read::read_combined-returns-then-not-hear t c =
-    let r = c.args.reading.now in
-    let whole = spots_of r.whole in
-    let d = view r.value.now in
-    let keys = keys_in r.progress.now in
-    let a = c.args.applicator.now in
-    combined_heard r.site.now whole d r.roads keys a c.args.asked.now c.requires.answers c.requires.once c.requires.together c.requires.asked c.in_ok-accepted.accepted c.accepts.result c.args.observer.now
-    c.hear.new.self c.in_ok-accepted.ensures c.accepts.ensures c.if-accepts.false (λ k fs f h. c.hear.ensures.heard c.if-not-hear.true k fs f h)
-
-pub read::read_combined-returns : goal.read::read_combined-returns
-read::read_combined-returns t c =
-    let r = c.args.reading.now in
-    let whole = spots_of r.whole in
-    let d = view r.value.now in
-    let keys = keys_in r.progress.now in
-    let a = c.args.applicator.now in
-    let branches : carries_branches a ≡ true → HasBranches r.site.now whole d r.roads keys a c.if-carries_branches.context.items =
-    elim c.if-carries_branches.branch [
-      | read::read_combined-then-carries_branches+in_ok-context w ↦ rw w.context-is (λ carries. w.in_ok-context.ensures)
-      | read::read_combined-else-carries_branches w ↦ λ carries. absurd (false≢true (sym w.if-carries_branches.false ∙ c.carries_branches.ensures ∙ carries))
-    ] in
-    on_ok_weaker c.tell_refusal.result
-    (combined_told r.site.now whole d r.roads keys a c.args.asked.now c.requires.answers c.requires.once c.requires.together c.requires.asked c.in_ok-accepted.accepted c.accepts.result c.args.observer.now
-    c.hear.new.self c.tell_refusal.new.observer _ c.in_ok-accepted.ensures c.accepts.ensures c.if-accepts.false (λ k fs h. c.hear.ensures.unheard c.if-not-hear.false k fs h) branches)
-    c.tell_refusal.ensures
-
-pub read::read_keyword-returns-in-Consequent : goal.read::read_keyword-returns-in-Consequent
-read::read_keyword-returns-in-Consequent t c =
-    let r = c.args.reading.now in
-    let whole = spots_of r.whole in
-    let d = view r.value.now in
-    let keys = keys_in r.progress.now in
-    tells_nothing r.site.now whole d r.roads keys (keyword_leads c.args.keyword) (keyword_shapes c.args.keyword) c.args.observer.now λ x fits. ap (λ k. keyword_shapes k x) c.in-Consequent.is
-
-pub read::read_keyword-returns-in-If : goal.read::read_keyword-returns-in-If
-read::read_keyword-returns-in-If t c =
-    let r = c.args.reading.now in
-    let whole = spots_of r.whole in
-    let d = view r.value.now in
-    let keys = keys_in r.progress.now in
-    on_ok_weaker c.read_condition.result
-    (tells_choice r.site.now whole d r.roads keys c.args.keyword c.in-If.condition c.in-If.then_schema c.in-If.else_schema c.args.observer.now c.read_condition.new.observer c.in-If.is)
-    c.read_condition.ensures
-
-pub read::read_condition-read_question-requires : goal.read::read_condition-read_question-requires
-read::read_condition-read_question-requires t c =
-    let r = c.args.reading.now in (
-      omega arith,
-      (asked_inside_of r.site.now _ c.args.condition c.of_value-question.result c.of_value-question.ensures c.requires.inside, value_part (view r.value.now) _ c.args.condition c.of_value-question.result c.of_value-question.ensures),
-    )
-
-pub read::read_condition-returns-then-accepts : goal.read::read_condition-returns-then-accepts
-read::read_condition-returns-then-accepts t c =
-    let r = c.args.reading.now in
-    on_ok_weaker c.read_beside.result
-    (then_told r.site.now _ _ r.roads _ _ c.args.condition c.args.then_schema c.args.else_schema c.of_value-question.result c.heard_none-accepts.result _ c.read_question.new.observer c.args.observer.now _ refl c.of_value-question.ensures c.new.ensures
-    c.in_ok-read_question.ensures c.heard_none-accepts.ensures c.if-accepts.true)
-    c.read_beside.ensures
-
-pub read::read_condition-returns-else-accepts : goal.read::read_condition-returns-else-accepts
-read::read_condition-returns-else-accepts t c =
-    let r = c.args.reading.now in
-    on_ok_weaker c.read_beside-else-accepts.result
-    (else_told r.site.now _ _ r.roads _ _ c.args.condition c.args.then_schema c.args.else_schema c.of_value-question.result c.heard_none-accepts.result _ c.read_question.new.observer c.args.observer.now _ refl c.of_value-question.ensures c.new.ensures
-    c.in_ok-read_question.ensures c.heard_none-accepts.ensures c.if-accepts.false)
-    c.read_beside-else-accepts.ensures
-
-pub read::read_beside-read_question-requires : goal.read::read_beside-read_question-requires
-read::read_beside-read_question-requires t c =
-    let r = c.args.reading.now in (
-      omega (arith, c.requires.1.0),
-      (asked_inside_of r.site.now _ c.in-Some.schema c.of_value-question.result c.of_value-question.ensures (some_inside r.site.now c.args.schema c.in-Some.schema c.in-Some.is c.requires.1.1), value_part (view r.value.now) _ c.in-Some.schema c.of_value-question.result c.of_value-question.ensures),
-    )
-
-pub read::read_beside-returns-in-Some : goal.read::read_beside-returns-in-Some
-read::read_beside-returns-in-Some t c =
-    let r = c.args.reading.now in
-    on_ok_weaker c.read_question.result
-    (beside_told r.site.now _ _ r.roads _ c.args.keyword c.in-Some.schema c.args.schema c.of_value-question.result c.args.observer.now c.read_question.new.observer c.in-Some.is c.of_value-question.ensures)
-    c.read_question.ensures
-
-pub read::read_beside-returns-in-None : goal.read::read_beside-returns-in-None
-read::read_beside-returns-in-None t c =
-    let r = c.args.reading.now in
-    none_told r.site.now _ _ r.roads _ c.args.keyword.now c.args.schema c.args.observer.now c.in-None.is
-
-pub whole::read_alone-invariant_of-alone : goal.whole::read_alone-invariant_of-alone
-whole::read_alone-invariant_of-alone t c = record { shallow = c.requires.shallow; within = ∣ record { spots = λ w i. i } ∣₁ }
+pub whole::accepts_alone-invariant_of-alone : goal.whole::accepts_alone-invariant_of-alone
+whole::accepts_alone-invariant_of-alone t c = record { shallow = c.requires.shallow; within = ∣ record { spots = λ w i. i } ∣₁ }

@@ -1,93 +1,74 @@
 use Rattle.std.proofs.Common.{[], ◌≡◌, ◌≤◌, ◌+◌, ◌*◌, drop}
 use Rattle.serde_json.specs.View.{view, members_view}
 use Rattle.schema_sites.specs.Seen.{documents_at}
-use Rattle.plain_reader.specs.Spots.{spots_of}
 use Rattle.schema_definitions.specs.AllKeys.{spots_in}
-use Rattle.schema_reports.specs.RoadPaths.{instance_in}
+use Rattle.schema_reports.specs.Locations.{location_of}
+use Rattle.plain_reader.specs.Spots.{spots_of}
 use Rattle.plain_reader.specs.Keys.{keys_in}
-use Rattle.plain_reader.specs.Tellings.{room}
+use Rattle.plain_reader.specs.Readings.{path_in}
+use Rattle.plain_reader.specs.Verdicts.{room}
 use Rattle.plain_reader.proofs.Rooms.{room_in}
-use Rattle.plain_reader.proofs.Left.{MembersLeft, QuestionsLeft, NamedLeft, CountLeft, BranchesLeft}
+use Rattle.plain_reader.proofs.Left.{MembersLeft, QuestionsLeft, CountLeft}
 use Rattle.plain_reader.proofs.+read.Given as goal
 
-abbrev pub decreases-read::read_site : goal.decreases-read::read_site
-decreases-read::read_site l = 12 * room_in l.reading.now + 11
+abbrev pub decreases-read::accepts_schema : goal.decreases-read::accepts_schema
+decreases-read::accepts_schema l = 12 * room_in l.reading.now + 11
 
-abbrev pub decreases-read::read_members : goal.decreases-read::read_members
-decreases-read::read_members l = 12 * room_in l.reading.now + 10
+abbrev pub decreases-read::accepts_members : goal.decreases-read::accepts_members
+decreases-read::accepts_members l = 12 * room_in l.reading.now + 10
 
-abbrev pub decreases-read::read_member : goal.decreases-read::read_member
-decreases-read::read_member l = 12 * room_in l.reading.now + 9
+abbrev pub decreases-read::accepts_member : goal.decreases-read::accepts_member
+decreases-read::accepts_member l = 12 * room_in l.reading.now + 9
 
-abbrev pub decreases-read::read_keyword : goal.decreases-read::read_keyword
-decreases-read::read_keyword l = 12 * room_in l.reading.now + 8
+abbrev pub decreases-read::accepts_keyword : goal.decreases-read::accepts_keyword
+decreases-read::accepts_keyword l = 12 * room_in l.reading.now + 8
 
-abbrev pub decreases-read::read_condition : goal.decreases-read::read_condition
-decreases-read::read_condition l = 12 * room_in l.reading.now + 7
+abbrev pub decreases-read::accepts_by_condition : goal.decreases-read::accepts_by_condition
+decreases-read::accepts_by_condition l = 12 * room_in l.reading.now + 7
 
-abbrev pub decreases-read::read_beside : goal.decreases-read::read_beside
-decreases-read::read_beside l = 12 * room_in l.reading.now + 6
+abbrev pub decreases-read::accepts_beside : goal.decreases-read::accepts_beside
+decreases-read::accepts_beside l = 12 * room_in l.reading.now + 6
 
-abbrev pub decreases-read::read_applicator : goal.decreases-read::read_applicator
-decreases-read::read_applicator l = 12 * room_in l.reading.now + 7
+abbrev pub decreases-applied::accepts_applicator : goal.decreases-applied::accepts_applicator
+decreases-applied::accepts_applicator l = 12 * room_in l.reading.now + 7
 
-abbrev pub decreases-read::read_combined : goal.decreases-read::read_combined
-decreases-read::read_combined l = 12 * room_in l.reading.now + 6
+abbrev pub decreases-applied::accepts_each : goal.decreases-applied::accepts_each
+decreases-applied::accepts_each l = 12 * room_in l.reading.now + 5
 
-abbrev pub decreases-read::count_accepted : goal.decreases-read::count_accepted
-decreases-read::count_accepted l = 12 * room_in l.reading.now + 5
+abbrev pub decreases-applied::count_accepted : goal.decreases-applied::count_accepted
+decreases-applied::count_accepted l = 12 * room_in l.reading.now + 5
 
-abbrev pub decreases-read::read_branches : goal.decreases-read::read_branches
-decreases-read::read_branches l = 12 * room_in l.reading.now + 5
+abbrev pub decreases-applied::accepts_question : goal.decreases-applied::accepts_question
+decreases-applied::accepts_question l = 12 * room_in l.reading.now + 4
 
-abbrev pub decreases-read::read_questions : goal.decreases-read::read_questions
-decreases-read::read_questions l = 12 * room_in l.reading.now + 5
+abbrev pub decreases-applied::accepts_part : goal.decreases-applied::accepts_part
+decreases-applied::accepts_part l = 12 * room_in l.reading.now + 14
 
-abbrev pub decreases-names::read_named : goal.decreases-names::read_named
-decreases-names::read_named l = 12 * room_in l.reading.now + 5
+abbrev pub decreases-names::accepts_name : goal.decreases-names::accepts_name
+decreases-names::accepts_name l = 12 * room_in l.reading.now + 13
 
-abbrev pub decreases-read::read_question : goal.decreases-read::read_question
-decreases-read::read_question l = 12 * room_in l.reading.now + 4
+abbrev pub decreases-whole::accepts_alone : goal.decreases-whole::accepts_alone
+decreases-whole::accepts_alone l = 12 * room (documents_at l.site.now) (spots_in (location_of l.at.now) (view l.value.now)) [] (view l.site.now.contents.now) + 12
 
-abbrev pub decreases-read::read_entry : goal.decreases-read::read_entry
-decreases-read::read_entry l = 12 * room_in l.reading.now + 15
+abbrev pub decreases-read::accepts_target : goal.decreases-read::accepts_target
+decreases-read::accepts_target l = 12 * room_in l.reading.now + 3
 
-abbrev pub decreases-read::read_part : goal.decreases-read::read_part
-decreases-read::read_part l = 12 * room_in l.reading.now + 14
-
-abbrev pub decreases-names::read_name : goal.decreases-names::read_name
-decreases-names::read_name l = 12 * room_in l.reading.now + 13
-
-abbrev pub decreases-whole::read_alone : goal.decreases-whole::read_alone
-decreases-whole::read_alone l = 12 * room (documents_at l.site.now) (spots_in (instance_in l.roads) (view l.value.now)) [] (view l.site.now.contents.now) + 12
-
-abbrev pub decreases-read::read_target : goal.decreases-read::read_target
-decreases-read::read_target l = 12 * room_in l.reading.now + 3
-
-abbrev pub invariant-read::read_members-loop-name : goal.invariant-read::read_members-loop-name
-invariant-read::read_members-loop-name l =
+abbrev pub invariant-read::accepts_members-loop-name : goal.invariant-read::accepts_members-loop-name
+invariant-read::accepts_members-loop-name l =
     let all = members_view l.members.entries in
     let rest = members_view l.name-iterator in
     record {
       whole : members_view l.initial.name-iterator ≡ all;
-      left : MembersLeft l.reading.site.now (spots_of l.reading.whole) (view l.reading.value.now) l.reading.roads (keys_in l.reading.progress.now) all rest l.fn.observer l.observer;
+      left : MembersLeft l.reading.site.now (spots_of l.reading.whole) (view l.reading.value.now) (path_in l.reading) (keys_in l.reading.progress.now) all rest;
     }
 
-abbrev pub invariant-read::read_questions-loop-question : goal.invariant-read::read_questions-loop-question
-invariant-read::read_questions-loop-question l =
-    QuestionsLeft l.reading.site.now (spots_of l.reading.whole) (view l.reading.value.now) l.reading.roads (keys_in l.reading.progress.now) l.applicator l.asked (drop l.question-index l.asked) l.fn.observer l.observer
+abbrev pub invariant-applied::accepts_each-loop-question : goal.invariant-applied::accepts_each-loop-question
+invariant-applied::accepts_each-loop-question l =
+    QuestionsLeft l.reading.site.now (spots_of l.reading.whole) (view l.reading.value.now) (path_in l.reading) (keys_in l.reading.progress.now) l.applicator l.asked (drop l.question-index l.asked)
 
-abbrev pub invariant-names::read_named-loop-question : goal.invariant-names::read_named-loop-question
-invariant-names::read_named-loop-question l =
-    NamedLeft l.reading.site.now (spots_of l.reading.whole) (view l.reading.value.now) l.reading.roads (keys_in l.reading.progress.now) l.applicator l.asked (drop l.question-index l.asked) l.fn.observer l.observer
-
-abbrev pub invariant-read::count_accepted-loop-question : goal.invariant-read::count_accepted-loop-question
-invariant-read::count_accepted-loop-question l =
+abbrev pub invariant-applied::count_accepted-loop-answered : goal.invariant-applied::count_accepted-loop-answered
+invariant-applied::count_accepted-loop-answered l =
     record {
-      few : l.accepted ≤ l.question-index;
-      left : CountLeft l.reading.site.now (spots_of l.reading.whole) (view l.reading.value.now) l.reading.roads (keys_in l.reading.progress.now) l.applicator l.asked (drop l.question-index l.asked) l.accepted;
+      few : l.accepted ≤ l.answered;
+      left : CountLeft l.reading.site.now (spots_of l.reading.whole) (view l.reading.value.now) (path_in l.reading) (keys_in l.reading.progress.now) l.applicator l.asked (drop l.answered l.asked) l.accepted;
     }
-
-abbrev pub invariant-read::read_branches-loop-question : goal.invariant-read::read_branches-loop-question
-invariant-read::read_branches-loop-question l =
-    BranchesLeft l.reading.site.now (spots_of l.reading.whole) (view l.reading.value.now) l.reading.roads (keys_in l.reading.progress.now) l.applicator l.asked (drop l.question-index l.asked) l.context.items

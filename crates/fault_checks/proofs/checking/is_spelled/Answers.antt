@@ -1,9 +1,6 @@
-use Rattle.std.proofs.Common.{◌++◌, [], ap₂, List, ℕ}
 use Rattle.std.proofs.lemmas.Result.{IfOk-weaker}
-use Rattle.schema_definitions.specs.Sites.{path_of_reference}
 use Rattle.fault_checks.specs.Passed.{documents_in, target_in}
 use Rattle.fault_checks.proofs.Passed.{root_shallow}
-use Rattle.fault_checks.specs.Scenes.{behind}
 use Rattle.fault_checks.proofs.Checked.{decided_at}
 use Rattle.fault_checks.proofs.checking.is_spelled.Goals as goal
 
@@ -15,7 +12,6 @@ invariant_of-walk c =
 pub returns : goal.returns
 returns c =
     let t = target_in c.args.root.now in
-    let path = ap₂ (λ ps (r : List ℕ). behind ps [] ++ path_of_reference r) c.new.ensures.items c.none.ensures in
     IfOk-weaker c.walked.result _ _
-    (λ b p. decided_at _ t (documents_in c.args.root.now.resolver) c.args.matches b c.in_ok-site.ensures.documents c.in_ok-site.ensures.matches c.in_ok-site.ensures.stands c.in_ok-site.ensures.scope path p)
+    (λ b p. decided_at _ t (documents_in c.args.root.now.resolver) c.args.matches b c.in_ok-site.ensures.documents c.in_ok-site.ensures.matches c.in_ok-site.ensures.stands c.in_ok-site.ensures.scope p)
     c.walked.ensures

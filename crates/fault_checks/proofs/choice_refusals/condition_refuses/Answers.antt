@@ -4,19 +4,16 @@ use Rattle.serde_json.specs.View.{view}
 use Rattle.fault_paths.proofs.TextFacts.{apart_by, same_by}
 use Rattle.fault_checks.specs.Verdicts.{IsInnerVerdict}
 use Rattle.fault_checks.proofs.Chosen.{by_other_name, by_no_part, by_part, chosen_inside}
-use Rattle.fault_checks.specs.Trials.{path_in}
 use Rattle.fault_checks.proofs.choice_refusals.condition_refuses.Goals as goal
 
 pub returns-then-ne : goal.returns-then-ne
 returns-then-ne c =
-    let path = path_in c.args.trial.now in
-    by_other_name c.args.trial.now.site.now path (view c.args.trial.now.value.now) c.args.condition c.args.then_schema c.args.else_schema c.args.trial.now.shallow c.args.name.now (not c.in_ok-refused.refused) c.in_ok-refused.ensures
+    by_other_name c.args.trial.now.site.now (view c.args.trial.now.value.now) c.args.condition c.args.then_schema c.args.else_schema c.args.trial.now.shallow c.args.name.now (not c.in_ok-refused.refused) c.in_ok-refused.ensures
     (λ same. apart_by c.chosen.result.0.now c.args.name.now c.ne.result c.ne.ensures c.if-ne.true (c.chosen.ensures.name ∙ same))
 
 pub returns-in-None : goal.returns-in-None
 returns-in-None c =
-    let path = path_in c.args.trial.now in
-    by_no_part c.args.trial.now.site.now path (view c.args.trial.now.value.now) c.args.condition c.args.then_schema c.args.else_schema c.args.trial.now.shallow c.args.name.now (not c.in_ok-refused.refused) c.in_ok-refused.ensures
+    by_no_part c.args.trial.now.site.now (view c.args.trial.now.value.now) c.args.condition c.args.then_schema c.args.else_schema c.args.trial.now.shallow c.args.name.now (not c.in_ok-refused.refused) c.in_ok-refused.ensures
     (sym c.chosen.ensures.schema ∙ c.in-None.is)
 
 pub is_inner_refused-requires-in-Some : goal.is_inner_refused-requires-in-Some
@@ -24,10 +21,9 @@ is_inner_refused-requires-in-Some c = record { inside = chosen_inside c.args.tri
 
 pub returns-in-Some : goal.returns-in-Some
 returns-in-Some c =
-    let path = path_in c.args.trial.now in
     let d = view c.args.trial.now.value.now in
     IfOk-weaker c.is_inner_refused-in-Some.result _ _
-    (λ v h. by_part c.args.trial.now.site.now path d c.args.condition c.args.then_schema c.args.else_schema c.args.trial.now.shallow c.args.name.now (not c.in_ok-refused.refused) c.in_ok-refused.ensures
+    (λ v h. by_part c.args.trial.now.site.now d c.args.condition c.args.then_schema c.args.else_schema c.args.trial.now.shallow c.args.name.now (not c.in_ok-refused.refused) c.in_ok-refused.ensures
     c.in-Some.part (sym c.chosen.ensures.schema ∙ c.in-Some.is) (sym c.chosen.ensures.name ∙ same_by c.chosen.result.0.now c.args.name.now c.ne.result c.ne.ensures c.if-ne.false) v
-    (subst (λ k. IsInnerVerdict c.args.trial.now.site.now path d k (view c.in-Some.part.now) (not v)) c.chosen.ensures.name h))
+    (subst (λ k. IsInnerVerdict c.args.trial.now.site.now d k (view c.in-Some.part.now) (not v)) c.chosen.ensures.name h))
     c.is_inner_refused-in-Some.ensures

@@ -1,11 +1,8 @@
-use Rattle.std.proofs.Common.{◌++◌, ap, not, Bor}
+use Rattle.std.proofs.Common.{ap, not, Bor}
 use Rattle.std.proofs.lemmas.Result.{IfOk-weaker}
 use Rattle.serde_json.specs.View.{view}
 use Rattle.serde_json.specs.declared.value.Value.{Value}
-use Rattle.schema_definitions.specs.Sites.{path_of_reference}
-use Rattle.schema_reports.specs.Locations.{location_of}
-use Rattle.schema_reports.specs.References.{text_of}
-use Rattle.plain_reader.proofs.ItemTelling.{Child, child_shallow}
+use Rattle.plain_reader.proofs.ChildVerdicts.{Child, child_shallow}
 use Rattle.fault_checks.proofs.Chosen.{inner_verdict}
 use Rattle.fault_checks.proofs.choice_refusals.is_inner_refused.Goals as goal
 
@@ -29,8 +26,6 @@ returns c =
       stands = λ s added. c.in_ok-inner.ensures.stands s added;
       matches = c.in_ok-inner.ensures.matches;
     } in
-    let rest = path_of_reference (text_of c.args.trial.now.reference) in
     IfOk-weaker c.is_refused.result _ _
-    (λ b verdict. inner_verdict c.args.trial.now.site.now c.in_ok-inner.inner (location_of c.args.trial.now.schema.now ++ rest) _ (view c.args.trial.now.value.now) c.args.name.now (view c.args.part.now) (not b) child
-    (ap (λ p. p ++ rest) c.push_name-road.ensures) verdict)
+    (λ b verdict. inner_verdict c.args.trial.now.site.now c.in_ok-inner.inner (view c.args.trial.now.value.now) c.args.name.now (view c.args.part.now) (not b) child verdict)
     c.is_refused.ensures

@@ -1,31 +1,21 @@
-use Rattle.std.proofs.Common.{◌∙◌, ◌++◌, List, not, codes, sym, ap₂, subst}
+use Rattle.std.proofs.Common.{◌∙◌, not, sym}
 use Rattle.std.proofs.lemmas.Result.{IfOk-weaker}
-use Rattle.serde_json.specs.View.{view}
-use Rattle.json_values.specs.Parts.{Part}
-use Rattle.schema_definitions.specs.Sites.{path_of_reference}
-use Rattle.schema_reports.specs.References.{text_of}
 use Rattle.fault_paths.proofs.TextFacts.{apart_by, same_by}
-use Rattle.fault_checks.specs.Scenes.{behind}
-use Rattle.fault_checks.specs.Verdicts.{IsInnerVerdict}
 use Rattle.fault_checks.proofs.Chosen.{chosen_inside}
 use Rattle.fault_checks.proofs.ChosenSteps.{other_name, no_part, to_chosen, chosen_shorter}
 use Rattle.fault_checks.proofs.choice_steps.through_condition.Goals as goal
 
-pub is_refused_inside-requires : goal.is_refused_inside-requires
-is_refused_inside-requires c = record { inside = c.requires.lies.inside }
+pub is_inner_refused-requires : goal.is_inner_refused-requires
+is_inner_refused-requires c = record { inside = c.requires.lies.inside }
 
 pub returns-then-ne-clause-passes : goal.returns-then-ne-clause-passes
 returns-then-ne-clause-passes c =
-    let path = ap₂ (λ ps (l : List Part). behind ps l ++ path_of_reference (text_of c.args.walk.reference)) c.deref.ensures.value c.new-start.ensures in
-    let verdict = subst (λ p. IsInnerVerdict c.args.walk.site p (view c.args.walk.value.now) (codes "if") (view c.args.condition.now) (not c.in_ok-refused.refused)) path c.in_ok-refused.ensures in
-    other_name c.args.walk c.args.condition c.args.then_schema c.args.else_schema c.args.name.now c.args.after c.requires.more (not c.in_ok-refused.refused) verdict
+    other_name c.args.walk c.args.condition c.args.then_schema c.args.else_schema c.args.name.now c.args.after c.requires.more (not c.in_ok-refused.refused) c.in_ok-refused.ensures
     (λ same. apart_by c.chosen.result.0.now c.args.name.now c.ne.result c.ne.ensures c.if-ne.true (c.chosen.ensures.name ∙ same))
 
 pub returns-in_default-clause-passes : goal.returns-in_default-clause-passes
 returns-in_default-clause-passes c =
-    let path = ap₂ (λ ps (l : List Part). behind ps l ++ path_of_reference (text_of c.args.walk.reference)) c.deref.ensures.value c.new-start.ensures in
-    let verdict = subst (λ p. IsInnerVerdict c.args.walk.site p (view c.args.walk.value.now) (codes "if") (view c.args.condition.now) (not c.in_ok-refused.refused)) path c.in_ok-refused.ensures in
-    no_part c.args.walk c.args.condition c.args.then_schema c.args.else_schema c.args.name.now c.args.after c.requires.more (not c.in_ok-refused.refused) verdict
+    no_part c.args.walk c.args.condition c.args.then_schema c.args.else_schema c.args.name.now c.args.after c.requires.more (not c.in_ok-refused.refused) c.in_ok-refused.ensures
     (sym c.chosen.ensures.schema ∙ c.in_default.is)
 
 pub to_question-requires : goal.to_question-requires
@@ -35,10 +25,8 @@ to_question-requires c = record {
 
 pub returns-clause-passes : goal.returns-clause-passes
 returns-clause-passes c =
-    let path = ap₂ (λ ps (l : List Part). behind ps l ++ path_of_reference (text_of c.args.walk.reference)) c.deref.ensures.value c.new-start.ensures in
-    let verdict = subst (λ p. IsInnerVerdict c.args.walk.site p (view c.args.walk.value.now) (codes "if") (view c.args.condition.now) (not c.in_ok-refused.refused)) path c.in_ok-refused.ensures in
     IfOk-weaker c.to_question.result _ _
-    (λ st h. to_chosen c.args.walk c.args.condition c.args.then_schema c.args.else_schema c.args.name.now c.args.after c.requires.more (not c.in_ok-refused.refused) verdict
+    (λ st h. to_chosen c.args.walk c.args.condition c.args.then_schema c.args.else_schema c.args.name.now c.args.after c.requires.more (not c.in_ok-refused.refused) c.in_ok-refused.ensures
     c.in-Some.schema (sym c.chosen.ensures.schema ∙ c.in-Some.is) (sym c.chosen.ensures.name ∙ same_by c.chosen.result.0.now c.args.name.now c.ne.result c.ne.ensures c.if-ne.false)
     st c.chosen.result.0 c.chosen.ensures.name h)
     c.to_question.ensures

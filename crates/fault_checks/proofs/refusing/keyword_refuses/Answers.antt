@@ -9,53 +9,46 @@ use Rattle.fault_checks.specs.Rows.{reference_row, reference_questions}
 use Rattle.fault_checks.specs.Verdicts.{rules_by, IsRefusalAt, LiesIn}
 use Rattle.fault_checks.proofs.Gathered.{by_questions, by_assertion, by_pattern, by_nothing}
 use Rattle.fault_checks.proofs.NamedRefusals.{HasOneName, under_name}
-use Rattle.fault_checks.specs.Trials.{path_in}
 use Rattle.fault_checks.proofs.refusing.keyword_refuses.Goals as goal
 
 pub returns-in-Nothing : goal.returns-in-Nothing
 returns-in-Nothing c =
     let d = view c.args.trial.now.value.now in
-    let path = path_in c.args.trial.now in
-    under_name c.args.trial.now.site.now path d c.args.keyword c.args.name.now false (subst HasOneName (sym c.in-Nothing.is) tt)
-    (by_nothing c.args.trial.now.site.now path d c.args.keyword (λ x s. ap (λ k. rules_by x s d k) c.in-Nothing.is))
+    under_name c.args.trial.now.site.now d c.args.keyword c.args.name.now false (subst HasOneName (sym c.in-Nothing.is) tt)
+    (by_nothing c.args.trial.now.site.now d c.args.keyword (λ x s. ap (λ k. rules_by x s d k) c.in-Nothing.is))
 
 pub returns-in_ok-accept-in-Assertion : goal.returns-in_ok-accept-in-Assertion
 returns-in_ok-accept-in-Assertion c =
     let a = assertion_of c.in-Assertion.assertion in
     let d = view c.args.trial.now.value.now in
-    let path = path_in c.args.trial.now in
-    under_name c.args.trial.now.site.now path d c.args.keyword c.args.name.now (not c.in_ok-accept-in-Assertion.field-0) (subst HasOneName (sym c.in-Assertion.is) tt)
-    (by_assertion c.args.trial.now.site.now path d c.args.keyword a c.in_ok-accept-in-Assertion.field-0 c.in_ok-accept-in-Assertion.ensures (λ x s. ap (λ k. rules_by x s d k) c.in-Assertion.is))
+    under_name c.args.trial.now.site.now d c.args.keyword c.args.name.now (not c.in_ok-accept-in-Assertion.field-0) (subst HasOneName (sym c.in-Assertion.is) tt)
+    (by_assertion c.args.trial.now.site.now d c.args.keyword a c.in_ok-accept-in-Assertion.field-0 c.in_ok-accept-in-Assertion.ensures (λ x s. ap (λ k. rules_by x s d k) c.in-Assertion.is))
 
 pub returns-in_ok-accepts_text-in-Pattern : goal.returns-in_ok-accepts_text-in-Pattern
 returns-in_ok-accepts_text-in-Pattern c =
     let d = view c.args.trial.now.value.now in
-    let path = path_in c.args.trial.now in
-    under_name c.args.trial.now.site.now path d c.args.keyword c.args.name.now (not c.in_ok-accepts_text-in-Pattern.field-0) (subst HasOneName (sym c.in-Pattern.is) tt)
-    (by_pattern c.args.trial.now.site.now path d c.args.keyword c.in-Pattern.pattern.now c.in_ok-accepts_text-in-Pattern.field-0 c.in_ok-accepts_text-in-Pattern.ensures (λ x s. ap (λ k. rules_by x s d k) c.in-Pattern.is))
+    under_name c.args.trial.now.site.now d c.args.keyword c.args.name.now (not c.in_ok-accepts_text-in-Pattern.field-0) (subst HasOneName (sym c.in-Pattern.is) tt)
+    (by_pattern c.args.trial.now.site.now d c.args.keyword c.in-Pattern.pattern.now c.in_ok-accepts_text-in-Pattern.field-0 c.in_ok-accepts_text-in-Pattern.ensures (λ x s. ap (λ k. rules_by x s d k) c.in-Pattern.is))
 
 pub applicator_refuses-requires : goal.applicator_refuses-requires
 applicator_refuses-requires c = record { applies = subst (LiesIn c.args.trial.now.site.now) c.in-Applicator.is c.requires.lies }
 
 pub returns-in-Applicator : goal.returns-in-Applicator
 returns-in-Applicator c =
-    let path = path_in c.args.trial.now in
-    IfOk-weaker c.applicator_refuses.result _ _ (λ b h. subst (λ k. IsRefusalAt c.args.trial.now.site.now path (view c.args.trial.now.value.now) k c.args.name.now b) (sym c.in-Applicator.is) h) c.applicator_refuses.ensures
+    IfOk-weaker c.applicator_refuses.result _ _ (λ b h. subst (λ k. IsRefusalAt c.args.trial.now.site.now (view c.args.trial.now.value.now) k c.args.name.now b) (sym c.in-Applicator.is) h) c.applicator_refuses.ensures
 
 pub condition_refuses-requires : goal.condition_refuses-requires
 condition_refuses-requires c = record { lies = subst (LiesIn c.args.trial.now.site.now) c.in-If.is c.requires.lies }
 
 pub returns-in-If : goal.returns-in-If
 returns-in-If c =
-    let path = path_in c.args.trial.now in
-    IfOk-weaker c.condition_refuses.result _ _ (λ b h. subst (λ k. IsRefusalAt c.args.trial.now.site.now path (view c.args.trial.now.value.now) k c.args.name.now b) (sym c.in-If.is) h) c.condition_refuses.ensures
+    IfOk-weaker c.condition_refuses.result _ _ (λ b h. subst (λ k. IsRefusalAt c.args.trial.now.site.now (view c.args.trial.now.value.now) k c.args.name.now b) (sym c.in-If.is) h) c.condition_refuses.ensures
 
 pub returns-in-Consequent : goal.returns-in-Consequent
 returns-in-Consequent c =
     let d = view c.args.trial.now.value.now in
-    let path = path_in c.args.trial.now in
-    under_name c.args.trial.now.site.now path d c.args.keyword c.args.name.now false (subst HasOneName (sym c.in-Consequent.is) tt)
-    (by_nothing c.args.trial.now.site.now path d c.args.keyword (λ x s. ap (λ k. rules_by x s d k) c.in-Consequent.is))
+    under_name c.args.trial.now.site.now d c.args.keyword c.args.name.now false (subst HasOneName (sym c.in-Consequent.is) tt)
+    (by_nothing c.args.trial.now.site.now d c.args.keyword (λ x s. ap (λ k. rules_by x s d k) c.in-Consequent.is))
 
 pub is_target_refused-requires : goal.is_target_refused-requires
 is_target_refused-requires c = record { found = subst (LiesIn c.args.trial.now.site.now) c.in-Reference.is c.requires.lies }
@@ -63,12 +56,11 @@ is_target_refused-requires c = record { found = subst (LiesIn c.args.trial.now.s
 pub returns-in-Reference : goal.returns-in-Reference
 returns-in-Reference c =
     let d = view c.args.trial.now.value.now in
-    let path = path_in c.args.trial.now in
     let w = c.in-Reference.by in
     let text = c.in-Reference.text.now in
     let t = target_in c.in-Reference.target in
     IfOk-weaker c.is_target_refused.result _ _
-    (λ b h. under_name c.args.trial.now.site.now path d c.args.keyword c.args.name.now b (subst HasOneName (sym c.in-Reference.is) tt)
-    (by_questions c.args.trial.now.site.now path d c.args.keyword (reference_row w text t) (asking.at (name_of w)) (reference_questions w text t) b c.args.trial.now.shallow
+    (λ b h. under_name c.args.trial.now.site.now d c.args.keyword c.args.name.now b (subst HasOneName (sym c.in-Reference.is) tt)
+    (by_questions c.args.trial.now.site.now d c.args.keyword (reference_row w text t) (asking.at (name_of w)) (reference_questions w text t) b c.args.trial.now.shallow
     (λ x s. ap (λ k. row_of x.documents s k) c.in-Reference.is) (λ x s. refl) h))
     c.is_target_refused.ensures

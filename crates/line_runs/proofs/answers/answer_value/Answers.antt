@@ -1,19 +1,40 @@
-use Rattle.std.proofs.Common.{Option, option_map, refl, sym, subst}
+use Rattle.std.proofs.Common.{◌≡◌, ◌∙◌, codes, refl, sym, ap, subst}
 use Rattle.serde_json.specs.View.{view}
-use Rattle.serde_json.specs.declared.value.Value.{Value}
 use Rattle.schema_definitions.specs.Lines.{faults_text}
+use Rattle.schema_meaning.specs.Faults.{none}
+use Rattle.schema_meaning.specs.Readings.{verdicts}
 use Rattle.schema_reports.specs.Left.{errors_left}
 use Rattle.schema_reports.specs.Told.{faults_of}
-use Rattle.schema_validators.specs.Seen.{root_in}
-use Rattle.line_runs.specs.Runs.{ValueText}
+use Rattle.schema_registries.specs.Answers.{IsAnswer}
+use Rattle.schema_validators.proofs.Accepting.{accepts_none, accepted_none}
 use Rattle.line_runs.proofs.answers.answer_value.Goals as goal
 
-pub returns-in_ok-write_faults-in-Some : goal.returns-in_ok-write_faults-in-Some
-returns-in_ok-write_faults-in-Some g c =
-    let heard = c.in_ok-errors-in-Some in
-    let fs = faults_of (errors_left heard.errors) in (
+-- no faults are an empty list
+empty : faults_text none ≡ codes "[]"
+empty = refl
+
+pub returns-then-branch : goal.returns-then-branch
+returns-then-branch g c =
+    let v = c.args.validator.now in
+    let d = view c.args.value.now in
+    let valid = c.in_ok-is_valid.ensures in
+    let yes = c.if-branch.true in (
+      codes "[]",
+      record {
+        nodes = sym (ap faults_text (accepts_none v d (sym valid.cut ∙ yes)) ∙ empty);
+        root = λ p r made. (none, accepted_none p r d (subst (λ b. IsAnswer verdicts p r d b) yes (valid.verdict p r made)), sym empty);
+      },
+      c.in_ok-push_str.ensures.bytes,
+    )
+
+pub returns : goal.returns
+returns g c =
+    let errors = c.in_ok-errors in
+    let fs = faults_of (errors_left errors.errors) in (
       faults_text fs,
-      λ p made. subst (λ (o : Option Value). ValueText p (root_in c.args.validator.now) (option_map (λ v. view v) o) (faults_text fs)) (sym c.in-Some.is)
-          (fs, record { cut = heard.ensures.cut p made; decided = heard.ensures.faults p made }, refl),
-      c.in_ok-write_faults-in-Some.ensures.ok,
+      record {
+        nodes = ap faults_text errors.ensures.cut;
+        root = λ p r made. (fs, errors.ensures.faults p r made, refl);
+      },
+      c.in_ok-write_faults.ensures.ok,
     )

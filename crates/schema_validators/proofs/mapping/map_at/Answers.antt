@@ -16,7 +16,7 @@ returns-in-Ok-clause-built g c =
     let documents : documents_in resolver ≡ documents_in_registry registry = c.in_ok-resolver.ensures.documents ∙ c.registry.ensures in
     let base : base_of resolver ≡ r.base = c.in_ok-resolver.ensures.base ∙ c.in_ok-clone.ensures.cases ∙ c.base.ensures in
     let found : Finds r t = sym (ap₂ (λ ds b. lookup ds b c.args.root.now) documents base) ∙ c.in-Ok.ensures.ok in
-    map-there g.P.Matcher.PatternMatcher.finds (g.P.PatternMaker.patterns c.args.maker.now) registry c.args.root.now c.args.node_limit t found c.own.result.now c.own.ensures
+    map-there (g.P.PatternMaker.patterns c.args.maker.now) registry c.args.root.now c.args.node_limit t found c.own.result.now c.own.ensures
     c.document.result.now c.document.ensures c.map_of.result c.map_of.ensures.built
 
 pub returns-in-Ok-clause-refused : goal.returns-in-Ok-clause-refused

@@ -5,4 +5,4 @@ use Rattle.schema_validators.proofs.mapping.validators_at.Given as goal
 
 abbrev pub invariant-loop-position : goal.invariant-loop-position
 invariant-loop-position g l =
-    Enters (documents_shared l.registry) l.document l.table.value (map string_bytes (take l.position l.pointers)) (take l.position l.right) (entries_in l.map)
+    Enters (documents_shared l.registry) l.document l.shared.value (map string_bytes (take l.position l.pointers)) (take l.position l.starts) (entries_in l.map)

@@ -5,7 +5,7 @@ use Rattle.schema_validators.proofs.options.ValidationOptions.build_map.Goals as
 pub returns-clause-built : goal.returns-clause-built
 returns-clause-built g c =
     mapped_by (g.P.PatternMaker.patterns c.args.self.now.maker) g.R.Retrieve.may_answer g.R.Retrieve.may_refuse c.args.self.now
-    (documents_given c.args.documents.now) c.args.root.now c.in_ok-registry.registry c.in_ok-registry.ensures.prepared g.P.Matcher.PatternMatcher.finds c.map_at.result c.map_at.ensures.built
+    (documents_given c.args.documents.now) c.args.root.now c.in_ok-registry.registry c.in_ok-registry.ensures.prepared c.map_at.result c.map_at.ensures.built
 
 pub returns-clause-refused : goal.returns-clause-refused
 returns-clause-refused g c =

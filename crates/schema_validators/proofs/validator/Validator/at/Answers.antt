@@ -1,29 +1,26 @@
-use Rattle.std.proofs.Common.{◌∙◌}
+use Rattle.std.proofs.Common.{◌<◌, ◌∙◌, length, sym, subst}
+use Rattle.compiled_graphs.specs.declared.schemas.SchemaGraph.{SchemaGraph}
 use Rattle.schema_registries.specs.Seen.{documents_shared}
 use Rattle.schema_registries.specs.Roots.{Root}
+use Rattle.schema_validators.specs.Meant.{AreOfSome}
 use Rattle.schema_validators.specs.Seen.{root_of}
-use Rattle.schema_validators.proofs.Placing.{made_over, draft_over, within_over}
+use Rattle.schema_validators.proofs.Making.{made_over}
 use Rattle.schema_validators.proofs.validator.Validator.at.Goals as goal
 
-pub with-requires : goal.with-requires
-with-requires g c =
+pub over-requires : goal.over-requires
+over-requires g c =
     let p = g.P.PatternMaker.patterns c.args.maker.now in
-    record { sound = λ by_none. by_none p c.in_ok-draft.ensures.made.sound }
+    let r : Root = root_of (documents_shared c.args.registry.now) c.args.base.now c.args.root.now in
+    let compiled = c.in_ok-draft.compiled in
+    let made = c.in_ok-draft.ensures.made in
+    record {
+      there = subst (λ (s : SchemaGraph _ _). compiled.start < length s.graph.nodes.items) (sym c.in_ok-schemas.ensures) compiled.there;
+      of_some = subst (λ (s : SchemaGraph _ _). AreOfSome s.graph.nodes.items compiled.start) (sym c.in_ok-schemas.ensures) (λ by_none. by_none p r made.sound made.means);
+    }
 
 pub returns-clause-made : goal.returns-clause-made
 returns-clause-made g c =
     let p = g.P.PatternMaker.patterns c.args.maker.now in
-    let v = c.in_ok-with.field-0 in
     let r : Root = root_of (documents_shared c.args.registry.now) c.args.base.now c.args.root.now in
-    made_over g.M.PatternMatcher.finds p v r c.in_ok-draft.table c.in_ok-with.ensures.root (c.in_ok-with.ensures.table ∙ c.in_ok-table.ensures) c.in_ok-draft.ensures.made
-
-pub returns-clause-draft : goal.returns-clause-draft
-returns-clause-draft g c =
-    let r : Root = root_of (documents_shared c.args.registry.now) c.args.base.now c.args.root.now in
-    draft_over c.in_ok-with.field-0 r c.in_ok-draft.draft c.in_ok-with.ensures.root c.in_ok-with.ensures.draft c.in_ok-draft.ensures.draft
-
-pub returns-clause-within : goal.returns-clause-within
-returns-clause-within g c =
-    let p = g.P.PatternMaker.patterns c.args.maker.now in
-    let r : Root = root_of (documents_shared c.args.registry.now) c.args.base.now c.args.root.now in
-    within_over p c.args.node_limit c.in_ok-with.field-0 r c.in_ok-with.ensures.root c.in_ok-draft.ensures.within
+    let compiled = c.in_ok-draft.compiled in
+    made_over p r c.over.result compiled.schemas compiled.start (c.over.ensures.schemas ∙ c.in_ok-schemas.ensures) c.over.ensures.start c.in_ok-draft.ensures.made

@@ -1,27 +1,26 @@
-use Rattle.std.proofs.Common.{subst}
+use Rattle.std.proofs.Common.{IfOk, subst}
+use Rattle.std.proofs.lemmas.Result.{IfOk-weaker}
 use Rattle.serde_json.specs.View.{view}
-use Rattle.schema_meaning.specs.Readings.{verdicts}
-use Rattle.schema_reports.specs.declared.observer.Observation.TheVariants.{Verdict}
-use Rattle.schema_validators.specs.Heard.{HearsCut, StillKeeps}
-use Rattle.schema_validators.specs.Seen.{root_in}
-use Rattle.schema_validators.proofs.Hearing.{verdict_heard, answered}
+use Rattle.compiled_graphs.specs.declared.schemas.SchemaGraph.{SchemaGraph}
+use Rattle.compiled_keywords.specs.Shapes.{shape_of}
+use Rattle.graph_answers.specs.Answers.{IsVerdict}
+use Rattle.schema_validators.specs.Seen.{nodes_in, table_in}
+use Rattle.schema_validators.proofs.ByNodes.{verdict_answered}
 use Rattle.schema_validators.proofs.Certifying.{verdict_certified}
 use Rattle.schema_validators.proofs.validator.Validator.is_valid.Goals as goal
 
-pub unreachable-requires : goal.unreachable-requires
-unreachable-requires g c = (subst (StillKeeps _) c.in-First.is c.in_ok-observer.ensures.kept).keeps Verdict c.new.ensures (λ fs h. h)
-
-pub unreachable-requires-in-All : goal.unreachable-requires-in-All
-unreachable-requires-in-All g c = (subst (StillKeeps _) c.in-All.is c.in_ok-observer.ensures.kept).keeps Verdict c.new.ensures (λ fs h. h)
-
-pub returns-clause-cut : goal.returns-clause-cut
-returns-clause-cut g c = λ p made.
-    let r = root_in c.args.self.now in
-    let told = subst (HearsCut p r (view c.args.value.now) _) c.in-Verdict.is (c.in_ok-observer.ensures.heard p made) in
-    verdict_heard p r (view c.args.value.now) c.new.result c.in-Verdict.verdict c.new.ensures told c.accepts.result c.accepts.ensures
-
 pub returns-clause-verdict : goal.returns-clause-verdict
-returns-clause-verdict g c = λ p made. answered verdicts p (root_in c.args.self.now) (view c.args.value.now) c.accepts.result (returns-clause-cut g c p made)
+returns-clause-verdict g c =
+    let v = c.args.self.now in
+    let d = view c.args.value.now in
+    let finds = g.M.PatternMatcher.finds in
+    let told = subst (λ (s : SchemaGraph _ _). IfOk c.is_valid.result (IsVerdict shape_of finds s.graph.nodes.items s.table v.start d)) c.deref.ensures c.is_valid.ensures.verdict in
+    IfOk-weaker c.is_valid.result _ _ (λ b h p r made. verdict_answered finds p r (nodes_in v) v.start (table_in v) made d b h) told
 
 pub returns-clause-certified : goal.returns-clause-certified
-returns-clause-certified g c = λ p made. verdict_certified p (root_in c.args.self.now) (view c.args.value.now) c.accepts.result (returns-clause-verdict g c p made)
+returns-clause-certified g c =
+    let v = c.args.self.now in
+    let d = view c.args.value.now in
+    let finds = g.M.PatternMatcher.finds in
+    let told = subst (λ (s : SchemaGraph _ _). IfOk c.is_valid.result (IsVerdict shape_of finds s.graph.nodes.items s.table v.start d)) c.deref.ensures c.is_valid.ensures.verdict in
+    IfOk-weaker c.is_valid.result _ _ (λ b h p r made. verdict_certified p r d b (verdict_answered finds p r (nodes_in v) v.start (table_in v) made d b h)) told

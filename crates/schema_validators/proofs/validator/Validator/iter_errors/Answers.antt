@@ -1,41 +1,44 @@
-use Rattle.std.proofs.Common.{◌≡◌, true, subst, sym}
+use Rattle.std.proofs.Common.{◌≡◌, ◌∙◌, true, ap, subst, sym}
 use Rattle.serde_json.specs.View.{view}
-use Rattle.schema_meaning.specs.Readings.{bags}
+use Rattle.schema_meaning.specs.Faults.{none}
+use Rattle.schema_engine.specs.Hearing.{HearsMore}
 use Rattle.schema_reports.specs.Left.{errors_left}
 use Rattle.schema_reports.specs.Told.{faults_of, are_proper}
 use Rattle.schema_reports.specs.declared.observer.Observation.TheVariants.{All}
-use Rattle.schema_registries.specs.Answers.{IsCut}
-use Rattle.schema_validators.specs.Heard.{HearsCut, StillKeeps}
-use Rattle.schema_validators.specs.Seen.{root_in}
-use Rattle.schema_validators.proofs.Hearing.{all_heard, answered, errors_proper}
-use Rattle.schema_validators.proofs.Certifying.{faults_certified}
+use Rattle.schema_validators.specs.Seen.{nodes_in, table_in}
+use Rattle.schema_validators.specs.Told.{faults_by}
+use Rattle.schema_validators.proofs.ByNodes.{faults_answered, faults_certified}
+use Rattle.schema_validators.proofs.Hearing.{all_say}
 use Rattle.schema_validators.proofs.MissingLemmas.{each_missing}
 use Rattle.schema_validators.proofs.validator.Validator.iter_errors.Goals as goal
 
 pub unreachable-requires : goal.unreachable-requires
-unreachable-requires g c = (subst (StillKeeps _) c.in-Verdict.is c.in_ok-observer.ensures.kept).keeps All c.new.ensures (λ fs h. h)
+unreachable-requires g c = (subst (HearsMore _ _) c.in-Verdict.is c.in_ok-observer.ensures.heard).heard All none c.new.ensures
 
 pub unreachable-requires-in-First : goal.unreachable-requires-in-First
-unreachable-requires-in-First g c = (subst (StillKeeps _) c.in-First.is c.in_ok-observer.ensures.kept).keeps All c.new.ensures (λ fs h. h)
+unreachable-requires-in-First g c = (subst (HearsMore _ _) c.in-First.is c.in_ok-observer.ensures.heard).heard All none c.new.ensures
 
 pub returns-clause-cut : goal.returns-clause-cut
-returns-clause-cut g c = λ p made.
-    let r = root_in c.args.self.now in
-    let d = view c.args.value.now in
-    let told = subst (HearsCut p r d _) c.in-All.is (c.in_ok-observer.ensures.heard p made) in
-    subst (λ es. IsCut bags p r d (faults_of es)) (sym c.of.ensures) (all_heard p r d c.new.result c.in-All.all c.new.ensures told c.into_errors.result.items c.into_errors.ensures)
+returns-clause-cut g c =
+    let fs = faults_by c.args.self.now (view c.args.value.now) in
+    let are = all_say fs c.new.result c.in-All.all c.new.ensures (subst (HearsMore fs _) c.in-All.is c.in_ok-observer.ensures.heard) c.into_errors.result.items c.into_errors.ensures in
+    ap faults_of c.of.ensures ∙ are.told
 
 pub returns-clause-faults : goal.returns-clause-faults
-returns-clause-faults g c = λ p made. answered bags p (root_in c.args.self.now) (view c.args.value.now) (faults_of (errors_left c.of.result)) (returns-clause-cut g c p made)
+returns-clause-faults g c = λ p r made.
+    let v = c.args.self.now in
+    faults_answered g.M.PatternMatcher.finds p r (nodes_in v) v.start (table_in v) made (view c.args.value.now) c.in_ok-observer.ensures.faults (faults_of (errors_left c.of.result)) (returns-clause-cut g c)
 
 pub returns-clause-proper : goal.returns-clause-proper
 returns-clause-proper g c =
-    let keeps = subst (StillKeeps _) c.in-All.is c.in_ok-observer.ensures.kept in
-    subst (λ es. are_proper es ≡ true) (sym c.of.ensures)
-    (errors_proper c.new.result c.in-All.all c.new.ensures keeps c.into_errors.result.items c.into_errors.ensures)
+    let fs = faults_by c.args.self.now (view c.args.value.now) in
+    let are = all_say fs c.new.result c.in-All.all c.new.ensures (subst (HearsMore fs _) c.in-All.is c.in_ok-observer.ensures.heard) c.into_errors.result.items c.into_errors.ensures in
+    ap are_proper c.of.ensures ∙ are.proper
 
 pub returns-clause-certified : goal.returns-clause-certified
-returns-clause-certified g c = λ p made. faults_certified p (root_in c.args.self.now) (view c.args.value.now) (faults_of (errors_left c.of.result)) (returns-clause-faults g c p made)
+returns-clause-certified g c = λ p r made.
+    let v = c.args.self.now in
+    faults_certified g.M.PatternMatcher.finds p r (nodes_in v) v.start (table_in v) made (view c.args.value.now) c.in_ok-observer.ensures.certified (faults_of (errors_left c.of.result)) (returns-clause-cut g c)
 
 pub returns-clause-missing : goal.returns-clause-missing
-returns-clause-missing g c = λ p made. each_missing p (root_in c.args.self.now) (view c.args.value.now) (faults_of (errors_left c.of.result)) (returns-clause-faults g c p made)
+returns-clause-missing g c = λ p r made. each_missing p r (view c.args.value.now) (faults_of (errors_left c.of.result)) (returns-clause-faults g c p r made)
