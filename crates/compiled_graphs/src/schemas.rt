@@ -1,17 +1,19 @@
 //! Compiled schemas with the patterns that they ask for.
 
-ghost use Rattle.std.specs.Prelude.{◌<◌, length, IfOk, OnOk};
+ghost use Rattle.std.specs.Prelude.{◌≡◌, ◌<◌, length, IfOk, OnOk};
 ghost use Rattle.serde_json.specs.View.{view};
 ghost use Rattle.compiled_keywords.specs.Shapes.{shape_of};
 ghost use Rattle.graph_answers.specs.Answers.{IsAnswer, HearsAnswer, Agree, IsVerdict, IsCertified, AreFaults, HaveCertificates};
-ghost use Rattle.graph_answers.specs.Tables.{AreForms};
+ghost use Rattle.graph_answers.specs.Tables.{AreForms, matches_of};
 ghost use Rattle.std.proofs.Props.{props};
 ghost use Rattle.compiled_graphs.specs.Known.{knows_prop};
 ghost use Rattle.compiled_graphs.specs.Linking.{KnowsTable};
 
 use compiled_keywords::keyword::Keyword;
 use graph_answers::checking;
+use graph_answers::direct::Direct;
 use schema_engine::graph::Graph;
+use schema_engine::matching::Matching;
 use schema_patterns::{PatternMatcher, PatternTable};
 use schema_reports::Observer;
 use serde_json::Value;
@@ -28,6 +30,21 @@ pub struct SchemaGraph<M: PatternMatcher> {
 }
 
 impl<M: PatternMatcher> SchemaGraph<M> {
+    /// The patterns that its keywords ask for, by their numbers.
+    pub fn patterns(&self) -> &PatternTable<M>
+        ensures table { result.now ≡ self.now.table }
+        ensures forms { AreForms M.finds result.now }
+    {
+        &self.table
+    }
+
+    /// What asks each match of its pattern anew.
+    pub fn direct(&self) -> Direct<'_, M>
+        ensures { result.table.now ≡ self.now.table }
+    {
+        Direct { table: &self.table }
+    }
+
     /// Whether a value is valid from a node on. Where references come back to where they were, the return is accepted.
     ///
     /// It stops as soon as it is decided, and takes no memory but for one stack of questions.
@@ -41,7 +58,30 @@ impl<M: PatternMatcher> SchemaGraph<M> {
         ensures verdict { IfOk result (IsVerdict shape_of M.finds self.now.graph.nodes.items self.now.table start (view value.now)) }
         ensures certified { IfOk result (IsCertified shape_of M.finds self.now.graph.nodes.items self.now.table start (view value.now)) }
     {
-        checking::is_valid(alloc, &self.graph, start, &self.table, value)
+        let mut matching = self.direct();
+        self.is_valid_by(alloc, start, &mut matching, value)
+    }
+
+    /// The same by whoever answers the matches of its patterns.
+    ///
+    /// # Errors
+    ///
+    /// Where memory was refused.
+    pub fn is_valid_by<T: Matching>(
+        &self,
+        alloc: Global,
+        start: usize,
+        matching: &mut T,
+        value: &Value,
+    ) -> Result<bool, AllocError>
+        requires there { start < length self.now.graph.nodes.items }
+        requires meant { T.matches matching.old ≡ matches_of M.finds self.now.table }
+        ensures matches { OnOk result (T.matches matching.new ≡ T.matches matching.old) }
+        ensures cut { IfOk result (IsAnswer shape_of M.finds self.now.graph.nodes.items self.now.table start (view value.now)) }
+        ensures verdict { IfOk result (IsVerdict shape_of M.finds self.now.graph.nodes.items self.now.table start (view value.now)) }
+        ensures certified { IfOk result (IsCertified shape_of M.finds self.now.graph.nodes.items self.now.table start (view value.now)) }
+    {
+        checking::is_valid(alloc, &self.graph, start, &self.table, matching, value)
     }
 
     /// Tells an observer of the faults of a value from a node on. Where references come back to where they were, the return tells nothing.
@@ -62,6 +102,39 @@ impl<M: PatternMatcher> SchemaGraph<M> {
         ensures faults { AreFaults shape_of M.finds self.now.graph.nodes.items self.now.table start (view value.now) }
         ensures certified { HaveCertificates shape_of M.finds self.now.graph.nodes.items self.now.table start (view value.now) }
     {
-        checking::tell_faults(alloc, &self.graph, start, &self.table, value, observer)
+        let mut matching = self.direct();
+        self.tell_faults_by(alloc, start, &mut matching, value, observer)
+    }
+
+    /// The same by whoever answers the matches of its patterns.
+    ///
+    /// # Errors
+    ///
+    /// Where memory was refused or a count of owners is full. The observer may have been told of some faults then.
+    pub fn tell_faults_by<'o, T: Matching>(
+        &self,
+        alloc: Global,
+        start: usize,
+        matching: &mut T,
+        value: &'o Value,
+        observer: &mut Observer<'o>,
+    ) -> Result<(), AllocError>
+        requires there { start < length self.now.graph.nodes.items }
+        requires meant { T.matches matching.old ≡ matches_of M.finds self.now.table }
+        ensures matches { OnOk result (T.matches matching.new ≡ T.matches matching.old) }
+        ensures cut { OnOk result (HearsAnswer shape_of M.finds self.now.graph.nodes.items self.now.table start (view value.now) observer.old observer.new) }
+        ensures agree { Agree shape_of M.finds self.now.graph.nodes.items self.now.table start (view value.now) }
+        ensures faults { AreFaults shape_of M.finds self.now.graph.nodes.items self.now.table start (view value.now) }
+        ensures certified { HaveCertificates shape_of M.finds self.now.graph.nodes.items self.now.table start (view value.now) }
+    {
+        checking::tell_faults(
+            alloc,
+            &self.graph,
+            start,
+            &self.table,
+            matching,
+            value,
+            observer,
+        )
     }
 }

@@ -1,6 +1,7 @@
 pub mod CopyLemmas
 pub mod RuleLemmas
 pub mod SeenLemmas
+pub mod AskLemmas
 pub mod AcceptLemmas
 pub mod MemberLemmas
 pub mod TellLemmas

@@ -17,13 +17,13 @@ map_same : {A : Type 0} (xs : List A) → map (λ x. x) xs ≡ xs
 map_same [] = refl
 map_same (x ∷ xs) = ap (λ ys. x ∷ ys) (map_same xs)
 
-abbrev call_in : Asked → Call
+abbrev pub call_in : Asked → Call
 call_in p = call p.0 p.1
 
 abbrev question_in : Asked → told.Question ℕ
 question_in p = p.1
 
-calls_alone : (qs : List (told.Question ℕ)) → map call_in (map alone qs) ≡ map (call true) qs
+pub calls_alone : (qs : List (told.Question ℕ)) → map call_in (map alone qs) ≡ map (call true) qs
 calls_alone qs = map_map call_in alone qs
 
 asks_alone : (qs : List (told.Question ℕ)) → map question_in (map alone qs) ≡ qs

@@ -1,12 +1,20 @@
 //! The questions of compiled keywords about a value and its items.
-ghost use Rattle.std.specs.Prelude.{◌≡◌, ◌++◌, ℕ, List, [], ◌∷◌, OnOk, map, true, false, codes};
+ghost use Rattle.std.specs.Prelude.{◌≡◌, ◌++◌, ℕ, List, [], ◌∷◌, Bool, OnOk, map, true, false, codes};
 ghost use Rattle.serde_json.specs.View.{items_view};
 ghost use Rattle.schema_meaning.specs.Questions.{here, each_branch, items_of, items_from, each_item, item_by_item};
 ghost use Rattle.schema_meaning.specs.Keywords.{consequent};
+ghost use Rattle.schema_meaning.specs.Keywords.{rule};
+ghost use Rattle.schema_engine.specs.Asking.{AsksSo};
 ghost use Rattle.schema_engine.specs.Places.{value_at};
-ghost use Rattle.compiled_keywords.specs.Forms.{alone, whole_at, index_at, condition_at};
+ghost use Rattle.applicators.specs.Forms.{shape_by};
+ghost use Rattle.compiled_keywords.specs.Applied.{name_of, combining_of, asks_of};
+ghost use Rattle.compiled_keywords.specs.Forms.{alone, form_of, whole_at, index_at, condition_at};
 ghost use Rattle.compiled_keywords.specs.Seen.{Puts};
 
+use crate::applicator::Applicator;
+use crate::asks::Asks;
+use applicators::combining::Combining;
+use schema_engine::asking::Asking;
 use schema_engine::place::{Asked, Place, Question};
 use serde_json::Value;
 use std::alloc::AllocError;
@@ -21,6 +29,24 @@ fn items_at<'i>(place: Place<'i>) -> &'i [Value]
             _ => &[],
         },
         Place::Name(_) => &[],
+    }
+}
+
+/// What an applicator asks: each item by one node, or else what its questions say.
+pub(crate) fn asking_of<'i>(applicator: &Applicator, place: Place<'i>) -> Asking<'i>
+    ensures { (matches : List ℕ → List ℕ → Bool)
+        → AsksSo result (rule matches (value_at place.entry) (shape_by (name_of applicator.now) (combining_of applicator.now) (form_of (asks_of applicator.now)))) }
+{
+    match applicator.combining {
+        Combining::Every => match applicator.asks {
+            Asks::ItemsFrom { start, node } => Asking::Items {
+                start,
+                node,
+                items: items_at(place),
+            },
+            _ => Asking::Listed,
+        },
+        _ => Asking::Listed,
     }
 }
 

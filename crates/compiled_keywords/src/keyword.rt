@@ -13,7 +13,9 @@ ghost use Rattle.compiled_keywords.specs.Shapes.{shape_of, added_by, reference_o
 ghost use Rattle.compiled_keywords.specs.Told.{TellsEach};
 
 use crate::applicator::Applicator;
-use crate::asking::{push_branches, push_condition, push_here, push_item_list, push_items};
+use crate::asking::{
+    asking_of, push_branches, push_condition, push_here, push_item_list, push_items,
+};
 use crate::asks::Asks;
 use crate::assertion::{Assertion, has_dependencies};
 use crate::entries::entry_of;
@@ -26,6 +28,7 @@ use crate::patterns::is_matched;
 use crate::reasons::reason_of;
 use crate::rules::{combination_at, refused_under};
 use crate::subschemas::Pattern;
+use schema_engine::asking::Asking;
 use schema_engine::combination::Combination;
 use schema_engine::entry::Entry;
 use schema_engine::matching::Matching;
@@ -176,6 +179,14 @@ impl Validate for Keyword {
         match self {
             Keyword::Applicator(applicator) => combination_at(applicator.combining, place),
             _ => Combination::Every,
+        }
+    }
+
+    fn asking<'i>(&self, place: Place<'i>) -> Asking<'i> {
+        match self {
+            Keyword::Applicator(applicator) => asking_of(applicator, place),
+            Keyword::Reference { node, .. } => Asking::Target(*node),
+            _ => Asking::Nothing,
         }
     }
 

@@ -1,9 +1,10 @@
 //! Matches asked of a table's patterns.
 ghost use Rattle.graph_answers.specs.Tables.{AreForms, matches_of};
 
+use crate::answers::is_yes;
 use crate::lookup::pattern_at;
 use schema_engine::matching::Matching;
-use schema_patterns::{MatchAnswer, PatternMatcher, PatternTable};
+use schema_patterns::{PatternMatcher, PatternTable};
 use std::alloc::AllocError;
 
 /// Asks each match of the table's pattern of that number, and keeps nothing. A match that stays unfinished counts as none.
@@ -20,11 +21,6 @@ impl<'v, M: PatternMatcher> Matching for Direct<'v, M> {
         let Some(compiled) = pattern_at(self.table, pattern) else {
             return Ok(false);
         };
-        match compiled.is_match(text) {
-            MatchAnswer::Yes => Ok(true),
-            MatchAnswer::No => Ok(false),
-            MatchAnswer::Unfinished => Ok(false),
-            MatchAnswer::NoMemory => Err(AllocError),
-        }
+        is_yes(compiled.is_match(text))
     }
 }

@@ -1,6 +1,7 @@
 //! What compiled graphs answer: the verdict and the faults of the documents that a graph means.
 #![tactic(auto)]
 
+mod answers;
 pub mod checking;
 pub mod direct;
-mod lookup;
+pub mod lookup;

@@ -5,8 +5,8 @@ ghost use Rattle.graph_answers.specs.Tables.{table_texts};
 
 use schema_patterns::{CompiledPattern, PatternMatcher, PatternTable};
 
-// The pattern of a number's text, which is the empty one where the table lacks the number.
-pub(crate) fn pattern_at<'v, M: PatternMatcher>(
+/// The pattern of a number's text, which is the empty one where the table lacks the number. It is one look-up.
+pub fn pattern_at<'v, M: PatternMatcher>(
     table: &'v PatternTable<M>,
     number: usize,
 ) -> Option<&'v CompiledPattern<M>>

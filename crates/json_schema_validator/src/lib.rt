@@ -10,7 +10,7 @@ mod checking;
 pub use checking::{check_error, check_errors, check_first, check_path};
 pub use fault_checks::checking::{CheckAnswer, FaultPath, check_fault};
 pub use schema_validators::{
-    BothAnswers, BothValidators, BuildCause, BuildError, DefaultRetriever, DocumentError,
+    BothAnswers, BothValidators, BuildCause, BuildError, Checker, DefaultRetriever, DocumentError,
     Documents, Draft, Error, ErrorContext, ErrorIterator, Location, MapRetriever, MatchAnswer,
     NumberError, PatternError, PatternMaker, PatternMatcher, RegexMaker, RegexMatcher, Retrieve,
     RetrieveError, SchemaPlace, SchemaRegistry, SharedRegistry, Uri, ValidationError,

@@ -5,14 +5,27 @@ use std::alloc::AllocError;
 
 /// What answers a line.
 pub trait LineAnswers {
+    /// What it keeps from line to line.
+    type Kept;
+
     // What is written for a line, its line end with it.
     ghost answers: { Self → List ℕ → List ℕ → Type 0 };
+
+    // Whether it is kept for these answers.
+    ghost keeps: { Self → Self.Kept → Type 0 };
 
     /// Appends what is written for a line, its line end with it.
     ///
     /// # Errors
     ///
     /// Where memory was refused. Part of the answer can then stand behind the text.
-    fn answer(&self, line: &[u8], text: &mut String) -> Result<(), AllocError>
-        ensures { OnOk result ((written : List ℕ) × answers self.now line.now written × (string_bytes text.new ≡ string_bytes text.old ++ written)) };
+    fn answer(
+        &self,
+        kept: &mut Self::Kept,
+        line: &[u8],
+        text: &mut String,
+    ) -> Result<(), AllocError>
+        requires { keeps self.now kept.old }
+        ensures kept { OnOk result (keeps self.now kept.new) }
+        ensures answered { OnOk result ((written : List ℕ) × answers self.now line.now written × (string_bytes text.new ≡ string_bytes text.old ++ written)) };
 }

@@ -39,13 +39,16 @@ impl Outbox {
     pub(crate) fn answer<A: LineAnswers>(
         &mut self,
         answers: &A,
+        kept: &mut A::Kept,
         line: &[u8],
     ) -> Result<(), RunError>
+        requires { A.keeps answers.now kept.old }
+        ensures kept { OnOk result (A.keeps answers.now kept.new) }
         ensures ok { OnOk result (Answers (A.answers answers.now) line.now self.old.report self.new.report (string_bytes self.old.text) (string_bytes self.new.text)) }
         ensures error { IfErr result (λ e. e ≡ RunError.Memory) }
     {
         let start = self.text.len();
-        answers.answer(line, &mut self.text)?;
+        answers.answer(kept, line, &mut self.text)?;
         let is_refused = &self.text.as_bytes()[start..] != b"[]\n".as_slice();
         self.report.lines = self.report.lines.saturating_add(1);
         self.report.any_refused |= is_refused;

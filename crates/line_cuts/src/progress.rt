@@ -36,13 +36,16 @@ impl Progress {
     pub(crate) fn read_on<A: LineAnswers, S: ByteSource, K: ByteSink>(
         &mut self,
         answers: &A,
+        kept: &mut A::Kept,
         reader: &mut S,
         writer: &mut K,
         buffer: &mut [u8],
     ) -> Result<bool, RunError>
+        requires kept { A.keeps answers.now kept.old }
         requires room { 0 < length buffer.old }
         requires plain { pieces self.old.line.items ≡ self.old.line.items ∷ [] }
         requires written { string_bytes self.old.outbox.text ≡ [] }
+        ensures kept { OnOk result (A.keeps answers.now kept.new) }
         ensures reads { OnOk result (ReadsOnward (A.answers answers.now) (S.remaining reader.old) (S.remaining reader.new) (K.contents writer.old) (K.contents writer.new) self.old.line.items self.new.line.items self.old.outbox.report self.new.outbox.report) }
         ensures plain { OnOk result (pieces self.new.line.items ≡ self.new.line.items ∷ []) }
         ensures written { OnOk result (string_bytes self.new.outbox.text ≡ []) }
@@ -56,7 +59,7 @@ impl Progress {
         match reader.read(buffer) {
             Ok(0) => Ok(false),
             Ok(count) => {
-                self.take_piece(answers, writer, &buffer[..count])?;
+                self.take_piece(answers, kept, writer, &buffer[..count])?;
                 Ok(true)
             }
             Err(_) => Err(RunError::Read),
@@ -67,11 +70,14 @@ impl Progress {
     fn take_piece<A: LineAnswers, K: ByteSink>(
         &mut self,
         answers: &A,
+        kept: &mut A::Kept,
         writer: &mut K,
         piece: &[u8],
     ) -> Result<(), RunError>
+        requires kept { A.keeps answers.now kept.old }
         requires plain { pieces self.old.line.items ≡ self.old.line.items ∷ [] }
         requires written { string_bytes self.old.outbox.text ≡ [] }
+        ensures kept { OnOk result (A.keeps answers.now kept.new) }
         ensures goes { OnOk result (Goes (A.answers answers.now) (ended_in (self.old.line.items ++ piece.now)) [] self.old.outbox.report self.new.outbox.report (K.contents writer.old) (K.contents writer.new) []) }
         ensures part { OnOk result (self.new.line.items ≡ part_of (self.old.line.items ++ piece.now)) }
         ensures written { OnOk result (string_bytes self.new.outbox.text ≡ []) }
@@ -81,7 +87,7 @@ impl Progress {
     {
         let mut rest = piece;
         while let Some((end, after)) = first_line(rest) {
-            self.end_line(answers, end)?;
+            self.end_line(answers, kept, end)?;
             self.outbox.write_if_full(writer)?;
             rest = after;
         }
@@ -94,8 +100,10 @@ impl Progress {
     pub(crate) fn finish<A: LineAnswers, K: ByteSink>(
         mut self,
         answers: &A,
+        kept: &mut A::Kept,
         writer: &mut K,
     ) -> Result<RunReport, RunError>
+        requires kept { A.keeps answers.now kept.old }
         requires written { string_bytes self.outbox.text ≡ [] }
         ensures goes { IfOk result (λ report. Goes (A.answers answers.now) (unless_empty self.line.items) [] self.outbox.report report (K.contents writer.old) (K.contents writer.new) []) }
         ensures quiet { OnOk result (K.failures writer.new ≡ K.failures writer.old) }
@@ -105,22 +113,29 @@ impl Progress {
         if self.line.is_empty() {
             return Ok(self.outbox.report);
         }
-        self.end_line(answers, b"")?;
+        self.end_line(answers, kept, b"")?;
         self.outbox.write_out(writer)?;
         Ok(self.outbox.report)
     }
 
     // Answers the line that ends with these bytes.
-    fn end_line<A: LineAnswers>(&mut self, answers: &A, end: &[u8]) -> Result<(), RunError>
+    fn end_line<A: LineAnswers>(
+        &mut self,
+        answers: &A,
+        kept: &mut A::Kept,
+        end: &[u8],
+    ) -> Result<(), RunError>
+        requires kept { A.keeps answers.now kept.old }
+        ensures kept { OnOk result (A.keeps answers.now kept.new) }
         ensures ok { OnOk result (Answers (A.answers answers.now) (self.old.line.items ++ end.now) self.old.outbox.report self.new.outbox.report (string_bytes self.old.outbox.text) (string_bytes self.new.outbox.text)) }
         ensures cleared { OnOk result (self.new.line.items ≡ []) }
         ensures error { IfErr result (λ e. e ≡ RunError.Memory) }
     {
         if self.line.is_empty() {
-            return self.outbox.answer(answers, end);
+            return self.outbox.answer(answers, kept, end);
         }
         self.line.extend_from_slice(end)?;
-        self.outbox.answer(answers, &self.line)?;
+        self.outbox.answer(answers, kept, &self.line)?;
         self.line.clear();
         Ok(())
     }

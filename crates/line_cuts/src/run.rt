@@ -25,7 +25,9 @@ pub fn answer_lines<A: LineAnswers, S: ByteSource, K: ByteSink>(
     reader: &mut S,
     writer: &mut K,
     answers: &A,
+    kept: &mut A::Kept,
 ) -> Result<RunReport, RunError>
+    requires kept { A.keeps answers.now kept.old }
     ensures ok { IfOk result (λ report. RunsThrough (A.answers answers.now) (S.remaining reader.old) (S.remaining reader.new) (K.contents writer.old) (K.contents writer.new) report) }
     ensures read_quiet { OnOk result (S.failures reader.new ≡ S.failures reader.old) }
     ensures write_quiet { OnOk result (K.failures writer.new ≡ K.failures writer.old) }
@@ -36,8 +38,8 @@ pub fn answer_lines<A: LineAnswers, S: ByteSource, K: ByteSink>(
     let buffer = storage.as_mut_slice();
     let mut progress = Progress::new(alloc);
     loop {
-        if !progress.read_on(answers, reader, writer, buffer)? {
-            return progress.finish(answers, writer);
+        if !progress.read_on(answers, kept, reader, writer, buffer)? {
+            return progress.finish(answers, kept, writer);
         }
     }
 }

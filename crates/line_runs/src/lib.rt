@@ -9,7 +9,7 @@ mod running;
 pub use faults::write_faults;
 pub use line_cuts::{RunError, RunReport};
 pub use reading::line_value;
-pub use running::{lines_are_ended, run};
+pub use running::{lines_are_ended, run, run_directly};
 pub use schema_validators::{
     BuildError, DocumentError, Documents, Draft, ValidationOptions, Validator,
 };

@@ -3,9 +3,9 @@
 
 ghost use Rattle.regex_patterns.specs.Searches.{is_regex, searched, MeansItsText};
 
-use regex::{Error, Regex};
+use regex::{Error, Matcher, Regex};
 use schema_patterns::{MatchAnswer, PatternError, PatternMaker, PatternMatcher};
-use std::alloc::Global;
+use std::alloc::{AllocError, Global};
 
 /// Makes the patterns that the crate `regex` reads.
 ///
@@ -19,6 +19,22 @@ pub struct RegexMatcher {
     alloc: Global,
     regex: Regex,
     ghost means: { MeansItsText regex },
+}
+
+impl RegexMatcher {
+    ghost use Rattle.std.specs.Prelude.{IfOk};
+    ghost use Rattle.regex_patterns.specs.Matchers.{Searches};
+
+    /// What searches for the pattern, to be kept beside it: it costs much more to make than to ask.
+    ///
+    /// # Errors
+    ///
+    /// Where memory was refused.
+    pub fn matcher(&self) -> Result<Matcher<'_>, AllocError>
+        ensures { IfOk result (Searches self.now) }
+    {
+        self.regex.matcher(self.alloc)
+    }
 }
 
 impl PatternMaker for RegexMaker {

@@ -1,5 +1,6 @@
 // Runs over bytes in memory.
 use line_cuts::{MemorySink, MemorySource};
+use line_runs::run_directly;
 use std::alloc::Global;
 use std::process::Abort;
 use std::str;
@@ -14,16 +15,22 @@ fn built(rt: &impl Abort, alloc: Global, text: &str) -> Validator {
     options.build(&documents, "").expect(rt, "a validator")
 }
 
-// What is written, and the report or the error.
+// What is written, and the report or the error, by searches that are kept or not.
 fn outcome(
     rt: &impl Abort,
     alloc: Global,
     schema: &str,
+    is_kept: bool,
     mut source: MemorySource<'_>,
     mut sink: MemorySink,
 ) -> String {
     let validator = built(rt, alloc, schema);
-    let end = match run(alloc, &mut source, &mut sink, &validator) {
+    let end = if is_kept {
+        run(alloc, &mut source, &mut sink, &validator)
+    } else {
+        run_directly(alloc, &mut source, &mut sink, &validator)
+    };
+    let end = match end {
         Ok(report) => format!(in alloc; "{} {}", report.lines, report.any_refused),
         Err(error) => format!(in alloc; "{error}"),
     }
@@ -45,13 +52,15 @@ type Row = (
 
 fn assert_runs(rt: &impl Abort, alloc: Global, piece: usize, rows: &[Row]) {
     for (schema, lines, reads, writes, want) in rows {
-        let source = MemorySource::new(lines, piece, *reads);
-        let sink = MemorySink::new(alloc, piece, *writes);
-        assert_eq!(rt;
-            outcome(rt, alloc, schema, source, sink).as_str(),
-            *want,
-            "at a piece of {piece}"
-        );
+        for is_kept in [true, false] {
+            let source = MemorySource::new(lines, piece, *reads);
+            let sink = MemorySink::new(alloc, piece, *writes);
+            assert_eq!(rt;
+                outcome(rt, alloc, schema, is_kept, source, sink).as_str(),
+                *want,
+                "at a piece of {piece}"
+            );
+        }
     }
 }
 
@@ -176,6 +185,6 @@ fn by_nesting(rt: HostRuntime) {
         }
         let source = MemorySource::new(&line, 100, None);
         let sink = MemorySink::new(alloc, 100, None);
-        assert_eq!(rt; outcome(&rt, alloc, "{}", source, sink).as_str(), want);
+        assert_eq!(rt; outcome(&rt, alloc, "{}", true, source, sink).as_str(), want);
     }
 }

@@ -1,5 +1,5 @@
 -- The steps of the engine.
-use Rattle.std.proofs.Common.{◌≡◌, ◌<◌, ◌≤◌, ◌+◌, ℕ, zero, suc, List, [], ◌∷◌, Bool, true, false, map, drop, length, get_or, refl, sym, ap, ◌∙◌, subst, arith, add-one}
+use Rattle.std.proofs.Common.{◌≡◌, ◌<◌, ◌≤◌, ◌+◌, ℕ, zero, suc, List, [], ◌∷◌, Bool, true, false, ◌&&◌, map, drop, length, get_or, refl, sym, ap, ◌∙◌, subst, arith, add-one}
 use Rattle.std.proofs.lemmas.List.{drop_more, drop_all}
 use Rattle.std.proofs.lemmas.Option.{slice_get_read}
 use Rattle.serde_json.specs.Data.{Data}
@@ -17,7 +17,9 @@ use Rattle.schema_engine.specs.declared.combination.Combination.{Combination}
 use Rattle.schema_engine.specs.Places.{value_at}
 use Rattle.schema_engine.specs.Progress.{is_among}
 use Rattle.schema_engine.specs.Questions.{Call, call, call_of}
-use Rattle.schema_engine.specs.Rules.{combination_of, is_right, questions_of, combined}
+use Rattle.schema_engine.specs.declared.combination.Combination.TheVariants as combination
+use Rattle.schema_engine.specs.Asking.{AsksEach, target_call}
+use Rattle.schema_engine.specs.Rules.{combination_of, is_right, questions_of, combined, all_beside}
 use Rattle.schema_engine.specs.Leads.{leads_of}
 use Rattle.schema_engine.specs.Graphs.{keywords_at, keywords_or_none, rank_at, reading_of, IsSound}
 use Rattle.schema_engine.specs.Verdicts.{Setting, Fits, Tells, MayAsk, EachMayAsk, node_in, asked_in, rule_in, key_in, size}
@@ -186,6 +188,10 @@ module _ {K : Type 0} (shape : K → Shape ℕ) (matches : List ℕ → List ℕ
 
 -- ---- a keyword
 
+and_true : (b : Bool) → b ≡ b && true
+and_true true = refl
+and_true false = refl
+
 module _ (r : Reading ℕ) (p : Place) (progress : List ℕ) (enough : ℕ) (k : Rule ℕ) where
   pub keyword_wrong : (b : Bool) → b ≡ is_right k → b ≡ false → Tells p progress enough (rule_in r k) false
   keyword_wrong b is wrong = record { same = λ x fits deep. sym (rule_combined r x k ∙ rw (sym is ∙ wrong) refl) }
@@ -196,6 +202,20 @@ module _ (r : Reading ℕ) (p : Place) (progress : List ℕ) (enough : ℕ) (k :
     same = λ x fits deep.
         tells.same x fits deep ∙ rw (c, q) (sym (rule_combined r x k ∙ rw (sym is ∙ good) refl));
   }
+
+  -- whose questions are these, each of which has to be answered yes
+  pub keyword_each : (b right : Bool) (calls : List Call) → right ≡ is_right k → right ≡ true → AsksEach k calls
+      → Tells p progress enough (λ x. all_beside (asked_in r x) true calls) b → Tells p progress enough (rule_in r k) b
+  keyword_each b right calls is good asks tells = keyword_told b right combination.Every calls is good (sym asks.combination) (sym asks.questions) tells
+
+  pub keyword_alone : (right : Bool) → right ≡ is_right k → right ≡ true → AsksEach k [] → Tells p progress enough (rule_in r k) true
+  keyword_alone right is good asks = keyword_each true right [] is good asks (record { same = λ x fits deep. refl })
+
+  pub keyword_targeted : (b right : Bool) (t : ℕ) → right ≡ is_right k → right ≡ true → AsksEach k (target_call t ∷ [])
+      → Tells p progress enough (λ x. asked_in r x (target_call t)) b → Tells p progress enough (rule_in r k) b
+  keyword_targeted b right t is good asks tells =
+      keyword_each b right (target_call t ∷ []) is good asks
+      (record { same = λ x fits deep. tells.same x fits deep ∙ and_true (asked_in r x (target_call t)) })
 
 -- ---- a question
 

@@ -2,6 +2,7 @@
 #![tactic(auto)]
 
 pub mod accepts;
+pub mod asking;
 pub mod combination;
 mod counting;
 pub mod entry;

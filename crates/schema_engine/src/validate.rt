@@ -5,6 +5,7 @@ ghost use Rattle.serde_json.specs.View.{view};
 ghost use Rattle.json_values.specs.Parts.{Part};
 ghost use Rattle.schema_meaning.specs.Keywords.{Shape, rule};
 ghost use Rattle.schema_meaning.specs.Rules.{asks};
+ghost use Rattle.schema_engine.specs.Asking.{AsksSo};
 ghost use Rattle.schema_engine.specs.Entries.{parts_of};
 ghost use Rattle.schema_engine.specs.Places.{value_at};
 ghost use Rattle.schema_engine.specs.Questions.{Pushes, PushesAsked};
@@ -12,6 +13,7 @@ ghost use Rattle.schema_engine.specs.Refusals.{IsReason, IsRefusedUnder};
 ghost use Rattle.schema_engine.specs.Rules.{combination_of, is_right, questions_of};
 ghost use Rattle.schema_engine.specs.Situations.{TellsNotes};
 
+use crate::asking::Asking;
 use crate::combination::Combination;
 use crate::entry::Entry;
 use crate::matching::Matching;
@@ -36,6 +38,10 @@ pub trait Validate: Drop {
     /// How the answers to its questions make its verdict.
     fn combination(&self, place: Place<'_>) -> Combination
         ensures { (matches : List ℕ → List ℕ → Bool) → result ≡ combination_of (rule matches (value_at place.entry) (shape self.now)) };
+
+    /// What it asks, where that is simple: then each answer has to be yes.
+    fn asking<'i>(&self, place: Place<'i>) -> Asking<'i>
+        ensures { (matches : List ℕ → List ℕ → Bool) → AsksSo result (rule matches (value_at place.entry) (shape self.now)) };
 
     /// Whether nothing is wrong with the value itself.
     ///

@@ -1,15 +1,18 @@
 //! The verdict of a compiled schema.
 ghost use Rattle.std.specs.Prelude.{◌≡◌, ◌<◌, ◌≤◌, ◌+◌, ℕ, suc, true, map, drop, length, OnOk, IfOk};
+ghost use Rattle.serde_json.specs.View.{items_view};
 ghost use Rattle.schema_meaning.specs.Members.{In, count_true};
 ghost use Rattle.schema_meaning.specs.Places.{stay};
 ghost use Rattle.schema_meaning.specs.Keywords.{rule};
 ghost use Rattle.schema_engine.specs.Places.{value_at};
 ghost use Rattle.schema_engine.specs.Progress.{numbers_in};
 ghost use Rattle.schema_engine.specs.Questions.{call_of};
-ghost use Rattle.schema_engine.specs.Rules.{is_counted, all_beside, chosen_by_first, combined};
+ghost use Rattle.schema_engine.specs.Asking.{item_calls};
+ghost use Rattle.schema_engine.specs.Rules.{is_counted, is_right, all_beside, chosen_by_first, combined};
 ghost use Rattle.schema_engine.specs.Graphs.{keywords_at, rank_at, reading_of, AreKnown};
 ghost use Rattle.schema_engine.specs.Verdicts.{node_in, asked_in, rule_in, size, Tells, TellsFrom, MayAsk, EachMayAsk};
 
+use crate::asking::Asking;
 use crate::combination::{Combination, is_within, settled};
 use crate::graph::Graph;
 use crate::here::Here;
@@ -17,6 +20,7 @@ use crate::matching::Matching;
 use crate::place::{Asked, Place, Question};
 use crate::progress::{Progress, is_in_progress};
 use crate::validate::Validate;
+use serde_json::Value;
 use std::alloc::AllocError;
 
 /// Whether a node accepts what is at a place.
@@ -74,12 +78,75 @@ fn accepts_keyword<'q, 'i: 'q, K: Validate, T: Matching>(
     if !keyword.accepts_itself(here.place, matching)? {
         return Ok(false);
     }
+    match keyword.asking(here.place) {
+        Asking::Nothing => Ok(true),
+        Asking::Target(node) => accepts_target(here, node, matching, questions),
+        Asking::Items { start, node, items } => accepts_items(
+            here, start, node, items, matching, questions,
+        ),
+        Asking::Listed => accepts_listed(here, keyword, matching, questions),
+    }
+}
+
+// Whether a keyword of a node, with which nothing is wrong of the value itself, accepts what is at a place, by its questions.
+#[cycle(verdict)]
+fn accepts_listed<'q, 'i: 'q, K: Validate, T: Matching>(
+    here: &Here<'q, 'i, '_, K>,
+    keyword: &'q K,
+    matching: &mut T,
+    questions: &mut Vec<Question<'q, 'i>>,
+) -> Result<bool, AllocError>
+    requires known { AreKnown K.knows (T.matches matching.old).pattern here.now.graph.now.nodes.items }
+    requires stands { In keyword.now (keywords_at here.now.graph.now.nodes.items here.now.node) }
+    requires right { is_right (rule (T.matches matching.old).reads (value_at here.now.place) (K.shape keyword.now)) ≡ true }
+    ensures matches { OnOk result (T.matches matching.new ≡ T.matches matching.old) }
+    ensures questions { OnOk result (questions.new.items ≡ questions.old.items) }
+    ensures verdict { let nodes = here.now.graph.now.nodes.items in let m = (T.matches matching.old).reads in
+        IfOk result (TellsFrom nodes here.now.node here.now.place (numbers_in here.now.progress.now)
+        (rule_in (reading_of K.shape m nodes) (rule m (value_at here.now.place) (K.shape keyword.now)))) }
+{
     let start = questions.len();
     keyword.questions(here.place, matching, questions)?;
     let combination = keyword.combination(here.place);
     let accepts = accepts_combined(here, combination, start, matching, questions)?;
     questions.truncate(start);
     Ok(accepts)
+}
+
+// Whether a node accepts each of a list's items from `start` on.
+#[cycle(verdict)]
+fn accepts_items<'q, 'i: 'q, K: Validate, T: Matching>(
+    here: &Here<'q, 'i, '_, K>,
+    start: usize,
+    node: usize,
+    items: &'i [Value],
+    matching: &mut T,
+    questions: &mut Vec<Question<'q, 'i>>,
+) -> Result<bool, AllocError>
+    requires known { AreKnown K.knows (T.matches matching.old).pattern here.now.graph.now.nodes.items }
+    requires asked { EachMayAsk here.now.graph.now.nodes.items (rank_at here.now.graph.now.nodes.items here.now.node) (value_at here.now.place) (item_calls node start (items_view (drop start items.now))) }
+    ensures matches { OnOk result (T.matches matching.new ≡ T.matches matching.old) }
+    ensures questions { OnOk result (questions.new.items ≡ questions.old.items) }
+    ensures verdict { let nodes = here.now.graph.now.nodes.items in let r = reading_of K.shape (T.matches matching.old).reads nodes in
+        IfOk result (TellsFrom nodes here.now.node here.now.place (numbers_in here.now.progress.now)
+        (λ x. all_beside (asked_in r x) true (item_calls node start (items_view (drop start items.now))))) }
+{
+    for index in start..items.len() {
+        let question = Question {
+            node,
+            asked: Asked::Item {
+                index,
+                item: &items[index],
+            },
+            follows: false,
+            beside: true,
+            entry: 0,
+        };
+        if !accepts_question(here, question, matching, questions)? {
+            return Ok(false);
+        }
+    }
+    Ok(true)
 }
 
 // The verdict by the answers to the questions from `start` on.

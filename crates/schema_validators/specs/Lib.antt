@@ -4,6 +4,7 @@ pub mod Answered
 pub mod Seen
 pub mod Made
 pub mod Told
+pub mod Checkers
 pub mod ByNodes
 pub mod Numbers
 pub mod Missing

@@ -6,6 +6,7 @@
 
 mod agreement;
 mod building;
+mod checker;
 mod error;
 mod mapping;
 mod meta_schema;
@@ -18,6 +19,7 @@ pub use agreement::{
     BothAnswers, BothValidators, answers_on_both, build_on_both, is_valid_by_both, is_valid_twice,
     iter_errors_by_both, iter_errors_twice,
 };
+pub use checker::Checker;
 pub use document_sources::error::RetrieveError;
 pub use error::{BuildError, NumberError};
 pub use options::ValidationOptions;

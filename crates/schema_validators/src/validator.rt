@@ -14,14 +14,17 @@ ghost use Rattle.schema_registries.specs.Answers.{IsAnswer};
 ghost use Rattle.schema_registries.specs.Certified.{IsCertified, HasCertificate, HaveCertificates};
 ghost use Rattle.schema_registries.specs.Roots.{Root, Patterns};
 ghost use Rattle.schema_registries.specs.Whole.{only_whole};
+ghost use Rattle.graph_answers.specs.Tables.{AreForms, matches_of};
 ghost use Rattle.schema_validators.specs.Numbers.{NamesOther};
 
 use crate::error::{BuildError, NumberError};
 use crate::options::ValidationOptions;
 use compiled_graphs::schemas::SchemaGraph;
+use graph_answers::direct::Direct;
 use regex_patterns::RegexMatcher;
 use schema_drafts::draft::Draft;
-use schema_patterns::{PatternMaker, PatternMatcher};
+use schema_engine::matching::Matching;
+use schema_patterns::{PatternMaker, PatternMatcher, PatternTable};
 use schema_registries::{DefaultRetriever, Documents, Retrieve, has_only_whole, other_number};
 use schema_reports::{AllFaults, ErrorIterator, FirstFault, Observer, ValidationError};
 use serde_json::Value;
@@ -65,7 +68,7 @@ impl<M: PatternMatcher> Validator<M> {
     ghost use Rattle.schema_validators.specs.Made.{IsMadeBy};
     ghost use Rattle.schema_validators.specs.Missing.{TellsEachMissing};
     ghost use Rattle.schema_validators.specs.New.{IsNew, Refuses};
-    ghost use Rattle.schema_validators.specs.Seen.{nodes_in};
+    ghost use Rattle.schema_validators.specs.Seen.{nodes_in, table_in};
     ghost use Rattle.schema_validators.specs.Told.{verdict_by, faults_by};
     ghost use Rattle.schema_validators.specs.ByNodes.{HearsBy, AreFaultsBy, HaveCertificatesBy};
 
@@ -120,7 +123,44 @@ impl<M: PatternMatcher> Validator<M> {
         ensures verdict { IfOk result (λ b. (p : Patterns) (r : Root) → IsMadeBy p r self.now → IsAnswer verdicts p r (view value.now) b) }
         ensures certified { IfOk result (λ b. (p : Patterns) (r : Root) → IsMadeBy p r self.now → IsCertified p r (view value.now) b) }
     {
-        self.schemas.is_valid(self.alloc, self.start, value)
+        let mut matching = self.direct();
+        self.is_valid_by(&mut matching, value)
+    }
+
+    /// The patterns that its schemas ask for, by their numbers.
+    pub fn patterns(&self) -> &PatternTable<M>
+        ensures table { result.now ≡ table_in self.now }
+        ensures forms { AreForms M.finds result.now }
+    {
+        self.schemas.patterns()
+    }
+
+    /// What asks each match of this validator's patterns anew.
+    pub fn direct(&self) -> Direct<'_, M>
+        ensures { matches_of M.finds result.table.now ≡ matches_of M.finds (table_in self.now) }
+    {
+        self.schemas.direct()
+    }
+
+    /// Whether a value is valid, by whoever answers the matches of this validator's patterns. Its numbers are whole numbers of 64 bits.
+    ///
+    /// # Errors
+    ///
+    /// Where memory was refused.
+    pub fn is_valid_by<T: Matching>(
+        &self,
+        matching: &mut T,
+        value: &Value,
+    ) -> Result<bool, AllocError>
+        requires whole { only_whole (view value.now) ≡ true }
+        requires meant { T.matches matching.old ≡ matches_of M.finds (table_in self.now) }
+        ensures matches { OnOk result (T.matches matching.new ≡ T.matches matching.old) }
+        ensures cut { IfOk result (λ b. b ≡ verdict_by self.now (view value.now)) }
+        ensures verdict { IfOk result (λ b. (p : Patterns) (r : Root) → IsMadeBy p r self.now → IsAnswer verdicts p r (view value.now) b) }
+        ensures certified { IfOk result (λ b. (p : Patterns) (r : Root) → IsMadeBy p r self.now → IsCertified p r (view value.now) b) }
+    {
+        self.schemas
+            .is_valid_by(self.alloc, self.start, matching, value)
     }
 
     /// Nothing where a value is valid, and else one of its faults: the first that is met.
@@ -158,7 +198,30 @@ impl<M: PatternMatcher> Validator<M> {
         ensures proper { IfOk result (λ answer. IfErr answer (λ e. error_is_proper e ≡ true)) }
         ensures certified { IfOk result (λ answer. IfErr answer (λ e. (p : Patterns) (r : Root) → IsMadeBy p r self.now → HasCertificate p r (view value.now) (fault_of e))) }
     {
-        let observer = self.told(value, Observer::First(FirstFault::new()))?;
+        let mut matching = self.direct();
+        self.first_fault_by(&mut matching, value)
+    }
+
+    // The same by whoever answers the matches.
+    pub(crate) fn first_fault_by<'i, T: Matching>(
+        &self,
+        matching: &mut T,
+        value: &'i Value,
+    ) -> Result<Result<(), ValidationError<'i>>, AllocError>
+        requires meant { T.matches matching.old ≡ matches_of M.finds (table_in self.now) }
+        ensures matches { OnOk result (T.matches matching.new ≡ T.matches matching.old) }
+        ensures cut { IfOk result (λ answer. is_ok answer ≡ verdict_by self.now (view value.now)) }
+        ensures one { IfOk result (λ answer. IfErr answer (λ e. Told (fault_of e) (faults_by self.now (view value.now)))) }
+        ensures verdict { IfOk result (λ answer. (p : Patterns) (r : Root) → IsMadeBy p r self.now → IsAnswer verdicts p r (view value.now) (is_ok answer)) }
+        ensures fault { IfOk result (λ answer. IfErr answer (λ e. (p : Patterns) (r : Root) → IsMadeBy p r self.now → IsFault p r (view value.now) (fault_of e))) }
+        ensures proper { IfOk result (λ answer. IfErr answer (λ e. error_is_proper e ≡ true)) }
+        ensures certified { IfOk result (λ answer. IfErr answer (λ e. (p : Patterns) (r : Root) → IsMadeBy p r self.now → HasCertificate p r (view value.now) (fault_of e))) }
+    {
+        let observer = self.told(
+            matching,
+            value,
+            Observer::First(FirstFault::new()),
+        )?;
         match observer {
             Observer::First(first) => Ok(refused(first)),
             Observer::Verdict(_verdict) => unreachable!(),
@@ -213,7 +276,37 @@ impl<M: PatternMatcher> Validator<M> {
         ensures missing { IfOk result (λ errors. (p : Patterns) (r : Root) → IsMadeBy p r self.now
             → TellsEachMissing p r (view value.now) (faults_of (errors_left errors))) }
     {
-        let observer = self.told(value, Observer::All(AllFaults::new(self.alloc)))?;
+        let mut matching = self.direct();
+        self.errors_by(&mut matching, value)
+    }
+
+    /// The faults of a value, in the order in which they are met, by whoever answers the matches of this validator's patterns. Its numbers are
+    /// whole numbers of 64 bits.
+    ///
+    /// # Errors
+    ///
+    /// Where memory was refused or a count of owners is full.
+    pub fn errors_by<'i, T: Matching>(
+        &self,
+        matching: &mut T,
+        value: &'i Value,
+    ) -> Result<ErrorIterator<'i>, AllocError>
+        requires whole { only_whole (view value.now) ≡ true }
+        requires meant { T.matches matching.old ≡ matches_of M.finds (table_in self.now) }
+        ensures matches { OnOk result (T.matches matching.new ≡ T.matches matching.old) }
+        ensures cut { IfOk result (λ errors. faults_of (errors_left errors) ≡ faults_by self.now (view value.now)) }
+        ensures agree { OnOk result (is_none (faults_by self.now (view value.now)) ≡ verdict_by self.now (view value.now)) }
+        ensures faults { IfOk result (λ errors. (p : Patterns) (r : Root) → IsMadeBy p r self.now → AreFaults p r (view value.now) (faults_of (errors_left errors))) }
+        ensures proper { IfOk result (λ errors. are_proper (errors_left errors) ≡ true) }
+        ensures certified { IfOk result (λ errors. (p : Patterns) (r : Root) → IsMadeBy p r self.now → HaveCertificates p r (view value.now) (faults_of (errors_left errors))) }
+        ensures missing { IfOk result (λ errors. (p : Patterns) (r : Root) → IsMadeBy p r self.now
+            → TellsEachMissing p r (view value.now) (faults_of (errors_left errors))) }
+    {
+        let observer = self.told(
+            matching,
+            value,
+            Observer::All(AllFaults::new(self.alloc)),
+        )?;
         match observer {
             Observer::All(all) => Ok(ErrorIterator::of(all.into_errors())),
             Observer::Verdict(_verdict) => unreachable!(),
@@ -222,18 +315,26 @@ impl<M: PatternMatcher> Validator<M> {
     }
 
     // An observer that was told of the faults of a value.
-    fn told<'i>(
+    fn told<'i, T: Matching>(
         &self,
+        matching: &mut T,
         value: &'i Value,
         mut observer: Observer<'i>,
     ) -> Result<Observer<'i>, AllocError>
+        requires meant { T.matches matching.old ≡ matches_of M.finds (table_in self.now) }
+        ensures matches { OnOk result (T.matches matching.new ≡ T.matches matching.old) }
         ensures heard { IfOk result (λ o. HearsBy self.now (view value.now) observer.entry o) }
         ensures agree { OnOk result (is_none (faults_by self.now (view value.now)) ≡ verdict_by self.now (view value.now)) }
         ensures faults { OnOk result (AreFaultsBy self.now (view value.now)) }
         ensures certified { OnOk result (HaveCertificatesBy self.now (view value.now)) }
     {
-        self.schemas
-            .tell_faults(self.alloc, self.start, value, &mut observer)?;
+        self.schemas.tell_faults_by(
+            self.alloc,
+            self.start,
+            matching,
+            value,
+            &mut observer,
+        )?;
         Ok(observer)
     }
 }

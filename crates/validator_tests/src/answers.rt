@@ -5,8 +5,8 @@ ghost use Rattle.json_schema_validator.specs.Numbers.{only_whole};
 
 use crate::given::{Subject, built, documents_of, json, options_of, setting, subject_of};
 use json_schema_validator::{
-    BuildError, CheckAnswer, ErrorIterator, RegexMaker, SchemaRegistry, ValidationError, Validator,
-    check_error,
+    BuildError, CheckAnswer, Checker, ErrorIterator, RegexMaker, SchemaRegistry, ValidationError,
+    Validator, check_error,
 };
 use serde_json::Value;
 use std::alloc::Global;
@@ -79,7 +79,28 @@ pub(crate) fn assert_agreed(rt: &impl Abort, validator: &Validator, value: &Valu
     assert!(rt; found == is_valid, "another first fault of {value}");
 }
 
-// The faults of a value, on which the three observers have to agree, and the check to accept each.
+// Holds a checker of the validator, asked twice, against what the validator tells.
+fn assert_kept(rt: &impl Abort, alloc: Global, validator: &Validator, value: &Value, wanted: &str)
+    requires whole { only_whole (view value.now) ≡ true }
+{
+    let mut checker = Checker::new(alloc, validator).expect(rt, "memory");
+    for _ in 0..2 {
+        let is_valid = checker.is_valid(value).expect(rt, "memory");
+        assert!(rt;
+            is_valid == (wanted == "valid"),
+            "another verdict of a checker on {value}"
+        );
+        let errors = checker.iter_errors(value).expect(rt, "memory");
+        let told = faults(rt, alloc, errors);
+        assert_eq!(rt;
+            told.as_str(),
+            wanted,
+            "other faults of a checker on {value}"
+        );
+    }
+}
+
+// The faults of a value, on which the three observers and a checker have to agree, and the check to accept each.
 fn told_by(rt: &impl Abort, alloc: Global, subject: &Subject, value: &Value) -> String
     requires whole { only_whole (view value.now) ≡ true }
 {
@@ -87,7 +108,9 @@ fn told_by(rt: &impl Abort, alloc: Global, subject: &Subject, value: &Value) -> 
     let errors = listed(rt, alloc, errors);
     assert_agreed(rt, &subject.validator, value, errors.is_empty());
     assert_accepted(rt, alloc, &subject.registry, value, errors.as_slice());
-    written(rt, alloc, errors.as_slice())
+    let told = written(rt, alloc, errors.as_slice());
+    assert_kept(rt, alloc, &subject.validator, value, told.as_str());
+    told
 }
 
 pub(crate) fn told(rt: &impl Abort, alloc: Global, case: &str, input: &str) -> String {

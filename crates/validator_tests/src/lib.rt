@@ -22,6 +22,8 @@ mod faults;
 #[cfg(test)]
 mod given;
 #[cfg(test)]
+mod keeping;
+#[cfg(test)]
 mod layers;
 #[cfg(test)]
 mod limits;

@@ -17,6 +17,7 @@ returns-in_err-storage-clause-counts g c =
 
 pub loop-progress-init : goal.loop-progress-init
 loop-progress-init g c = record {
+  kept = c.requires.kept;
   reads = reads_first _ _ _ _ _ c.new-progress.ensures.line c.new-progress.ensures.report;
   plain = kept_plain c.new-progress.result.line.items [] c.new-progress.ensures.line;
   text = c.new-progress.ensures.text;
@@ -63,6 +64,7 @@ loop-progress-preserved g c =
     let i = c.loop-progress.invariant in
     let e = c.in_ok-read_on.ensures in
     record {
+      kept = e.kept;
       reads = e.reads.onward _ _ i.reads;
       plain = e.plain;
       text = e.written;

@@ -1,7 +1,8 @@
-use Rattle.std.proofs.Common.{rules, ◌≡◌, ◌<◌, ◌+◌, ◌∙◌, Bool, true, false, map, drop, length, [], refl, sym, ap, subst, arith}
+use Rattle.std.proofs.Common.{rules, ◌≡◌, ◌<◌, ◌+◌, ◌∙◌, Bool, true, false, map, drop, length, [], ◌∷◌, IfOk, refl, sym, ap, subst, arith}
 use Rattle.std.proofs.lemmas.Result.{IfOk-weaker}
 use Rattle.serde_json.specs.View.{view}
-use Rattle.schema_meaning.specs.Members.{In}
+use Rattle.serde_json.specs.View.{items_view}
+use Rattle.schema_meaning.specs.Members.{In, first}
 use Rattle.schema_meaning.specs.Places.{Step, stay}
 use Rattle.schema_meaning.specs.Keywords.{rule}
 use Rattle.schema_engine.specs.declared.place.Asked.{Asked}
@@ -10,13 +11,15 @@ use Rattle.schema_engine.specs.Matches.{Matches}
 use Rattle.schema_engine.specs.Places.{value_at, step_of}
 use Rattle.schema_engine.specs.Progress.{numbers_in, is_among}
 use Rattle.schema_engine.specs.Questions.{Call, call_of}
-use Rattle.schema_engine.specs.Rules.{combined, questions_of}
+use Rattle.schema_engine.specs.Asking.{AsksEach, AsksSo, target_call, item_call, item_calls}
+use Rattle.schema_engine.specs.Rules.{combined, questions_of, is_right, all_beside}
 use Rattle.schema_engine.specs.Graphs.{keywords_at, rank_at, reading_of, AreKnown}
 use Rattle.schema_engine.specs.Verdicts.{Setting, Fits, asked_in, rule_in, size, Tells, EachMayAsk, GoesDown}
+use Rattle.schema_engine.proofs.Items.{items_begin, items_yes, items_no, items_end, may_ask_item, may_ask_items}
 use Rattle.schema_engine.proofs.Left.{KeywordsLeft}
 use Rattle.schema_engine.proofs.Sizes.{size_inside, size_down, size_target}
 use Rattle.schema_engine.proofs.Settings.{stepped, stay_fits, item_fits, member_fits, name_fits}
-use Rattle.schema_engine.proofs.Steps.{may_ask_one, may_ask_rest, each_may_ask, keywords_here, keyword_stands, keywords_yes, node_refuses, node_accepts, keyword_wrong, keyword_told, question_told, follows_told, back_told, entered_told}
+use Rattle.schema_engine.proofs.Steps.{may_ask_one, may_ask_rest, each_may_ask, keywords_here, keyword_stands, keywords_yes, node_refuses, node_accepts, keyword_wrong, keyword_told, keyword_each, keyword_alone, keyword_targeted, question_told, follows_told, back_told, entered_told}
 use Rattle.schema_engine.proofs.verdict.+verdict.Goals as goal
 
 -- ---- the target of a reference
@@ -224,10 +227,121 @@ pub accepts_keyword-returns-then-not-branch-clause-verdict :
 accepts_keyword-returns-then-not-branch-clause-verdict g t c =
     keyword_wrong _ c.args.here.now.place _ _ _ c.in_ok-accepts_itself.field-0 c.in_ok-accepts_itself.ensures.right (search rules)
 
-pub accepts_keyword-accepts_combined-requires : goal.accepts_keyword-accepts_combined-requires
-accepts_keyword-accepts_combined-requires g t c κs within =
+pub accepts_keyword-accepts_target-requires : goal.accepts_keyword-accepts_target-requires
+accepts_keyword-accepts_target-requires g t c κs within =
     let nodes = c.args.here.now.graph.now.nodes.items in
-    let same = c.in_ok-questions.ensures.same ∙ c.in_ok-accepts_itself.ensures.same in
+    let d = value_at c.args.here.now.place in
+    let k = rule (g.T.Matching.matches c.args.matching.now).reads d (g.K.Validate.shape c.args.keyword.now) in
+    let asks : AsksEach k (target_call c.in-Target.node ∷ []) = subst (λ a. AsksSo a k) c.in-Target.is (c.asking.ensures _) in
+    let may = each_may_ask g.K.Validate.shape nodes c.args.here.now.node c.args.keyword.now _ d c.args.here.now.graph.now.sound c.requires.stands in (
+      omega arith,
+      (
+        within.0,
+        (
+          within.1,
+          (
+            subst (λ m. AreKnown g.K.Validate.knows m.pattern nodes) (sym c.in_ok-accepts_itself.ensures.same) c.requires.known,
+            ((subst (EachMayAsk nodes (rank_at nodes c.args.here.now.node) d) asks.questions may).each (target_call c.in-Target.node) first).below,
+          ),
+        ),
+      ),
+    )
+
+pub accepts_keyword-accepts_items-requires : goal.accepts_keyword-accepts_items-requires
+accepts_keyword-accepts_items-requires g t c κs within =
+    let nodes = c.args.here.now.graph.now.nodes.items in
+    let d = value_at c.args.here.now.place in
+    let k = rule (g.T.Matching.matches c.args.matching.now).reads d (g.K.Validate.shape c.args.keyword.now) in
+    let asks : AsksEach k (item_calls c.in-Items.node c.in-Items.start (items_view (drop c.in-Items.start c.in-Items.items.now))) =
+    subst (λ a. AsksSo a k) c.in-Items.is (c.asking.ensures _) in
+    let may = each_may_ask g.K.Validate.shape nodes c.args.here.now.node c.args.keyword.now _ d c.args.here.now.graph.now.sound c.requires.stands in (
+      omega arith,
+      (
+        within.0,
+        (
+          within.1,
+          (
+            subst (λ m. AreKnown g.K.Validate.knows m.pattern nodes) (sym c.in_ok-accepts_itself.ensures.same) c.requires.known,
+            subst (EachMayAsk nodes (rank_at nodes c.args.here.now.node) d) asks.questions may,
+          ),
+        ),
+      ),
+    )
+
+pub accepts_keyword-accepts_listed-requires : goal.accepts_keyword-accepts_listed-requires
+accepts_keyword-accepts_listed-requires g t c κs within =
+    let nodes = c.args.here.now.graph.now.nodes.items in
+    let itself = c.in_ok-accepts_itself.ensures.same in
+    let right : c.in_ok-accepts_itself.field-0 ≡ true = search rules in (
+      omega arith,
+      (
+        within.0,
+        (
+          within.1,
+          (
+            subst (λ m. AreKnown g.K.Validate.knows m.pattern nodes) (sym itself) c.requires.known,
+            (
+              c.requires.stands,
+              subst (λ (m : Matches). is_right (rule m.reads (value_at c.args.here.now.place) (g.K.Validate.shape c.args.keyword.now)) ≡ true) (sym itself)
+                  (sym c.in_ok-accepts_itself.ensures.right ∙ right),
+            ),
+          ),
+        ),
+      ),
+    )
+
+pub accepts_keyword-returns-in-Nothing-clause-verdict :
+    goal.accepts_keyword-returns-in-Nothing-clause-verdict
+accepts_keyword-returns-in-Nothing-clause-verdict g t c =
+    let k = rule (g.T.Matching.matches c.args.matching.now).reads (value_at c.args.here.now.place) (g.K.Validate.shape c.args.keyword.now) in
+    keyword_alone _ c.args.here.now.place _ _ k c.in_ok-accepts_itself.field-0 c.in_ok-accepts_itself.ensures.right (search rules)
+    (subst (λ a. AsksSo a k) c.in-Nothing.is (c.asking.ensures _))
+
+pub accepts_keyword-returns-in-Target-clause-verdict :
+    goal.accepts_keyword-returns-in-Target-clause-verdict
+accepts_keyword-returns-in-Target-clause-verdict g t c =
+    let nodes = c.args.here.now.graph.now.nodes.items in
+    let place = c.args.here.now.place in
+    let progress = numbers_in c.args.here.now.progress.now in
+    let enough = size nodes (value_at place) progress (rank_at nodes c.args.here.now.node) in
+    let k = rule (g.T.Matching.matches c.args.matching.now).reads (value_at place) (g.K.Validate.shape c.args.keyword.now) in
+    let asks : AsksEach k (target_call c.in-Target.node ∷ []) = subst (λ a. AsksSo a k) c.in-Target.is (c.asking.ensures _) in
+    let told = subst (λ (m : Matches). IfOk c.accepts_target.result (Tells place progress enough (λ x. asked_in (reading_of g.K.Validate.shape m.reads nodes) x (target_call c.in-Target.node))))
+    c.in_ok-accepts_itself.ensures.same c.accepts_target.ensures.verdict in
+    IfOk-weaker c.accepts_target.result _ _
+    (λ b tells. keyword_targeted _ place progress enough k b c.in_ok-accepts_itself.field-0 c.in-Target.node c.in_ok-accepts_itself.ensures.right (search rules) asks tells) told
+
+pub accepts_keyword-returns-in-Items-clause-verdict :
+    goal.accepts_keyword-returns-in-Items-clause-verdict
+accepts_keyword-returns-in-Items-clause-verdict g t c =
+    let nodes = c.args.here.now.graph.now.nodes.items in
+    let place = c.args.here.now.place in
+    let progress = numbers_in c.args.here.now.progress.now in
+    let enough = size nodes (value_at place) progress (rank_at nodes c.args.here.now.node) in
+    let k = rule (g.T.Matching.matches c.args.matching.now).reads (value_at place) (g.K.Validate.shape c.args.keyword.now) in
+    let calls = item_calls c.in-Items.node c.in-Items.start (items_view (drop c.in-Items.start c.in-Items.items.now)) in
+    let asks : AsksEach k calls = subst (λ a. AsksSo a k) c.in-Items.is (c.asking.ensures _) in
+    let told = subst (λ (m : Matches). IfOk c.accepts_items.result (Tells place progress enough (λ x. all_beside (asked_in (reading_of g.K.Validate.shape m.reads nodes) x) true calls)))
+    c.in_ok-accepts_itself.ensures.same c.accepts_items.ensures.verdict in
+    IfOk-weaker c.accepts_items.result _ _
+    (λ b tells. keyword_each _ place progress enough k b c.in_ok-accepts_itself.field-0 calls c.in_ok-accepts_itself.ensures.right (search rules) asks tells) told
+
+pub accepts_keyword-returns-in-Listed-clause-verdict :
+    goal.accepts_keyword-returns-in-Listed-clause-verdict
+accepts_keyword-returns-in-Listed-clause-verdict g t c =
+    let nodes = c.args.here.now.graph.now.nodes.items in
+    let place = c.args.here.now.place in
+    let progress = numbers_in c.args.here.now.progress.now in
+    subst (λ (m : Matches). IfOk c.accepts_listed.result (Tells place progress (size nodes (value_at place) progress (rank_at nodes c.args.here.now.node))
+    (rule_in (reading_of g.K.Validate.shape m.reads nodes) (rule m.reads (value_at place) (g.K.Validate.shape c.args.keyword.now)))))
+    c.in_ok-accepts_itself.ensures.same c.accepts_listed.ensures.verdict
+
+-- ---- one whose questions are listed
+
+pub accepts_listed-accepts_combined-requires : goal.accepts_listed-accepts_combined-requires
+accepts_listed-accepts_combined-requires g t c κs within =
+    let nodes = c.args.here.now.graph.now.nodes.items in
+    let same = c.in_ok-questions.ensures.same in
     let pushed = c.in_ok-questions.ensures.pushed in
     let start : c.len-start.result ≡ length c.args.questions.now.items = omega arith in
     let asked = ap (λ n. map call_of (drop n c.questions.new.into.items)) start ∙ pushed.pushed in (
@@ -245,21 +359,78 @@ accepts_keyword-accepts_combined-requires g t c κs within =
       ),
     )
 
-pub accepts_keyword-returns-clause-verdict : goal.accepts_keyword-returns-clause-verdict
-accepts_keyword-returns-clause-verdict g t c =
+pub accepts_listed-returns-clause-verdict : goal.accepts_listed-returns-clause-verdict
+accepts_listed-returns-clause-verdict g t c =
     let nodes = c.args.here.now.graph.now.nodes.items in
     let place = c.args.here.now.place in
-    let itself = c.in_ok-accepts_itself.ensures.same in
-    let same = c.in_ok-questions.ensures.same ∙ itself in
+    let same = c.in_ok-questions.ensures.same in
     let start : c.len-start.result ≡ length c.args.questions.now.items = omega arith in
-    let k = λ (m : Matches). rule m.reads (value_at place) (g.K.Validate.shape c.args.keyword.now) in
-    let asked = ap (λ n. map call_of (drop n c.questions.new.into.items)) start ∙ c.in_ok-questions.ensures.pushed.pushed ∙ ap (λ m. questions_of (k m)) itself in
+    let asked = ap (λ n. map call_of (drop n c.questions.new.into.items)) start ∙ c.in_ok-questions.ensures.pushed.pushed in
     let told = subst (λ m. Tells place (numbers_in c.args.here.now.progress.now)
     (size nodes (value_at place) (numbers_in c.args.here.now.progress.now) (rank_at nodes c.args.here.now.node))
     (λ x. combined c.combination-combination.result (asked_in (reading_of g.K.Validate.shape m.reads nodes) x) (map call_of (drop c.len-start.result c.questions.new.into.items)))
     c.in_ok-accepts.accepts) same c.in_ok-accepts.ensures.verdict in
-    keyword_told _ place _ _ _ c.in_ok-accepts.accepts c.in_ok-accepts_itself.field-0 c.combination-combination.result (map call_of (drop c.len-start.result c.questions.new.into.items))
-    c.in_ok-accepts_itself.ensures.right (search rules) (c.combination-combination.ensures _) asked told
+    keyword_told _ place _ _ _ c.in_ok-accepts.accepts true c.combination-combination.result (map call_of (drop c.len-start.result c.questions.new.into.items))
+    (sym c.requires.right) refl (c.combination-combination.ensures _) asked told
+
+-- ---- the items of a list
+
+pub accepts_items-loop-index-init : goal.accepts_items-loop-index-init
+accepts_items-loop-index-init g t c = record { matches = refl; questions = refl; asked = c.requires.asked; left = items_begin _ _ _ _ _ _ _ }
+
+pub accepts_items-accepts_question-requires : goal.accepts_items-accepts_question-requires
+accepts_items-accepts_question-requires g t c κs within =
+    let nodes = c.args.here.now.graph.now.nodes.items in
+    let l = c.loop-index in (
+      omega arith,
+      (
+        within.0,
+        (
+          within.1,
+          (
+            subst (λ m. AreKnown g.K.Validate.knows m.pattern nodes) (sym l.invariant.matches) c.requires.known,
+            may_ask_item nodes _ _ c.args.node l.index c.args.items.now c.index-items-index.result (omega arith) c.index-items-index.is l.invariant.asked,
+          ),
+        ),
+      ),
+    )
+
+pub accepts_items-loop-index-preserved : goal.accepts_items-loop-index-preserved
+accepts_items-loop-index-preserved g t c =
+    let nodes = c.args.here.now.graph.now.nodes.items in
+    let l = c.loop-index in
+    let place = c.args.here.now.place in
+    let progress = numbers_in c.args.here.now.progress.now in
+    let enough = size nodes (value_at place) progress (rank_at nodes c.args.here.now.node) in
+    let v = c.index-items-index.result in
+    let taken : c.in_ok-accepts_question.field-0 ≡ true = search rules in
+    let verdict = subst (λ (m : Matches). Tells place progress enough (λ x. asked_in (reading_of g.K.Validate.shape m.reads nodes) x (item_call c.args.node l.index (view v))) c.in_ok-accepts_question.field-0)
+    l.invariant.matches c.in_ok-accepts_question.ensures.verdict in
+    record {
+      matches = c.in_ok-accepts_question.ensures.matches ∙ l.invariant.matches;
+      questions = c.in_ok-accepts_question.ensures.questions ∙ l.invariant.questions;
+      asked = may_ask_items nodes _ _ c.args.node l.index c.args.items.now v (omega arith) c.index-items-index.is l.invariant.asked;
+      left = items_yes _ place progress enough c.args.node c.args.start c.args.items.now l.index v (omega arith) c.index-items-index.is l.invariant.left (subst (Tells place progress enough _) taken verdict);
+    }
+
+pub accepts_items-returns-then-not-branch-clause-verdict :
+    goal.accepts_items-returns-then-not-branch-clause-verdict
+accepts_items-returns-then-not-branch-clause-verdict g t c =
+    let nodes = c.args.here.now.graph.now.nodes.items in
+    let l = c.loop-index in
+    let place = c.args.here.now.place in
+    let progress = numbers_in c.args.here.now.progress.now in
+    let enough = size nodes (value_at place) progress (rank_at nodes c.args.here.now.node) in
+    let v = c.index-items-index.result in
+    let refused : c.in_ok-accepts_question.field-0 ≡ false = search rules in
+    let verdict = subst (λ (m : Matches). Tells place progress enough (λ x. asked_in (reading_of g.K.Validate.shape m.reads nodes) x (item_call c.args.node l.index (view v))) c.in_ok-accepts_question.field-0)
+    l.invariant.matches c.in_ok-accepts_question.ensures.verdict in
+    items_no _ place progress enough c.args.node c.args.start c.args.items.now l.index v (omega arith) c.index-items-index.is l.invariant.left (subst (Tells place progress enough _) refused verdict)
+
+pub accepts_items-returns-clause-verdict : goal.accepts_items-returns-clause-verdict
+accepts_items-returns-clause-verdict g t c =
+    let l = c.loop-index in
+    items_end _ c.args.here.now.place _ _ c.args.node c.args.start c.args.items.now l.index (omega arith) l.invariant.left
 
 -- ---- a node
 

@@ -1,34 +1,43 @@
 use Rattle.std.proofs.Common.{◌≡◌, ◌≤◌, ◌+◌, ◌*◌, drop}
+use Rattle.serde_json.specs.View.{items_view}
 use Rattle.schema_engine.specs.Places.{value_at}
 use Rattle.schema_engine.specs.Progress.{numbers_in}
-use Rattle.schema_engine.specs.Graphs.{keywords_at, rank_at}
-use Rattle.schema_engine.specs.Verdicts.{size}
+use Rattle.schema_engine.specs.Asking.{item_calls}
+use Rattle.schema_engine.specs.Graphs.{keywords_at, rank_at, reading_of}
+use Rattle.schema_engine.specs.Verdicts.{size, EachMayAsk}
+use Rattle.schema_engine.proofs.Items.{ItemsLeft}
 use Rattle.schema_engine.proofs.Left.{KeywordsLeft, EachLeft, CountLeft}
 use Rattle.schema_engine.proofs.verdict.+verdict.Given as goal
 
 abbrev pub decreases-accepts_node : goal.decreases-accepts_node
-decreases-accepts_node g l = 7 * size l.graph.now.nodes.items (value_at l.place) (numbers_in l.progress.now) (rank_at l.graph.now.nodes.items l.node) + 6
+decreases-accepts_node g l = 8 * size l.graph.now.nodes.items (value_at l.place) (numbers_in l.progress.now) (rank_at l.graph.now.nodes.items l.node) + 7
 
 abbrev pub decreases-accepts_keyword : goal.decreases-accepts_keyword
-decreases-accepts_keyword g l = 7 * size l.here.now.graph.now.nodes.items (value_at l.here.now.place) (numbers_in l.here.now.progress.now) (rank_at l.here.now.graph.now.nodes.items l.here.now.node) + 5
+decreases-accepts_keyword g l = 8 * size l.here.now.graph.now.nodes.items (value_at l.here.now.place) (numbers_in l.here.now.progress.now) (rank_at l.here.now.graph.now.nodes.items l.here.now.node) + 6
+
+abbrev pub decreases-accepts_listed : goal.decreases-accepts_listed
+decreases-accepts_listed g l = 8 * size l.here.now.graph.now.nodes.items (value_at l.here.now.place) (numbers_in l.here.now.progress.now) (rank_at l.here.now.graph.now.nodes.items l.here.now.node) + 5
+
+abbrev pub decreases-accepts_items : goal.decreases-accepts_items
+decreases-accepts_items g l = 8 * size l.here.now.graph.now.nodes.items (value_at l.here.now.place) (numbers_in l.here.now.progress.now) (rank_at l.here.now.graph.now.nodes.items l.here.now.node) + 2
 
 abbrev pub decreases-accepts_combined : goal.decreases-accepts_combined
-decreases-accepts_combined g l = 7 * size l.here.now.graph.now.nodes.items (value_at l.here.now.place) (numbers_in l.here.now.progress.now) (rank_at l.here.now.graph.now.nodes.items l.here.now.node) + 4
+decreases-accepts_combined g l = 8 * size l.here.now.graph.now.nodes.items (value_at l.here.now.place) (numbers_in l.here.now.progress.now) (rank_at l.here.now.graph.now.nodes.items l.here.now.node) + 4
 
 abbrev pub decreases-accepts_conditional : goal.decreases-accepts_conditional
-decreases-accepts_conditional g l = 7 * size l.here.now.graph.now.nodes.items (value_at l.here.now.place) (numbers_in l.here.now.progress.now) (rank_at l.here.now.graph.now.nodes.items l.here.now.node) + 3
+decreases-accepts_conditional g l = 8 * size l.here.now.graph.now.nodes.items (value_at l.here.now.place) (numbers_in l.here.now.progress.now) (rank_at l.here.now.graph.now.nodes.items l.here.now.node) + 3
 
 abbrev pub decreases-accepts_each : goal.decreases-accepts_each
-decreases-accepts_each g l = 7 * size l.here.now.graph.now.nodes.items (value_at l.here.now.place) (numbers_in l.here.now.progress.now) (rank_at l.here.now.graph.now.nodes.items l.here.now.node) + 2
+decreases-accepts_each g l = 8 * size l.here.now.graph.now.nodes.items (value_at l.here.now.place) (numbers_in l.here.now.progress.now) (rank_at l.here.now.graph.now.nodes.items l.here.now.node) + 2
 
 abbrev pub decreases-accepts_counted : goal.decreases-accepts_counted
-decreases-accepts_counted g l = 7 * size l.here.now.graph.now.nodes.items (value_at l.here.now.place) (numbers_in l.here.now.progress.now) (rank_at l.here.now.graph.now.nodes.items l.here.now.node) + 2
+decreases-accepts_counted g l = 8 * size l.here.now.graph.now.nodes.items (value_at l.here.now.place) (numbers_in l.here.now.progress.now) (rank_at l.here.now.graph.now.nodes.items l.here.now.node) + 2
 
 abbrev pub decreases-accepts_question : goal.decreases-accepts_question
-decreases-accepts_question g l = 7 * size l.here.now.graph.now.nodes.items (value_at l.here.now.place) (numbers_in l.here.now.progress.now) (rank_at l.here.now.graph.now.nodes.items l.here.now.node) + 1
+decreases-accepts_question g l = 8 * size l.here.now.graph.now.nodes.items (value_at l.here.now.place) (numbers_in l.here.now.progress.now) (rank_at l.here.now.graph.now.nodes.items l.here.now.node) + 1
 
 abbrev pub decreases-accepts_target : goal.decreases-accepts_target
-decreases-accepts_target g l = 7 * size l.here.now.graph.now.nodes.items (value_at l.here.now.place) (numbers_in l.here.now.progress.now) (rank_at l.here.now.graph.now.nodes.items l.here.now.node) + 0
+decreases-accepts_target g l = 8 * size l.here.now.graph.now.nodes.items (value_at l.here.now.place) (numbers_in l.here.now.progress.now) (rank_at l.here.now.graph.now.nodes.items l.here.now.node) + 0
 
 abbrev pub invariant-accepts_node-loop-keyword : goal.invariant-accepts_node-loop-keyword
 invariant-accepts_node-loop-keyword g l =
@@ -56,4 +65,16 @@ invariant-accepts_counted-loop-index g l =
       questions : l.questions.items ≡ l.fn.questions.items;
       few : l.count ≤ l.index;
       left : CountLeft g.K.Validate.shape entry.reads l.here.graph.now.nodes.items l.here.node l.here.place (numbers_in l.here.progress.now) (drop l.start l.fn.questions.items) (drop l.index l.fn.questions.items) l.count;
+    }
+
+abbrev pub invariant-accepts_items-loop-index : goal.invariant-accepts_items-loop-index
+invariant-accepts_items-loop-index g l =
+    let entry = g.T.Matching.matches l.fn.matching in
+    let nodes = l.here.graph.now.nodes.items in
+    let progress = numbers_in l.here.progress.now in
+    record {
+      matches : g.T.Matching.matches l.matching ≡ entry;
+      questions : l.questions.items ≡ l.fn.questions.items;
+      asked : EachMayAsk nodes (rank_at nodes l.here.node) (value_at l.here.place) (item_calls l.node l.index (items_view (drop l.index l.items)));
+      left : ItemsLeft (reading_of g.K.Validate.shape entry.reads nodes) l.here.place progress (size nodes (value_at l.here.place) progress (rank_at nodes l.here.node)) l.node l.start l.items l.index;
     }

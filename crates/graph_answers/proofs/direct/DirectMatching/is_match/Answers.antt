@@ -1,5 +1,6 @@
-use Rattle.std.proofs.Common.{◌∙◌, sym, ap}
-use Rattle.schema_patterns.specs.Read.{is_yes}
+use Rattle.std.proofs.Common.{◌∙◌, sym}
+use Rattle.std.proofs.lemmas.Result.{IfOk-weaker}
+use Rattle.schema_patterns.specs.Compiled.{found_by}
 use Rattle.schema_patterns.specs.Tables.{texts_of_table}
 use Rattle.graph_answers.specs.Tables.{table_texts}
 use Rattle.graph_answers.proofs.TableReads.{reads_found, reads_nothing}
@@ -10,20 +11,10 @@ returns-in_default-clause-read g c =
     reads_nothing g.M.PatternMatcher.finds c.args.self.now.table.now (table_texts (texts_of_table c.args.self.now.table.now) c.args.pattern) c.args.text.now
     (sym c.in_default.ensures.found) c.in_default.ensures.absent
 
-pub returns-in-Yes-clause-read : goal.returns-in-Yes-clause-read
-returns-in-Yes-clause-read g c =
-    sym (ap is_yes c.in-Yes.ensures.told)
+pub returns-clause-read : goal.returns-clause-read
+returns-clause-read g c =
+    let compiled = c.in-Some.compiled.now in
+    IfOk-weaker c.is_yes.result _ _
+    (λ b told. told (found_by g.M.PatternMatcher.finds compiled c.args.text.now) c.is_match.ensures.told
     ∙ reads_found g.M.PatternMatcher.finds c.args.self.now.table.now c.args.self.now.forms (table_texts (texts_of_table c.args.self.now.table.now) c.args.pattern) c.args.text.now
-    c.in-Some.compiled.now (sym c.in-Some.ensures.found)
-
-pub returns-in-No-clause-read : goal.returns-in-No-clause-read
-returns-in-No-clause-read g c =
-    sym (ap is_yes c.in-No.ensures.told)
-    ∙ reads_found g.M.PatternMatcher.finds c.args.self.now.table.now c.args.self.now.forms (table_texts (texts_of_table c.args.self.now.table.now) c.args.pattern) c.args.text.now
-    c.in-Some.compiled.now (sym c.in-Some.ensures.found)
-
-pub returns-in-Unfinished-clause-read : goal.returns-in-Unfinished-clause-read
-returns-in-Unfinished-clause-read g c =
-    sym (ap is_yes c.in-Unfinished.ensures.told)
-    ∙ reads_found g.M.PatternMatcher.finds c.args.self.now.table.now c.args.self.now.forms (table_texts (texts_of_table c.args.self.now.table.now) c.args.pattern) c.args.text.now
-    c.in-Some.compiled.now (sym c.in-Some.ensures.found)
+    compiled (sym c.in-Some.ensures.found)) c.is_yes.ensures

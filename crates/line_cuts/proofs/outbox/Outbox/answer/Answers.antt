@@ -6,7 +6,7 @@ use Rattle.line_cuts.proofs.outbox.Outbox.answer.Goals as goal
 
 pub returns-clause-ok : goal.returns-clause-ok
 returns-clause-ok g c =
-    let (written, told, appended) = c.in_ok-answer.ensures in
+    let (written, told, appended) = c.in_ok-answer.ensures.answered in
     let before = string_bytes c.args.self.now.text in
     let start = c.len-start.result in
     let ok = c.args.self.now.text.bytes.ok in

@@ -7,6 +7,7 @@ use Rattle.line_cuts.proofs.progress.Progress.take_piece.Goals as goal
 
 pub loop-end-init : goal.loop-end-init
 loop-end-init g c = record {
+  kept = c.requires.kept;
   goes = subst (Goes _ _ _ _ _ _ _) (sym c.requires.written) (goes_none _ _ c.args.self.now.outbox.report _);
   part = refl;
   plain = c.requires.plain;
@@ -28,6 +29,7 @@ loop-end-preserved g c =
     let none = c.in_ok-end_line.ensures.cleared in
     let after = c.in-Some.after.now in
     record {
+      kept = c.in_ok-end_line.ensures.kept;
       goes =
           line_sent _ _ _ _ c.in-Some.end.now after i.plain c.in-Some.ensures.cut _ _ _ _ _ _ _ i.goes c.in_ok-end_line.ensures.ok _ _ _ _ c.in_ok-write_if_full.ensures.sent none
           c.write_if_full.ensures.report;

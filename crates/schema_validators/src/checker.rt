@@ -1,0 +1,104 @@
+//! What answers many values as a validator does.
+
+ghost use Rattle.std.specs.Prelude.{◌≡◌, IfErr, IfOk, OnOk, is_ok, true};
+ghost use Rattle.serde_json.specs.View.{view};
+ghost use Rattle.graph_answers.specs.Tables.{matches_of};
+ghost use Rattle.regex_patterns.specs.Matchers.{finds_by_regex};
+ghost use Rattle.schema_meaning.specs.Faults.{Told, is_none};
+ghost use Rattle.schema_meaning.specs.Readings.{verdicts};
+ghost use Rattle.schema_registries.specs.Answers.{IsAnswer};
+ghost use Rattle.schema_registries.specs.Certified.{IsCertified, HasCertificate, HaveCertificates};
+ghost use Rattle.schema_registries.specs.Roots.{Root, Patterns};
+ghost use Rattle.schema_registries.specs.Whole.{only_whole};
+ghost use Rattle.schema_reports.specs.Left.{errors_left};
+ghost use Rattle.schema_reports.specs.Told.{fault_of, faults_of, error_is_proper, are_proper};
+
+use crate::validator::Validator;
+use kept_patterns::kept::Kept;
+use schema_reports::{ErrorIterator, ValidationError};
+use serde_json::Value;
+use std::alloc::{AllocError, Global};
+
+/// Answers values as a validator does, and keeps from value to value what makes the matches of its patterns cheap: a search for each pattern,
+/// made at its first match.
+#[derive(Drop)]
+pub struct Checker<'v> {
+    alloc: Global,
+    validator: &'v Validator,
+    kept: Kept<'v>,
+    ghost meant: { matches_of finds_by_regex kept.table.now ≡ matches_of finds_by_regex validator.now.schemas.value.table },
+}
+
+impl<'v> Checker<'v> {
+    ghost use Rattle.schema_validators.specs.Answered.{AreFaults, IsFault};
+    ghost use Rattle.schema_validators.specs.Checkers.{validator_of};
+    ghost use Rattle.schema_validators.specs.Made.{IsMadeBy};
+    ghost use Rattle.schema_validators.specs.Missing.{TellsEachMissing};
+    ghost use Rattle.schema_validators.specs.Told.{verdict_by, faults_by};
+
+    /// A checker of a validator. It takes room for a search for each of its patterns, and makes none yet.
+    ///
+    /// # Errors
+    ///
+    /// Where memory was refused.
+    pub fn new(alloc: Global, validator: &'v Validator) -> Result<Checker<'v>, AllocError>
+        ensures { IfOk result (λ checker. validator_of checker ≡ validator.now) }
+    {
+        let kept = Kept::new(alloc, validator.patterns())?;
+        Ok(Checker {
+            alloc,
+            validator,
+            kept,
+        })
+    }
+
+    // Lets go of what is kept, where memory was refused on the way.
+    fn forget(&mut self)
+        ensures { validator_of self.new ≡ validator_of self.old }
+    {
+        self.kept = Kept::nothing(self.alloc, self.validator.patterns());
+    }
+
+    /// Whether a value is valid. It says what [`Validator::is_valid`] says, and costs the same but for matches.
+    ///
+    /// # Errors
+    ///
+    /// Where memory was refused. From then on nothing is kept.
+    pub fn is_valid(&mut self, value: &Value) -> Result<bool, AllocError>
+        requires whole { only_whole (view value.now) ≡ true }
+        ensures same { validator_of self.new ≡ validator_of self.old }
+        ensures cut { IfOk result (λ b. b ≡ verdict_by (validator_of self.old) (view value.now)) }
+        ensures verdict { IfOk result (λ b. (p : Patterns) (r : Root) → IsMadeBy p r (validator_of self.old) → IsAnswer verdicts p r (view value.now) b) }
+        ensures certified { IfOk result (λ b. (p : Patterns) (r : Root) → IsMadeBy p r (validator_of self.old) → IsCertified p r (view value.now) b) }
+    {
+        let answer = self.validator.is_valid_by(&mut self.kept, value);
+        if answer.is_err() {
+            self.forget();
+        }
+        answer
+    }
+
+    /// The faults of a value, in the order in which they are met. It says what [`Validator::iter_errors`] says, and costs the same but for
+    /// matches.
+    ///
+    /// # Errors
+    ///
+    /// Where memory was refused or a count of owners is full. From then on nothing is kept.
+    pub fn iter_errors<'i>(&mut self, value: &'i Value) -> Result<ErrorIterator<'i>, AllocError>
+        requires whole { only_whole (view value.now) ≡ true }
+        ensures same { validator_of self.new ≡ validator_of self.old }
+        ensures cut { IfOk result (λ errors. faults_of (errors_left errors) ≡ faults_by (validator_of self.old) (view value.now)) }
+        ensures agree { OnOk result (is_none (faults_by (validator_of self.old) (view value.now)) ≡ verdict_by (validator_of self.old) (view value.now)) }
+        ensures faults { IfOk result (λ errors. (p : Patterns) (r : Root) → IsMadeBy p r (validator_of self.old) → AreFaults p r (view value.now) (faults_of (errors_left errors))) }
+        ensures proper { IfOk result (λ errors. are_proper (errors_left errors) ≡ true) }
+        ensures certified { IfOk result (λ errors. (p : Patterns) (r : Root) → IsMadeBy p r (validator_of self.old) → HaveCertificates p r (view value.now) (faults_of (errors_left errors))) }
+        ensures missing { IfOk result (λ errors. (p : Patterns) (r : Root) → IsMadeBy p r (validator_of self.old)
+            → TellsEachMissing p r (view value.now) (faults_of (errors_left errors))) }
+    {
+        let errors = self.validator.errors_by(&mut self.kept, value);
+        if errors.is_err() {
+            self.forget();
+        }
+        errors
+    }
+}
