@@ -8,10 +8,8 @@ ghost use Rattle.std.specs.Cmp.{on_equiv, on_total, on_po, on_per, partial_equiv
 ghost use Rattle.std.specs.Cmp.Lexicographic.{slice_cmp, nat_list_eq_equiv, nat_list_cmp_total, texts_ties, texts_po};
 ghost use Rattle.std.specs.Cmp.Rules.{hashing};
 ghost use Rattle.json_values.specs.Pointers.{pointer_text};
-ghost use Rattle.schema_reports.specs.Joined.{IsJoined};
-ghost use Rattle.schema_reports.specs.Locations.{location_of};
+ghost use Rattle.location_texts.specs.Joined.{IsJoined};
 
-use crate::location::LazyLocation;
 use json_pointers::JsonPointerSegment;
 use schema_steps::Path;
 use std::alloc::{AllocError, Global};
@@ -71,17 +69,6 @@ impl Location {
         })
     }
 
-    /// The location of a road.
-    ///
-    /// It is linear in the text, and takes a stack frame for each step. The error comes where memory is out.
-    pub fn from_road(alloc: Global, road: &LazyLocation<'_, '_>) -> Result<Location, AllocError>
-        ensures { IfOk result (λ location. location ≡ pointer_text (reverse (location_of road.now))) }
-    {
-        let mut text = String::new(alloc);
-        road.write_to(&mut text)?;
-        Ok(Location { text })
-    }
-
     /// The text, lent in constant time.
     pub fn as_str(&self) -> &str
         ensures { result.now ≡ self.now }
@@ -102,7 +89,7 @@ impl Clone for Location {
 }
 
 impl PartialEq for Location {
-    ghost use Rattle.schema_reports.specs.LocationTexts.{text_of};
+    ghost use Rattle.location_texts.specs.LocationTexts.{text_of};
 
     ghost eq = { λ a b. bytes_eq a b };
 
@@ -114,13 +101,13 @@ impl PartialEq for Location {
 }
 
 impl Eq for Location {
-    ghost use Rattle.schema_reports.specs.LocationTexts.{text_of};
+    ghost use Rattle.location_texts.specs.LocationTexts.{text_of};
 
     ghost laws = { on_equiv text_of nat_list_eq_equiv };
 }
 
 impl PartialOrd for Location {
-    ghost use Rattle.schema_reports.specs.LocationTexts.{text_of};
+    ghost use Rattle.location_texts.specs.LocationTexts.{text_of};
 
     ghost partial_cmp = { λ a b. Some (slice_cmp nat_cmp a b) };
 
@@ -132,7 +119,7 @@ impl PartialOrd for Location {
 }
 
 impl Ord for Location {
-    ghost use Rattle.schema_reports.specs.LocationTexts.{text_of};
+    ghost use Rattle.location_texts.specs.LocationTexts.{text_of};
 
     ghost cmp = { λ a b. slice_cmp nat_cmp a b };
 

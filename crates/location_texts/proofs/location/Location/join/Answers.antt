@@ -2,7 +2,7 @@ use Rattle.std.proofs.Common.{◌≡◌, ◌++◌, ◌∷◌, [], string_bytes, 
 use Rattle.json_values.specs.Pointers.{part_text}
 use Rattle.json_pointers.specs.Lent.{part_of}
 use Rattle.json_pointers.proofs.NodeLemmas.{pointer_text-push}
-use Rattle.schema_reports.proofs.location_text.Location.join.Goals as goal
+use Rattle.location_texts.proofs.location.Location.join.Goals as goal
 
 pub returns : goal.returns
 unfolding lib.Utf8.encode
