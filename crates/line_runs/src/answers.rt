@@ -1,6 +1,7 @@
 //! What is written for a line.
 ghost use Rattle.std.specs.Prelude.{◌≡◌, ◌++◌, ℕ, List, Some, true, OnOk, string_bytes};
 ghost use Rattle.serde_json.specs.View.{view};
+ghost use Rattle.line_cuts.specs.Runs.{is_refused};
 ghost use Rattle.schema_registries.specs.Whole.{only_whole};
 ghost use Rattle.line_runs.specs.Runs.{IsLineTextBy, IsTextBy};
 
@@ -21,8 +22,14 @@ pub(crate) struct LineFaults<'v, M: PatternMatcher> {
 impl<M: PatternMatcher> LineAnswers for LineFaults<'_, M> {
     ghost answers = { λ s. IsLineTextBy s.validator.now };
 
+    ghost refuses = { λ s. is_refused };
+
     fn answer(&self, line: &[u8], text: &mut String) -> Result<(), AllocError> {
         answer_line(self.alloc, self.validator, line, text)
+    }
+
+    fn is_refused(&self, written: &[u8]) -> bool {
+        written != b"[]\n".as_slice()
     }
 }
 
