@@ -5,7 +5,7 @@ use Rattle.std.proofs.Math.Seq.{drop-append_seam}
 use Rattle.std.proofs.lemmas.List.{take_rest}
 use Rattle.std.proofs.lemmas.List.Folds.{list_any-append, concat-append}
 use Rattle.line_cuts.specs.Devices.{most}
-use Rattle.line_cuts.specs.Runs.{Answered, is_refused}
+use Rattle.line_cuts.specs.Runs.{Answered}
 use Rattle.line_cuts.specs.declared.report.RunReport.{RunReport}
 
 or_false : (b : Bool) → (b || false) ≡ b
@@ -29,27 +29,27 @@ all_zip-append R (x ∷ xs) cs (y ∷ ys) ds p q = (p.0, all_zip-append R xs cs 
 pub behind : (start : ℕ) (before written : List ℕ) → start ≡ length before → take (length (before ++ written) - start) (drop start (before ++ written)) ≡ written
 behind start before written e = take_rest (before ++ written) start ∙ ap (λ n. drop n (before ++ written)) e ∙ drop-append_seam before written
 
-pub one_answered : (R : List ℕ → List ℕ → Type 0) (line written : List ℕ) (old new : RunReport) → R line written
-    → new.lines ≡ min (old.lines + 1) most → new.any_refused ≡ (old.any_refused || is_refused written) → Answered R (line ∷ []) old new written
-one_answered R line written old new r counted refused = record {
+pub one_answered : (Q : List ℕ → Bool) (R : List ℕ → List ℕ → Type 0) (line written : List ℕ) (old new : RunReport) → R line written
+    → new.lines ≡ min (old.lines + 1) most → new.any_refused ≡ (old.any_refused || Q written) → Answered Q R (line ∷ []) old new written
+one_answered Q R line written old new r counted refused = record {
   texts = written ∷ [];
   answered = (r, tt);
   joined = sym (append-nil written);
   counted = λ _. counted;
-  refused = refused ∙ ap (λ b. old.any_refused || b) (sym (or_false (is_refused written)));
+  refused = refused ∙ ap (λ b. old.any_refused || b) (sym (or_false (Q written)));
 }
 
 -- ---- no lines, and lines after lines
 
-pub none_answered : (R : List ℕ → List ℕ → Type 0) (report : RunReport) → Answered R [] report report []
-none_answered R report = record { texts = []; answered = tt; joined = refl; counted = λ low. omega arith; refused = sym (or_false report.any_refused) }
+pub none_answered : (Q : List ℕ → Bool) (R : List ℕ → List ℕ → Type 0) (report : RunReport) → Answered Q R [] report report []
+none_answered Q R report = record { texts = []; answered = tt; joined = refl; counted = λ low. omega arith; refused = sym (or_false report.any_refused) }
 
-pub answered-append : (R : List ℕ → List ℕ → Type 0) (lines more : List (List ℕ)) (a b c : RunReport) (bytes later : List ℕ)
-    → Answered R lines a b bytes → Answered R more b c later → Answered R (lines ++ more) a c (bytes ++ later)
-answered-append R lines more a b c bytes later p q = record {
+pub answered-append : (Q : List ℕ → Bool) (R : List ℕ → List ℕ → Type 0) (lines more : List (List ℕ)) (a b c : RunReport) (bytes later : List ℕ)
+    → Answered Q R lines a b bytes → Answered Q R more b c later → Answered Q R (lines ++ more) a c (bytes ++ later)
+answered-append Q R lines more a b c bytes later p q = record {
   texts = p.texts ++ q.texts;
   answered = all_zip-append R lines more p.texts q.texts p.answered q.answered;
   joined = ap (λ l. l ++ later) p.joined ∙ ap (λ l. concat p.texts ++ l) q.joined ∙ sym (concat-append p.texts q.texts);
   counted = λ low. let x = p.counted low in let y = q.counted (omega arith) in omega (arith, x, y, length-append p.texts q.texts);
-  refused = q.refused ∙ ap (λ b. b || list_any is_refused q.texts) p.refused ∙ or_assoc a.any_refused _ _ ∙ ap (λ b. a.any_refused || b) (sym (list_any-append is_refused p.texts q.texts));
+  refused = q.refused ∙ ap (λ b. b || list_any Q q.texts) p.refused ∙ or_assoc a.any_refused _ _ ∙ ap (λ b. a.any_refused || b) (sym (list_any-append Q p.texts q.texts));
 }

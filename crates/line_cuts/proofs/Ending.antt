@@ -1,24 +1,24 @@
 -- Lemmas on how runs end.
-use Rattle.std.proofs.Common.{◌≡◌, ◌∙◌, ℕ, List, [], subst, refl, Option, Result, Ok, Err, OnErr, OnOk, IfErr, IfOk}
+use Rattle.std.proofs.Common.{◌≡◌, ◌∙◌, ℕ, Bool, List, [], subst, refl, Option, Result, Ok, Err, OnErr, OnOk, IfErr, IfOk}
 use Rattle.std.specs.Io.KnownBytes.{IsAtEnd}
 use Rattle.std.proofs.KnownBytes.{Consumes-nil}
 use Rattle.line_cuts.specs.Devices.{IsRisen}
 use Rattle.line_cuts.specs.Cuts.{unless_empty}
-use Rattle.line_cuts.specs.Runs.{BreaksAt, ByError, Counts, RunsThrough, Stops}
+use Rattle.line_cuts.specs.Runs.{BreaksAt, ByError, Counts, RunsThroughBy, Stops}
 use Rattle.line_cuts.specs.Steps.{Goes, Reads}
 use Rattle.line_cuts.specs.declared.report.RunReport.{RunReport}
 use Rattle.line_cuts.specs.declared.report.RunError.{RunError}
 use Rattle.line_cuts.specs.declared.report.RunError.TheVariants.{Read, Write, Memory}
 use Rattle.line_cuts.proofs.Reading.{reads_end, reads_end_broken, by_error}
 
-module _ (R : List ℕ → List ℕ → Type 0) (from to before after later : Option (List ℕ)) (part : List ℕ) (report : RunReport) (h : Reads R from to before after part report) (ended : IsAtEnd to) where
-  pub finish_ok : (r : Result RunReport RunError) → IfOk r (λ newer. Goes R (unless_empty part) [] report newer after later []) → IfOk r (λ newer. RunsThrough R from to before later newer)
-  finish_ok (Ok newer) g = reads_end R from to before after part report h to later newer (Consumes-nil to) ended g
+module _ (Q : List ℕ → Bool) (R : List ℕ → List ℕ → Type 0) (from to before after later : Option (List ℕ)) (part : List ℕ) (report : RunReport) (h : Reads Q R from to before after part report) (ended : IsAtEnd to) where
+  pub finish_ok : (r : Result RunReport RunError) → IfOk r (λ newer. Goes Q R (unless_empty part) [] report newer after later []) → IfOk r (λ newer. RunsThroughBy Q R from to before later newer)
+  finish_ok (Ok newer) g = reads_end Q R from to before after part report h to later newer (Consumes-nil to) ended g
   finish_ok (Err e) g = tt
 
-  pub finish_stops : (r : Result RunReport RunError) (P Q : Type 0) → OnErr r (BreaksAt R (unless_empty part) after later) → IfErr r (λ e. ByError e ⊥ P Q) → IfErr r (λ e. Stops R e from to before later)
-  finish_stops (Ok newer) P Q b f = tt
-  finish_stops (Err e) P Q b f = let off = reads_end_broken R from to before after part report h to later (Consumes-nil to) ended b in by_error e P Q _ _ _ f (λ _. off) (λ _. off)
+  pub finish_stops : (r : Result RunReport RunError) (P S : Type 0) → OnErr r (BreaksAt R (unless_empty part) after later) → IfErr r (λ e. ByError e ⊥ P S) → IfErr r (λ e. Stops R e from to before later)
+  finish_stops (Ok newer) P S b f = tt
+  finish_stops (Err e) P S b f = let off = reads_end_broken Q R from to before after part report h to later (Consumes-nil to) ended b in by_error e P S _ _ _ f (λ _. off) (λ _. off)
 
 pub quiet_since : {T E : Type 0} (r : Result T E) (a b c : ℕ) → b ≡ a → OnOk r (c ≡ b) → OnOk r (c ≡ a)
 quiet_since (Ok x) a b c h k = k ∙ h

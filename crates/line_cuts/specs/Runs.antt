@@ -1,4 +1,4 @@
--- What a run answers and writes. R relates a line and what is written for it.
+-- What a run answers and writes. R relates a line and what is written for it, and Q says of that whether it tells of a refusal.
 use Rattle.std.specs.Prelude.{◌≡◌, ℕ, List, [], ◌∷◌, ◌++◌, ◌+◌, ◌≤◌, ◌⊎◌, min, length, Bool, not, ◌||◌, Option}
 use Rattle.std.specs.List.{AllZip, concat, list_any}
 use Rattle.std.specs.Str.{bytes_eq}
@@ -9,7 +9,7 @@ use Rattle.line_cuts.specs.declared.report.RunReport.{RunReport}
 use Rattle.line_cuts.specs.declared.report.RunError.{RunError}
 use Rattle.line_cuts.specs.declared.report.RunError.TheVariants.{Read, Write, Memory}
 
--- what is written for a line tells that its value is refused, or that it has none: it is no empty list with a line end
+-- what is written for a line tells that its value is refused, or that it has none, where that is no empty list with a line end
 abbrev pub is_refused : List ℕ → Bool
 is_refused text = not (bytes_eq text (91 ∷ 93 ∷ 10 ∷ []))
 
@@ -21,12 +21,12 @@ pub record TakesSome (old new : Option (List ℕ)) (bytes : List ℕ) : Type 0 w
   pub appended : Appends old new taken
 
 -- one text for each line, in order; the bytes are the texts joined, and the report counts them
-pub record Answered (R : List ℕ → List ℕ → Type 0) (lines : List (List ℕ)) (old new : RunReport) (bytes : List ℕ) : Type 0 where
+pub record Answered (Q : List ℕ → Bool) (R : List ℕ → List ℕ → Type 0) (lines : List (List ℕ)) (old new : RunReport) (bytes : List ℕ) : Type 0 where
   pub texts : List (List ℕ)
   pub answered : AllZip R lines texts
   pub joined : bytes ≡ concat texts
   pub counted : old.lines ≤ most → new.lines ≡ min (old.lines + length texts) most
-  pub refused : new.any_refused ≡ (old.any_refused || list_any is_refused texts)
+  pub refused : new.any_refused ≡ (old.any_refused || list_any Q texts)
 
 -- some first lines were answered, and the bytes begin their texts joined
 pub record Begins (R : List ℕ → List ℕ → Type 0) (lines : List (List ℕ)) (bytes : List ℕ) : Type 0 where
@@ -45,7 +45,7 @@ pub record BreaksAt (R : List ℕ → List ℕ → Type 0) (lines : List (List �
   pub appended : Appends before after written
 
 -- all that a reader had was read, and each of its lines answered
-pub record RunsThrough (R : List ℕ → List ℕ → Type 0) (from to before after : Option (List ℕ)) (report : RunReport) : Type 0 where
+pub record RunsThroughBy (Q : List ℕ → Bool) (R : List ℕ → List ℕ → Type 0) (from to before after : Option (List ℕ)) (report : RunReport) : Type 0 where
   pub input : List ℕ
   pub texts : List (List ℕ)
   pub read : Consumes from to input
@@ -53,7 +53,11 @@ pub record RunsThrough (R : List ℕ → List ℕ → Type 0) (from to before af
   pub answered : AllZip R (lines_of input) texts
   pub appended : Appends before after (concat texts)
   pub counted : report.lines ≡ min (length texts) most
-  pub refused : report.any_refused ≡ list_any is_refused texts
+  pub refused : report.any_refused ≡ list_any Q texts
+
+-- where an empty list is written for each line that is not refused
+abbrev pub RunsThrough : (List ℕ → List ℕ → Type 0) → Option (List ℕ) → Option (List ℕ) → Option (List ℕ) → Option (List ℕ) → RunReport → Type 0
+RunsThrough R = RunsThroughBy is_refused R
 
 -- some bytes were read, and each line that ended in them answered
 pub record ReadsOn (R : List ℕ → List ℕ → Type 0) (from to before after : Option (List ℕ)) : Type 0 where

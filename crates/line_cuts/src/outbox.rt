@@ -44,12 +44,12 @@ impl Outbox {
     ) -> Result<(), RunError>
         requires { A.keeps answers.now kept.old }
         ensures kept { OnOk result (A.keeps answers.now kept.new) }
-        ensures ok { OnOk result (Answers (A.answers answers.now) line.now self.old.report self.new.report (string_bytes self.old.text) (string_bytes self.new.text)) }
+        ensures ok { OnOk result (Answers (A.refuses answers.now) (A.answers answers.now) line.now self.old.report self.new.report (string_bytes self.old.text) (string_bytes self.new.text)) }
         ensures error { IfErr result (λ e. e ≡ RunError.Memory) }
     {
         let start = self.text.len();
         answers.answer(kept, line, &mut self.text)?;
-        let is_refused = &self.text.as_bytes()[start..] != b"[]\n".as_slice();
+        let is_refused = answers.is_refused(&self.text.as_bytes()[start..]);
         self.report.lines = self.report.lines.saturating_add(1);
         self.report.any_refused |= is_refused;
         Ok(())

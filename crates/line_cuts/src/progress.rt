@@ -46,14 +46,14 @@ impl Progress {
         requires plain { pieces self.old.line.items ≡ self.old.line.items ∷ [] }
         requires written { string_bytes self.old.outbox.text ≡ [] }
         ensures kept { OnOk result (A.keeps answers.now kept.new) }
-        ensures reads { OnOk result (ReadsOnward (A.answers answers.now) (S.remaining reader.old) (S.remaining reader.new) (K.contents writer.old) (K.contents writer.new) self.old.line.items self.new.line.items self.old.outbox.report self.new.outbox.report) }
+        ensures reads { OnOk result (ReadsOnward (A.refuses answers.now) (A.answers answers.now) (S.remaining reader.old) (S.remaining reader.new) (K.contents writer.old) (K.contents writer.new) self.old.line.items self.new.line.items self.old.outbox.report self.new.outbox.report) }
         ensures plain { OnOk result (pieces self.new.line.items ≡ self.new.line.items ∷ []) }
         ensures written { OnOk result (string_bytes self.new.outbox.text ≡ []) }
         ensures end { IfOk result (λ more. more ≡ false → IsAtEnd (S.remaining reader.new)) }
         ensures turn { OnOk result (S.turns reader.new < S.turns reader.old) }
         ensures read_quiet { OnOk result (S.failures reader.new ≡ S.failures reader.old) }
         ensures write_quiet { OnOk result (K.failures writer.new ≡ K.failures writer.old) }
-        ensures stops { IfErr result (λ e. StopsOnward (A.answers answers.now) e (S.remaining reader.old) (S.remaining reader.new) (K.contents writer.old) (K.contents writer.new) self.old.line.items self.old.outbox.report) }
+        ensures stops { IfErr result (λ e. StopsOnward (A.refuses answers.now) (A.answers answers.now) e (S.remaining reader.old) (S.remaining reader.new) (K.contents writer.old) (K.contents writer.new) self.old.line.items self.old.outbox.report) }
         ensures counts { IfErr result (λ e. Counts e (S.failures reader.old) (S.failures reader.new) (K.failures writer.old) (K.failures writer.new)) }
     {
         match reader.read(buffer) {
@@ -78,7 +78,7 @@ impl Progress {
         requires plain { pieces self.old.line.items ≡ self.old.line.items ∷ [] }
         requires written { string_bytes self.old.outbox.text ≡ [] }
         ensures kept { OnOk result (A.keeps answers.now kept.new) }
-        ensures goes { OnOk result (Goes (A.answers answers.now) (ended_in (self.old.line.items ++ piece.now)) [] self.old.outbox.report self.new.outbox.report (K.contents writer.old) (K.contents writer.new) []) }
+        ensures goes { OnOk result (Goes (A.refuses answers.now) (A.answers answers.now) (ended_in (self.old.line.items ++ piece.now)) [] self.old.outbox.report self.new.outbox.report (K.contents writer.old) (K.contents writer.new) []) }
         ensures part { OnOk result (self.new.line.items ≡ part_of (self.old.line.items ++ piece.now)) }
         ensures written { OnOk result (string_bytes self.new.outbox.text ≡ []) }
         ensures quiet { OnOk result (K.failures writer.new ≡ K.failures writer.old) }
@@ -105,7 +105,7 @@ impl Progress {
     ) -> Result<RunReport, RunError>
         requires kept { A.keeps answers.now kept.old }
         requires written { string_bytes self.outbox.text ≡ [] }
-        ensures goes { IfOk result (λ report. Goes (A.answers answers.now) (unless_empty self.line.items) [] self.outbox.report report (K.contents writer.old) (K.contents writer.new) []) }
+        ensures goes { IfOk result (λ report. Goes (A.refuses answers.now) (A.answers answers.now) (unless_empty self.line.items) [] self.outbox.report report (K.contents writer.old) (K.contents writer.new) []) }
         ensures quiet { OnOk result (K.failures writer.new ≡ K.failures writer.old) }
         ensures breaks { OnErr result (BreaksAt (A.answers answers.now) (unless_empty self.line.items) (K.contents writer.old) (K.contents writer.new)) }
         ensures failed { IfErr result (λ e. ByError e ⊥ (IsRisen (K.failures writer.old) (K.failures writer.new)) (K.failures writer.new ≡ K.failures writer.old)) }
@@ -127,7 +127,7 @@ impl Progress {
     ) -> Result<(), RunError>
         requires kept { A.keeps answers.now kept.old }
         ensures kept { OnOk result (A.keeps answers.now kept.new) }
-        ensures ok { OnOk result (Answers (A.answers answers.now) (self.old.line.items ++ end.now) self.old.outbox.report self.new.outbox.report (string_bytes self.old.outbox.text) (string_bytes self.new.outbox.text)) }
+        ensures ok { OnOk result (Answers (A.refuses answers.now) (A.answers answers.now) (self.old.line.items ++ end.now) self.old.outbox.report self.new.outbox.report (string_bytes self.old.outbox.text) (string_bytes self.new.outbox.text)) }
         ensures cleared { OnOk result (self.new.line.items ≡ []) }
         ensures error { IfErr result (λ e. e ≡ RunError.Memory) }
     {

@@ -9,12 +9,12 @@ use thiserror::Error;
 pub struct RunReport {
     /// How many lines were answered. It stays at `u64::MAX`.
     pub lines: u64,
-    /// Whether the answer to any line was another than `[]`.
+    /// Whether the answer to any line told of a refusal.
     pub any_refused: bool,
 }
 
 impl RunReport {
-    /// The exit status of a run that came to its end: 0 where the answer to each line was `[]`, and 1 where one was another.
+    /// The exit status of a run that came to its end: 0 where no answer told of a refusal, and 1 where one did.
     pub fn status(self) -> u8
         ensures { result ≡ (if self.any_refused then 1 else 0) }
     {

@@ -1,6 +1,6 @@
 //! Runs over all lines of a reader.
 ghost use Rattle.std.specs.Prelude.{◌≡◌, IfOk, IfErr, OnOk};
-ghost use Rattle.line_cuts.specs.Runs.{Counts, RunsThrough, Stops};
+ghost use Rattle.line_cuts.specs.Runs.{Counts, RunsThroughBy, Stops};
 
 use crate::answers::LineAnswers;
 use crate::progress::Progress;
@@ -28,7 +28,7 @@ pub fn answer_lines<A: LineAnswers, S: ByteSource, K: ByteSink>(
     kept: &mut A::Kept,
 ) -> Result<RunReport, RunError>
     requires kept { A.keeps answers.now kept.old }
-    ensures ok { IfOk result (λ report. RunsThrough (A.answers answers.now) (S.remaining reader.old) (S.remaining reader.new) (K.contents writer.old) (K.contents writer.new) report) }
+    ensures ok { IfOk result (λ report. RunsThroughBy (A.refuses answers.now) (A.answers answers.now) (S.remaining reader.old) (S.remaining reader.new) (K.contents writer.old) (K.contents writer.new) report) }
     ensures read_quiet { OnOk result (S.failures reader.new ≡ S.failures reader.old) }
     ensures write_quiet { OnOk result (K.failures writer.new ≡ K.failures writer.old) }
     ensures stops { IfErr result (λ e. Stops (A.answers answers.now) e (S.remaining reader.old) (S.remaining reader.new) (K.contents writer.old) (K.contents writer.new)) }

@@ -4,4 +4,5 @@ mod Sorting
 mod Listed
 mod Ends
 mod Others
+mod Refusing
 pub mod Passed

@@ -1,7 +1,7 @@
 -- Runs by what is written for lines, where that is something else besides.
-use Rattle.std.proofs.Common.{ℕ, List, [], ◌∷◌, Option}
+use Rattle.std.proofs.Common.{ℕ, Bool, List, [], ◌∷◌, Option}
 use Rattle.std.specs.List.{AllZip}
-use Rattle.line_cuts.specs.Runs.{RunsThrough, ReadsOn, Begins, BreaksOff, Stops}
+use Rattle.line_cuts.specs.Runs.{RunsThroughBy, ReadsOn, Begins, BreaksOff, Stops}
 use Rattle.line_cuts.specs.declared.report.RunReport.{RunReport}
 use Rattle.line_cuts.specs.declared.report.RunError.{RunError}
 use Rattle.line_cuts.specs.declared.report.RunError.TheVariants.{Read, Write, Memory}
@@ -13,8 +13,8 @@ module _ (R Q : List ℕ → List ℕ → Type 0) (so : (line text : List ℕ) �
   each (l ∷ ls) [] h = absurd h
   each (l ∷ ls) (t ∷ ts) h = (so l t h.0, each ls ts h.1)
 
-  pub runs_so : (from to before after : Option (List ℕ)) (report : RunReport) → RunsThrough R from to before after report → RunsThrough Q from to before after report
-  runs_so from to before after report h = record {
+  pub runs_so : (T : List ℕ → Bool) (from to before after : Option (List ℕ)) (report : RunReport) → RunsThroughBy T R from to before after report → RunsThroughBy T Q from to before after report
+  runs_so T from to before after report h = record {
     input = h.input;
     texts = h.texts;
     read = h.read;

@@ -2,6 +2,7 @@
 ghost use Rattle.std.specs.Prelude.{◌≡◌, ◌++◌, ℕ, List, Some, true, OnOk, string_bytes};
 ghost use Rattle.serde_json.specs.View.{view};
 ghost use Rattle.graph_answers.specs.Tables.{matches_of};
+ghost use Rattle.line_cuts.specs.Runs.{is_refused};
 ghost use Rattle.regex_patterns.specs.Matchers.{finds_by_regex};
 ghost use Rattle.schema_registries.specs.Whole.{only_whole};
 ghost use Rattle.schema_validators.specs.Seen.{table_in};
@@ -28,6 +29,8 @@ impl<'v> LineAnswers for KeptFaults<'v> {
 
     ghost answers = { λ s. IsLineTextBy s.validator.now };
 
+    ghost refuses = { λ s. is_refused };
+
     ghost keeps = { λ s kept. matches_of finds_by_regex kept.table.now ≡ matches_of finds_by_regex (table_in s.validator.now) };
 
     fn answer(
@@ -37,6 +40,10 @@ impl<'v> LineAnswers for KeptFaults<'v> {
         text: &mut String,
     ) -> Result<(), AllocError> {
         answer_line(self.alloc, self.validator, kept, line, text)
+    }
+
+    fn is_refused(&self, written: &[u8]) -> bool {
+        written != b"[]\n".as_slice()
     }
 }
 
@@ -52,11 +59,17 @@ impl<M: PatternMatcher> LineAnswers for LineFaults<'_, M> {
 
     ghost answers = { λ s. IsLineTextBy s.validator.now };
 
+    ghost refuses = { λ s. is_refused };
+
     ghost keeps = { λ _ _. Unit };
 
     fn answer(&self, kept: &mut (), line: &[u8], text: &mut String) -> Result<(), AllocError> {
         let mut matching = self.validator.direct();
         answer_line(self.alloc, self.validator, &mut matching, line, text)
+    }
+
+    fn is_refused(&self, written: &[u8]) -> bool {
+        written != b"[]\n".as_slice()
     }
 }
 

@@ -1,4 +1,4 @@
--- A command of six arguments, of which the first is required, has a value of that one in each parse.
+-- A command of seven arguments, of which the first is required, has a value of that one in each parse.
 use Rattle.std.proofs.Common.{◌≡◌, ◌∙◌, ◌<◌, ℕ, zero, suc, List, [], ◌∷◌, Decides, true, false, refl, sym, ap, arith, codes, bytes_eq, slice_index_or, if◌then◌else◌}
 use Rattle.std.proofs.lemmas.Slice.Eq.{bytes_eq-Decides}
 use Rattle.std.specs.List.{All}
@@ -17,13 +17,14 @@ position_of id =
     else (if bytes_eq id (codes "files") then 1
     else (if bytes_eq id (codes "base") then 2
     else (if bytes_eq id (codes "draft") then 3
-    else (if bytes_eq id (codes "meta") then 4 else 5))))
+    else (if bytes_eq id (codes "meta") then 4
+    else (if bytes_eq id (codes "ref-siblings") then 5 else 6)))))
 
-module _ (a b c e u f : Arg) where
-  abbrev pub all_six : List Arg
-  all_six = a ∷ b ∷ c ∷ e ∷ u ∷ f ∷ []
+module _ (a b c e u f o : Arg) where
+  abbrev pub all_seven : List Arg
+  all_seven = a ∷ b ∷ c ∷ e ∷ u ∷ f ∷ o ∷ []
 
-  -- the ids of the six arguments
+  -- the ids of the seven arguments
   pub record Ids : Type 0 where
     pub first : a.id.now ≡ codes "schema"
     pub second : b.id.now ≡ codes "files"
@@ -31,6 +32,7 @@ module _ (a b c e u f : Arg) where
     pub fourth : e.id.now ≡ codes "draft"
     pub fifth : u.id.now ≡ codes "meta"
     pub sixth : f.id.now ≡ codes "ref-siblings"
+    pub seventh : o.id.now ≡ codes "output"
 
   pub record Fit : Type 0 where
     pub first : FitsChain a
@@ -39,33 +41,36 @@ module _ (a b c e u f : Arg) where
     pub fourth : FitsChain e
     pub fifth : FitsChain u
     pub sixth : FitsChain f
+    pub seventh : FitsChain o
 
-  placed : Ids → (k : ℕ) (d : Arg) → k < 6 → position_of (slice_index_or all_six k d).id.now ≡ k
+  placed : Ids → (k : ℕ) (d : Arg) → k < 7 → position_of (slice_index_or all_seven k d).id.now ≡ k
   placed i zero d l = rw i.first refl
   placed i (suc zero) d l = rw i.second refl
   placed i (suc (suc zero)) d l = rw i.third refl
   placed i (suc (suc (suc zero))) d l = rw i.fourth refl
   placed i (suc (suc (suc (suc zero)))) d l = rw i.fifth refl
   placed i (suc (suc (suc (suc (suc zero))))) d l = rw i.sixth refl
-  placed i (suc (suc (suc (suc (suc (suc k)))))) d l = absurd (omega arith)
+  placed i (suc (suc (suc (suc (suc (suc zero)))))) d l = rw i.seventh refl
+  placed i (suc (suc (suc (suc (suc (suc (suc k))))))) d l = absurd (omega arith)
 
-  distinct : Ids → HasDistinctIds all_six
+  distinct : Ids → HasDistinctIds all_seven
   distinct i j k d g l r same =
       sym (placed i j g (omega arith))
-      ∙ ap position_of ((bytes_eq-Decides (slice_index_or all_six j g).id.now (slice_index_or all_six k d).id.now).0 same)
+      ∙ ap position_of ((bytes_eq-Decides (slice_index_or all_seven j g).id.now (slice_index_or all_seven k d).id.now).0 same)
       ∙ placed i k d (omega arith)
 
-  fits : Fit → All FitsChain all_six
+  fits : Fit → All FitsChain all_seven
   fits f zero d l = f.first
   fits f (suc zero) d l = f.second
   fits f (suc (suc zero)) d l = f.third
   fits f (suc (suc (suc zero))) d l = f.fourth
   fits f (suc (suc (suc (suc zero)))) d l = f.fifth
   fits f (suc (suc (suc (suc (suc zero))))) d l = f.sixth
-  fits f (suc (suc (suc (suc (suc (suc k)))))) d l = absurd (omega arith)
+  fits f (suc (suc (suc (suc (suc (suc zero)))))) d l = f.seventh
+  fits f (suc (suc (suc (suc (suc (suc (suc k))))))) d l = absurd (omega arith)
 
-  pub has_schema : (start cmd : Command) → AddsInTurn AddsArg start all_six cmd
+  pub has_schema : (start cmd : Command) → AddsInTurn AddsArg start all_seven cmd
       → args_of start ≡ [] → groups_of start ≡ [] → (out-Command start).has_globals ≡ false → (out-Command start).subcommand_negates_reqs ≡ false
       → Fit → TakesValue a → Ids → HasSchema cmd
   has_schema start cmd chain args groups globals negates f value ids = λ x p.
-      rw (← ids.first) (required_in_chain start cmd all_six 0 a x chain args groups globals negates (fits f) (distinct ids) (omega arith) value p)
+      rw (← ids.first) (required_in_chain start cmd all_seven 0 a x chain args groups globals negates (fits f) (distinct ids) (omega arith) value p)

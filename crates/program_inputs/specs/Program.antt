@@ -36,10 +36,18 @@ meta_rule = record (new_rule (codes "meta")) { long = Some (codes "meta"); value
 abbrev pub siblings_rule : Rule
 siblings_rule = record (new_rule (codes "ref-siblings")) { long = Some (codes "ref-siblings"); action = Some SetTrue }
 
--- no name of the program among the words, a version, and the six arguments
+-- `--output FORM`
+abbrev pub output_rule : Rule
+output_rule = record (new_rule (codes "output")) { long = Some (codes "output"); value_names = 1; action = Some Set }
+
+-- no name of the program among the words, and a version
+abbrev pub bare_app : App
+bare_app = on_top (λ s. record s { no_binary_name = true; has_version = true }) (new_app (codes "cribhemlock"))
+
+-- with the seven arguments
 abbrev pub program_app : App
-program_app = with_rule (with_rule (with_rule (with_rule (with_rule (with_rule (on_top (λ s. record s { no_binary_name = true; has_version = true })
-    (new_app (codes "cribhemlock"))) schema_rule) files_rule) base_rule) draft_rule) meta_rule) siblings_rule
+program_app = with_rule (with_rule (with_rule (with_rule (with_rule (with_rule (with_rule bare_app schema_rule) files_rule) base_rule)
+    draft_rule) meta_rule) siblings_rule) output_rule
 
 -- each parse of the command that succeeds has a schema
 abbrev pub HasSchema : Command → Type 0

@@ -9,8 +9,8 @@ abbrev pub says_true : Option (List ℕ) → Bool
 says_true None = false
 says_true (Some text) = bytes_eq text (codes "true")
 
--- the first value of the schema, each value of the files in order, the first values of the base, of the draft and of the meta-schemas where
--- they have one, and the flag
+-- the first value of the schema, each value of the files in order, the first values of the base, of the draft, of the meta-schemas and of
+-- the output where they have one, and the flag
 pub record HasWordsOf (rows : List Row) (w : ProgramWords) : Type 0 where
   pub schema : Some w.schema.now ≡ first_of (codes "schema") rows
   pub files : texts w.files.items ≡ unwrap_or (all_of (codes "files") rows) []
@@ -18,3 +18,4 @@ pub record HasWordsOf (rows : List Row) (w : ProgramWords) : Type 0 where
   pub draft : option_map (λ s. s.now) w.draft ≡ first_of (codes "draft") rows
   pub meta : option_map (λ s. s.now) w.meta ≡ first_of (codes "meta") rows
   pub ref_siblings : w.ref_siblings ≡ says_true (first_of (codes "ref-siblings") rows)
+  pub output : option_map (λ s. s.now) w.output ≡ first_of (codes "output") rows

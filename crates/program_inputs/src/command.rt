@@ -3,7 +3,7 @@
 ghost use Rattle.std.specs.Prelude.{◌≡◌, IfOk};
 ghost use Rattle.clap.specs.Built.{FitsChain, TakesValue};
 ghost use Rattle.clap.specs.Words.{app_of, rule_of};
-ghost use Rattle.program_inputs.specs.Program.{program_app, schema_rule, files_rule, base_rule, draft_rule, meta_rule, siblings_rule, HasSchema};
+ghost use Rattle.program_inputs.specs.Program.{program_app, schema_rule, files_rule, base_rule, draft_rule, meta_rule, siblings_rule, output_rule, HasSchema};
 
 use clap::{Arg, ArgAction, Command};
 use std::alloc::{AllocError, Global};
@@ -11,7 +11,8 @@ use std::alloc::{AllocError, Global};
 /// What stands below the arguments in help.
 const AFTER_HELP: &str = "\
 Each line of the standard input is checked as JSON against SCHEMA, and one line is written for it: the list of its faults, \
-each a pair of the place in the instance and the path of keywords; [] where it is valid.
+each a pair of the place in the instance and the path of keywords; [] where it is valid. With --output json it is an object \
+that says whether the line is valid, and each fault in words.
 
 Status:
   0  each line is valid
@@ -96,6 +97,18 @@ fn ref_siblings<'a>(alloc: Global) -> Arg<'a>
         .help("Reads what stands beside $ref in Drafts 6 and 7, where it is ignored else")
 }
 
+/// `--output FORM`
+fn output<'a>(alloc: Global) -> Arg<'a>
+    ensures rule { rule_of result ≡ output_rule }
+    ensures fits { FitsChain result }
+{
+    Arg::new(alloc, "output")
+        .long("output")
+        .value_name("FORM")
+        .action(ArgAction::Set)
+        .help("What is written: pairs, json or none [default: pairs]")
+}
+
 /// The command line. Each parse of it that succeeds has a schema.
 pub(crate) fn program_command<'a>(alloc: Global) -> Result<Command<'a>, AllocError>
     ensures app { IfOk result (λ c. app_of c ≡ program_app) }
@@ -111,5 +124,6 @@ pub(crate) fn program_command<'a>(alloc: Global) -> Result<Command<'a>, AllocErr
         .arg(base(alloc))?
         .arg(draft(alloc))?
         .arg(meta(alloc))?
-        .arg(ref_siblings(alloc))
+        .arg(ref_siblings(alloc))?
+        .arg(output(alloc))
 }

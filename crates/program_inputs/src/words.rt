@@ -26,6 +26,8 @@ pub struct ProgramWords<'a> {
     pub meta: Option<&'a str>,
     /// Whether what stands beside `$ref` is read in Drafts 6 and 7.
     pub ref_siblings: bool,
+    /// The form of what is written, where one was given. It may be a word that names none.
+    pub output: Option<&'a str>,
 }
 
 // Whether the value of a flag says that it was given.
@@ -64,6 +66,7 @@ impl<'a> ProgramWords<'a> {
             draft: matches.get_str("draft"),
             meta: matches.get_str("meta"),
             ref_siblings: says_true(matches.get_str("ref-siblings")),
+            output: matches.get_str("output"),
         })
     }
 }

@@ -1,5 +1,6 @@
 // Lines that are given back as they came, over devices in memory.
 ghost use Rattle.std.specs.Prelude.{◌≡◌, ◌∷◌, ◌++◌, []};
+ghost use Rattle.line_cuts.specs.Runs.{is_refused};
 
 use line_cuts::{LineAnswers, MemorySink, MemorySource, answer_lines, first_line};
 use std::alloc::{AllocError, Global};
@@ -12,6 +13,8 @@ struct Echo;
 impl LineAnswers for Echo {
     ghost answers = { λ _ line written. written ≡ line ++ 10 ∷ [] };
 
+    ghost refuses = { λ _. is_refused };
+
     fn answer(&self, line: &[u8], text: &mut String) -> Result<(), AllocError> {
         match str::from_utf8(line) {
             Ok(shown) => text.push_str(shown)?,
@@ -19,6 +22,10 @@ impl LineAnswers for Echo {
         }
         text.push_str("\n")?;
         Ok(())
+    }
+
+    fn is_refused(&self, written: &[u8]) -> bool {
+        written != b"[]\n".as_slice()
     }
 }
 

@@ -12,6 +12,8 @@ mod forms;
 #[cfg(test)]
 mod lines;
 #[cfg(test)]
+mod outputs;
+#[cfg(test)]
 mod texts;
 #[cfg(test)]
 mod whole;

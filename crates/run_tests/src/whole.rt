@@ -66,12 +66,17 @@ fn outcome(
     format!(in alloc; "{status} {written} {fault}").expect(rt, "memory")
 }
 
-const SOUND: [Option<usize>; 3] = [None, None, None];
+pub(crate) const SOUND: [Option<usize>; 3] = [None, None, None];
 
 // Words, the bytes of the lines, and what comes of them.
-type Row = (&'static [&'static str], &'static str, &'static str);
+pub(crate) type Row = (&'static [&'static str], &'static str, &'static str);
 
-fn assert_outcomes(rt: &impl Abort, alloc: Global, fails: &[Option<usize>; 3], rows: &[Row]) {
+pub(crate) fn assert_outcomes(
+    rt: &impl Abort,
+    alloc: Global,
+    fails: &[Option<usize>; 3],
+    rows: &[Row],
+) {
     for (words, input, want) in rows {
         assert_eq!(rt; outcome(rt, alloc, words, input, fails).as_str(), *want);
     }

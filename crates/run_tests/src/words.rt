@@ -41,11 +41,13 @@ fn in_any_order(rt: HostRuntime) {
     assert!(rt; read.draft.is_none());
     assert!(rt; read.meta.is_none());
     assert!(rt; !read.ref_siblings);
-    let words = ["--ref-siblings", "a", "b=c"];
+    assert!(rt; read.output.is_none());
+    let words = ["--ref-siblings", "a", "--output", "json", "b=c"];
     let read = ProgramWords::read(rt.alloc(), &words).expect(&rt, "words");
     assert_eq!(rt; read.schema, "a");
     assert_eq!(rt; read.files.as_slice(), ["b=c"].as_slice());
     assert!(rt; read.ref_siblings);
+    assert_eq!(rt; read.output, Some("json"));
 }
 
 #[test]
@@ -84,6 +86,7 @@ fn help(rt: HostRuntime) {
         "--draft <DRAFT>",
         "--meta <FILE>",
         "--ref-siblings",
+        "--output <FORM>",
     ] {
         assert!(rt; text.contains(part), "{text}");
     }

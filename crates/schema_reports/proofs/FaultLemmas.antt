@@ -2,7 +2,7 @@
 use Rattle.std.proofs.Common.{◌≡◌, Bool, true, false, ◌&&◌, List, [], ◌∷◌, ◌++◌, refl, ap, sym, ◌∙◌, Option, Some, None, is_some, not, subst}
 use Rattle.std.proofs.lemmas.Bool.{false≢true, true≢false, and_from, and_parts}
 use Rattle.std.proofs.lemmas.List.Recursion.{and_push}
-use Rattle.std.specs.Prelude.{Box, box_value}
+use Rattle.std.specs.Prelude.{Box}
 use Rattle.std.specs.declared.alloc.Global.{Global}
 use Rattle.std.specs.declared.vec.Vec.{Vec}
 use Rattle.schema_meaning.specs.Faults.{Fault, Faults, none, also, joined, is_none, Told, told_first, told_later, Branches, no_branch, branch}

@@ -1,3 +1,4 @@
 pub mod FaultLemmas
 pub mod KindLemmas
 pub mod PathLemmas
+pub mod PhraseLemmas

@@ -1,15 +1,14 @@
 pub mod Contexts
 pub mod Described
 pub mod Instances
-pub mod Joined
 pub mod Kinds
 pub mod LastNames
 pub mod Left
 pub mod Locations
-pub mod LocationTexts
 pub mod Readable
 pub mod References
-pub mod RoadPaths
 pub mod Stands
 pub mod Told
 pub mod Observers
+pub mod Phrases
+pub mod Sentences

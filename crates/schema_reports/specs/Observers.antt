@@ -19,12 +19,6 @@ Hears kept.All (observers.Verdict v) fs = ⊥
 Hears kept.All (observers.First f) fs = ⊥
 Hears kept.All (observers.All a) fs = all_stand a fs
 
--- whether it keeps each fault
-abbrev pub is_for_all : Observer → Bool
-is_for_all (observers.Verdict v) = false
-is_for_all (observers.First f) = false
-is_for_all (observers.All a) = true
-
 -- whether it is to be told of a fault: not for the verdict alone, and for the first fault where none was told
 abbrev pub wants : Observer → Bool
 wants (observers.Verdict v) = false

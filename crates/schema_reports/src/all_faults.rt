@@ -1,12 +1,10 @@
 //! Everything that is wrong.
 ghost use Rattle.std.specs.Prelude.{◌≡◌, true, OnOk};
 ghost use Rattle.serde_json.specs.View.{view};
-ghost use Rattle.schema_meaning.specs.Faults.{Kind, Faults, none, also, fault, joined};
+ghost use Rattle.schema_meaning.specs.Faults.{Faults, none, also, joined};
 
 use crate::error::ValidationError;
-use crate::kind::ValidationErrorKind;
 use crate::location::LazyLocation;
-use crate::roads::Roads;
 use serde_json::Value;
 use std::alloc::{AllocError, Global};
 
@@ -21,8 +19,6 @@ impl<'i> AllFaults<'i> {
     ghost use Rattle.schema_reports.specs.Told.{AreAll, spot_of, fault_of, error_is_proper};
     ghost use Rattle.schema_meaning.specs.Rules.{each_of_object};
     ghost use Rattle.schema_reports.specs.Locations.{location_of};
-    ghost use Rattle.schema_reports.specs.Kinds.{StandsFor};
-    ghost use Rattle.schema_reports.specs.RoadPaths.{instance_in, schema_in, evaluation_in};
 
     /// No fault was told. It allocates nothing.
     pub fn new(alloc: Global) -> Self
@@ -45,20 +41,6 @@ impl<'i> AllFaults<'i> {
         ensures { result ≡ true → (fs gs : Faults) → all_stand self.now fs → all_stand self.now (joined fs gs) }
     {
         false
-    }
-
-    pub(crate) fn tell(
-        &mut self,
-        alloc: Global,
-        kind: ValidationErrorKind<'i>,
-        instance: &'i Value,
-        roads: Roads<'_>,
-    ) -> Result<(), AllocError>
-        ensures { OnOk result ((said : Kind) → StandsFor kind.entry said → (fs : Faults) → all_stand self.old fs → all_stand self.new
-            (joined fs (also (fault said (view instance.now) (instance_in roads.entry) (schema_in roads.entry) (evaluation_in roads.entry)) none))) }
-    {
-        self.errors.push(roads.error(alloc, kind, instance)?)?;
-        Ok(())
     }
 
     /// Keeps an error, after what was told before.

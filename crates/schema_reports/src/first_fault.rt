@@ -1,12 +1,10 @@
 //! The first thing that is wrong.
 ghost use Rattle.std.specs.Prelude.{◌≡◌, true, false, not, is_some, Some, OnOk};
 ghost use Rattle.serde_json.specs.View.{view};
-ghost use Rattle.schema_meaning.specs.Faults.{Kind, Faults, none, also, fault, joined};
+ghost use Rattle.schema_meaning.specs.Faults.{Faults, none, also, joined};
 
 use crate::error::ValidationError;
-use crate::kind::ValidationErrorKind;
 use crate::location::LazyLocation;
-use crate::roads::Roads;
 use serde_json::Value;
 use std::alloc::{AllocError, Global};
 
@@ -18,11 +16,9 @@ pub struct FirstFault<'i> {
 
 impl<'i> FirstFault<'i> {
     ghost use Rattle.schema_reports.specs.Stands.{first_stands, is_kept_of, is_one_of};
-    ghost use Rattle.schema_reports.specs.Kinds.{StandsFor};
     ghost use Rattle.schema_meaning.specs.Rules.{each_of_object};
     ghost use Rattle.schema_reports.specs.Locations.{location_of};
     ghost use Rattle.schema_reports.specs.Told.{spot_of, fault_of, error_is_proper, IsOneOf};
-    ghost use Rattle.schema_reports.specs.RoadPaths.{instance_in, schema_in, evaluation_in};
 
     /// No fault was told.
     pub const fn new() -> Self
@@ -60,22 +56,6 @@ impl<'i> FirstFault<'i> {
         ensures enough { result ≡ false → (fs gs : Faults) → first_stands self.now fs → first_stands self.now (joined fs gs) }
     {
         self.error.is_none()
-    }
-
-    pub(crate) fn tell(
-        &mut self,
-        alloc: Global,
-        kind: ValidationErrorKind<'i>,
-        instance: &'i Value,
-        roads: Roads<'_>,
-    ) -> Result<(), AllocError>
-        ensures { OnOk result ((said : Kind) → StandsFor kind.entry said → (fs : Faults) → first_stands self.old fs → first_stands self.new
-            (joined fs (also (fault said (view instance.now) (instance_in roads.entry) (schema_in roads.entry) (evaluation_in roads.entry)) none))) }
-    {
-        if self.error.is_none() {
-            self.keep(alloc, roads.error(alloc, kind, instance)?)?;
-        }
-        Ok(())
     }
 
     /// Hears what another one heard: its error, where none was told before.

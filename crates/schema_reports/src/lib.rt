@@ -2,7 +2,9 @@
 #![tactic(auto)]
 
 mod all_faults;
+mod branches;
 mod context;
+mod description;
 mod error;
 mod first_fault;
 pub mod heard;
@@ -10,13 +12,13 @@ mod instance;
 mod iter;
 mod kind;
 mod location;
-mod location_text;
 mod observer;
 mod owned;
 mod paths;
+mod phrases;
 mod pointer_path;
 mod reference;
-mod roads;
+mod sentences;
 mod verdict;
 
 pub use all_faults::AllFaults;
@@ -26,8 +28,6 @@ pub use first_fault::FirstFault;
 pub use iter::ErrorIterator;
 pub use kind::ValidationErrorKind;
 pub use location::LazyLocation;
-pub use location_text::Location;
 pub use observer::{Observation, Observer};
 pub use reference::Reference;
-pub use roads::Roads;
 pub use verdict::Verdict;

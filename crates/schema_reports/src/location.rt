@@ -1,11 +1,9 @@
 //! Paths as linked, borrowed parts.
-ghost use Rattle.std.specs.Prelude.{◌≡◌, ◌++◌, ◌∷◌, [], IfOk, OnOk, reverse, string_bytes};
+ghost use Rattle.std.specs.Prelude.{◌≡◌, ◌∷◌, [], IfOk};
 ghost use Rattle.json_values.specs.Parts.{name, index};
-ghost use Rattle.json_values.specs.Pointers.{pointer_text};
 ghost use Rattle.schema_meaning.specs.Cut.{same_part, same_path};
 ghost use Rattle.schema_reports.specs.Locations.{part_of};
 
-use json_pointers::{write_escaped_str, write_index};
 use schema_steps::Path;
 use std::alloc::{AllocError, Global};
 
@@ -58,46 +56,20 @@ impl<'a, 'b> LazyLocation<'a, 'b> {
         }
     }
 
-    /// A path that goes on from `start` by the parts of this one.
+    /// This path, written out.
     ///
     /// It takes a stack frame and a push for each part, and copies the names. The error comes where memory is out or a count
     /// of owners is full.
-    pub fn write_onto(&self, alloc: Global, start: Path) -> Result<Path, AllocError>
-        ensures { IfOk result (λ path. path ≡ location_of self.now ++ start) }
-    {
-        let Some(above) = self.above else {
-            return Ok(start);
-        };
-        let path = above.write_onto(alloc, start)?;
-        match self.part {
-            LazyPart::Name(text) => path.push_name(alloc, text),
-            LazyPart::Index(position) => path.push_item(alloc, position),
-        }
-    }
-
-    /// This path with nothing before it. It costs and fails as [`Self::write_onto`].
     pub fn to_path(&self, alloc: Global) -> Result<Path, AllocError>
         ensures { IfOk result (λ path. path ≡ location_of self.now) }
     {
-        self.write_onto(alloc, Path::root())
-    }
-
-    /// Appends this path as a pointer's text, from the root on: a `/` and the part for each step (RFC 6901, section 3).
-    ///
-    /// It is linear in the text, takes a stack frame for each part, and allocates only where the buffer has to grow. What it
-    /// has appended stays where it fails.
-    pub(crate) fn write_to(&self, buffer: &mut String) -> Result<(), AllocError>
-        ensures { OnOk result (string_bytes buffer.new
-            ≡ string_bytes buffer.old ++ pointer_text (reverse (location_of self.now))) }
-    {
         let Some(above) = self.above else {
-            return Ok(());
+            return Ok(Path::root());
         };
-        above.write_to(buffer)?;
-        buffer.push('/')?;
+        let path = above.to_path(alloc)?;
         match self.part {
-            LazyPart::Name(text) => write_escaped_str(buffer, text),
-            LazyPart::Index(position) => write_index(buffer, position),
+            LazyPart::Name(text) => path.push_name(alloc, text),
+            LazyPart::Index(position) => path.push_item(alloc, position),
         }
     }
 

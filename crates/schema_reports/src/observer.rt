@@ -1,21 +1,17 @@
 //! Who hears of what is wrong.
 ghost use Rattle.std.specs.Prelude.{◌≡◌, true, false, OnOk};
 ghost use Rattle.serde_json.specs.View.{view};
-ghost use Rattle.schema_meaning.specs.Faults.{Kind, Fault, Faults, none, also, fault, joined, is_none};
+ghost use Rattle.schema_meaning.specs.Faults.{Fault, Faults, none, also, joined, is_none};
 ghost use Rattle.schema_meaning.specs.Rules.{each_of_object};
-ghost use Rattle.schema_reports.specs.Kinds.{StandsFor};
 ghost use Rattle.schema_reports.specs.Locations.{location_of};
-ghost use Rattle.schema_reports.specs.Observers.{Hears, is_for_all, wants};
-ghost use Rattle.schema_reports.specs.RoadPaths.{instance_in, schema_in, evaluation_in};
+ghost use Rattle.schema_reports.specs.Observers.{Hears, wants};
 ghost use Rattle.schema_reports.specs.Stands.{is_kept_of};
 ghost use Rattle.schema_reports.specs.Told.{AreAll, spot_of, fault_of, error_is_proper};
 
 use crate::all_faults::AllFaults;
 use crate::error::ValidationError;
 use crate::first_fault::FirstFault;
-use crate::kind::ValidationErrorKind;
 use crate::location::LazyLocation;
-use crate::roads::Roads;
 use crate::verdict::Verdict;
 use serde_json::Value;
 use std::alloc::{AllocError, Global};
@@ -51,13 +47,6 @@ impl<'i> Observer<'i> {
         }
     }
 
-    /// Whether it keeps each fault that it is told.
-    pub fn keeps_all(&self) -> bool
-        ensures { result ≡ is_for_all self.now }
-    {
-        matches!(self, Observer::All(_))
-    }
-
     /// Hears that there is a fault, and says whether it wants to be told of it, which is then to be done. Where it does not, the
     /// fault need not be made: one that keeps the verdict alone has heard enough, and so has one that keeps the first and has it.
     pub fn hear(&mut self) -> bool
@@ -72,31 +61,6 @@ impl<'i> Observer<'i> {
             }
             Observer::First(first) => first.wants(),
             Observer::All(_) => true,
-        }
-    }
-
-    /// Tells it of a fault.
-    ///
-    /// # Errors
-    ///
-    /// Where memory was refused or a count of owners is full.
-    pub fn tell(
-        &mut self,
-        alloc: Global,
-        kind: ValidationErrorKind<'i>,
-        instance: &'i Value,
-        roads: Roads<'_>,
-    ) -> Result<(), AllocError>
-        ensures { OnOk result ((said : Kind) → StandsFor kind.entry said → (kept : Observation) (fs : Faults) → Hears kept self.old fs → Hears kept self.new
-            (joined fs (also (fault said (view instance.now) (instance_in roads.entry) (schema_in roads.entry) (evaluation_in roads.entry)) none))) }
-    {
-        match self {
-            Observer::Verdict(verdict) => {
-                verdict.refuse();
-                Ok(())
-            }
-            Observer::First(first) => first.tell(alloc, kind, instance, roads),
-            Observer::All(all) => all.tell(alloc, kind, instance, roads),
         }
     }
 

@@ -1,5 +1,5 @@
 //! Where a schema's path begins.
-ghost use Rattle.std.specs.Prelude.{◌≡◌, [], true, IfOk};
+ghost use Rattle.std.specs.Prelude.{◌≡◌, true, IfOk};
 ghost use Rattle.schema_definitions.specs.Sites.{path_of_reference};
 ghost use Rattle.schema_reports.specs.Readable.{reads_as_path};
 
@@ -8,22 +8,11 @@ use schema_steps::Path;
 use std::alloc::{AllocError, Global};
 use uri_grammar::components::split_fragment;
 
-/// The reference that was followed last, or none: the schema's path begins with its pointer.
+/// The reference that was followed last: the schema's path begins with its pointer.
 #[derive(Clone, Copy)]
 pub struct Reference<'r> {
     text: &'r str,
     ghost readable: { reads_as_path text.now ≡ true },
-}
-
-impl Reference<'static> {
-    ghost use Rattle.schema_reports.specs.References.{text_of};
-
-    /// None was followed: the path begins at the root.
-    pub const fn none() -> Self
-        ensures { text_of result ≡ [] }
-    {
-        Reference { text: "" }
-    }
 }
 
 impl<'r> Reference<'r> {

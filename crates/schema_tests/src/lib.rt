@@ -20,6 +20,8 @@ mod retrievers;
 #[cfg(test)]
 mod rows;
 #[cfg(test)]
+mod sentences;
+#[cfg(test)]
 mod tables;
 #[cfg(test)]
 mod values;

@@ -1,6 +1,7 @@
 // Locations.
 use crate::rows::assert_text;
-use schema_reports::{LazyLocation, Location};
+use location_texts::Location;
+use schema_steps::Path;
 use std::alloc::Global;
 use std::hash::{DefaultHasher, Hash, Hasher};
 use std::process::Abort;
@@ -27,16 +28,14 @@ fn steps_are_joined(rt: HostRuntime) {
 }
 
 #[test]
-fn roads_have_locations(rt: HostRuntime) {
-    let root = LazyLocation::new();
-    let location = Location::from_road(rt.alloc(), &root).expect(&rt, "memory");
+fn paths_have_locations(rt: HostRuntime) {
+    let location = Location::from_path(rt.alloc(), &Path::root()).expect(&rt, "memory");
     assert_shown(&rt, rt.alloc(), &location, "");
-    let member = root.push_name("m~n");
-    let item = member.push_index(0);
-    let location = Location::from_road(rt.alloc(), &item).expect(&rt, "memory");
-    assert_shown(&rt, rt.alloc(), &location, "/m~0n/0");
-    let path = item.to_path(rt.alloc()).expect(&rt, "memory");
-    let location = Location::from_path(rt.alloc(), &path).expect(&rt, "memory");
+    let member = Path::root()
+        .push_name(rt.alloc(), "m~n")
+        .expect(&rt, "memory");
+    let item = member.push_item(rt.alloc(), 0).expect(&rt, "memory");
+    let location = Location::from_path(rt.alloc(), &item).expect(&rt, "memory");
     assert_shown(&rt, rt.alloc(), &location, "/m~0n/0");
 }
 

@@ -2,7 +2,7 @@
 use crate::rows::assert_text;
 use assertions::read;
 use schema_reports::{
-    AllFaults, ErrorIterator, FirstFault, LazyLocation, Observation, Observer, Reference, Roads,
+    AllFaults, ErrorIterator, FirstFault, LazyLocation, Observation, Observer, Reference,
     ValidationError, ValidationErrorKind, Verdict,
 };
 use schema_steps::Path;
@@ -19,9 +19,6 @@ fn assert_path(rt: &impl Abort, alloc: Global, path: Path, want: &str) {
 fn assert_location(rt: &impl Abort, alloc: Global, location: &LazyLocation<'_, '_>) {
     let path = location.to_path(alloc).expect(rt, "memory");
     assert_path(rt, alloc, path, "/a~1b/2");
-    let start = Path::root().push_name(alloc, "x").expect(rt, "memory");
-    let path = location.write_onto(alloc, start).expect(rt, "memory");
-    assert_path(rt, alloc, path, "/x/a~1b/2");
 }
 
 #[test]
@@ -45,7 +42,7 @@ fn references_begin_paths(rt: HostRuntime) {
         "/$defs/a~1b/0",
     );
     assert_begins(&rt, rt.alloc(), Reference::followed("#anchor"), "");
-    assert_begins(&rt, rt.alloc(), Reference::none(), "");
+    assert_begins(&rt, rt.alloc(), Reference::followed("http://a.test/s"), "");
 }
 
 // What each observer is told, and what it has heard then: whether more can change it, its verdict, and its errors.
@@ -95,6 +92,25 @@ fn value<'v>(rt: &impl Abort, values: &'v Value, name: &str) -> &'v Value {
     values.get(name).expect(rt, "a value")
 }
 
+// Tells of an error, where the observer wants to be told.
+fn keep<'i>(
+    rt: &impl Abort,
+    alloc: Global,
+    observer: &mut Observer<'i>,
+    kind: ValidationErrorKind<'i>,
+    instance: &'i Value,
+    at: Path,
+    road: Path,
+) {
+    if observer.hear() {
+        let schema = road.clone().expect(rt, "memory");
+        let error = ValidationError::new(alloc, kind, instance, at, schema, road);
+        observer
+            .keep(alloc, error.expect(rt, "memory"))
+            .expect(rt, "memory");
+    }
+}
+
 // A member of the first item is refused, by a keyword.
 fn refuse<'i>(
     rt: &impl Abort,
@@ -106,15 +122,12 @@ fn refuse<'i>(
 ) {
     let top = LazyLocation::new();
     let item = top.push_index(0);
-    let roads = Roads {
-        instance: &item.push_name(member),
-        schema: &top.push_name(keyword),
-        reference: Reference::none(),
-        evaluation: &top.push_name(keyword),
-    };
-    observer
-        .tell(alloc, ValidationErrorKind::FalseSchema, instance, roads)
-        .expect(rt, "memory");
+    let at = item.push_name(member);
+    let at = at.to_path(alloc).expect(rt, "memory");
+    let road = top.push_name(keyword);
+    let road = road.to_path(alloc).expect(rt, "memory");
+    let kind = ValidationErrorKind::FalseSchema;
+    keep(rt, alloc, observer, kind, instance, at, road);
 }
 
 fn refuse_twice<'i>(
@@ -159,16 +172,8 @@ fn refuse_for<'i>(
     instance: &'i Value,
     kind: ValidationErrorKind<'i>,
 ) {
-    let top = LazyLocation::new();
-    let roads = Roads {
-        instance: &top,
-        schema: &top,
-        reference: Reference::none(),
-        evaluation: &top,
-    };
-    observer
-        .tell(alloc, kind, instance, roads)
-        .expect(rt, "memory");
+    let root = Path::root();
+    keep(rt, alloc, observer, kind, instance, Path::root(), root);
 }
 
 fn refuse_by_kinds<'i>(

@@ -22,6 +22,7 @@ pub use agreement::{
 pub use checker::Checker;
 pub use document_sources::error::RetrieveError;
 pub use error::{BuildError, NumberError};
+pub use location_texts::Location;
 pub use options::ValidationOptions;
 pub use reached_sites::cause::BuildCause;
 pub use reached_sites::place::SchemaPlace;
@@ -32,9 +33,7 @@ pub use schema_registries::{
     DefaultRetriever, DocumentError, Documents, MapRetriever, Retrieve, SchemaRegistry,
     SharedRegistry, WholeNumbers, has_only_whole,
 };
-pub use schema_reports::{
-    ErrorContext, ErrorIterator, Location, ValidationError, ValidationErrorKind,
-};
+pub use schema_reports::{ErrorContext, ErrorIterator, ValidationError, ValidationErrorKind};
 pub use uri_references::uri::Uri;
 pub use validator::Validator;
 pub use validator_map::ValidatorMap;

@@ -5,17 +5,17 @@ use Rattle.program_inputs.specs.Read.{HasWordsOf}
 use Rattle.program_inputs.specs.declared.words.ProgramWords.{ProgramWords}
 use Rattle.schema_patterns.specs.declared.matcher.PatternMatcher.{Ghosts}
 use Rattle.regex_patterns.specs.declared.RegexMatcher.{RegexMatcher}
-use Rattle.line_cuts.specs.Runs.{RunsThrough, Stops}
 use Rattle.line_cuts.specs.declared.report.RunReport.{RunReport}
 use Rattle.line_cuts.specs.declared.report.RunError.{RunError}
-use Rattle.line_runs.specs.Runs.{IsLineText}
 use Rattle.line_runs.specs.Passed.{IsMadeBy}
 use Rattle.line_runs.specs.Passed.{Root, Patterns}
 use Rattle.program_inputs.specs.Held.{Held}
 use Rattle.line_runs.specs.Passed.{Validator}
 use Rattle.validator_program.specs.Given.{Words, words_of}
 use Rattle.validator_program.specs.Built.{patterns_of_regex, IsBuiltOf}
-use Rattle.validator_program.specs.Answered.{words_in, IsNamed, AnswersAll, StopsEarly}
+use Rattle.validator_program.specs.Outputs.{RunsIn, RunsBy, StopsIn, StopsBy}
+use Rattle.validator_program.specs.declared.output.OutputForm.{OutputForm}
+use Rattle.validator_program.specs.Answered.{words_in, IsNamed, IsFormOf, AnswersAll, StopsEarly}
 
 -- what is built of the words that were read is named by them
 pub named_by : (rows : List Row) (held : List ℕ → Held) (w : ProgramWords) (root : Root) → HasWordsOf rows w → IsBuiltOf held (words_of w) root → IsNamed rows held root
@@ -24,10 +24,9 @@ named_by rows held w root has built =
     record { schema = w.schema.now; is_schema = has.schema; built = subst (λ (words : Words). IsBuiltOf held words root) same built }
 
 module _ {G : Ghosts RegexMatcher} (rows : List Row) (held : List ℕ → Held) (v : Validator RegexMatcher G) (root : Root) (named : IsNamed rows held root) (made : IsMadeBy patterns_of_regex root v)
-    (from to before after : Option (List ℕ)) where
-  pub answers_all : (report : RunReport) → ((p : Patterns) (r : Root) → IsMadeBy p r v → RunsThrough (IsLineText p r) from to before after report)
-      → AnswersAll rows held from to before after (if report.any_refused then 1 else 0)
-  answers_all report h = record { root = root; named = named; report = report; answered = h patterns_of_regex root made; is_status = refl }
+    (form : OutputForm) (asked : IsFormOf rows form) (from to before after : Option (List ℕ)) where
+  pub answers_all : (report : RunReport) → RunsBy v form from to before after report → AnswersAll rows held from to before after (if report.any_refused then 1 else 0)
+  answers_all report h = record { root = root; named = named; form = form; is_form = asked; report = report; answered = h patterns_of_regex root made; is_status = refl }
 
-  pub stops_early : (e : RunError) → ((p : Patterns) (r : Root) → IsMadeBy p r v → Stops (IsLineText p r) e from to before after) → StopsEarly rows held from to before after
-  stops_early e h = record { root = root; named = named; error = e; stopped = h patterns_of_regex root made }
+  pub stops_early : (e : RunError) → StopsBy v form e from to before after → StopsEarly rows held from to before after
+  stops_early e h = record { root = root; named = named; form = form; is_form = asked; error = e; stopped = h patterns_of_regex root made }

@@ -1,15 +1,15 @@
 -- What the program has done where it ends.
 use Rattle.std.specs.Prelude.{◌≡◌, ℕ, List, [], Option, Some, codes, unwrap_or, if◌then◌else◌}
 use Rattle.clap.specs.Words.{Row, first_of, all_of}
-use Rattle.line_cuts.specs.Runs.{RunsThrough, Stops}
 use Rattle.line_cuts.specs.declared.report.RunReport.{RunReport}
 use Rattle.line_cuts.specs.declared.report.RunError.{RunError}
-use Rattle.line_runs.specs.Runs.{IsLineText}
 use Rattle.line_runs.specs.Passed.{Root}
 use Rattle.program_inputs.specs.Held.{Held}
 use Rattle.program_inputs.specs.Read.{says_true}
 use Rattle.validator_program.specs.Given.{Words}
-use Rattle.validator_program.specs.Built.{patterns_of_regex, IsBuiltOf}
+use Rattle.validator_program.specs.Built.{IsBuiltOf}
+use Rattle.validator_program.specs.Outputs.{form_of, RunsIn, StopsIn}
+use Rattle.validator_program.specs.declared.output.OutputForm.{OutputForm}
 
 -- the words as they were parsed
 abbrev pub words_in : List ℕ → List Row → Words
@@ -28,18 +28,26 @@ pub record IsNamed (rows : List Row) (held : List ℕ → Held) (root : Root) : 
   pub is_schema : Some schema ≡ first_of (codes "schema") rows
   pub built : IsBuiltOf held (words_in schema rows) root
 
--- all that the reader had was read, each of its lines was answered by the root that the words name, and the status says whether some answer
--- was no empty list
+-- the form of what is written is the one that the words name
+abbrev pub IsFormOf : List Row → OutputForm → Type 0
+IsFormOf rows form = form_of (first_of (codes "output") rows) ≡ Some form
+
+-- all that the reader had was read, each of its lines was answered by the root that the words name, in the form that they name, and the
+-- status says whether some line was refused
 pub record AnswersAll (rows : List Row) (held : List ℕ → Held) (from to before after : Option (List ℕ)) (status : ℕ) : Type 0 where
   pub root : Root
   pub named : IsNamed rows held root
+  pub form : OutputForm
+  pub is_form : IsFormOf rows form
   pub report : RunReport
-  pub answered : RunsThrough (IsLineText patterns_of_regex root) from to before after report
+  pub answered : RunsIn form root from to before after report
   pub is_status : status ≡ (if report.any_refused then 1 else 0)
 
 -- a run of the root that the words name ended with an error
 pub record StopsEarly (rows : List Row) (held : List ℕ → Held) (from to before after : Option (List ℕ)) : Type 0 where
   pub root : Root
   pub named : IsNamed rows held root
+  pub form : OutputForm
+  pub is_form : IsFormOf rows form
   pub error : RunError
-  pub stopped : Stops (IsLineText patterns_of_regex root) error from to before after
+  pub stopped : StopsIn form root error from to before after

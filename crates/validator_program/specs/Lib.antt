@@ -1,5 +1,6 @@
 pub mod Given
 pub mod Built
 pub mod Prepared
+pub mod Outputs
 pub mod Answered
 pub mod Status

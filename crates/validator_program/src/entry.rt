@@ -8,9 +8,10 @@ ghost use Rattle.validator_program.specs.Answered.{AnswersAll, StopsEarly};
 ghost use Rattle.validator_program.specs.Status.{status_of};
 
 use crate::fault::ProgramFault;
+use crate::output::{OutputForm, read_form, run_in};
 use crate::preparing::prepare;
 use line_cuts::{ByteSink, ByteSource};
-use line_runs::{RunError, RunReport, run};
+use line_runs::{RunError, RunReport};
 use program_inputs::{ProgramWords, SchemaFiles};
 use std::alloc::Global;
 use std::env;
@@ -21,6 +22,8 @@ use std::rt::Env;
 const NO_MEMORY: &str = "No memory\n";
 
 /// Reads the words, builds the validator that they name, answers each line of the reader, and returns the exit status.
+///
+/// The words also say what is written for a line: its faults as pairs of paths, an object that has them in words, or nothing.
 ///
 /// The status is 0 where each line was valid, 1 where some line was not, 2 where the words, a file or the build were refused, and 3
 /// where reading, writing or memory failed. Where it is 2 or 3 the fault is told to `faults`: the first that is met, of the words, the
@@ -102,8 +105,9 @@ fn answer<'a, F: SchemaFiles, S: ByteSource, K: ByteSink>(
         (K.contents writer.old) (K.contents writer.new))) }
 {
     let words = ProgramWords::read(alloc, words)?;
+    let form = read_form(words.output)?;
     let validator = prepare(alloc, &words, files)?;
-    match run(alloc, reader, writer, &validator) {
+    match run_in(alloc, form, reader, writer, &validator) {
         Ok(report) => Ok(report),
         Err(error) => Err(ProgramFault::Run(error)),
     }

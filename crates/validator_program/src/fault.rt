@@ -21,6 +21,9 @@ pub(crate) enum ProgramFault<'a> {
     /// A word for the draft that names none.
     #[error("words refused: --draft {word}")]
     Draft { word: &'a str },
+    /// A word for the output that names no form of it.
+    #[error("words refused: --output {word}")]
+    Output { word: &'a str },
     /// A word that is no text.
     #[error("words refused: a word is no UTF-8")]
     NotText,

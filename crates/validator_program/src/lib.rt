@@ -5,7 +5,8 @@ mod documents;
 mod entry;
 mod fault;
 mod meta_files;
+mod output;
 mod preparing;
 
 pub use entry::{program, run_program};
-pub use line_runs::{Documents, Validator, run};
+pub use line_runs::{Documents, Validator, run, run_objects};

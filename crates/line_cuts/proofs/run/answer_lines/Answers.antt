@@ -18,7 +18,7 @@ returns-in_err-storage-clause-counts g c =
 pub loop-progress-init : goal.loop-progress-init
 loop-progress-init g c = record {
   kept = c.requires.kept;
-  reads = reads_first _ _ _ _ _ c.new-progress.ensures.line c.new-progress.ensures.report;
+  reads = reads_first _ _ _ _ _ _ c.new-progress.ensures.line c.new-progress.ensures.report;
   plain = kept_plain c.new-progress.result.line.items [] c.new-progress.ensures.line;
   text = c.new-progress.ensures.text;
   read_quiet = refl;
@@ -40,7 +40,7 @@ returns-in_err-read_on-clause-counts g c =
 pub returns-then-not-branch-clause-ok : goal.returns-then-not-branch-clause-ok
 returns-then-not-branch-clause-ok g c =
     let reads = c.in_ok-read_on.ensures.reads.onward _ _ c.loop-progress.invariant.reads in
-    finish_ok _ _ _ _ _ _ _ _ reads (c.in_ok-read_on.ensures.end c.if-not-branch.true) c.finish.result c.finish.ensures.goes
+    finish_ok _ _ _ _ _ _ _ _ _ reads (c.in_ok-read_on.ensures.end c.if-not-branch.true) c.finish.result c.finish.ensures.goes
 
 pub returns-then-not-branch-clause-read_quiet : goal.returns-then-not-branch-clause-read_quiet
 returns-then-not-branch-clause-read_quiet g c = quiet_kept c.finish.result _ _ (c.in_ok-read_on.ensures.read_quiet ∙ c.loop-progress.invariant.read_quiet)
@@ -52,7 +52,7 @@ returns-then-not-branch-clause-write_quiet g c =
 pub returns-then-not-branch-clause-stops : goal.returns-then-not-branch-clause-stops
 returns-then-not-branch-clause-stops g c =
     let reads = c.in_ok-read_on.ensures.reads.onward _ _ c.loop-progress.invariant.reads in
-    finish_stops _ _ _ _ _ _ _ _ reads (c.in_ok-read_on.ensures.end c.if-not-branch.true) c.finish.result _ _ c.finish.ensures.breaks c.finish.ensures.failed
+    finish_stops _ _ _ _ _ _ _ _ _ reads (c.in_ok-read_on.ensures.end c.if-not-branch.true) c.finish.result _ _ c.finish.ensures.breaks c.finish.ensures.failed
 
 pub returns-then-not-branch-clause-counts : goal.returns-then-not-branch-clause-counts
 returns-then-not-branch-clause-counts g c =

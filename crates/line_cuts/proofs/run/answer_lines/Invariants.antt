@@ -6,7 +6,7 @@ use Rattle.line_cuts.proofs.run.answer_lines.Given as goal
 abbrev pub invariant-loop-progress : goal.invariant-loop-progress
 invariant-loop-progress g l = record {
   kept : g.A.LineAnswers.keeps l.answers l.kept;
-  reads : Reads (g.A.LineAnswers.answers l.answers) (g.S.ByteSource.remaining l.fn.reader) (g.S.ByteSource.remaining l.reader) (g.K.ByteSink.contents l.fn.writer)
+  reads : Reads (g.A.LineAnswers.refuses l.answers) (g.A.LineAnswers.answers l.answers) (g.S.ByteSource.remaining l.fn.reader) (g.S.ByteSource.remaining l.reader) (g.K.ByteSink.contents l.fn.writer)
       (g.K.ByteSink.contents l.writer) l.progress.line.items l.progress.outbox.report;
   plain : pieces l.progress.line.items ≡ l.progress.line.items ∷ [];
   text : string_bytes l.progress.outbox.text ≡ [];

@@ -13,11 +13,11 @@ use Rattle.line_runs.proofs.answers.answer_value.Goals as goal
 empty : faults_text none ≡ codes "[]"
 empty = refl
 
-pub returns-then-branch : goal.returns-then-branch
-returns-then-branch g c =
+pub returns-then-branch-clause-answered : goal.returns-then-branch-clause-answered
+returns-then-branch-clause-answered g c =
     let v = c.args.validator.now in
     let d = view c.args.value.now in
-    let valid = c.in_ok-is_valid.ensures in
+    let valid = c.in_ok-is_valid_by.ensures in
     let yes = c.if-branch.true in (
       codes "[]",
       record {
@@ -27,8 +27,8 @@ returns-then-branch g c =
       c.in_ok-push_str.ensures.bytes,
     )
 
-pub returns : goal.returns
-returns g c =
+pub returns-clause-answered : goal.returns-clause-answered
+returns-clause-answered g c =
     let errors = c.in_ok-errors in
     let fs = faults_of (errors_left errors.errors) in (
       faults_text fs,

@@ -1,26 +1,28 @@
-use Rattle.std.proofs.Common.{rules, ◌≡◌, ◌∙◌, ap, ap₂, refl, codes, true}
+use Rattle.std.proofs.Common.{rules, ◌≡◌, ◌∙◌, ap, ap₂, refl}
 use Rattle.std.proofs.lemmas.Result.{IfOk-weaker}
-use Rattle.clap.specs.Words.{Rule, app_of, new_app, with_rule}
-use Rattle.clap.specs.Simple.{on_top}
+use Rattle.clap.specs.Words.{Rule, app_of, with_rule}
+use Rattle.program_inputs.specs.Program.{bare_app}
 use Rattle.program_inputs.proofs.Chain.{has_schema}
 use Rattle.program_inputs.proofs.command.program_command.Goals as goal
 
 pub returns-clause-app : goal.returns-clause-app
 returns-clause-app c =
-    let start : app_of c.no_binary_name.result ≡ on_top (λ s. record s { no_binary_name = true; has_version = true }) (new_app (codes "cribhemlock")) = search rules in
-    IfOk-weaker c.arg-6.result _ _ (λ m h. h.shape c.ref_siblings.ensures.fits.1
+    let start : app_of c.no_binary_name.result ≡ bare_app = search rules in
+    IfOk-weaker c.arg-7.result _ _ (λ m h. h.shape c.output.ensures.fits.1
+    ∙ ap₂ with_rule (c.in_ok-arg-6.ensures.shape c.ref_siblings.ensures.fits.1
     ∙ ap₂ with_rule (c.in_ok-arg-5.ensures.shape c.meta.ensures.fits.1
     ∙ ap₂ with_rule (c.in_ok-arg-4.ensures.shape c.draft.ensures.fits.1
     ∙ ap₂ with_rule (c.in_ok-arg-3.ensures.shape c.base.ensures.fits.1
     ∙ ap₂ with_rule (c.in_ok-arg-2.ensures.shape c.files.ensures.fits.1
     ∙ ap₂ with_rule (c.in_ok-arg.ensures.shape c.schema.ensures.fits.1 ∙ ap₂ with_rule start c.schema.ensures.rule) c.files.ensures.rule) c.base.ensures.rule) c.draft.ensures.rule) c.meta.ensures.rule)
-    c.ref_siblings.ensures.rule)
-    c.arg-6.ensures
+    c.ref_siblings.ensures.rule) c.output.ensures.rule)
+    c.arg-7.ensures
 
 pub returns-clause-schema : goal.returns-clause-schema
 returns-clause-schema c =
     let id = λ (r : Rule). r.id in
-    IfOk-weaker c.arg-6.result _ _ (λ m h. has_schema c.schema.result c.files.result c.base.result c.draft.result c.meta.result c.ref_siblings.result c.no_binary_name.result m (
+    IfOk-weaker c.arg-7.result _ _ (λ m h. has_schema c.schema.result c.files.result c.base.result c.draft.result c.meta.result c.ref_siblings.result c.output.result
+    c.no_binary_name.result m (
       c.in_ok-arg.field-0,
       c.in_ok-arg.ensures,
       (
@@ -29,7 +31,15 @@ returns-clause-schema c =
         (
           c.in_ok-arg-3.field-0,
           c.in_ok-arg-3.ensures,
-          (c.in_ok-arg-4.field-0, c.in_ok-arg-4.ensures, (c.in_ok-arg-5.field-0, c.in_ok-arg-5.ensures, (m, h, refl))),
+          (
+            c.in_ok-arg-4.field-0,
+            c.in_ok-arg-4.ensures,
+            (
+              c.in_ok-arg-5.field-0,
+              c.in_ok-arg-5.ensures,
+              (c.in_ok-arg-6.field-0, c.in_ok-arg-6.ensures, (m, h, refl)),
+            ),
+          ),
         ),
       ),
     )
@@ -41,6 +51,7 @@ returns-clause-schema c =
       fourth = c.draft.ensures.fits;
       fifth = c.meta.ensures.fits;
       sixth = c.ref_siblings.ensures.fits;
+      seventh = c.output.ensures.fits;
     })
     c.schema.ensures.value
     (record {
@@ -50,5 +61,6 @@ returns-clause-schema c =
       fourth = ap id c.draft.ensures.rule;
       fifth = ap id c.meta.ensures.rule;
       sixth = ap id c.ref_siblings.ensures.rule;
+      seventh = ap id c.output.ensures.rule;
     }))
-    c.arg-6.ensures
+    c.arg-7.ensures

@@ -1,6 +1,4 @@
-use Rattle.std.proofs.Common.{◌≡◌, ◌∙◌, ap, not, length, string_bytes, take, drop, ◌-◌, ◌||◌}
-use Rattle.std.specs.Str.{bytes_eq}
-use Rattle.line_cuts.specs.Runs.{is_refused}
+use Rattle.std.proofs.Common.{◌≡◌, ◌∙◌, ap, length, string_bytes, take, drop, ◌-◌, ◌||◌}
 use Rattle.line_cuts.proofs.Counting.{behind, one_answered}
 use Rattle.line_cuts.proofs.outbox.Outbox.answer.Goals as goal
 
@@ -13,10 +11,10 @@ returns-clause-ok g c =
     let first : start ≡ length before = c.len-start.ensures ∙ ok.0 in
     let whole = c.as_bytes.ensures.value ∙ appended in
     let tail = ap (λ l. take (length l - start) (drop start l)) whole ∙ behind start before written first in
-    let compared : c.ne-is_refused.result ≡ is_refused written =
-    c.ne-is_refused.ensures ∙ ap (λ l. not (bytes_eq l c.as_slice.result.now)) tail ∙ ap (λ l. not (bytes_eq written l)) c.as_slice.ensures in
+    let refuses = g.A.LineAnswers.refuses c.args.answers.now in
+    let compared = c.is_refused-is_refused.ensures ∙ ap refuses tail in
     record {
       written = written;
-      answered = one_answered _ c.args.line.now written _ _ told c.saturating_add-self.ensures (ap (λ b. c.args.self.now.report.any_refused || b) compared);
+      answered = one_answered _ _ c.args.line.now written _ _ told c.saturating_add-self.ensures (ap (λ b. c.args.self.now.report.any_refused || b) compared);
       appended = appended;
     }

@@ -18,4 +18,5 @@ returns c =
       draft = c.get_str-3.ensures ∙ first_value-rows f (codes "draft");
       meta = c.get_str-4.ensures ∙ first_value-rows f (codes "meta");
       ref_siblings = c.says_true.ensures ∙ ap says_true (c.get_str-5.ensures ∙ first_value-rows f (codes "ref-siblings"));
+      output = c.get_str-6.ensures ∙ first_value-rows f (codes "output");
     }
