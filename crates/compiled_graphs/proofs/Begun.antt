@@ -5,14 +5,15 @@ use Rattle.schema_meaning.specs.Members.{In, first}
 use Rattle.schema_definitions.specs.Bearers.{Document}
 use Rattle.schema_definitions.specs.Lookup.{Target, lookup}
 use Rattle.schema_definitions.specs.BuildCauses.{at_root}
-use Rattle.schema_definitions.specs.Sites.{Site, root_site}
+use Rattle.schema_definitions.specs.Sites.{Site}
 use Rattle.document_laws.specs.TargetLaws.{are_apart, contents_rise, IsTarget, by_reference}
 use Rattle.reached_sites.specs.Visits.{Belongs}
 use Rattle.reached_sites.specs.declared.visit.Visit.{Visit}
 use Rattle.reached_sites.proofs.Listing.{in-before, in-behind, in-either, in-one, none-in}
 use Rattle.compiled_graphs.specs.Graphs.{IsVisited, IsReachedFrom, IsGraph}
 use Rattle.compiled_graphs.specs.Linked.{Extends}
-use Rattle.compiled_graphs.specs.Starts.{site_of_answer, sites_from, Starts, StartsAt, Start, Begins, StartsOne}
+use Rattle.schema_registries.specs.Roots.{base_at, site_behind}
+use Rattle.compiled_graphs.specs.Starts.{site_inside, site_of_answer, sites_from, Starts, StartsAt, Start, Begins, StartsOne}
 use Rattle.compiled_graphs.proofs.Growing.{visited-later}
 use Rattle.compiled_graphs.proofs.Edges.{extends-none, extends-more}
 use Rattle.compiled_graphs.proofs.Positions.{in-place, zip-push}
@@ -22,26 +23,26 @@ use Rattle.compiled_graphs.specs.Walked.{ArePlaced}
 module _ (own : List Document) (base : List ℕ) where
   -- ---- the sites of references
 
-  pub sites-more : (rs : List (List ℕ)) (r : List ℕ) → sites_from own base (rs ++ r ∷ []) ≡ sites_from own base rs ++ site_of_answer (lookup own base r)
-  sites-more [] r = append-nil (site_of_answer (lookup own base r))
+  pub sites-more : (rs : List (List ℕ)) (r : List ℕ) → sites_from own base (rs ++ r ∷ []) ≡ sites_from own base rs ++ site_of_answer own base (lookup own base r)
+  sites-more [] r = append-nil (site_of_answer own base (lookup own base r))
   sites-more (q ∷ rs) r =
-      ap (λ ss. site_of_answer (lookup own base q) ++ ss) (sites-more rs r)
-      ∙ sym (append_assoc (site_of_answer (lookup own base q)) (sites_from own base rs) (site_of_answer (lookup own base r)))
+      ap (λ ss. site_of_answer own base (lookup own base q) ++ ss) (sites-more rs r)
+      ∙ sym (append_assoc (site_of_answer own base (lookup own base q)) (sites_from own base rs) (site_of_answer own base (lookup own base r)))
 
   abbrev IsRoot : Site → Type 0
-  IsRoot s = (t : Target) × IsTarget own t × (s ≡ root_site t)
+  IsRoot s = (before : List (List ℕ)) × (t : Target) × IsTarget own t × (s ≡ site_behind before t)
 
-  answer-root : (r : List ℕ) (a : _) → lookup own base r ≡ a → (s : Site) → In s (site_of_answer a) → IsRoot s
-  answer-root r (Ok t) e s i = (t, by_reference base r e, in-one i)
+  answer-root : (r : List ℕ) (a : _) → lookup own base r ≡ a → (s : Site) → In s (site_of_answer own base a) → IsRoot s
+  answer-root r (Ok t) e s i = (base_at own base ∷ [], t, by_reference base r e, in-one i)
   answer-root r (Err c) e s i = none-in i
 
-  either-root : (r : List ℕ) (rs : List (List ℕ)) (s : Site) → (In s (sites_from own base rs) → IsRoot s) → In s (site_of_answer (lookup own base r)) ⊎ In s (sites_from own base rs) → IsRoot s
+  either-root : (r : List ℕ) (rs : List (List ℕ)) (s : Site) → (In s (sites_from own base rs) → IsRoot s) → In s (site_of_answer own base (lookup own base r)) ⊎ In s (sites_from own base rs) → IsRoot s
   either-root r rs s rest (inl j) = answer-root r (lookup own base r) refl s j
   either-root r rs s rest (inr j) = rest j
 
   sites-root : (rs : List (List ℕ)) (s : Site) → In s (sites_from own base rs) → IsRoot s
   sites-root [] s i = none-in i
-  sites-root (r ∷ rs) s i = either-root r rs s (sites-root rs s) (in-either (site_of_answer (lookup own base r)) (sites_from own base rs) i)
+  sites-root (r ∷ rs) s i = either-root r rs s (sites-root rs s) (in-either (site_of_answer own base (lookup own base r)) (sites_from own base rs) i)
 
   pub sites-placed : are_apart own ≡ true → list_all contents_rise own ≡ true → (rs : List (List ℕ)) → ArePlaced own (sites_from own base rs)
   sites-placed apart rise rs = record { apart = apart; rise = rise; targets = λ s i. sites-root rs s i }
@@ -50,7 +51,7 @@ module _ (own : List Document) (base : List ℕ) where
 
   starts-later : (old new added : List Visit) (r : List ℕ) (o : Option ℕ) → new ≡ old ++ added → StartsAt own base old r o → StartsAt own base new r o
   starts-later old new added r None e h = h
-  starts-later old new added r (Some i) e h = record { target = h.target; found = h.found; visited = visited-later old new added i (root_site h.target) e h.visited }
+  starts-later old new added r (Some i) e h = record { target = h.target; found = h.found; visited = visited-later old new added i (site_inside own base h.target) e h.visited }
 
   pub start-later : (old new added : List Visit) (rs : List (List ℕ)) (starts : List (Option ℕ)) → new ≡ old ++ added → Start own base old rs starts → Start own base new rs starts
   start-later old new added [] [] e h = h
@@ -59,26 +60,26 @@ module _ (own : List Document) (base : List ℕ) where
   start-later old new added (r ∷ rs) (o ∷ os) e h = (starts-later old new added r o e h.0, start-later old new added rs os e h.1)
 
   -- each site of references that begin is visited
-  visited-of : (vs : List Visit) (r : List ℕ) (o : Option ℕ) (a : _) → lookup own base r ≡ a → StartsAt own base vs r o → (s : Site) → In s (site_of_answer a) → (i : ℕ) × IsVisited vs i s
+  visited-of : (vs : List Visit) (r : List ℕ) (o : Option ℕ) (a : _) → lookup own base r ≡ a → StartsAt own base vs r o → (s : Site) → In s (site_of_answer own base a) → (i : ℕ) × IsVisited vs i s
   visited-of vs r None (Ok t) e h s i = (let no : Ok t ≡ Err h.0 = sym e ∙ h.1 in absurd (cc (no)))
   visited-of vs r (Some j) (Ok t) e h s i =
       let same : Ok h.target ≡ Ok t = sym h.found ∙ e in
       let one : h.target ≡ t = cc in
-      (j, subst (λ u. IsVisited vs j u) (ap root_site one ∙ sym (in-one i)) h.visited)
+      (j, subst (λ u. IsVisited vs j u) (ap (site_inside own base) one ∙ sym (in-one i)) h.visited)
   visited-of vs r o (Err c) e h s i = none-in i
 
   abbrev Somewhere : List Visit → Site → Type 0
   Somewhere vs s = (i : ℕ) × IsVisited vs i s
 
   either-visited : (vs : List Visit) (r : List ℕ) (rs : List (List ℕ)) (o : Option ℕ) (s : Site) → StartsAt own base vs r o → (In s (sites_from own base rs) → Somewhere vs s)
-      → In s (site_of_answer (lookup own base r)) ⊎ In s (sites_from own base rs) → Somewhere vs s
+      → In s (site_of_answer own base (lookup own base r)) ⊎ In s (sites_from own base rs) → Somewhere vs s
   either-visited vs r rs o s h rest (inl j) = visited-of vs r o (lookup own base r) refl h s j
   either-visited vs r rs o s h rest (inr j) = rest j
 
   pub sites-visited : (vs : List Visit) (rs : List (List ℕ)) (os : List (Option ℕ)) → Start own base vs rs os → (s : Site) → In s (sites_from own base rs) → Somewhere vs s
   sites-visited vs [] os h s i = none-in i
   sites-visited vs (r ∷ rs) [] h s i = absurd h
-  sites-visited vs (r ∷ rs) (o ∷ os) h s i = either-visited vs r rs o s h.0 (sites-visited vs rs os h.1 s) (in-either (site_of_answer (lookup own base r)) (sites_from own base rs) i)
+  sites-visited vs (r ∷ rs) (o ∷ os) h s i = either-visited vs r rs o s h.0 (sites-visited vs rs os h.1 s) (in-either (site_of_answer own base (lookup own base r)) (sites_from own base rs) i)
 
   -- ---- one reference more
 
@@ -107,19 +108,19 @@ module _ (own : List Document) (base : List ℕ) where
       reached-too : (v : Visit) → IsReachedFrom own makes (sites_from own base rs) v → IsReachedFrom own makes (sites_from own base more) v
       reached-too v h =
           reached-more own makes (sites_from own base rs) (sites_from own base more) v
-          (λ s i. subst (λ ss. In s ss) (sym (sites-more rs r)) (in-before (sites_from own base rs) (site_of_answer (lookup own base r)) i)) h
+          (λ s i. subst (λ ss. In s ss) (sym (sites-more rs r)) (in-before (sites_from own base rs) (site_of_answer own base (lookup own base r)) i)) h
 
       pub begun-nowhere : (old new : List Visit) → new ≡ old → AreBegun rs old → AreBegun more new
       begun-nowhere old new e b = subst (λ (vs : List Visit). AreBegun more vs) (sym e) (record { belongs = b.belongs; reached = λ v i. reached-too v (b.reached v i) })
 
       module _ (old new : List Visit) (i : ℕ) (h : Begins own base r old new i) (b : AreBegun rs old) where
-        root-listed : In (root_site h.target) (sites_from own base more)
+        root-listed : In (site_inside own base h.target) (sites_from own base more)
         root-listed =
-            subst (λ ss. In (root_site h.target) ss) (sym (sites-more rs r))
-            (in-behind (sites_from own base rs) (site_of_answer (lookup own base r)) (subst (λ a. In (root_site h.target) (site_of_answer a)) (sym h.found) first))
+            subst (λ ss. In (site_inside own base h.target) ss) (sym (sites-more rs r))
+            (in-behind (sites_from own base rs) (site_of_answer own base (lookup own base r)) (subst (λ a. In (site_inside own base h.target) (site_of_answer own base a)) (sym h.found) first))
 
         its : IsReachedFrom own makes (sites_from own base more) h.visit
-        its = record { site = root_site h.target; met = h.met; root = root_site h.target; listed = root-listed; reached = at_root }
+        its = record { site = site_inside own base h.target; met = h.met; root = site_inside own base h.target; listed = root-listed; reached = at_root }
 
         grown : Extends old new (h.visit ∷ [])
         grown = extends-more old new new h.visit [] h.adds (extends-none new)
@@ -152,7 +153,7 @@ module _ (own : List Document) (base : List ℕ) where
               visited = record {
                 visit = s.0;
                 there = s.1;
-                met = met-again own makes (sites_from own base more) (sites-placed apart rise more) s.0 h.visit (belongs-any s.0 side) h.belongs (reached-any s.0 side) its s.2 (root_site h.target) h.met;
+                met = met-again own makes (sites_from own base more) (sites-placed apart rise more) s.0 h.visit (belongs-any s.0 side) h.belongs (reached-any s.0 side) its s.2 (site_inside own base h.target) h.met;
               };
             }
 

@@ -42,7 +42,7 @@ use Rattle.compiled_graphs.proofs.Walks.{begun-walks}
 -- ---- roots
 
 pub one-placed : (own : List Document) (root : Target) → IsPlaced own root → ArePlaced own (root_site root ∷ [])
-one-placed own root h = record { apart = h.apart; rise = h.rise; targets = λ r i. (root, h.target, in-one i) }
+one-placed own root h = record { apart = h.apart; rise = h.rise; targets = λ r i. ([], root, h.target, in-one i) }
 
 -- where nothing is wrong, nothing leads there
 pub none-leads : (es : List Edge) (wrong : List ℕ) → wrong ≡ [] → (i : ℕ) → LeadsTo es wrong i → ⊥

@@ -1,6 +1,7 @@
 pub mod Positions
 pub mod Visits
 pub mod Growing
+pub mod Inside
 pub mod Edges
 pub mod Found
 pub mod Standing

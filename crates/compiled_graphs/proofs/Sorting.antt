@@ -8,11 +8,11 @@ use Rattle.schema_definitions.specs.Lookup.{Target}
 use Rattle.schema_definitions.specs.Plain.{keywords_at}
 use Rattle.schema_meaning.specs.Members.{In, first, later}
 use Rattle.schema_definitions.specs.BuildCauses.{IsCauseOf}
-use Rattle.schema_definitions.specs.Sites.{Site, root_site}
+use Rattle.schema_definitions.specs.Sites.{Site}
 use Rattle.schema_definitions.specs.Words.{or}
 use Rattle.schema_patterns.specs.Tables.{AreMadeBy, texts_of_table}
 use Rattle.schema_patterns.specs.declared.table.PatternTable.{PatternTable}
-use Rattle.schema_registries.specs.Roots.{Patterns, IsSound}
+use Rattle.schema_registries.specs.Roots.{Patterns, IsSound, root_inside}
 use Rattle.schema_registries.specs.Matched.{HoldsPatterns}
 use Rattle.schema_registries.proofs.Found.{finds_one}
 use Rattle.linked_meanings.specs.Related.{AreRelated}
@@ -38,8 +38,8 @@ use Rattle.compiled_graphs.specs.Graphs.{IsVisited, IsGraph}
 use Rattle.compiled_graphs.specs.Linked.{edge}
 use Rattle.compiled_graphs.specs.Linking.{as_spelled, StandsFor, IsCompiledAt, KnowsTable}
 use Rattle.compiled_graphs.specs.Marked.{IsMarked, IsNode, AreNodes}
-use Rattle.compiled_graphs.specs.Several.{root_from, AreDecided, StartsAtNode, AreBuilt}
-use Rattle.compiled_graphs.specs.Starts.{sites_from, LeadsNowhere, Starts, StartsAt, Start}
+use Rattle.compiled_graphs.specs.Several.{AreDecided, StartsAtNode, AreBuilt}
+use Rattle.compiled_graphs.specs.Starts.{site_inside, sites_from, LeadsNowhere, Starts, StartsAt, Start}
 use Rattle.compiled_graphs.specs.Walked.{RefusesWalk, Notes, Walks, IsBegun, IsWalked}
 use Rattle.compiled_graphs.specs.declared.walk.AtCause.TheVariants.{GoOn}
 use Rattle.compiled_graphs.specs.declared.walk.Walk.{Walk}
@@ -190,19 +190,19 @@ module _ {M : Type 0} (finds : M → List ℕ → Option Bool) (p : Patterns) (o
   -- ---- which roots may be read
 
   abbrev Sound : List ℕ → Type 0
-  Sound r = IsSound p (root_from own base r)
+  Sound r = IsSound p (root_inside own base r)
 
   sound-there : (r : List ℕ) (i : ℕ) (s : Starts own base r vs i) → IsClear i → Sound r
   sound-there r i s clear = record {
     found = ap is_ok s.found;
     right = λ u there cause h.
-        let same = finds_one (root_from own base r) s.target u s.found there in
-        no-cause own p.makes roots vs es wrong graph i (clear-leads i clear) (root_site s.target) s.visited cause (subst (λ (t : Target). IsCauseOf own p.makes (root_site t) cause) (sym same) h);
+        let same = finds_one (root_inside own base r) s.target u s.found there in
+        no-cause own p.makes roots vs es wrong graph i (clear-leads i clear) (site_inside own base s.target) s.visited cause (subst (λ (t : Target). IsCauseOf own p.makes (site_inside own base t) cause) (sym same) h);
   }
 
   unsound-there : {P : Type 0} (r : List ℕ) (i : ℕ) (s : Starts own base r vs i) → slice_get marks i ≡ Some true → Sound r → P
   unsound-there r i s e sound =
-      let h = leads-wrong own p.makes roots vs es wrong graph i ((each i true e).0 refl) (root_site s.target) s.visited in
+      let h = leads-wrong own p.makes roots vs es wrong graph i ((each i true e).0 refl) (site_inside own base s.target) s.visited in
       absurd (sound.right s.target s.found h.0 h.1)
 
   unsound-nowhere : {P : Type 0} (r : List ℕ) → LeadsNowhere own base r → Sound r → P
@@ -226,9 +226,9 @@ module _ {M : Type 0} (finds : M → List ℕ → Option Bool) (p : Patterns) (o
   starts-there r o None h m = tt
   starts-there r None (Some j) h m = absurd (cc (m))
   starts-there r (Some i) (Some j) h m = λ target there.
-      let same = finds_one (root_from own base r) h.target target h.found there in
-      subst (λ n. IsCompiledAt own p.makes w.nodes.items (root_site target) n) (sym m.0)
-      (compiled-at (root_site target) i (subst (λ (t : Target). IsVisited vs i (root_site t)) same h.visited) m.1)
+      let same = finds_one (root_inside own base r) h.target target h.found there in
+      subst (λ n. IsCompiledAt own p.makes w.nodes.items (site_inside own base target) n) (sym m.0)
+      (compiled-at (site_inside own base target) i (subst (λ (t : Target). IsVisited vs i (site_inside own base t)) same h.visited) m.1)
 
   all-start : (qs : List (List ℕ)) (os cs : List (Option ℕ)) → Start own base vs qs os → AllZip (IsMarked marks) os cs → AllZip (StartsAtNode p.makes own base w.nodes.items) qs cs
   all-start [] [] [] h c = tt
@@ -240,16 +240,16 @@ module _ {M : Type 0} (finds : M → List ℕ → Option Bool) (p : Patterns) (o
 
   -- ---- their patterns
 
-  holds-at : (r : List ℕ) (o : Option ℕ) (b : Bool) → StartsAt own base vs r o → (q : Option ℕ) → IsMarked marks o q → Sound r → HoldsPatterns p (root_from own base r) (texts_of_table w.table)
+  holds-at : (r : List ℕ) (o : Option ℕ) (b : Bool) → StartsAt own base vs r o → (q : Option ℕ) → IsMarked marks o q → Sound r → HoldsPatterns p (root_inside own base r) (texts_of_table w.table)
   holds-at r None b h q m sound = unsound-nowhere r h sound
   holds-at r (Some i) b h None m sound = unsound-there r i h m sound
   holds-at r (Some i) b h (Some j) m sound = λ u there.
-      let same = finds_one (root_from own base r) h.target u h.found there in
-      subst (λ (t : Target). AreAmong own p.makes (root_site t) (texts_of_table w.table)) same
-      (all-among own p.makes roots vs es wrong graph i (clear-leads i m.1) (root_site h.target) h.visited w.table notes)
+      let same = finds_one (root_inside own base r) h.target u h.found there in
+      subst (λ (t : Target). AreAmong own p.makes (site_inside own base t) (texts_of_table w.table)) same
+      (all-among own p.makes roots vs es wrong graph i (clear-leads i m.1) (site_inside own base h.target) h.visited w.table notes)
 
   holds-each : (qs : List (List ℕ)) (os cs : List (Option ℕ)) → Start own base vs qs os → AllZip (IsMarked marks) os cs → (r : List ℕ) → In r qs → Sound r
-      → HoldsPatterns p (root_from own base r) (texts_of_table w.table)
+      → HoldsPatterns p (root_inside own base r) (texts_of_table w.table)
   holds-each [] os cs h c r i sound = elim i [ ]
   holds-each (q ∷ qs) [] cs h c r i sound = absurd h
   holds-each (q ∷ qs) (o ∷ os) [] h c r i sound = absurd c
@@ -261,7 +261,7 @@ module _ {M : Type 0} (finds : M → List ℕ → Option Bool) (p : Patterns) (o
   are-built nodes table os cs starts c is same = record {
     decided = all-decided rs os cs starts c;
     within = keys-within own p.makes roots vs es wrong graph (sites-visited own base vs rs os starts) limit walked.few;
-    patterns = λ r i sound. subst (λ x. HoldsPatterns p (root_from own base r) (texts_of_table x)) (sym same) (holds-each rs os cs starts c r i sound);
+    patterns = λ r i sound. subst (λ x. HoldsPatterns p (root_inside own base r) (texts_of_table x)) (sym same) (holds-each rs os cs starts c r i sound);
     made = subst (λ x. AreMadeBy finds p.finished x) (sym same) walked.walks.filled.made;
     compiled = subst (λ ns. AllZip (StartsAtNode p.makes own base ns) rs cs) (sym is) (all-start rs os cs starts c);
   }

@@ -7,6 +7,9 @@ use Rattle.schema_definitions.specs.Rows.{Place}
 use Rattle.schema_definitions.specs.Sites.{Site}
 use Rattle.reading_laws.proofs.Lying.{Lies, reached_lies}
 use Rattle.reading_laws.proofs.One.{one_value, root_lies}
+use Rattle.document_laws.specs.TargetLaws.{IsTarget}
+use Rattle.schema_definitions.specs.Lookup.{Target}
+use Rattle.schema_registries.specs.Roots.{site_behind}
 use Rattle.reading_laws.specs.SiteLaws.{AreAlike}
 use Rattle.reading_laws.proofs.Alike.{joined}
 use Rattle.referencing.specs.Resolved.{documents_in}
@@ -25,10 +28,13 @@ pub reached-more : (own : List Document) (makes : List ℕ → Bool) (roots more
 reached-more own makes roots more v f h = record { site = h.site; met = h.met; root = h.root; listed = f h.root h.listed; reached = h.reached }
 
 module _ (own : List Document) (makes : List ℕ → Bool) (roots : List Site) (placed : ArePlaced own roots) where
+  root-behind-lies : (before : List (List ℕ)) (t : Target) → IsTarget own t → Lies own (site_behind before t)
+  root-behind-lies before t is = record { origin = (root_lies own t is).origin }
+
   lies : (v : Visit) (x : IsReachedFrom own makes roots v) → Lies own x.site
   lies v x =
       let t = placed.targets x.root x.listed in
-      reached_lies own makes x.root x.site (subst (λ r. Lies own r) (sym t.2) (root_lies own t.0 t.1)) x.reached
+      reached_lies own makes x.root x.site (subst (λ r. Lies own r) (sym t.3) (root-behind-lies t.0 t.1 t.2)) x.reached
 
   same-contents : (v w : Visit) → IsReachedFrom own makes roots v → IsReachedFrom own makes roots w → Repeats v w → view v.site.contents.now ≡ view w.site.contents.now
   same-contents v w x y r =

@@ -5,10 +5,11 @@ use Rattle.schema_definitions.specs.Bearers.{Document}
 use Rattle.schema_definitions.specs.BuildCauses.{IsCauseOf}
 use Rattle.schema_definitions.specs.Rows as rows
 use Rattle.schema_definitions.specs.Lookup.{Target}
-use Rattle.schema_definitions.specs.Sites.{Site, root_site}
+use Rattle.schema_definitions.specs.Sites.{Site}
 use Rattle.schema_meaning.specs.Members.{In}
 use Rattle.document_laws.specs.TargetLaws.{are_apart, contents_rise, IsTarget}
 use Rattle.schema_patterns.specs.Makers.{Patterns}
+use Rattle.schema_registries.specs.Roots.{site_behind}
 use Rattle.schema_patterns.specs.Tables.{entries_of, texts_of_table}
 use Rattle.schema_patterns.specs.declared.table.PatternTable.{PatternTable}
 use Rattle.reached_sites.specs.Causes.{NamesCause}
@@ -24,11 +25,11 @@ use Rattle.compiled_graphs.specs.declared.walk.AtCause.{AtCause}
 use Rattle.compiled_graphs.specs.declared.walk.AtCause.TheVariants.{Stop, GoOn}
 use Rattle.compiled_graphs.specs.declared.walk.Walk.{Walk}
 
--- documents that can be told apart, and roots that references into them lead to
+-- documents that can be told apart, and roots that references into them lead to, behind whatever resources
 pub record ArePlaced (own : List Document) (roots : List Site) : Type 0 where
   pub apart : are_apart own ≡ true
   pub rise : list_all contents_rise own ≡ true
-  pub targets : (r : Site) → In r roots → (t : Target) × IsTarget own t × (r ≡ root_site t)
+  pub targets : (r : Site) → In r roots → (before : List (List ℕ)) × (t : Target) × IsTarget own t × (r ≡ site_behind before t)
 
 -- a table has what the schemas of the first ones write, save those at which something is wrong
 abbrev pub Notes : {M : Type 0} → PatternTable M → List Visit → List ℕ → ℕ → Type 0

@@ -126,7 +126,7 @@ fn build_by<P: PatternMaker>(
 }
 
 /// Compiles the schemas that are reached from the roots that some references from a base lead to, all together, each once for each compile
-/// key. It goes on behind causes: a keyword that has one leads nowhere, and those beside it are walked. A schema with a cause has no
+/// key. Each root is read behind the resource that the base leads to (Core 7.1). It goes on behind causes: a keyword that has one leads nowhere, and those beside it are walked. A schema with a cause has no
 /// keywords.
 ///
 /// Which roots lead to a cause is found by one walk backwards over the edges. The maker is asked once for each text, and for none of the

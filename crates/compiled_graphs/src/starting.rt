@@ -6,7 +6,7 @@ ghost use Rattle.schema_definitions.specs.Sites.{root_site};
 ghost use Rattle.document_laws.specs.TargetLaws.{are_apart, contents_rise};
 ghost use Rattle.referencing.specs.Resolved.{base_of, documents_in, target_in};
 ghost use Rattle.compiled_graphs.specs.Graphs.{IsGraph, IsVisited};
-ghost use Rattle.compiled_graphs.specs.Starts.{sites_from, Start, StartsOne};
+ghost use Rattle.compiled_graphs.specs.Starts.{sites_from, IsInside, Start, StartsOne};
 
 use reached_sites::seen::Visits;
 use reached_sites::visit::Visit;
@@ -39,19 +39,33 @@ pub(crate) fn start_at<'r>(
     Ok(visits)
 }
 
-// Puts the visit of what a reference leads to behind others, unless it is one of them, and answers where it stands.
+// The resolver at the resource that the base leads to, which is the one in its scope.
+fn inside<'r>(resolver: &Resolver<'r>) -> Result<Resolver<'r>, AllocError>
+    ensures { IfOk result (IsInside (documents_in resolver.now) (base_of resolver.now)) }
+{
+    match resolver.lookup("") {
+        Ok(root) => root.resolver().alone(),
+        Err(Error::Memory) => Err(AllocError),
+        Err(_) => resolver.alone(),
+    }
+}
+
+// Puts the visit of what a reference leads to, read behind what a resolver has entered, behind others, unless it is one of them, and answers
+// where it stands.
 fn start_one<'r>(
     alloc: Global,
     resolver: &Resolver<'r>,
+    outer: &Resolver<'r>,
     reference: &str,
     matches: &'r Matches,
     visits: &mut Visits<'r>,
 ) -> Result<Option<usize>, AllocError>
+    requires { IsInside (documents_in resolver.now) (base_of resolver.now) outer.now }
     ensures { IfOk result (StartsOne (documents_in resolver.now) (base_of resolver.now) reference.now visits.old.list.items visits.new.list.items) }
 {
     match resolver.lookup(reference) {
         Ok(found) => {
-            let visit = Visit::of_root(alloc, &found, matches)?;
+            let visit = Visit::of_root_behind(alloc, outer, &found, matches)?;
             Ok(Some(visits.put(visit)?))
         }
         Err(Error::Memory) => Err(AllocError),
@@ -59,7 +73,7 @@ fn start_one<'r>(
     }
 }
 
-/// Looks references up, and visits what they lead to.
+/// Looks references up, and visits what they lead to: each is read behind the resource that the base leads to.
 ///
 /// # Errors
 ///
@@ -75,10 +89,12 @@ pub(crate) fn start<'r>(
     ensures starts { IfOk result (λ s. Start (documents_in resolver.now) (base_of resolver.now) s.visits.list.items (map string_bytes references.now) s.starts.items) }
     ensures graph { IfOk result (λ s. (makes : List ℕ → Bool) → IsGraph (documents_in resolver.now) makes (sites_from (documents_in resolver.now) (base_of resolver.now) (map string_bytes references.now)) s.visits.list.items [] [] 0) }
 {
+    let outer = inside(resolver)?;
     let mut visits = Visits::new(alloc);
     let mut starts = Vec::new(alloc);
     for reference in references {
-        let position = start_one(alloc, resolver, reference.as_str(), matches, &mut visits)?;
+        let text = reference.as_str();
+        let position = start_one(alloc, resolver, &outer, text, matches, &mut visits)?;
         starts.push(position)?;
     }
     Ok(Started { visits, starts })

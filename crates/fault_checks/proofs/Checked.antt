@@ -9,7 +9,6 @@ use Rattle.schema_definitions.specs.Bearers.{Documents}
 use Rattle.schema_definitions.specs.Lookup.{Target, LookupCause, lookup}
 use Rattle.schema_meaning.specs.Places.{whole}
 use Rattle.schema_definitions.specs.Sites.{Site, root_site}
-use Rattle.schema_definitions.specs.PathTexts.{AreCertificate}
 use Rattle.schema_definitions.specs.Plain.{plain}
 use Rattle.fault_checks.specs.Passed.{scope_of}
 use Rattle.fault_checks.specs.Passed.{documents_at, Stands}
@@ -44,27 +43,10 @@ decided_at w t docs m b same matched stands scope p = record {
       }) straight;
 }
 
-module _ (p : Patterns) (r : Root) (d : Data) (instance evaluation : List ℕ) where
-  -- certificates of documents are what a walk speaks of
-  spelled : (matches : List ℕ → List ℕ → Bool) (t : Target) → AreCertificate r.documents p.makes matches t d instance evaluation
-      → AreSpelled (plain r.documents p.makes matches) (root_site t) d instance evaluation
-  spelled matches t c = record {
-    instance_path = c.instance_path;
-    evaluation_path = c.evaluation_path;
-    chain = c.chain;
-    instance_text = c.instance_text;
-    evaluation_text = c.evaluation_text;
-  }
-
-  certified : (matches : List ℕ → List ℕ → Bool) (t : Target) → AreSpelled (plain r.documents p.makes matches) (root_site t) d instance evaluation
-      → AreCertificate r.documents p.makes matches t d instance evaluation
-  certified matches t c = record {
-    instance_path = c.instance_path;
-    evaluation_path = c.evaluation_path;
-    chain = c.chain;
-    instance_text = c.instance_text;
-    evaluation_text = c.evaluation_text;
-  }
+module _ (p : Patterns) (own : Documents) (base reference : List ℕ) (d : Data) (instance evaluation : List ℕ) where
+  -- nothing was entered before it
+  abbrev r : Root
+  r = record { documents = own; base = base; reference = reference; before = [] }
 
   -- by matches that are the same on the way, the same is spelled, and references come back where they do
   module _ (matches other : List ℕ → List ℕ → Bool) (t : Target) (same : SameOnTheWay (plain r.documents p.makes matches) other (root_site t) (whole d)) where
@@ -95,7 +77,7 @@ module _ (p : Patterns) (r : Root) (d : Data) (instance evaluation : List ℕ) w
     accepted = λ e matches target there finish straight.
         let same : t ≡ target = finds_one r t target found there in
         let on = same_matches p r d m read matches target there finish in
-        certified matches target (spelled_back matches (reads m) target on
+        (spelled_back matches (reads m) target on
         ((subst (λ u. DecidesRoot u r.documents m d instance evaluation true) same h).decides p.makes (record { none = λ cause w. sound.right target there cause w })
         (straight_by matches (reads m) target on straight)));
     refused = λ e. cc;
@@ -111,7 +93,7 @@ module _ (p : Patterns) (r : Root) (d : Data) (instance evaluation : List ℕ) w
         let same : t ≡ target = finds_one r t target found there in
         let on = same_matches p r d m read matches target there finish in
         (subst (λ u. DecidesRoot u r.documents m d instance evaluation false) same h).decides p.makes (record { none = λ cause w. sound.right target there cause w })
-        (straight_by matches (reads m) target on straight) (spelled_by matches (reads m) target on (spelled matches target c));
+        (straight_by matches (reads m) target on straight) (spelled_by matches (reads m) target on c);
     circular = λ e. cc;
     unfinished = λ e. cc;
   }

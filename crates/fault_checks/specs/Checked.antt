@@ -6,14 +6,14 @@ use Rattle.schema_definitions.specs.Lookup.{Target}
 use Rattle.schema_definitions.specs.Sites.{root_site}
 use Rattle.schema_definitions.specs.Rows as rows
 use Rattle.schema_definitions.specs.BuildCauses.{IsCauseOf}
-use Rattle.schema_definitions.specs.PathTexts.{AreCertificate}
 use Rattle.schema_patterns.specs.Texts.{texts_in}
 use Rattle.schema_patterns.specs.Read.{reads, IsReadBy}
 use Rattle.schema_patterns.specs.declared.matches.Matches.{Matches}
 use Rattle.json_values.specs.Patterns.{matched, known}
 use Rattle.reading_laws.specs.Asked.{IsAsked, AreAmong}
-use Rattle.schema_registries.specs.Roots.{Root, Patterns, Finds, IsSound}
+use Rattle.schema_registries.specs.Roots.{Root, Patterns, Finds, IsSound, site_of_root}
 use Rattle.schema_registries.specs.Answers.{Finish, ComesBack}
+use Rattle.schema_registries.specs.Certified.{AreCertificate}
 use Rattle.schema_registries.specs.Matched.{AreReadOf}
 use Rattle.reached_sites.specs.declared.cause.BuildCause.{BuildCause}
 use Rattle.reached_sites.specs.declared.cause.BuildCause.TheVariants.{KeywordValue, BadPattern, Unevaluated, Reference, NodeLimit, Memory}
@@ -37,23 +37,23 @@ DecidesAt root m d instance evaluation b = DecidesRoot (target_in root) (documen
 
 -- of each match that a value asks for these say what is known of it
 pub record AgreeWithKnown (p : Patterns) (r : Root) (matches : List ℕ → List ℕ → Bool) (target : Target) (d : Data) : Type 0 where
-  pub agree : (pattern text : List ℕ) → IsAsked r.documents p.makes (root_site target) matches d pattern text
+  pub agree : (pattern text : List ℕ) → IsAsked r.documents p.makes (site_of_root r target) matches d pattern text
       → (answer : Bool) → known p.finished pattern text ≡ Some answer → matched matches pattern text ≡ answer
 
 -- a match that a value asks for stays unfinished
 pub record StaysUnfinished (p : Patterns) (r : Root) (matches : List ℕ → List ℕ → Bool) (target : Target) (d : Data) : Type 0 where
   pub pattern : List ℕ
   pub text : List ℕ
-  pub asked : IsAsked r.documents p.makes (root_site target) matches d pattern text
+  pub asked : IsAsked r.documents p.makes (site_of_root r target) matches d pattern text
   pub unfinished : known p.finished pattern text ≡ None
 
 -- where the matches finish and no references come back, two texts are accepted exactly where they are a certificate; by whatever matches agree with
 -- what is known, references come back where it is said that they do, and a match stays unfinished where it is said that one does
 pub record IsChecked (p : Patterns) (r : Root) (d : Data) (instance evaluation : List ℕ) (answer : CheckAnswer) : Type 0 where
   pub accepted : answer ≡ Accepted → (matches : List ℕ → List ℕ → Bool) (target : Target) → Finds r target → Finish p r matches target d
-      → (ComesBack p r matches target d → ⊥) → AreCertificate r.documents p.makes matches target d instance evaluation
+      → (ComesBack p r matches target d → ⊥) → AreCertificate p r matches target d instance evaluation
   pub refused : answer ≡ Refused → (matches : List ℕ → List ℕ → Bool) (target : Target) → Finds r target → Finish p r matches target d
-      → (ComesBack p r matches target d → ⊥) → AreCertificate r.documents p.makes matches target d instance evaluation → ⊥
+      → (ComesBack p r matches target d → ⊥) → AreCertificate p r matches target d instance evaluation → ⊥
   pub circular : answer ≡ Circular → (matches : List ℕ → List ℕ → Bool) (target : Target) → Finds r target → AgreeWithKnown p r matches target d
       → ComesBack p r matches target d
   pub unfinished : answer ≡ Unfinished → (matches : List ℕ → List ℕ → Bool) (target : Target) → Finds r target → AgreeWithKnown p r matches target d

@@ -16,7 +16,7 @@ ghost use Rattle.referencing.specs.Keys.{key_of};
 
 use crate::compile_key::CompileKey;
 use crate::waypoint::Waypoint;
-use referencing::{Resolved, ScopeKey};
+use referencing::{Resolved, Resolver, ScopeKey};
 use schema_patterns::matches::Matches;
 use schema_sites::site::{Site, at_root, at_target};
 use serde_json::Value;
@@ -51,6 +51,7 @@ fn key_of_scope(alloc: Global, site: &Site<'_>) -> Result<Rc<ScopeKey>, AllocErr
 impl<'r> Visit<'r> {
     ghost use Rattle.reached_sites.specs.Visits.{site_of, key_at, Met, Belongs};
     ghost use Rattle.reached_sites.specs.Keyed.{key_in};
+    ghost use Rattle.reached_sites.specs.Roots.{root_behind};
 
     /// The visit of a root.
     ///
@@ -66,6 +67,33 @@ impl<'r> Visit<'r> {
         ensures belongs { IfOk result (Belongs (documents_in root.now.resolver)) }
     {
         let site = at_root(root, matches)?;
+        Ok(Visit {
+            point: Waypoint::of_root(root)?,
+            key: key_of_scope(alloc, &site)?,
+            site,
+        })
+    }
+
+    /// The visit of a root whose base is entered behind the resources of another resolver.
+    ///
+    /// # Errors
+    ///
+    /// Where memory was refused or a count of owners is full.
+    pub fn of_root_behind(
+        alloc: Global,
+        outer: &Resolver<'r>,
+        root: &Resolved<'r>,
+        matches: &'r Matches,
+    ) -> Result<Visit<'r>, AllocError>
+        ensures met { IfOk result (λ v. Met v (root_behind (base_of outer.now) (scope_of outer.now) (target_in root.now))) }
+        ensures belongs { IfOk result (Belongs (documents_in outer.now)) }
+    {
+        let site = Site {
+            contents: root.contents(),
+            dialect: root.dialect(),
+            resolver: outer.at(root.resolver().base_uri()?)?,
+            matches,
+        };
         Ok(Visit {
             point: Waypoint::of_root(root)?,
             key: key_of_scope(alloc, &site)?,

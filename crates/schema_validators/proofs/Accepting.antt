@@ -6,7 +6,6 @@ use Rattle.schema_meaning.specs.Order.{same_none}
 use Rattle.schema_meaning.specs.Places.{whole}
 use Rattle.schema_meaning.specs.Readings.{verdicts}
 use Rattle.schema_definitions.specs.Plain.{plain}
-use Rattle.schema_definitions.specs.Sites.{root_site}
 use Rattle.meaning_laws.proofs.Verdicts.{told_agrees, cut_agrees}
 use Rattle.compiled_keywords.specs.Shapes.{shape_of}
 use Rattle.schema_engine.specs.Graphs.{reading_of}
@@ -14,7 +13,7 @@ use Rattle.graph_answers.specs.Answers.{answer_by, keys_below}
 use Rattle.graph_answers.specs.Tables.{table_reads}
 use Rattle.schema_patterns.specs.declared.matcher.PatternMatcher.{Ghosts}
 use Rattle.schema_registries.specs.Answers.{IsAnswer}
-use Rattle.schema_registries.specs.Roots.{Root, Patterns}
+use Rattle.schema_registries.specs.Roots.{Root, Patterns, site_of_root}
 use Rattle.schema_validators.specs.Answered.{AreFaults}
 use Rattle.schema_validators.specs.Seen.{nodes_in, table_in}
 use Rattle.schema_validators.specs.Told.{verdict_by, faults_by}
@@ -39,6 +38,6 @@ accepted_none p r d answer matches target found finish straight =
     let told = answer matches target found finish straight in
     record {
       faults = none;
-      told = record { unfoldings = told.unfoldings; is = some_none _ (told_agrees (plain r.documents p.makes matches) told.unfoldings (root_site target) (whole d) ∙ told.is) };
+      told = record { unfoldings = told.unfoldings; is = some_none _ (told_agrees (plain r.documents p.makes matches) told.unfoldings (site_of_root r target) (whole d) ∙ told.is) };
       same = same_none;
     }

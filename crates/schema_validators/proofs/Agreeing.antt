@@ -13,13 +13,13 @@ use Rattle.schema_definitions.specs.Plain.{plain}
 use Rattle.schema_definitions.specs.Bearers.{uri_in}
 use Rattle.schema_definitions.specs.Lookup.{Target}
 use Rattle.schema_definitions.specs.PathTexts.{path_text}
-use Rattle.schema_definitions.specs.Sites.{Site, root_site}
+use Rattle.schema_definitions.specs.Sites.{Site}
 use Rattle.schema_definitions.specs.Words.{has_text}
 use Rattle.schema_reports.specs.Told.{fault_of}
 use Rattle.schema_registries.specs.declared.registry.SharedRegistry.{SharedRegistry}
 use Rattle.schema_registries.specs.declared.registry.SchemaRegistry.{SchemaRegistry}
 use Rattle.schema_registries.specs.Seen.{documents_shared, retrieved_shared}
-use Rattle.schema_registries.specs.Roots.{Root, Patterns, Finds, IsSound, root_on}
+use Rattle.schema_registries.specs.Roots.{Root, Patterns, Finds, IsSound, root_on, site_of_root}
 use Rattle.schema_patterns.specs.declared.matcher.PatternMatcher.{Ghosts}
 use Rattle.schema_registries.specs.Answers.{IsAnswer}
 use Rattle.schema_validators.specs.Answered.{WhereDecided, AreFaults}
@@ -38,8 +38,8 @@ use Rattle.schema_validators.specs.Agreed.{Answers, AreAlike, AreBuiltAlike, IsM
 -- ---- answers
 
 told_equal : {A : Type 0} (t : Telling Site A) (p : Patterns) (r : Root) (d : Data) (matches : List ℕ → List ℕ → Bool) (target : Target) (x y : A)
-    → IsTold t (plain r.documents p.makes matches) (root_site target) (whole d) x → IsTold t (plain r.documents p.makes matches) (root_site target) (whole d) y → x ≡ y
-told_equal t p r d matches target x y h k = told_once t (plain r.documents p.makes matches) h.unfoldings k.unfoldings (root_site target) (whole d) x y h.is k.is
+    → IsTold t (plain r.documents p.makes matches) (site_of_root r target) (whole d) x → IsTold t (plain r.documents p.makes matches) (site_of_root r target) (whole d) y → x ≡ y
+told_equal t p r d matches target x y h k = told_once t (plain r.documents p.makes matches) h.unfoldings k.unfoldings (site_of_root r target) (whole d) x y h.is k.is
 
 pub verdicts_equal : (p : Patterns) (r : Root) (d : Data) (x y : Bool) → IsAnswer verdicts p r d x → IsAnswer verdicts p r d y → WhereDecided p r d (λ matches target. x ≡ y)
 verdicts_equal p r d x y h k matches target found finish straight =

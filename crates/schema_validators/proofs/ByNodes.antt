@@ -6,7 +6,6 @@ use Rattle.schema_meaning.specs.Places.{whole}
 use Rattle.schema_meaning.specs.Readings.{verdicts, bags}
 use Rattle.schema_definitions.specs.Lookup.{Target}
 use Rattle.schema_definitions.specs.Plain.{plain}
-use Rattle.schema_definitions.specs.Sites.{root_site}
 use Rattle.meaning_laws.proofs.Verdicts.{told_agrees}
 use Rattle.linked_meanings.specs.Moved.{moved}
 use Rattle.linked_meanings.proofs.OrderLemmas.{none_same}
@@ -20,7 +19,7 @@ use Rattle.graph_answers.specs.Answers.{answer_by, IsDecided, IsVerdict}
 use Rattle.schema_patterns.specs.declared.table.PatternTable.{PatternTable}
 use Rattle.schema_reports.specs.Told.{fault_of}
 use Rattle.schema_reports.specs.declared.error.ValidationError.{ValidationError}
-use Rattle.schema_registries.specs.Roots.{Root, Patterns, Finds}
+use Rattle.schema_registries.specs.Roots.{Root, Patterns, Finds, site_of_root}
 use Rattle.schema_registries.specs.Answers.{Finish, ComesBack, IsAnswer}
 use Rattle.schema_registries.specs.Certified.{HasCertificate, HaveCertificates}
 use Rattle.schema_validators.specs.Answered.{AreThose, AreFaults, IsFault}
@@ -32,7 +31,7 @@ moved_none (also f fs) = refl
 
 module _ {M : Type 0} (finds : M → List ℕ → Option Bool) (p : Patterns) (r : Root) (nodes : List (Node Keyword)) (start : ℕ) (table : PatternTable M) (made : IsMadeAt finds p r nodes start table) (d : Data) where
   decided : (matches : List ℕ → List ℕ → Bool) (target : Target) → Finds r target → Finish p r matches target d → (ComesBack p r matches target d → ⊥)
-      → IsDecided shape_of finds nodes table start d r.documents p.makes matches (root_site target)
+      → IsDecided shape_of finds nodes table start d r.documents p.makes matches (site_of_root r target)
   decided matches target found finish straight = record {
     compiled = made.means target found;
     shallow = (lookups_lie r.documents r.base r.reference target found).shallow;
@@ -44,13 +43,13 @@ module _ {M : Type 0} (finds : M → List ℕ → Option Bool) (p : Patterns) (r
   }
 
   pub verdict_answered : (b : Bool) → IsVerdict shape_of finds nodes table start d b → IsAnswer verdicts p r d b
-  verdict_answered b h matches target found finish straight = h r.documents p.makes matches (root_site target) (decided matches target found finish straight)
+  verdict_answered b h matches target found finish straight = h r.documents p.makes matches (site_of_root r target) (decided matches target found finish straight)
 
   module _ (faults : graph.AreFaults shape_of finds nodes table start d) where
     those : (matches : List ℕ → List ℕ → Bool) (target : Target) → Finds r target → Finish p r matches target d → (ComesBack p r matches target d → ⊥)
         → AreThose p r matches target d (answer_by shape_of finds nodes table start d bags)
     those matches target found finish straight =
-        let are = faults r.documents p.makes matches (root_site target) (decided matches target found finish straight) in
+        let are = faults r.documents p.makes matches (site_of_root r target) (decided matches target found finish straight) in
         record { faults = are.faults; told = are.told; same = are.same }
 
     pub verdict_of : (b : Bool) → b ≡ is_none (answer_by shape_of finds nodes table start d bags) → IsAnswer verdicts p r d b
@@ -59,7 +58,7 @@ module _ {M : Type 0} (finds : M → List ℕ → Option Bool) (p : Patterns) (r
         let same = is ∙ none_same are.same ∙ moved_none are.faults in
         record {
           unfoldings = are.told.unfoldings;
-          is = sym (told_agrees (plain r.documents p.makes matches) are.told.unfoldings (root_site target) (whole d)) ∙ ap (option_map is_none) are.told.is ∙ ap Some (sym same);
+          is = sym (told_agrees (plain r.documents p.makes matches) are.told.unfoldings (site_of_root r target) (whole d)) ∙ ap (option_map is_none) are.told.is ∙ ap Some (sym same);
         }
 
     pub faults_answered : (fs : Faults) → fs ≡ answer_by shape_of finds nodes table start d bags → AreFaults p r d fs
@@ -74,7 +73,7 @@ module _ {M : Type 0} (finds : M → List ℕ → Option Bool) (p : Patterns) (r
     fault_certified f told matches target found finish straight = record {
       instance_path = instance_path f;
       evaluation_path = evaluation_path f;
-      chain = certified r.documents p.makes matches (root_site target) (decided matches target found finish straight) f told;
+      chain = certified r.documents p.makes matches (site_of_root r target) (decided matches target found finish straight) f told;
       instance_text = refl;
       evaluation_text = refl;
     }

@@ -20,10 +20,10 @@ use Rattle.meaning_laws.proofs.Stays.{told-asks}
 use Rattle.meaning_laws.proofs.Obliged.{in_map}
 use Rattle.schema_definitions.specs.Bearers.{Documents}
 use Rattle.schema_definitions.specs.Rows.{Row, Context, nothing_read, read_among, readers, row_at, rows_of, rows_in, rows_at, asserted, unless_empty}
-use Rattle.schema_definitions.specs.Sites.{Site, root_site}
+use Rattle.schema_definitions.specs.Sites.{Site}
 use Rattle.schema_definitions.specs.Plain.{keywords_at, plain}
 use Rattle.schema_definitions.specs.Values.{names_in, none_twice, if_none_twice}
-use Rattle.schema_registries.specs.Roots.{Root, Patterns}
+use Rattle.schema_registries.specs.Roots.{Root, Patterns, site_of_root}
 use Rattle.schema_definitions.specs.Lookup.{Target}
 use Rattle.linked_meanings.specs.Moved.{moved}
 use Rattle.reading_laws.specs.Spelled.{spelled}
@@ -275,12 +275,12 @@ missing_spelled names w above fs h = record {
 -- ---- what is answered from a root on
 
 missing_there : (p : Patterns) (r : Root) (d : Data) (matches : List ℕ → List ℕ → Bool) (target : Target) (fs : Faults)
-    → IsTold bags (plain r.documents p.makes matches) (root_site target) (whole d) fs
-    → (s : Site) (w : Spot) → IsToldAt (plain r.documents p.makes matches) (root_site target) (whole d) s w
+    → IsTold bags (plain r.documents p.makes matches) (site_of_root r target) (whole d) fs
+    → (s : Site) (w : Spot) → IsToldAt (plain r.documents p.makes matches) (site_of_root r target) (whole d) s w
     → (names : List (List ℕ)) → Requires r.documents p.makes s names → TellsMissing names w s.schema_path fs
 missing_there p r d matches target fs is s w t [] h = nothing_missing w s.schema_path fs
 missing_there p r d matches target fs is s w t (k ∷ ks) h =
-    missing_told (plain r.documents p.makes matches) is.unfoldings (root_site target) (whole d) fs is.is s w t (k ∷ ks) (required_once r.documents p.makes s (k ∷ ks) h)
+    missing_told (plain r.documents p.makes matches) is.unfoldings (site_of_root r target) (whole d) fs is.is s w t (k ∷ ks) (required_once r.documents p.makes s (k ∷ ks) h)
     (required_stands r.documents p.makes s (k ∷ ks) h (asserts (required (k ∷ ks))) first)
 
 pub each_missing : (p : Patterns) (r : Root) (d : Data) (fs : Faults) → AreFaults p r d fs → TellsEachMissing p r d fs

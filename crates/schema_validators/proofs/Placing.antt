@@ -22,7 +22,7 @@ use Rattle.schema_validators.specs.Meant.{Means}
 module _ (own : List Document) (base reference : List ℕ) (t : Target) (found : lookup own base reference ≡ Ok t)
     (apart : are_apart own ≡ true) (rise : list_all contents_rise own ≡ true) where
   abbrev here : Root
-  here = record { documents = own; base = base; reference = reference }
+  here = record { documents = own; base = base; reference = reference; before = [] }
 
   placed : IsPlaced own t
   placed = record { apart = apart; rise = rise; target = by_reference base reference found }
@@ -50,7 +50,7 @@ module _ (own : List Document) (base reference : List ℕ) (t : Target) (found :
         (λ u there. subst (λ (v : Target). IsCompiledAt own p.makes nodes (root_site v) start) (finds_one here t u found there) h)
 
 abbrev root_from : List Document → List ℕ → List ℕ → Root
-root_from own base reference = record { documents = own; base = base; reference = reference }
+root_from own base reference = record { documents = own; base = base; reference = reference; before = [] }
 
 pub one_root : {own other : List Document} {base other_base reference other_reference : List ℕ} → own ≡ other → base ≡ other_base → reference ≡ other_reference
     → root_from own base reference ≡ root_from other other_base other_reference

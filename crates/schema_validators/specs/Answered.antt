@@ -7,10 +7,9 @@ use Rattle.schema_meaning.specs.Order.{SameFaults}
 use Rattle.schema_meaning.specs.Readings.{bags, IsTold}
 use Rattle.schema_definitions.specs.Lookup.{Target}
 use Rattle.schema_definitions.specs.Plain.{plain}
-use Rattle.schema_definitions.specs.Sites.{root_site}
 use Rattle.linked_meanings.specs.Moved.{moved}
 use Rattle.reading_laws.specs.Spelled.{spelled}
-use Rattle.schema_registries.specs.Roots.{Root, Patterns, Finds}
+use Rattle.schema_registries.specs.Roots.{Root, Patterns, Finds, site_of_root}
 use Rattle.schema_registries.specs.Answers.{Finish, ComesBack}
 
 -- this holds where the matches finish and no references come back
@@ -20,7 +19,7 @@ WhereDecided p r d Holds = (matches : List ℕ → List ℕ → Bool) (target : 
 -- some faults are those that the plain reading tells, each as often, in any order, with schema paths as pointers spell them
 pub record AreThose (p : Patterns) (r : Root) (matches : List ℕ → List ℕ → Bool) (target : Target) (d : Data) (fs : Faults) : Type 0 where
   pub faults : Faults
-  pub told : IsTold bags (plain r.documents p.makes matches) (root_site target) (whole d) faults
+  pub told : IsTold bags (plain r.documents p.makes matches) (site_of_root r target) (whole d) faults
   pub same : SameFaults fs (moved spelled faults)
 
 abbrev pub AreFaults : Patterns → Root → Data → Faults → Type 0

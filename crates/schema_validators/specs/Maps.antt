@@ -12,9 +12,8 @@ use Rattle.compiled_graphs.specs.Causes.{AreExceeded}
 use Rattle.compiled_graphs.specs.Starts.{sites_from}
 use Rattle.schema_registries.specs.declared.registry.SchemaRegistry.{SchemaRegistry}
 use Rattle.schema_registries.specs.Seen.{documents_in_registry}
-use Rattle.schema_registries.specs.Roots.{Root, Patterns, Finds, IsSound, root_on}
+use Rattle.schema_registries.specs.Roots.{Root, Patterns, Finds, IsSound, root_on, root_inside}
 use Rattle.schema_validators.specs.Refused.{RefusesReference}
-use Rattle.schema_validators.specs.Seen.{root_of}
 use Rattle.schema_validators.specs.Made.{IsMadeBy}
 use Rattle.schema_validators.specs.declared.error.BuildError.{BuildError}
 use Rattle.schema_validators.specs.declared.error.BuildError.TheVariants as error
@@ -33,9 +32,9 @@ entries_in m = map (λ e. (string_bytes e.0, e.1)) m.validators.entries
 abbrev pub entry_at : {M : Type 0} {G : Ghosts M} → ValidatorMap M G → List ℕ → Option (Validator M G)
 entry_at m pointer = get_by_text m.validators pointer
 
--- a schema place as a root: the pointer is looked up, as a fragment, from its document's URI
+-- a schema place as a root: the pointer is looked up, as a fragment, from its document's URI, with the resource of the document's root entered
 abbrev pub place_root : List Document → List ℕ → List ℕ → Root
-place_root own document pointer = root_of own document (reference_to pointer)
+place_root own document pointer = root_inside own document (reference_to pointer)
 
 -- of some pointers those at which nothing is wrong, in their order
 pub data SortsOut (p : Patterns) (own : List Document) (document : List ℕ) : List (List ℕ) → List (List ℕ) → Type 0 where

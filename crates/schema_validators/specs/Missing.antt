@@ -14,9 +14,9 @@ use Rattle.schema_meaning.specs.Readings.{Reading, rules, IsTold, verdicts}
 use Rattle.schema_definitions.specs.Bearers.{Documents}
 use Rattle.schema_definitions.specs.Plain.{plain}
 use Rattle.schema_definitions.specs.Rows.{counts_here}
-use Rattle.schema_definitions.specs.Sites.{Site, root_site}
+use Rattle.schema_definitions.specs.Sites.{Site}
 use Rattle.schema_definitions.specs.Values.{unique_names, none_twice}
-use Rattle.schema_registries.specs.Roots.{Root, Patterns}
+use Rattle.schema_registries.specs.Roots.{Root, Patterns, site_of_root}
 use Rattle.reading_laws.specs.Spelled.{spelled}
 use Rattle.schema_validators.specs.Answered.{WhereDecided}
 
@@ -76,5 +76,5 @@ pub record TellsMissingSomewhere (names : List (List ℕ)) (w : Spot) (above : L
 -- at the root, and where chains of such questions lead from there. Schema paths are as pointers spell them.
 abbrev pub TellsEachMissing : Patterns → Root → Data → Faults → Type 0
 TellsEachMissing p r d fs = WhereDecided p r d (λ matches target.
-    (s : Site) (w : Spot) → IsToldAt (plain r.documents p.makes matches) (root_site target) (whole d) s w
+    (s : Site) (w : Spot) → IsToldAt (plain r.documents p.makes matches) (site_of_root r target) (whole d) s w
     → (names : List (List ℕ)) → Requires r.documents p.makes s names → TellsMissingSomewhere names w (spelled s.schema_path) fs)

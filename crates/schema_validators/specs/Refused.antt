@@ -3,7 +3,6 @@ use Rattle.std.specs.Prelude.{◌≡◌, ◌⊎◌, ℕ, List, Option, Some, Non
 use Rattle.serde_json.specs.Data.{Data}
 use Rattle.schema_definitions.specs.Bearers.{Document, Layer}
 use Rattle.schema_definitions.specs.Lookup.{Target, LookupCause, lookup}
-use Rattle.schema_definitions.specs.Sites.{root_site}
 use Rattle.schema_definitions.specs.Rows as rows
 use Rattle.schema_definitions.specs.BuildCauses.{IsCauseOf}
 use Rattle.document_sources.specs.Given.{Given, documents_by}
@@ -18,7 +17,7 @@ use Rattle.schema_registries.specs.Passed.{Asking, Stops, HasCause}
 use Rattle.schema_registries.specs.declared.registry.SharedRegistry.{SharedRegistry}
 use Rattle.schema_registries.specs.declared.registry.SchemaRegistry.{SchemaRegistry}
 use Rattle.schema_registries.specs.Retrieval.{IsPrepared, beside}
-use Rattle.schema_registries.specs.Roots.{Root, Patterns, Finds, IsSound}
+use Rattle.schema_registries.specs.Roots.{Root, Patterns, Finds, IsSound, site_of_root}
 use Rattle.schema_validators.specs.Answered.{IsFault}
 use Rattle.schema_validators.specs.Asked.{IsAsked, meta_root}
 use Rattle.schema_validators.specs.Prepared.{asking_by, layer_by, layer_beside, meta_schemas_given}
@@ -65,7 +64,7 @@ RefusesBuild p limit r (error.Registry e) = ⊥
 RefusesBuild p limit r (error.Root e) = (cause : LookupCause) × (lookup r.documents r.base r.reference ≡ Err cause) × NamesLookup cause e
 RefusesBuild p limit r (error.Schema e) =
     (target : Target) × Finds r target
-    × (IsExceeded r.documents p.makes (root_site target) limit e ⊎ ((cause : rows.BuildCause) × NamesCause cause e × IsCauseOf r.documents p.makes (root_site target) cause))
+    × (IsExceeded r.documents p.makes (site_of_root r target) limit e ⊎ ((cause : rows.BuildCause) × NamesCause cause e × IsCauseOf r.documents p.makes (site_of_root r target) cause))
 RefusesBuild p limit r (error.MetaSchema e) = ⊥
 RefusesBuild p limit r error.Memory = Unit {0}
 

@@ -1,5 +1,5 @@
 -- Roots, what validators have, and what options say.
-use Rattle.std.specs.Prelude.{ℕ, List}
+use Rattle.std.specs.Prelude.{ℕ, List, []}
 use Rattle.schema_definitions.specs.Bearers.{Document}
 use Rattle.schema_engine.specs.declared.node.Node.{Node}
 use Rattle.compiled_keywords.specs.declared.keyword.Keyword.{Keyword}
@@ -9,9 +9,9 @@ use Rattle.schema_registries.specs.Roots.{Root}
 use Rattle.schema_validators.specs.declared.options.ValidationOptions.{ValidationOptions}
 use Rattle.schema_validators.specs.declared.validator.Validator.{Validator}
 
--- a reference from a base into documents
+-- a reference from a base into documents, where nothing was entered before
 abbrev pub root_of : List Document → List ℕ → List ℕ → Root
-root_of documents base reference = record { documents = documents; base = base; reference = reference }
+root_of documents base reference = record { documents = documents; base = base; reference = reference; before = [] }
 
 -- the nodes of a validator, and its patterns
 abbrev pub nodes_in : {M : Type 0} {G : Ghosts M} → Validator M G → List (Node Keyword)

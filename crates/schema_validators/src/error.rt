@@ -2,10 +2,9 @@
 
 ghost use Rattle.std.specs.Prelude.{◌≡◌, ℕ};
 ghost use Rattle.schema_definitions.specs.Lookup.{Target, lookup};
-ghost use Rattle.schema_definitions.specs.Sites.{root_site};
 ghost use Rattle.document_sources.specs.Causes.{RefusesLookup};
 ghost use Rattle.reached_sites.specs.Causes as reached;
-ghost use Rattle.schema_registries.specs.Roots.{Root, Patterns, Finds};
+ghost use Rattle.schema_registries.specs.Roots.{Root, Patterns, Finds, site_of_root};
 ghost use Rattle.schema_validators.specs.Refused.{IsOfRegistry, RefusesBuild};
 ghost use Rattle.schema_validators.specs.New.{IsOfDocument};
 ghost use Rattle.schema_validators.specs.Refused.{RefusesReference, IsOfPlaces};
@@ -116,7 +115,7 @@ impl BuildError {
 
     /// The error of a root that leads to a cause, or to too much.
     pub(crate) fn of_schema(cause: BuildCause) -> BuildError
-        ensures { (p : Patterns) (limit : ℕ) (root : Root) (target : Target) → Finds root target → reached.RefusesWithin root.documents p.makes (root_site target) limit cause → RefusesBuild p limit root result }
+        ensures { (p : Patterns) (limit : ℕ) (root : Root) (target : Target) → Finds root target → reached.RefusesWithin root.documents p.makes (site_of_root root target) limit cause → RefusesBuild p limit root result }
     {
         match cause {
             BuildCause::Memory => BuildError::Memory,

@@ -323,7 +323,8 @@ impl<P: PatternMaker + Drop, R: Retrieve + Drop> ValidationOptions<P, R> {
     }
 
     /// A validator for each schema of the document under whose URI a root lies, an own one before a parent's, by its JSON Pointer: those of its schema places at which nothing is wrong
-    /// and from which nothing wrong is reached. Each begins where looking its pointer up, as a fragment, leads from the document's URI.
+    /// and from which nothing wrong is reached. Each begins where looking its pointer up, as a fragment, leads from the document's URI,
+    /// with the resource of the document's own root in its scope (Core 8.2.3.2).
     ///
     /// All that is reached from the places is walked once, and compiled into one graph, with its patterns, that all of them share.
     /// No meta-schema is asked.

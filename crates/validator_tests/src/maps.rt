@@ -150,9 +150,50 @@ at <#/$defs/node> {"v":1,"next":{"v":"x"}} => #/next/v #/properties/next/$ref/pr
 at </$defs/node/properties/v> {"v":1,"next":{"v":"x"}} => # #/type
 "##;
 
+// Each is read behind its document's own resource (2020-12, Core 8.2.3.2; 2019-09, Core 8.2.4.2).
+const SCOPES: &str = r##"
+document <http://a.test/r> {"$id":"http://a.test/r","$defs":{"e":{"$id":"http://a.test/e","$dynamicAnchor":"n","properties":{"x":{"$dynamicRef":"#n"}}},"s":{"$dynamicAnchor":"n","type":"string"}}}
+at </$defs/e> {"x":1} => #/x #/properties/x/$dynamicRef/type
+at </$defs/e> {"x":"a"} => valid
+
+# as a root by itself it is alone in its scope
+document <http://a.test/r> {"$id":"http://a.test/r","$defs":{"e":{"$id":"http://a.test/e","$dynamicAnchor":"n","properties":{"x":{"$dynamicRef":"#n"}}},"s":{"$dynamicAnchor":"n","type":"string"}}}
+root #/$defs/e
+build {"x":1} => true
+build {"x":{"x":1}} => true
+
+# the own resource goes by its identifier, under whatever URI the document was added
+document <http://a.test/given> {"$id":"http://a.test/r","$defs":{"e":{"$id":"http://a.test/e","$dynamicAnchor":"n","properties":{"x":{"$dynamicRef":"#n"}}},"s":{"$dynamicAnchor":"n","type":"string"}}}
+root given
+at </$defs/e> {"x":1} => #/x #/properties/x/$dynamicRef/type
+
+# whatever root the map was asked for
+document <http://a.test/r> {"$id":"http://a.test/r","$defs":{"e":{"$id":"http://a.test/e","$dynamicAnchor":"n","properties":{"x":{"$dynamicRef":"#n"}}},"s":{"$dynamicAnchor":"n","type":"string"}}}
+root #/$defs/e
+at </$defs/e> {"x":1} => #/x #/properties/x/$dynamicRef/type
+
+# a resource that the pointer passes on its way is not entered
+document <http://a.test/r> {"$id":"http://a.test/r","$defs":{"m":{"$id":"http://a.test/m","$defs":{"e":{"$id":"http://a.test/e","$dynamicAnchor":"n","properties":{"x":{"$dynamicRef":"#n"}}},"s":{"$dynamicAnchor":"n","type":"string"}}}}}
+at </$defs/m/$defs/e> {"x":1} => valid
+at </$defs/m> {"x":1} => valid
+
+document <http://a.test/r> {"$schema":"https://json-schema.org/draft/2019-09/schema","$id":"http://a.test/r","$recursiveAnchor":true,"required":["v"],"$defs":{"e":{"$id":"http://a.test/e","$recursiveAnchor":true,"properties":{"x":{"$recursiveRef":"#"}}}}}
+at </$defs/e> {"x":{}} => #/x #/properties/x/$recursiveRef/required
+at </$defs/e> {"x":{"v":1}} => valid
+
+document <http://a.test/r> {"$schema":"https://json-schema.org/draft/2019-09/schema","$id":"http://a.test/r","$recursiveAnchor":true,"required":["v"],"$defs":{"e":{"$id":"http://a.test/e","$recursiveAnchor":true,"properties":{"x":{"$recursiveRef":"#"}}}}}
+root #/$defs/e
+build {"x":{}} => true
+"##;
+
 #[test]
 fn have_each_schema_that_may_be_read(rt: HostRuntime) {
     assert_cases(&rt, rt.alloc(), BESIDE, KEYS);
     assert_cases(&rt, rt.alloc(), BESIDE, ROOTS);
     assert_cases(&rt, rt.alloc(), BESIDE, READ);
+}
+
+#[test]
+fn are_read_behind_their_document(rt: HostRuntime) {
+    assert_cases(&rt, rt.alloc(), BESIDE, SCOPES);
 }

@@ -34,3 +34,4 @@ pub mod Refusals
 pub mod Identifiers
 pub mod Dialects
 pub mod Pointers
+pub mod Entries

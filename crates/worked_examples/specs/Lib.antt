@@ -31,3 +31,4 @@ pub mod Siblings
 pub mod Dialects
 pub mod Lines
 pub mod Pointers
+pub mod Entries

@@ -2,6 +2,7 @@
 
 ghost use Rattle.std.specs.List.{AllByRecursion};
 ghost use Rattle.worked_examples.specs.Dialects.{Gives, meta_schemas};
+ghost use Rattle.worked_examples.specs.Entries.{IsEntry, entries};
 ghost use Rattle.worked_examples.specs.Identifiers.{IsNamed, named};
 ghost use Rattle.worked_examples.specs.Lines.{Written, lines, InputsAreCut};
 ghost use Rattle.worked_examples.specs.Lookups.{Answers, lookups, Refuses, refusals};
@@ -52,6 +53,11 @@ pub fn lookups_hold()
 /// The JSON Pointers of schema places, and the references by which they are looked up.
 pub fn pointers_hold()
     ensures { AllByRecursion HasPointers pointed }
+{}
+
+/// Entries of a map of validators, read behind their document's own resource.
+pub fn entries_hold()
+    ensures { AllByRecursion IsEntry entries }
 {}
 
 /// Documents that are no registry, and why.

@@ -22,7 +22,7 @@ loop-reference-preserved c =
     let texts : map string_bytes (take (i + 1) refs) ≡ map string_bytes (take i refs) ++ string_bytes r ∷ [] =
     ap (map string_bytes) (take_more refs i r c.loop-reference-test.true ∙ ap (λ x. take i refs ++ x ∷ []) (sym c.reference-item.is)) ∙ map-append string_bytes (take i refs) (r ∷ []) in
     let one = starting-goes own base c.requires.apart c.requires.rise (map string_bytes (take i refs)) (string_bytes r) c.loop-reference.visits.list.items c.start_one.new.visits.list.items c.loop-reference.starts.items c.in_ok-position.position
-    (subst (λ t. StartsOne own base t c.loop-reference.visits.list.items c.start_one.new.visits.list.items c.in_ok-position.position) c.as_str.ensures.value c.in_ok-position.ensures) known.starting in
+    (subst (λ t. StartsOne own base t c.loop-reference.visits.list.items c.start_one.new.visits.list.items c.in_ok-position.position) c.as_str-text.ensures.value c.in_ok-position.ensures) known.starting in
     record {
       starting = subst (λ os. Starting own base (map string_bytes (take (i + 1) refs)) c.start_one.new.visits.list.items os) (sym c.in_ok-push.ensures.items)
           (subst (λ rs. Starting own base rs c.start_one.new.visits.list.items (c.loop-reference.starts.items ++ c.in_ok-position.position ∷ [])) (sym texts) one);

@@ -21,11 +21,11 @@ returns-in_default c =
 
 pub returns-in_default-opened : goal.returns-in_default-opened
 returns-in_default-opened c =
-    λ p read sound. no_instance p (root_on c.args.registry.now c.args.root.now) (view c.args.value.now) c.args.path.instance_path.now c.args.path.evaluation_path.now c.in_default-opened.ensures
+    λ p read sound. no_instance p (documents_in_registry c.args.registry.now) c.args.registry.now.base c.args.root.now (view c.args.value.now) c.args.path.instance_path.now c.args.path.evaluation_path.now c.in_default-opened.ensures
 
 pub returns-in_default-opened-2 : goal.returns-in_default-opened-2
 returns-in_default-opened-2 c =
-    λ p read sound. no_evaluation p (root_on c.args.registry.now c.args.root.now) (view c.args.value.now) c.args.path.instance_path.now c.args.path.evaluation_path.now c.in_default-opened-2.ensures
+    λ p read sound. no_evaluation p (documents_in_registry c.args.registry.now) c.args.registry.now.base c.args.root.now (view c.args.value.now) c.args.path.instance_path.now c.args.path.evaluation_path.now c.in_default-opened-2.ensures
 
 pub is_spelled-requires : goal.is_spelled-requires
 is_spelled-requires c =
@@ -48,7 +48,7 @@ returns-then-branch c =
     let found : Finds r t = sym (ap₂ (λ ds b. lookup ds b c.args.root.now) documents base) ∙ c.in-Ok.ensures.ok in
     let there : documents_in c.in-Ok.found.resolver ≡ documents_in_registry registry = c.in-Ok.ensures.documents ∙ documents in
     let told = subst (λ b. DecidesRoot t (documents_in c.in-Ok.found.resolver) m d (text_left c.in-Some-opened.instance) (text_left c.in-Some-opened-2.evaluation) b) c.if-branch.true c.in_ok-is_spelled-in-Ok.ensures in
-    λ p read. accepted_by p r d c.args.path.instance_path.now c.args.path.evaluation_path.now t m found
+    λ p read. accepted_by p r.documents r.base r.reference d c.args.path.instance_path.now c.args.path.evaluation_path.now t m found
     (subst (λ own. DecidesRoot t own m d c.args.path.instance_path.now c.args.path.evaluation_path.now true) there
     (subst (λ i. DecidesRoot t (documents_in c.in-Ok.found.resolver) m d i c.args.path.evaluation_path.now true) (sym c.in-Some-opened.ensures)
     (subst (λ e. DecidesRoot t (documents_in c.in-Ok.found.resolver) m d (text_left c.in-Some-opened.instance) e true) (sym c.in-Some-opened-2.ensures) told)))
@@ -67,7 +67,7 @@ returns-in-Ok c =
     let found : Finds r t = sym (ap₂ (λ ds b. lookup ds b c.args.root.now) documents base) ∙ c.in-Ok.ensures.ok in
     let there : documents_in c.in-Ok.found.resolver ≡ documents_in_registry registry = c.in-Ok.ensures.documents ∙ documents in
     let told = subst (λ b. DecidesRoot t (documents_in c.in-Ok.found.resolver) m d (text_left c.in-Some-opened.instance) (text_left c.in-Some-opened-2.evaluation) b) c.if-branch.false c.in_ok-is_spelled-in-Ok.ensures in
-    λ p read. refused_by p r d c.args.path.instance_path.now c.args.path.evaluation_path.now t m found
+    λ p read. refused_by p r.documents r.base r.reference d c.args.path.instance_path.now c.args.path.evaluation_path.now t m found
     (subst (λ own. DecidesRoot t own m d c.args.path.instance_path.now c.args.path.evaluation_path.now false) there
     (subst (λ i. DecidesRoot t (documents_in c.in-Ok.found.resolver) m d i c.args.path.evaluation_path.now false) (sym c.in-Some-opened.ensures)
     (subst (λ e. DecidesRoot t (documents_in c.in-Ok.found.resolver) m d (text_left c.in-Some-opened.instance) e false) (sym c.in-Some-opened-2.ensures) told)))
@@ -83,5 +83,5 @@ returns c =
     let same : lookup (documents_in resolver) (base_of resolver) r.reference ≡ lookup r.documents r.base r.reference = ap₂ (λ ds b. lookup ds b c.args.root.now) documents base in
     λ p read sound. elim c.in-Err.ensures.refused [
       | inl m ↦ absurd (c.in_default-error.not-Memory m)
-      | inr h ↦ not_found p r d c.args.path.instance_path.now c.args.path.evaluation_path.now h.0 (sym same ∙ h.1) sound
+      | inr h ↦ not_found p r.documents r.base r.reference d c.args.path.instance_path.now c.args.path.evaluation_path.now h.0 (sym same ∙ h.1) sound
     ]
