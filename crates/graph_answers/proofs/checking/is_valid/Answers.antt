@@ -1,4 +1,4 @@
-use Rattle.std.proofs.Common.{◌≡◌, ℕ, List, [], Bool, IfOk, Result, AllocError, sym, subst}
+use Rattle.std.proofs.Common.{◌≡◌, ℕ, List, [], Bool, IfOk, sym, subst}
 use Rattle.std.proofs.lemmas.Result.{IfOk-weaker}
 use Rattle.serde_json.specs.Data.{Data}
 use Rattle.serde_json.specs.View.{view}
@@ -18,10 +18,10 @@ abbrev TellsBy : {K : Type 0} → (K → Shape ℕ) → List (Node K) → ℕ �
 TellsBy shape nodes start d m b = (all : List Key) → AreAll (reading_of shape m.reads nodes) start (whole d) all → b ≡ cut verdicts (reading_of shape m.reads nodes) all [] start (whole d)
 
 pub accepts-requires : goal.accepts-requires
-accepts-requires g c = (
-  subst (λ (m : Matches). AreKnown g.K.Validate.knows m.pattern c.args.graph.now.nodes.items) (sym c.requires.meant) c.requires.known,
-  c.requires.there,
-)
+accepts-requires g c = record {
+  known = subst (λ (m : Matches). AreKnown g.K.Validate.knows m.pattern c.args.graph.now.nodes.items) (sym c.requires.meant) c.requires.known;
+  there = c.requires.there;
+}
 
 pub returns-clause-cut : goal.returns-clause-cut
 returns-clause-cut g c =

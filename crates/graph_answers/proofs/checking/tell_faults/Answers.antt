@@ -21,10 +21,10 @@ hears : {K M : Type 0} (shape : K → Shape ℕ) (finds : M → List ℕ → Opt
 hears shape finds nodes table start d sound old new told = answered shape finds nodes table start d sound bags (λ fs. HearsMore fs old new) told.hears
 
 pub tell-requires : goal.tell-requires
-tell-requires g c = (
-  subst (λ (m : Matches). AreKnown g.K.Validate.knows m.pattern c.args.graph.now.nodes.items) (sym c.requires.meant) c.requires.known,
-  c.requires.there,
-)
+tell-requires g c = record {
+  known = subst (λ (m : Matches). AreKnown g.K.Validate.knows m.pattern c.args.graph.now.nodes.items) (sym c.requires.meant) c.requires.known;
+  there = c.requires.there;
+}
 
 pub returns-clause-cut : goal.returns-clause-cut
 returns-clause-cut g c =
