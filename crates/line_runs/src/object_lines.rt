@@ -1,5 +1,5 @@
 //! Objects that are written for lines, with each fault in words.
-ghost use Rattle.std.specs.Prelude.{◌≡◌, ◌++◌, ℕ, List, Some, true, OnOk, string_bytes};
+ghost use Rattle.std.specs.Prelude.{◌≡◌, ◌++◌, ℕ, List, Some, true, IfSome, OnOk, option_map, string_bytes};
 ghost use Rattle.serde_json.specs.View.{view};
 ghost use Rattle.graph_answers.specs.Tables.{matches_of};
 ghost use Rattle.regex_patterns.specs.Matchers.{finds_by_regex};
@@ -63,12 +63,29 @@ fn answer_line<M: PatternMatcher, T: Matching>(
     ensures answered { OnOk result ((written : List ℕ) × IsObjectLineBy validator.now line.now written × (string_bytes text.new ≡ string_bytes text.old ++ written)) }
 {
     let value = line_value(alloc, line)?;
-    match value {
-        Some(value) => answer_value(alloc, validator, matching, &value, text)?,
-        None => answer_no_value(alloc, line, text)?,
-    }
+    answer_read(alloc, validator, matching, line, &value, text)?;
     text.push_str("\n")?;
     Ok(())
+}
+
+// The object of a value, or of a line that has none.
+fn answer_read<M: PatternMatcher, T: Matching>(
+    alloc: Global,
+    validator: &Validator<M>,
+    matching: &mut T,
+    line: &[u8],
+    value: &Option<Value>,
+    text: &mut String,
+) -> Result<(), AllocError>
+    requires whole { IfSome value.now (λ v. only_whole (view v) ≡ true) }
+    requires meant { T.matches matching.old ≡ matches_of M.finds (table_in validator.now) }
+    ensures matches { OnOk result (T.matches matching.new ≡ T.matches matching.old) }
+    ensures answered { OnOk result ((written : List ℕ) × IsObjectTextBy validator.now (option_map (λ v. view v) value.now) written × (string_bytes text.new ≡ string_bytes text.old ++ written)) }
+{
+    match value {
+        Some(value) => answer_value(alloc, validator, matching, value, text),
+        None => answer_no_value(alloc, line, text),
+    }
 }
 
 // The object of a value. Its verdict is asked first, and the faults are told only where that is no.

@@ -1,6 +1,6 @@
 //! The forms of what is written for a line.
 
-ghost use Rattle.std.specs.Prelude.{◌≡◌, IfOk, IfErr, Some, None, option_map};
+ghost use Rattle.std.specs.Prelude.{◌≡◌, IfOk, IfErr, Some, option_map};
 ghost use Rattle.validator_program.specs.Outputs.{RunsBy, StopsBy, form_of};
 
 use crate::fault::ProgramFault;
