@@ -1,5 +1,6 @@
 //! The text of a value's faults.
-ghost use Rattle.std.specs.Prelude.{◌≡◌, ◌++◌, map, string_bytes, IfOk, OnOk, OnErr};
+ghost use Rattle.std.specs.Prelude.{◌≡◌, ◌++◌, map, reverse, string_bytes, IfOk, OnOk, OnErr};
+ghost use Rattle.json_values.specs.Pointers.{pointer_text};
 ghost use Rattle.serde_json.specs.Data.{array};
 ghost use Rattle.serde_json.specs.View.{view};
 ghost use Rattle.schema_definitions.specs.Lines.{paths_of, in_order, pairs_data, faults_text};
@@ -8,6 +9,7 @@ ghost use Rattle.schema_reports.specs.Told.{faults_of};
 ghost use Rattle.line_runs.specs.Pairs.{pair_bytes, pair_data};
 
 use schema_reports::ErrorIterator;
+use schema_steps::Path;
 use serde_json::Value;
 use std::alloc::{AllocError, Global};
 
@@ -40,13 +42,22 @@ fn pairs_in_order(
     Ok(pairs)
 }
 
+// A path as a pointer's text. Most are no longer than the room that is taken at first.
+fn pointer_of(alloc: Global, path: &Path) -> Result<String, AllocError>
+    ensures { IfOk result (λ text. string_bytes text ≡ pointer_text (reverse path.now)) }
+{
+    let mut text = String::with_capacity(alloc, 64)?;
+    path.write_to(&mut text)?;
+    Ok(text)
+}
+
 fn path_pairs(alloc: Global, errors: ErrorIterator<'_>) -> Result<Vec<(String, String)>, AllocError>
     ensures { IfOk result (λ v. map pair_bytes v.items ≡ paths_of (faults_of (errors_left errors.entry))) }
 {
     let mut pairs = Vec::new(alloc);
     for error in errors {
-        let instance = error.instance_path().to_pointer(alloc)?;
-        let evaluation = error.evaluation_path().to_pointer(alloc)?;
+        let instance = pointer_of(alloc, error.instance_path())?;
+        let evaluation = pointer_of(alloc, error.evaluation_path())?;
         pairs.push((instance, evaluation))?;
     }
     Ok(pairs)
