@@ -4,7 +4,7 @@ use Rattle.std.specs.List.{AllZip}
 use Rattle.serde_json.specs.Data.{Data}
 use Rattle.serde_json.specs.View.{items_of}
 use Rattle.serde_json.specs.Written.{compact_text}
-use Rattle.schema_meaning.specs.Faults.{Fault, Faults, none, also}
+use Rattle.schema_meaning.specs.Faults.{Faults, none, also}
 use Rattle.schema_definitions.specs.Lines.{line_value}
 use Rattle.schema_patterns.specs.declared.matcher.PatternMatcher.{Ghosts}
 use Rattle.schema_reports.specs.Told.{faults_of}

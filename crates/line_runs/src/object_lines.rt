@@ -110,15 +110,22 @@ fn answer_value<M: PatternMatcher, T: Matching>(
     Ok(())
 }
 
-// The object of a line that has no value: what is wrong with its text, or that it has another number.
+// The object of a line that has no value, with the reason.
 fn answer_no_value(alloc: Global, line: &[u8], text: &mut String) -> Result<(), AllocError>
     ensures { OnOk result ((written : List ℕ) × IsUnreadText written × (string_bytes text.new ≡ string_bytes text.old ++ written)) }
 {
+    let reason = reason_of(alloc, line)?;
+    write_unread(alloc, reason.as_str(), text)?;
+    Ok(())
+}
+
+// What is wrong with a text, or that it has another number.
+fn reason_of(alloc: Global, line: &[u8]) -> Result<String, AllocError> {
     let Err(error) = Value::from_slice(alloc, line) else {
-        return write_unread(alloc, OTHER_NUMBER, text);
+        return String::from_str(alloc, OTHER_NUMBER);
     };
     match error.classify() {
         Category::Memory => Err(AllocError),
-        _ => write_unread(alloc, error.to_string(alloc)?.as_str(), text),
+        _ => error.to_string(alloc),
     }
 }
