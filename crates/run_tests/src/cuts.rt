@@ -7,15 +7,20 @@ use std::alloc::{AllocError, Global};
 use std::process::Abort;
 use std::str;
 
-// Answers a text with itself; it fails where the line is no text.
+// Answers a text with itself, and counts those that it answers; it fails where the line is no text.
 struct Echo;
 
 impl LineAnswers for Echo {
+    type Kept = u32;
+
     ghost answers = { λ _ line written. written ≡ line ++ 10 ∷ [] };
 
     ghost refuses = { λ _. is_refused };
 
-    fn answer(&self, line: &[u8], text: &mut String) -> Result<(), AllocError> {
+    ghost keeps = { λ _ _. Unit };
+
+    fn answer(&self, kept: &mut u32, line: &[u8], text: &mut String) -> Result<(), AllocError> {
+        *kept = kept.wrapping_add(1);
         match str::from_utf8(line) {
             Ok(shown) => text.push_str(shown)?,
             Err(_) => return Err(AllocError),
@@ -36,7 +41,7 @@ fn outcome(
     mut source: MemorySource<'_>,
     mut sink: MemorySink,
 ) -> String {
-    let end = match answer_lines(alloc, &mut source, &mut sink, &Echo) {
+    let end = match answer_lines(alloc, &mut source, &mut sink, &Echo, &mut 0) {
         Ok(report) => format!(in alloc; "{} {}", report.lines, report.any_refused),
         Err(error) => format!(in alloc; "{error}"),
     }
@@ -100,8 +105,10 @@ fn more_than_one_read(rt: HostRuntime) {
     }
     let mut source = MemorySource::new(&input, usize::MAX, None);
     let mut sink = MemorySink::new(alloc, 60000, None);
-    let report = answer_lines(alloc, &mut source, &mut sink, &Echo).expect(&rt, "a run");
-    assert_eq!(rt; report.lines, 6);
+    let mut kept = 0;
+    let report = answer_lines(alloc, &mut source, &mut sink, &Echo, &mut kept);
+    assert_eq!(rt; report.expect(&rt, "a run").lines, 6);
+    assert_eq!(rt; kept, 6);
     assert!(rt; sink.as_slice() == input.as_slice());
 }
 

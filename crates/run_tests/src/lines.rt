@@ -185,6 +185,9 @@ fn by_nesting(rt: HostRuntime) {
         }
         let source = MemorySource::new(&line, 100, None);
         let sink = MemorySink::new(alloc, 100, None);
-        assert_eq!(rt; outcome(&rt, alloc, "{}", true, source, sink).as_str(), want);
+        assert_eq!(rt;
+            outcome(&rt, alloc, "{}", true, source, sink).as_str(),
+            want
+        );
     }
 }
