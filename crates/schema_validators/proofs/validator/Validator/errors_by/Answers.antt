@@ -10,7 +10,7 @@ use Rattle.schema_validators.specs.Told.{faults_by}
 use Rattle.schema_validators.proofs.ByNodes.{faults_answered, faults_certified}
 use Rattle.schema_validators.proofs.Hearing.{all_say}
 use Rattle.schema_validators.proofs.MissingLemmas.{each_missing}
-use Rattle.schema_validators.proofs.validator.Validator.iter_errors.Goals as goal
+use Rattle.schema_validators.proofs.validator.Validator.errors_by.Goals as goal
 
 pub unreachable-requires : goal.unreachable-requires
 unreachable-requires g c = (subst (HearsMore _ _) c.in-Verdict.is c.in_ok-observer.ensures.heard).heard All none c.new.ensures

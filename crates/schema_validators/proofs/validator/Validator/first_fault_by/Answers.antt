@@ -11,7 +11,7 @@ use Rattle.schema_validators.specs.Seen.{nodes_in, table_in}
 use Rattle.schema_validators.specs.Told.{faults_by}
 use Rattle.schema_validators.proofs.ByNodes.{verdict_of, fault_answered, fault_certified, one_told}
 use Rattle.schema_validators.proofs.Hearing.{first_says, says_verdict, says_told, says_proper}
-use Rattle.schema_validators.proofs.validator.Validator.first_fault.Goals as goal
+use Rattle.schema_validators.proofs.validator.Validator.first_fault_by.Goals as goal
 
 pub unreachable-requires : goal.unreachable-requires
 unreachable-requires g c = (subst (HearsMore _ _) c.in-Verdict.is c.in_ok-observer.ensures.heard).heard First none c.new.ensures
