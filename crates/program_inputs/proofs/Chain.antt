@@ -1,5 +1,5 @@
 -- A command of seven arguments, of which the first is required, has a value of that one in each parse.
-use Rattle.std.proofs.Common.{◌≡◌, ◌∙◌, ◌<◌, ℕ, zero, suc, List, [], ◌∷◌, Decides, true, false, refl, sym, ap, arith, codes, bytes_eq, slice_index_or, if◌then◌else◌}
+use Rattle.std.proofs.Common.{◌≡◌, ◌∙◌, ◌<◌, ℕ, zero, suc, List, [], ◌∷◌, false, refl, sym, ap, arith, codes, bytes_eq, slice_index_or, if◌then◌else◌}
 use Rattle.std.proofs.lemmas.Slice.Eq.{bytes_eq-Decides}
 use Rattle.std.specs.List.{All}
 use Rattle.clap.specs.Built.{AddsArg, AddsInTurn, FitsChain, TakesValue, HasDistinctIds}

@@ -8,12 +8,12 @@ use Rattle.regex_patterns.specs.declared.RegexMatcher.{RegexMatcher}
 use Rattle.line_cuts.specs.declared.report.RunReport.{RunReport}
 use Rattle.line_cuts.specs.declared.report.RunError.{RunError}
 use Rattle.line_runs.specs.Passed.{IsMadeBy}
-use Rattle.line_runs.specs.Passed.{Root, Patterns}
+use Rattle.line_runs.specs.Passed.{Root}
 use Rattle.program_inputs.specs.Held.{Held}
 use Rattle.line_runs.specs.Passed.{Validator}
 use Rattle.validator_program.specs.Given.{Words, words_of}
 use Rattle.validator_program.specs.Built.{patterns_of_regex, IsBuiltOf}
-use Rattle.validator_program.specs.Outputs.{RunsIn, RunsBy, StopsIn, StopsBy}
+use Rattle.validator_program.specs.Outputs.{RunsBy, StopsBy}
 use Rattle.validator_program.specs.declared.output.OutputForm.{OutputForm}
 use Rattle.validator_program.specs.Answered.{words_in, IsNamed, IsFormOf, AnswersAll, StopsEarly}
 

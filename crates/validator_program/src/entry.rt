@@ -8,7 +8,7 @@ ghost use Rattle.validator_program.specs.Answered.{AnswersAll, StopsEarly};
 ghost use Rattle.validator_program.specs.Status.{status_of};
 
 use crate::fault::ProgramFault;
-use crate::output::{OutputForm, read_form, run_in};
+use crate::output::{read_form, run_in};
 use crate::preparing::prepare;
 use line_cuts::{ByteSink, ByteSource};
 use line_runs::{RunError, RunReport};

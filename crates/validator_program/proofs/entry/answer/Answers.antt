@@ -1,9 +1,9 @@
-use Rattle.std.proofs.Common.{◌∙◌, ap, sym, refl, inr}
+use Rattle.std.proofs.Common.{◌∙◌, ap, sym}
 use Rattle.clap.specs.Words.{matches_of}
 use Rattle.clap.specs.Walk.{texts}
 use Rattle.program_inputs.specs.Program.{program_app}
 use Rattle.validator_program.specs.Outputs.{form_of}
-use Rattle.validator_program.proofs.Running.{named_by, answers_all, stops_early}
+use Rattle.validator_program.proofs.Running.{named_by, answers_all}
 use Rattle.validator_program.proofs.entry.answer.Goals as goal
 
 pub returns-in-Ok-clause-ok : goal.returns-in-Ok-clause-ok
@@ -15,13 +15,3 @@ returns-in-Ok-clause-ok g c =
     let has = c.in_ok-words.ensures.ok in
     let asked = sym (ap form_of has.output) ∙ c.in_ok-form.ensures in
     answers_all rows held v is.root (named_by rows held c.in_ok-words.words is.root has is.built) is.made c.in_ok-form.form asked _ _ _ _ c.in-Ok.report c.in-Ok.ensures.ok
-
-pub returns-in-Err-clause-err : goal.returns-in-Err-clause-err
-returns-in-Err-clause-err g c =
-    let rows = matches_of program_app (texts c.args.words.now) in
-    let held = g.F.SchemaFiles.held c.args.files.now in
-    let v = c.in_ok-validator.validator in
-    let is = c.in_ok-validator.ensures in
-    let has = c.in_ok-words.ensures.ok in
-    let asked = sym (ap form_of has.output) ∙ c.in_ok-form.ensures in
-    inr (refl, stops_early rows held v is.root (named_by rows held c.in_ok-words.words is.root has is.built) is.made c.in_ok-form.form asked _ _ _ _ c.in-Err.error c.in-Err.ensures.stops)
