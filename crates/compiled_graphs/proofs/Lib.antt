@@ -1,7 +1,6 @@
 pub mod Positions
 pub mod Visits
 pub mod Growing
-pub mod Inside
 pub mod Edges
 pub mod Found
 pub mod Standing
