@@ -1,21 +1,22 @@
 //! What answers many values as a validator does.
 
-ghost use Rattle.std.specs.Prelude.{◌≡◌, IfErr, IfOk, OnOk, is_ok, true};
+ghost use Rattle.std.specs.Prelude.{◌≡◌, IfOk, OnOk, true};
 ghost use Rattle.serde_json.specs.View.{view};
 ghost use Rattle.graph_answers.specs.Tables.{matches_of};
 ghost use Rattle.regex_patterns.specs.Matchers.{finds_by_regex};
-ghost use Rattle.schema_meaning.specs.Faults.{Told, is_none};
+ghost use Rattle.schema_meaning.specs.Faults.{is_none};
 ghost use Rattle.schema_meaning.specs.Readings.{verdicts};
 ghost use Rattle.schema_registries.specs.Answers.{IsAnswer};
-ghost use Rattle.schema_registries.specs.Certified.{IsCertified, HasCertificate, HaveCertificates};
+ghost use Rattle.schema_registries.specs.Certified.{IsCertified, HaveCertificates};
 ghost use Rattle.schema_registries.specs.Roots.{Root, Patterns};
 ghost use Rattle.schema_registries.specs.Whole.{only_whole};
 ghost use Rattle.schema_reports.specs.Left.{errors_left};
-ghost use Rattle.schema_reports.specs.Told.{fault_of, faults_of, error_is_proper, are_proper};
+ghost use Rattle.schema_reports.specs.Told.{faults_of, are_proper};
+ghost use Rattle.schema_validators.specs.Seen.{table_in};
 
 use crate::validator::Validator;
 use kept_patterns::kept::Kept;
-use schema_reports::{ErrorIterator, ValidationError};
+use schema_reports::ErrorIterator;
 use serde_json::Value;
 use std::alloc::{AllocError, Global};
 
@@ -29,8 +30,15 @@ pub struct Checker<'v> {
     ghost meant: { matches_of finds_by_regex kept.table.now ≡ matches_of finds_by_regex validator.now.schemas.value.table },
 }
 
+// What is kept where nothing is, and no room is taken for more.
+fn nothing_kept<'v>(alloc: Global, validator: &'v Validator) -> Kept<'v>
+    ensures { matches_of finds_by_regex result.table.now ≡ matches_of finds_by_regex (table_in validator.now) }
+{
+    Kept::nothing(alloc, validator.patterns())
+}
+
 impl<'v> Checker<'v> {
-    ghost use Rattle.schema_validators.specs.Answered.{AreFaults, IsFault};
+    ghost use Rattle.schema_validators.specs.Answered.{AreFaults};
     ghost use Rattle.schema_validators.specs.Checkers.{validator_of};
     ghost use Rattle.schema_validators.specs.Made.{IsMadeBy};
     ghost use Rattle.schema_validators.specs.Missing.{TellsEachMissing};
@@ -52,13 +60,6 @@ impl<'v> Checker<'v> {
         })
     }
 
-    // Lets go of what is kept, where memory was refused on the way.
-    fn forget(&mut self)
-        ensures { validator_of self.new ≡ validator_of self.old }
-    {
-        self.kept = Kept::nothing(self.alloc, self.validator.patterns());
-    }
-
     /// Whether a value is valid. It says what [`Validator::is_valid`] says, and costs the same but for matches.
     ///
     /// # Errors
@@ -73,7 +74,7 @@ impl<'v> Checker<'v> {
     {
         let answer = self.validator.is_valid_by(&mut self.kept, value);
         if answer.is_err() {
-            self.forget();
+            self.kept = nothing_kept(self.alloc, self.validator);
         }
         answer
     }
@@ -97,7 +98,7 @@ impl<'v> Checker<'v> {
     {
         let errors = self.validator.errors_by(&mut self.kept, value);
         if errors.is_err() {
-            self.forget();
+            self.kept = nothing_kept(self.alloc, self.validator);
         }
         errors
     }

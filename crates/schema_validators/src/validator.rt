@@ -217,11 +217,7 @@ impl<M: PatternMatcher> Validator<M> {
         ensures proper { IfOk result (λ answer. IfErr answer (λ e. error_is_proper e ≡ true)) }
         ensures certified { IfOk result (λ answer. IfErr answer (λ e. (p : Patterns) (r : Root) → IsMadeBy p r self.now → HasCertificate p r (view value.now) (fault_of e))) }
     {
-        let observer = self.told(
-            matching,
-            value,
-            Observer::First(FirstFault::new()),
-        )?;
+        let observer = self.told(matching, value, Observer::First(FirstFault::new()))?;
         match observer {
             Observer::First(first) => Ok(refused(first)),
             Observer::Verdict(_verdict) => unreachable!(),
@@ -302,11 +298,7 @@ impl<M: PatternMatcher> Validator<M> {
         ensures missing { IfOk result (λ errors. (p : Patterns) (r : Root) → IsMadeBy p r self.now
             → TellsEachMissing p r (view value.now) (faults_of (errors_left errors))) }
     {
-        let observer = self.told(
-            matching,
-            value,
-            Observer::All(AllFaults::new(self.alloc)),
-        )?;
+        let observer = self.told(matching, value, Observer::All(AllFaults::new(self.alloc)))?;
         match observer {
             Observer::All(all) => Ok(ErrorIterator::of(all.into_errors())),
             Observer::Verdict(_verdict) => unreachable!(),
@@ -328,13 +320,8 @@ impl<M: PatternMatcher> Validator<M> {
         ensures faults { OnOk result (AreFaultsBy self.now (view value.now)) }
         ensures certified { OnOk result (HaveCertificatesBy self.now (view value.now)) }
     {
-        self.schemas.tell_faults_by(
-            self.alloc,
-            self.start,
-            matching,
-            value,
-            &mut observer,
-        )?;
+        self.schemas
+            .tell_faults_by(self.alloc, self.start, matching, value, &mut observer)?;
         Ok(observer)
     }
 }
