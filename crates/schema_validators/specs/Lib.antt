@@ -4,7 +4,6 @@ pub mod Answered
 pub mod Seen
 pub mod Made
 pub mod Told
-pub mod Checkers
 pub mod ByNodes
 pub mod Numbers
 pub mod Missing

@@ -25,7 +25,8 @@ use std::alloc::{AllocError, Global};
 #[derive(Drop)]
 pub struct Checker<'v> {
     alloc: Global,
-    validator: &'v Validator,
+    /// The validator as which it answers.
+    pub validator: &'v Validator,
     kept: Kept<'v>,
     ghost meant: { matches_of finds_by_regex kept.table.now ≡ matches_of finds_by_regex validator.now.schemas.value.table },
 }
@@ -39,7 +40,6 @@ fn nothing_kept<'v>(alloc: Global, validator: &'v Validator) -> Kept<'v>
 
 impl<'v> Checker<'v> {
     ghost use Rattle.schema_validators.specs.Answered.{AreFaults};
-    ghost use Rattle.schema_validators.specs.Checkers.{validator_of};
     ghost use Rattle.schema_validators.specs.Made.{IsMadeBy};
     ghost use Rattle.schema_validators.specs.Missing.{TellsEachMissing};
     ghost use Rattle.schema_validators.specs.Told.{verdict_by, faults_by};
@@ -50,7 +50,7 @@ impl<'v> Checker<'v> {
     ///
     /// Where memory was refused.
     pub fn new(alloc: Global, validator: &'v Validator) -> Result<Checker<'v>, AllocError>
-        ensures { IfOk result (λ checker. validator_of checker ≡ validator.now) }
+        ensures { IfOk result (λ checker. checker.validator.now ≡ validator.now) }
     {
         let kept = Kept::new(alloc, validator.patterns())?;
         Ok(Checker {
@@ -67,10 +67,10 @@ impl<'v> Checker<'v> {
     /// Where memory was refused. From then on nothing is kept.
     pub fn is_valid(&mut self, value: &Value) -> Result<bool, AllocError>
         requires whole { only_whole (view value.now) ≡ true }
-        ensures same { validator_of self.new ≡ validator_of self.old }
-        ensures cut { IfOk result (λ b. b ≡ verdict_by (validator_of self.old) (view value.now)) }
-        ensures verdict { IfOk result (λ b. (p : Patterns) (r : Root) → IsMadeBy p r (validator_of self.old) → IsAnswer verdicts p r (view value.now) b) }
-        ensures certified { IfOk result (λ b. (p : Patterns) (r : Root) → IsMadeBy p r (validator_of self.old) → IsCertified p r (view value.now) b) }
+        ensures same { self.new.validator.now ≡ self.old.validator.now }
+        ensures cut { IfOk result (λ b. b ≡ verdict_by self.old.validator.now (view value.now)) }
+        ensures verdict { IfOk result (λ b. (p : Patterns) (r : Root) → IsMadeBy p r self.old.validator.now → IsAnswer verdicts p r (view value.now) b) }
+        ensures certified { IfOk result (λ b. (p : Patterns) (r : Root) → IsMadeBy p r self.old.validator.now → IsCertified p r (view value.now) b) }
     {
         let answer = self.validator.is_valid_by(&mut self.kept, value);
         if answer.is_err() {
@@ -87,13 +87,13 @@ impl<'v> Checker<'v> {
     /// Where memory was refused or a count of owners is full. From then on nothing is kept.
     pub fn iter_errors<'i>(&mut self, value: &'i Value) -> Result<ErrorIterator<'i>, AllocError>
         requires whole { only_whole (view value.now) ≡ true }
-        ensures same { validator_of self.new ≡ validator_of self.old }
-        ensures cut { IfOk result (λ errors. faults_of (errors_left errors) ≡ faults_by (validator_of self.old) (view value.now)) }
-        ensures agree { OnOk result (is_none (faults_by (validator_of self.old) (view value.now)) ≡ verdict_by (validator_of self.old) (view value.now)) }
-        ensures faults { IfOk result (λ errors. (p : Patterns) (r : Root) → IsMadeBy p r (validator_of self.old) → AreFaults p r (view value.now) (faults_of (errors_left errors))) }
+        ensures same { self.new.validator.now ≡ self.old.validator.now }
+        ensures cut { IfOk result (λ errors. faults_of (errors_left errors) ≡ faults_by self.old.validator.now (view value.now)) }
+        ensures agree { OnOk result (is_none (faults_by self.old.validator.now (view value.now)) ≡ verdict_by self.old.validator.now (view value.now)) }
+        ensures faults { IfOk result (λ errors. (p : Patterns) (r : Root) → IsMadeBy p r self.old.validator.now → AreFaults p r (view value.now) (faults_of (errors_left errors))) }
         ensures proper { IfOk result (λ errors. are_proper (errors_left errors) ≡ true) }
-        ensures certified { IfOk result (λ errors. (p : Patterns) (r : Root) → IsMadeBy p r (validator_of self.old) → HaveCertificates p r (view value.now) (faults_of (errors_left errors))) }
-        ensures missing { IfOk result (λ errors. (p : Patterns) (r : Root) → IsMadeBy p r (validator_of self.old)
+        ensures certified { IfOk result (λ errors. (p : Patterns) (r : Root) → IsMadeBy p r self.old.validator.now → HaveCertificates p r (view value.now) (faults_of (errors_left errors))) }
+        ensures missing { IfOk result (λ errors. (p : Patterns) (r : Root) → IsMadeBy p r self.old.validator.now
             → TellsEachMissing p r (view value.now) (faults_of (errors_left errors))) }
     {
         let errors = self.validator.errors_by(&mut self.kept, value);
