@@ -5,18 +5,18 @@ use Rattle.line_runs.proofs.Others.{runs_so, stops_so}
 use Rattle.line_runs.proofs.object_runs.run_objects.Goals as goal
 
 pub returns-in_err-kept-clause-stops : goal.returns-in_err-kept-clause-stops
-returns-in_err-kept-clause-stops c = λ p r made.
+returns-in_err-kept-clause-stops g c = λ p r made.
     let e = err_from_is_err_and c.from_residual.result c.from_residual.ensures.1 in
     rw (e.1, e.2) (off_at_once _ _ _)
 
 pub returns-clause-ok : goal.returns-clause-ok
-returns-clause-ok c =
+returns-clause-ok g c =
     let v = c.args.validator.now in
     IfOk-weaker c.answer_lines.result _ _
     (λ report h p r made. runs_so (IsObjectLineBy v) (IsObjectLine p r) (λ line text so. (so.0, so.1.root p r made, so.2)) _ _ _ _ _ report h) c.answer_lines.ensures.ok
 
 pub returns-clause-stops : goal.returns-clause-stops
-returns-clause-stops c =
+returns-clause-stops g c =
     let v = c.args.validator.now in
     IfErr-weaker c.answer_lines.result _ _
     (λ e h p r made. stops_so (IsObjectLineBy v) (IsObjectLine p r) (λ line text so. (so.0, so.1.root p r made, so.2)) e _ _ _ _ h) c.answer_lines.ensures.stops
