@@ -7,7 +7,7 @@ pub returns-clause-ok : goal.returns-clause-ok
 returns-clause-ok g c =
     let v = c.args.validator.now in
     IfOk-weaker c.answer_lines.result _ _
-    (λ report h p r made. runs_so (IsLineTextBy v) (IsLineText p r) (λ line text so. (so.0, so.1.root p r made, so.2)) _ _ _ _ report h) c.answer_lines.ensures.ok
+    (λ report h p r made. runs_so (IsLineTextBy v) (IsLineText p r) (λ line text so. (so.0, so.1.root p r made, so.2)) _ _ _ _ _ report h) c.answer_lines.ensures.ok
 
 pub returns-clause-stops : goal.returns-clause-stops
 returns-clause-stops g c =
