@@ -19,6 +19,7 @@ use kept_patterns::kept::Kept;
 use schema_reports::ErrorIterator;
 use serde_json::Value;
 use std::alloc::{AllocError, Global};
+use std::mem::replace;
 
 /// Answers values as a validator does, and keeps from value to value what makes the matches of its patterns cheap: a search for each pattern,
 /// made at its first match.
@@ -72,11 +73,10 @@ impl<'v> Checker<'v> {
         ensures verdict { IfOk result (λ b. (p : Patterns) (r : Root) → IsMadeBy p r self.old.validator.now → IsAnswer verdicts p r (view value.now) b) }
         ensures certified { IfOk result (λ b. (p : Patterns) (r : Root) → IsMadeBy p r self.old.validator.now → IsCertified p r (view value.now) b) }
     {
-        let answer = self.validator.is_valid_by(&mut self.kept, value);
-        if answer.is_err() {
-            self.kept = nothing_kept(self.alloc, self.validator);
-        }
-        answer
+        let mut kept = replace(&mut self.kept, nothing_kept(self.alloc, self.validator));
+        let answer = self.validator.is_valid_by(&mut kept, value)?;
+        self.kept = kept;
+        Ok(answer)
     }
 
     /// The faults of a value, in the order in which they are met. It says what [`Validator::iter_errors`] says, and costs the same but for
@@ -96,10 +96,9 @@ impl<'v> Checker<'v> {
         ensures missing { IfOk result (λ errors. (p : Patterns) (r : Root) → IsMadeBy p r self.old.validator.now
             → TellsEachMissing p r (view value.now) (faults_of (errors_left errors))) }
     {
-        let errors = self.validator.errors_by(&mut self.kept, value);
-        if errors.is_err() {
-            self.kept = nothing_kept(self.alloc, self.validator);
-        }
-        errors
+        let mut kept = replace(&mut self.kept, nothing_kept(self.alloc, self.validator));
+        let errors = self.validator.errors_by(&mut kept, value)?;
+        self.kept = kept;
+        Ok(errors)
     }
 }
