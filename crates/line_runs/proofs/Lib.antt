@@ -4,5 +4,6 @@ mod Sorting
 mod Listed
 mod Ends
 mod Others
+mod Starting
 mod Refusing
 pub mod Passed

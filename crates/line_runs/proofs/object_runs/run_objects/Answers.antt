@@ -1,5 +1,5 @@
 use Rattle.std.proofs.lemmas.Result.{IfOk-weaker, IfErr-weaker, err_from_is_err_and}
-use Rattle.line_cuts.proofs.Reading.{off_at_once}
+use Rattle.line_runs.proofs.Starting.{off_at_once}
 use Rattle.line_runs.specs.Objects.{IsObjectLineBy, IsObjectLine}
 use Rattle.line_runs.proofs.Others.{runs_so, stops_so}
 use Rattle.line_runs.proofs.object_runs.run_objects.Goals as goal

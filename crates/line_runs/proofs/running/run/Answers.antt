@@ -1,6 +1,6 @@
 use Rattle.std.proofs.Common.{refl}
 use Rattle.std.proofs.lemmas.Result.{IfOk-weaker, IfErr-weaker, err_from_is_err_and}
-use Rattle.line_cuts.proofs.Reading.{off_at_once}
+use Rattle.line_runs.proofs.Starting.{off_at_once}
 use Rattle.line_runs.specs.Runs.{IsLineTextBy, IsLineText}
 use Rattle.line_runs.proofs.Others.{runs_so, stops_so}
 use Rattle.line_runs.proofs.running.run.Goals as goal
