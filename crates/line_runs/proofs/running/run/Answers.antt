@@ -6,9 +6,9 @@ use Rattle.line_runs.proofs.Others.{runs_so, stops_so}
 use Rattle.line_runs.proofs.running.run.Goals as goal
 
 pub returns-in_err-kept-clause-stops : goal.returns-in_err-kept-clause-stops
-returns-in_err-kept-clause-stops g c = λ p r made.
+returns-in_err-kept-clause-stops g c =
     let e = err_from_is_err_and c.from_residual.result c.from_residual.ensures.1 in
-    rw (e.1, e.2) (off_at_once _ _ _)
+    rw (e.1, e.2) (λ p r made. off_at_once _ _ _)
 
 pub returns-in_err-kept-clause-counts : goal.returns-in_err-kept-clause-counts
 returns-in_err-kept-clause-counts g c =
