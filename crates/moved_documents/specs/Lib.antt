@@ -1,0 +1,5 @@
+pub mod Forms
+pub mod Joining
+pub mod Premises
+pub mod Laws
+pub mod Example

@@ -1,0 +1,32 @@
+//! Whether a document is added beside another, retrieved for it, or moved under a name of its `$defs`.
+
+ghost use Rattle.moved_documents.specs.Example.{TextsCanMove};
+ghost use Rattle.moved_documents.specs.Laws.{InsideIsAdded, OnceIsAlways, RetrievedIsAdded, WantedIsAdded};
+
+/// Where the moved document alone is answered, what is retrieved for the root is nothing or that document, once: then the documents are those of
+/// the form in which it is added.
+pub fn retrieved_is_added()
+    ensures { RetrievedIsAdded }
+{}
+
+/// Where the root wants a document, and nothing is wanted at last, what is retrieved is the moved one.
+pub fn wanted_is_added()
+    ensures { WantedIsAdded }
+{}
+
+/// Where one document can be moved into the other, a root that builds both with the document added and with it inside answers alike: verdicts
+/// are the same, and so are the faults but for their order, with their instance paths and evaluation paths.
+pub fn inside_is_added()
+    ensures { InsideIsAdded }
+{}
+
+/// There is such a pair: a list whose items refer to the other document.
+pub fn texts_can_move()
+    ensures { TextsCanMove }
+{}
+
+/// Where each `$schema` inside documents names a draft, and no URI, and no anchor under one URI, is borne twice by what they tell of meta-schemas,
+/// none is borne twice whatever is told: so not at any stage either.
+pub fn once_is_always()
+    ensures { OnceIsAlways }
+{}
