@@ -5,7 +5,7 @@ ghost use Rattle.serde_json.specs.Data.{Data};
 ghost use Rattle.serde_json.specs.View.{view, items_of};
 ghost use Rattle.serde_json.specs.Written.{compact_text};
 ghost use Rattle.schema_reports.specs.Left.{errors_left};
-ghost use Rattle.error_objects.specs.Objects.{IsObject, accepted_text, error_data, refused_data, unread_data};
+ghost use Rattle.error_objects.specs.Objects.{IsObject, accepted_text, error_data, location_data, refused_data, unread_data};
 
 use schema_reports::{ErrorIterator, ValidationError};
 use serde_json::{Value, json};
@@ -32,7 +32,7 @@ pub fn is_accepted_line(written: &[u8]) -> bool
 }
 
 /// Appends what is said of a value that is refused: that it is not valid, and an object for each error, with the name of its kind, its
-/// three paths as pointers' texts and its description. The members are in the order of their names.
+/// three paths as pointers' texts, the absolute location of its keyword and its description. The members are in the order of their names.
 ///
 /// It costs what the descriptions cost. The text is as it was where memory is out.
 pub fn write_refused(
@@ -85,6 +85,16 @@ fn error_value(alloc: Global, error: &ValidationError<'_>) -> Result<Value, Allo
     described(alloc, error, description)
 }
 
+// Where the keyword of an error stands, and `null` where no validator told it.
+fn keyword_location(alloc: Global, error: &ValidationError<'_>) -> Result<Value, AllocError>
+    ensures { IfOk result (λ v. view v ≡ location_data error.now) }
+{
+    Ok(match error.absolute_keyword_location(alloc)? {
+        Some(location) => Value::String(location),
+        None => Value::Null,
+    })
+}
+
 fn described(
     alloc: Global,
     error: &ValidationError<'_>,
@@ -94,11 +104,13 @@ fn described(
 {
     let evaluation_path = error.evaluation_path().to_pointer(alloc)?;
     let instance_path = error.instance_path().to_pointer(alloc)?;
+    let keyword_location = keyword_location(alloc, error)?;
     let schema_path = error.schema_path().to_pointer(alloc)?;
     json!(in alloc; {
         "description": description,
         "evaluation_path": evaluation_path,
         "instance_path": instance_path,
+        "keyword_location": keyword_location,
         "kind": error.message(),
         "schema_path": schema_path
     })

@@ -3,7 +3,7 @@ use Rattle.std.proofs.Common.{◌≡◌, ◌∙◌, ℕ, Bool, List, [], ◌∷�
 use Rattle.std.proofs.KnownBytes.{Appends-nil, Appends-trans}
 use Rattle.line_cuts.specs.Cuts.{pieces, ended_in, unless_empty}
 use Rattle.line_cuts.specs.Runs.{Answered, BreaksAt, TakesSome}
-use Rattle.line_cuts.specs.Steps.{Answers, Goes, Sends}
+use Rattle.line_cuts.specs.Steps.{Answers, Goes, Sends, nothing_yet}
 use Rattle.line_cuts.specs.declared.report.RunReport.{RunReport}
 use Rattle.line_cuts.proofs.Cutting.{ended_first, ended_none}
 use Rattle.line_cuts.proofs.Counting.{none_answered, answered-append}
@@ -119,3 +119,18 @@ pub rest_goes : (Q : List ℕ → Bool) (R : List ℕ → List ℕ → Type 0) (
 rest_goes Q R all part rest plain none old new newer a b c text g s same =
     let still = subst (λ lines. Goes Q R all lines old new a b text) (ended_none part rest plain none) g in
     subst (λ r. Goes Q R all [] old r a c []) (sym same) (goes_sent Q R all [] old new a b text c [] still s)
+
+pub goes_first : (Q : List ℕ → Bool) (R : List ℕ → List ℕ → Type 0) (all : List (List ℕ)) (report : RunReport) (a : Option (List ℕ)) → report ≡ nothing_yet → Goes Q R all all nothing_yet report a a []
+goes_first Q R all report a e = subst (λ r. Goes Q R all all nothing_yet r a a []) (sym e) (goes_none Q R all nothing_yet a)
+
+-- a whole text is answered, and its answer written
+module _ (Q : List ℕ → Bool) (R : List ℕ → List ℕ → Type 0) (all left left_now : List (List ℕ)) (line : List ℕ) (old new newer : RunReport) (a b : Option (List ℕ)) (before text : List ℕ)
+    (next : left_now ≡ line ∷ left) (g : Goes Q R all left_now old new a b []) (none : before ≡ []) (h : Answers Q R line new newer before text) where
+  text_goes : Goes Q R all left old newer a b text
+  text_goes = goes_answer Q R all left old new a b [] line newer text (subst (λ lines. Goes Q R all lines old new a b []) next g) (subst (λ l. Answers Q R line new newer l text) none h)
+
+  pub text_breaks : (c : Option (List ℕ)) → TakesSome b c text → BreaksAt R all a c
+  text_breaks c t = goes_taken Q R all left old newer a b text c text_goes t
+
+  pub text_sent : (c : Option (List ℕ)) (newest : RunReport) → Sends b c text [] → newest ≡ newer → Goes Q R all left old newest a c []
+  text_sent c newest s same = subst (λ r. Goes Q R all left old r a c []) (sym same) (goes_sent Q R all left old newer a b text c [] text_goes s)

@@ -1,5 +1,7 @@
 -- How bytes are cut into lines. A line end is the byte 10.
-use Rattle.std.specs.Prelude.{ℕ, List, [], ◌∷◌, ◌++◌, ◌==◌}
+use Rattle.std.specs.Prelude.{ℕ, List, [], ◌∷◌, ◌++◌, ◌==◌, map}
+use Rattle.std.specs.declared.alloc.Global.{Global}
+use Rattle.std.specs.declared.vec.Vec.{Vec}
 use Rattle.std.specs.List.{slice_split}
 
 -- the texts between line ends
@@ -31,3 +33,7 @@ unless_empty (b ∷ line) = (b ∷ line) ∷ []
 -- the lines of an input: those that a line end ended, and what stands behind the last one where it is not empty
 abbrev pub lines_of : List ℕ → List (List ℕ)
 lines_of input = ended_in input ++ unless_empty (part_of input)
+
+-- the bytes of texts
+abbrev pub bytes_of : List (Vec ℕ Global) → List (List ℕ)
+bytes_of texts = map (λ v. v.items) texts

@@ -44,6 +44,14 @@ pub record BreaksAt (R : List ℕ → List ℕ → Type 0) (lines : List (List �
   pub begun : Begins R lines written
   pub appended : Appends before after written
 
+-- each of these texts was answered, in order
+pub record AnswersEach (Q : List ℕ → Bool) (R : List ℕ → List ℕ → Type 0) (lines : List (List ℕ)) (before after : Option (List ℕ)) (report : RunReport) : Type 0 where
+  pub texts : List (List ℕ)
+  pub answered : AllZip R lines texts
+  pub appended : Appends before after (concat texts)
+  pub counted : report.lines ≡ min (length texts) most
+  pub refused : report.any_refused ≡ list_any Q texts
+
 -- all that a reader had was read, and each of its lines answered
 pub record RunsThroughBy (Q : List ℕ → Bool) (R : List ℕ → List ℕ → Type 0) (from to before after : Option (List ℕ)) (report : RunReport) : Type 0 where
   pub input : List ℕ

@@ -3,6 +3,7 @@
 
 mod answers;
 mod cuts;
+mod each;
 mod memory;
 mod outbox;
 mod over;
@@ -15,6 +16,7 @@ mod writing;
 
 pub use answers::LineAnswers;
 pub use cuts::first_line;
+pub use each::answer_each;
 pub use memory::{MemorySink, MemorySource};
 pub use over::{OverRead, OverWrite};
 pub use report::{RunError, RunReport};

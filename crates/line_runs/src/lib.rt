@@ -2,15 +2,18 @@
 #![tactic(auto)]
 
 mod answers;
+mod counts;
 mod faults;
-mod object_lines;
-mod object_runs;
+mod form;
+mod formed_runs;
 mod reading;
 mod running;
 
+pub use counts::LineCounts;
 pub use faults::write_faults;
+pub use form::LineForm;
+pub use formed_runs::{FormedRun, answer_texts, run_in_form, run_objects};
 pub use line_cuts::{RunError, RunReport};
-pub use object_runs::run_objects;
 pub use reading::line_value;
 pub use running::{lines_are_ended, run, run_directly};
 pub use schema_validators::{

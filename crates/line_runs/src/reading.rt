@@ -30,3 +30,17 @@ pub fn line_value(alloc: Global, line: &[u8]) -> Result<Option<Value>, AllocErro
         },
     }
 }
+
+/// Why a JSON text is no value here.
+const OTHER_NUMBER: &str = "a number is no whole number of 64 bits";
+
+// What is wrong with a text that is no value: its first fault as JSON, or that it has another number.
+pub(crate) fn reason_of(alloc: Global, line: &[u8]) -> Result<String, AllocError> {
+    let Err(error) = Value::from_slice(alloc, line) else {
+        return String::from_str(alloc, OTHER_NUMBER);
+    };
+    match error.classify() {
+        Category::Memory => Err(AllocError),
+        _ => error.to_string(alloc),
+    }
+}

@@ -7,8 +7,9 @@ ghost use Rattle.line_cuts.specs.Cuts.{lines_of};
 ghost use Rattle.line_cuts.specs.Runs.{Counts, RunsThrough, Stops};
 ghost use Rattle.line_runs.specs.Runs.{IsLineText, IsLineTextBy};
 
-use crate::answers::{KeptFaults, LineFaults};
-use kept_patterns::kept::Kept;
+use crate::answers::LineFaults;
+use crate::form::LineForm;
+use crate::formed_runs::run_in_form;
 use line_cuts::{ByteSink, ByteSource, RunError, RunReport, answer_lines};
 use schema_patterns::PatternMatcher;
 use schema_validators::Validator;
@@ -38,9 +39,8 @@ pub fn run<S: ByteSource, K: ByteSink>(
     ensures stops { IfErr result (λ e. (p : Patterns) (r : Root) → IsMadeBy p r validator.now → Stops (IsLineText p r) e (S.remaining reader.old) (S.remaining reader.new) (K.contents writer.old) (K.contents writer.new)) }
     ensures counts { IfErr result (λ e. Counts e (S.failures reader.old) (S.failures reader.new) (K.failures writer.old) (K.failures writer.new)) }
 {
-    let answers = KeptFaults { alloc, validator };
-    let mut kept = Kept::new(alloc, validator.patterns())?;
-    answer_lines(alloc, reader, writer, &answers, &mut kept)
+    let run = run_in_form(alloc, LineForm::Pairs, reader, writer, validator)?;
+    Ok(run.report)
 }
 
 /// The same by the matchers of whatever maker, each match asked of its matcher anew.

@@ -1,14 +1,12 @@
--- A command of seven arguments, of which the first is required, has a value of that one in each parse.
-use Rattle.std.proofs.Common.{◌≡◌, ◌∙◌, ◌<◌, ℕ, zero, suc, List, [], ◌∷◌, false, refl, sym, ap, arith, codes, bytes_eq, slice_index_or, if◌then◌else◌}
+-- A command of eight arguments, of which the first is required, has a value of that one in each parse.
+use Rattle.std.proofs.Common.{◌≡◌, ◌∙◌, ◌<◌, ℕ, zero, suc, List, [], ◌∷◌, refl, sym, ap, arith, codes, bytes_eq, slice_index_or, if◌then◌else◌}
 use Rattle.std.proofs.lemmas.Slice.Eq.{bytes_eq-Decides}
 use Rattle.std.specs.List.{All}
 use Rattle.clap.specs.Built.{AddsArg, AddsInTurn, FitsChain, TakesValue, HasDistinctIds}
-use Rattle.clap.specs.Facts.{args_of, groups_of}
 use Rattle.clap.specs.declared.builder.arg.Arg.{Arg}
 use Rattle.clap.specs.declared.builder.command.Command.{Command}
-use Rattle.clap.specs.declared.builder.command.Command.TheViews.{out-Command}
 use Rattle.clap.proofs.CallerLemmas.{required_in_chain}
-use Rattle.program_inputs.specs.Program.{HasSchema}
+use Rattle.program_inputs.specs.Program.{HasSchema, IsEmpty}
 
 -- the position of an argument by its id
 abbrev position_of : List ℕ → ℕ
@@ -18,13 +16,14 @@ position_of id =
     else (if bytes_eq id (codes "base") then 2
     else (if bytes_eq id (codes "draft") then 3
     else (if bytes_eq id (codes "meta") then 4
-    else (if bytes_eq id (codes "ref-siblings") then 5 else 6)))))
+    else (if bytes_eq id (codes "ref-siblings") then 5
+    else (if bytes_eq id (codes "output") then 6 else 7))))))
 
-module _ (a b c e u f o : Arg) where
-  abbrev pub all_seven : List Arg
-  all_seven = a ∷ b ∷ c ∷ e ∷ u ∷ f ∷ o ∷ []
+module _ (a b c e u f o n : Arg) where
+  abbrev pub all_eight : List Arg
+  all_eight = a ∷ b ∷ c ∷ e ∷ u ∷ f ∷ o ∷ n ∷ []
 
-  -- the ids of the seven arguments
+  -- the ids of the eight arguments
   pub record Ids : Type 0 where
     pub first : a.id.now ≡ codes "schema"
     pub second : b.id.now ≡ codes "files"
@@ -33,6 +32,7 @@ module _ (a b c e u f o : Arg) where
     pub fifth : u.id.now ≡ codes "meta"
     pub sixth : f.id.now ≡ codes "ref-siblings"
     pub seventh : o.id.now ≡ codes "output"
+    pub eighth : n.id.now ≡ codes "instance"
 
   pub record Fit : Type 0 where
     pub first : FitsChain a
@@ -42,8 +42,9 @@ module _ (a b c e u f o : Arg) where
     pub fifth : FitsChain u
     pub sixth : FitsChain f
     pub seventh : FitsChain o
+    pub eighth : FitsChain n
 
-  placed : Ids → (k : ℕ) (d : Arg) → k < 7 → position_of (slice_index_or all_seven k d).id.now ≡ k
+  placed : Ids → (k : ℕ) (d : Arg) → k < 8 → position_of (slice_index_or all_eight k d).id.now ≡ k
   placed i zero d l = rw i.first refl
   placed i (suc zero) d l = rw i.second refl
   placed i (suc (suc zero)) d l = rw i.third refl
@@ -51,15 +52,16 @@ module _ (a b c e u f o : Arg) where
   placed i (suc (suc (suc (suc zero)))) d l = rw i.fifth refl
   placed i (suc (suc (suc (suc (suc zero))))) d l = rw i.sixth refl
   placed i (suc (suc (suc (suc (suc (suc zero)))))) d l = rw i.seventh refl
-  placed i (suc (suc (suc (suc (suc (suc (suc k))))))) d l = absurd (omega arith)
+  placed i (suc (suc (suc (suc (suc (suc (suc zero))))))) d l = rw i.eighth refl
+  placed i (suc (suc (suc (suc (suc (suc (suc (suc k)))))))) d l = absurd (omega arith)
 
-  distinct : Ids → HasDistinctIds all_seven
+  distinct : Ids → HasDistinctIds all_eight
   distinct i j k d g l r same =
       sym (placed i j g (omega arith))
-      ∙ ap position_of ((bytes_eq-Decides (slice_index_or all_seven j g).id.now (slice_index_or all_seven k d).id.now).0 same)
+      ∙ ap position_of ((bytes_eq-Decides (slice_index_or all_eight j g).id.now (slice_index_or all_eight k d).id.now).0 same)
       ∙ placed i k d (omega arith)
 
-  fits : Fit → All FitsChain all_seven
+  fits : Fit → All FitsChain all_eight
   fits f zero d l = f.first
   fits f (suc zero) d l = f.second
   fits f (suc (suc zero)) d l = f.third
@@ -67,10 +69,10 @@ module _ (a b c e u f o : Arg) where
   fits f (suc (suc (suc (suc zero)))) d l = f.fifth
   fits f (suc (suc (suc (suc (suc zero))))) d l = f.sixth
   fits f (suc (suc (suc (suc (suc (suc zero)))))) d l = f.seventh
-  fits f (suc (suc (suc (suc (suc (suc (suc k))))))) d l = absurd (omega arith)
+  fits f (suc (suc (suc (suc (suc (suc (suc zero))))))) d l = f.eighth
+  fits f (suc (suc (suc (suc (suc (suc (suc (suc k)))))))) d l = absurd (omega arith)
 
-  pub has_schema : (start cmd : Command) → AddsInTurn AddsArg start all_seven cmd
-      → args_of start ≡ [] → groups_of start ≡ [] → (out-Command start).has_globals ≡ false → (out-Command start).subcommand_negates_reqs ≡ false
-      → Fit → TakesValue a → Ids → HasSchema cmd
-  has_schema start cmd chain args groups globals negates f value ids = λ x p.
-      rw (← ids.first) (required_in_chain start cmd all_seven 0 a x chain args groups globals negates (fits f) (distinct ids) (omega arith) value p)
+  pub has_schema : (start cmd : Command) → AddsInTurn AddsArg start all_eight cmd
+      → IsEmpty start → Fit → TakesValue a → Ids → HasSchema cmd
+  has_schema start cmd chain none f value ids = λ x p.
+      rw (← ids.first) (required_in_chain start cmd all_eight 0 a x chain none.args none.groups none.globals none.negates (fits f) (distinct ids) (omega arith) value p)

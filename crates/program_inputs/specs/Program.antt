@@ -1,11 +1,13 @@
 -- The program's command line, as clap defines what a command line is.
-use Rattle.std.specs.Prelude.{◌≡◌, true, Some, codes, is_some}
+use Rattle.std.specs.Prelude.{◌≡◌, [], true, false, Some, codes, is_some}
 use Rattle.clap.specs.Lexer.{usize_max}
 use Rattle.clap.specs.Built.{IsParsedFrom}
+use Rattle.clap.specs.Facts.{args_of, groups_of}
 use Rattle.clap.specs.Words.{App, Rule, new_app, new_rule, with_rule, first_value, found_of}
 use Rattle.clap.specs.Simple.{on_top}
 use Rattle.clap.specs.declared.builder.action.ArgAction.TheVariants.{Set, Append, SetTrue}
 use Rattle.clap.specs.declared.builder.command.Command.{Command}
+use Rattle.clap.specs.declared.builder.command.Command.TheViews.{out-Command}
 use Rattle.clap.specs.declared.parser.matches.ArgMatches.{ArgMatches}
 
 -- `SCHEMA`
@@ -40,14 +42,25 @@ siblings_rule = record (new_rule (codes "ref-siblings")) { long = Some (codes "r
 abbrev pub output_rule : Rule
 output_rule = record (new_rule (codes "output")) { long = Some (codes "output"); value_names = 1; action = Some Set }
 
+-- `--instance FILE`, again and again
+abbrev pub instance_rule : Rule
+instance_rule = record (new_rule (codes "instance")) { long = Some (codes "instance"); value_names = 1; action = Some Append }
+
 -- no name of the program among the words, and a version
 abbrev pub bare_app : App
 bare_app = on_top (λ s. record s { no_binary_name = true; has_version = true }) (new_app (codes "cribhemlock"))
 
--- with the seven arguments
+-- neither arguments nor groups, and nothing that subcommands share
+pub record IsEmpty (c : Command) : Type 0 where
+  pub args : args_of c ≡ []
+  pub groups : groups_of c ≡ []
+  pub globals : (out-Command c).has_globals ≡ false
+  pub negates : (out-Command c).subcommand_negates_reqs ≡ false
+
+-- with the eight arguments
 abbrev pub program_app : App
-program_app = with_rule (with_rule (with_rule (with_rule (with_rule (with_rule (with_rule bare_app schema_rule) files_rule) base_rule)
-    draft_rule) meta_rule) siblings_rule) output_rule
+program_app = with_rule (with_rule (with_rule (with_rule (with_rule (with_rule (with_rule (with_rule bare_app schema_rule) files_rule) base_rule)
+    draft_rule) meta_rule) siblings_rule) output_rule) instance_rule
 
 -- each parse of the command that succeeds has a schema
 abbrev pub HasSchema : Command → Type 0

@@ -9,7 +9,7 @@ abbrev pub says_true : Option (List ℕ) → Bool
 says_true None = false
 says_true (Some text) = bytes_eq text (codes "true")
 
--- the first value of the schema, each value of the files in order, the first values of the base, of the draft, of the meta-schemas and of
+-- the first value of the schema, each value of the files and of the instances in order, the first values of the base, of the draft, of the meta-schemas and of
 -- the output where they have one, and the flag
 pub record HasWordsOf (rows : List Row) (w : ProgramWords) : Type 0 where
   pub schema : Some w.schema.now ≡ first_of (codes "schema") rows
@@ -19,3 +19,4 @@ pub record HasWordsOf (rows : List Row) (w : ProgramWords) : Type 0 where
   pub meta : option_map (λ s. s.now) w.meta ≡ first_of (codes "meta") rows
   pub ref_siblings : w.ref_siblings ≡ says_true (first_of (codes "ref-siblings") rows)
   pub output : option_map (λ s. s.now) w.output ≡ first_of (codes "output") rows
+  pub instances : texts w.instances.items ≡ unwrap_or (all_of (codes "instance") rows) []

@@ -3,7 +3,7 @@
 ghost use Rattle.std.specs.Prelude.{◌≡◌, IfOk};
 ghost use Rattle.clap.specs.Built.{FitsChain, TakesValue};
 ghost use Rattle.clap.specs.Words.{app_of, rule_of};
-ghost use Rattle.program_inputs.specs.Program.{program_app, schema_rule, files_rule, base_rule, draft_rule, meta_rule, siblings_rule, output_rule, HasSchema};
+ghost use Rattle.program_inputs.specs.Program.{bare_app, program_app, schema_rule, files_rule, base_rule, draft_rule, meta_rule, siblings_rule, output_rule, instance_rule, HasSchema, IsEmpty};
 
 use clap::{Arg, ArgAction, Command};
 use std::alloc::{AllocError, Global};
@@ -12,7 +12,9 @@ use std::alloc::{AllocError, Global};
 const AFTER_HELP: &str = "\
 Each line of the standard input is checked as JSON against SCHEMA, and one line is written for it: the list of its faults, \
 each a pair of the place in the instance and the path of keywords; [] where it is valid. With --output json it is an object \
-that says whether the line is valid, and each fault in words.
+that says whether the line is valid, and each fault in words; with --output text a line for each fault is written for people, \
+nothing for a valid line, and a summary to standard error at the end. With --instance the whole of each file is one instance, answered \
+as a line is, and the standard input is not read.
 
 Status:
   0  each line is valid
@@ -106,7 +108,33 @@ fn output<'a>(alloc: Global) -> Arg<'a>
         .long("output")
         .value_name("FORM")
         .action(ArgAction::Set)
-        .help("What is written: pairs, json or none [default: pairs]")
+        .help("What is written: pairs, json, text or none [default: pairs]")
+}
+
+/// `--instance FILE`
+fn instance<'a>(alloc: Global) -> Arg<'a>
+    ensures rule { rule_of result ≡ instance_rule }
+    ensures fits { FitsChain result }
+{
+    Arg::new(alloc, "instance")
+        .long("instance")
+        .value_name("FILE")
+        .action(ArgAction::Append)
+        .help(
+            "A file that is one instance as a whole, in place of the standard input; may be given again",
+        )
+}
+
+/// What stands before any argument.
+fn bare<'a>(alloc: Global) -> Command<'a>
+    ensures app { app_of result ≡ bare_app }
+    ensures empty { IsEmpty result }
+{
+    Command::new(alloc, "cribhemlock")
+        .about("Checks lines of JSON against a JSON Schema")
+        .after_help(AFTER_HELP)
+        .version("0.1.0")
+        .no_binary_name(true)
 }
 
 /// The command line. Each parse of it that succeeds has a schema.
@@ -114,16 +142,13 @@ pub(crate) fn program_command<'a>(alloc: Global) -> Result<Command<'a>, AllocErr
     ensures app { IfOk result (λ c. app_of c ≡ program_app) }
     ensures schema { IfOk result HasSchema }
 {
-    Command::new(alloc, "cribhemlock")
-        .about("Checks lines of JSON against a JSON Schema")
-        .after_help(AFTER_HELP)
-        .version("0.1.0")
-        .no_binary_name(true)
+    bare(alloc)
         .arg(schema(alloc))?
         .arg(files(alloc))?
         .arg(base(alloc))?
         .arg(draft(alloc))?
         .arg(meta(alloc))?
         .arg(ref_siblings(alloc))?
-        .arg(output(alloc))
+        .arg(output(alloc))?
+        .arg(instance(alloc))
 }

@@ -28,6 +28,8 @@ pub struct ProgramWords<'a> {
     pub ref_siblings: bool,
     /// The form of what is written, where one was given. It may be a word that names none.
     pub output: Option<&'a str>,
+    /// The files that are an instance each, in their order. Where there are none, the instances are lines of the standard input.
+    pub instances: Vec<&'a str>,
 }
 
 // Whether the value of a flag says that it was given.
@@ -67,6 +69,7 @@ impl<'a> ProgramWords<'a> {
             meta: matches.get_str("meta"),
             ref_siblings: says_true(matches.get_str("ref-siblings")),
             output: matches.get_str("output"),
+            instances: Vec::from_slice(alloc, matches.get_strs("instance").unwrap_or(&[]))?,
         })
     }
 }

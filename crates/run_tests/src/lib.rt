@@ -4,11 +4,15 @@
 #[cfg(test)]
 mod cuts;
 #[cfg(test)]
+mod descriptions;
+#[cfg(test)]
 mod devices;
 #[cfg(test)]
 mod files;
 #[cfg(test)]
 mod forms;
+#[cfg(test)]
+mod instances;
 #[cfg(test)]
 mod lines;
 #[cfg(test)]

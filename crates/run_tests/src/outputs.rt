@@ -11,7 +11,7 @@ const OBJECTS: [Row; 3] = [
         &["--output=json", "plain.json"],
         "\"a\"\n1\n\n{\n1.5",
         r#"1 {"errors":[],"valid":true}
-{"errors":[{"description":"1 is not of type string","evaluation_path":"/type","instance_path":"","kind":"Types","schema_path":"/type"}],"valid":false}
+{"errors":[{"description":"1 is not of type string","evaluation_path":"/type","instance_path":"","keyword_location":"json-schema:///#/type","kind":"Types","schema_path":"/type"}],"valid":false}
 {"reason":"EOF while parsing at line 1 column 0","valid":null}
 {"reason":"EOF while parsing at line 1 column 1","valid":null}
 {"reason":"a number is no whole number of 64 bits","valid":null}
@@ -31,7 +31,7 @@ const LINKED_OBJECTS: [Row; 1] = [(
         "json",
     ],
     "[1]\n[\"a\",\"b\"]\n",
-    r#"1 {"errors":[{"description":"1 is not of type string","evaluation_path":"/items/$ref/type","instance_path":"/0","kind":"Types","schema_path":"/type"},{"description":"[1] has fewer items than the minimum 2","evaluation_path":"/minItems","instance_path":"","kind":"MinItems","schema_path":"/minItems"}],"valid":false}
+    r#"1 {"errors":[{"description":"1 is not of type string","evaluation_path":"/items/$ref/type","instance_path":"/0","keyword_location":"http://a.test/leaf.json#/type","kind":"Types","schema_path":"/type"},{"description":"[1] has fewer items than the minimum 2","evaluation_path":"/minItems","instance_path":"","keyword_location":"http://a.test/root.json#/minItems","kind":"MinItems","schema_path":"/minItems"}],"valid":false}
 {"errors":[],"valid":true}
  "#,
 )];
@@ -40,6 +40,79 @@ const LINKED_OBJECTS: [Row; 1] = [(
 fn objects(rt: HostRuntime) {
     assert_outcomes(&rt, rt.alloc(), &SOUND, &OBJECTS);
     assert_outcomes(&rt, rt.alloc(), &SOUND, &LINKED_OBJECTS);
+}
+
+const SENTENCES: [Row; 3] = [
+    (
+        &["plain.json", "--output", "text"],
+        "\"a\"\n1\n\n{\n1.5",
+        r"1 2:: 1 is not of type string (/type)
+3: EOF while parsing at line 1 column 0
+4: EOF while parsing at line 1 column 1
+5: a number is no whole number of 64 bits
+ lines: 5, valid: 1, not valid: 1, not read: 3
+",
+    ),
+    (
+        &["plain.json", "--output=text"],
+        "\"a\"\n\"b\"\n",
+        "0  lines: 2, valid: 2, not valid: 0, not read: 0\n",
+    ),
+    (
+        &["plain.json", "--output", "text"],
+        "",
+        "0  lines: 0, valid: 0, not valid: 0, not read: 0\n",
+    ),
+];
+
+// Each fault has its line, with its place and its road; a sentence of several lines has its road behind the first.
+const LINKED_SENTENCES: [Row; 3] = [
+    (
+        &[
+            "root.json",
+            "http://a.test/leaf.json=leaf.json",
+            "--base",
+            "http://a.test/root.json",
+            "--output",
+            "text",
+        ],
+        "[\"a\",\"b\"]\n[1]\n",
+        r"1 2:/0: 1 is not of type string (/items/$ref/type)
+2:: [1] has fewer items than the minimum 2 (/minItems)
+ lines: 2, valid: 1, not valid: 1, not read: 0
+",
+    ),
+    (
+        &["either.json", "--output", "text"],
+        "{\"a\":1}\n",
+        r"1 1:/a: 1 is to be accepted by a schema of anyOf, and is by 0 of 2 (/properties/a/anyOf)
+  anyOf/0: /a: 1 is not of type string
+  anyOf/1: /a: 1 is not of type null
+ lines: 1, valid: 0, not valid: 1, not read: 0
+",
+    ),
+    (
+        &[
+            "plain.json",
+            "--output",
+            "text",
+            "--instance",
+            "short.json",
+            "--instance",
+            "empty.json",
+        ],
+        "",
+        r"1 short.json:: [1] is not of type string (/type)
+empty.json: EOF while parsing at line 1 column 0
+ files: 2, valid: 0, not valid: 1, not read: 1
+",
+    ),
+];
+
+#[test]
+fn sentences(rt: HostRuntime) {
+    assert_outcomes(&rt, rt.alloc(), &SOUND, &SENTENCES);
+    assert_outcomes(&rt, rt.alloc(), &SOUND, &LINKED_SENTENCES);
 }
 
 const PAIRS: [Row; 1] = [(
@@ -80,11 +153,18 @@ fn other_words(rt: HostRuntime) {
     assert_outcomes(&rt, rt.alloc(), &SOUND, &REFUSED);
 }
 
-const STOPPED: [Row; 1] = [(
-    &["plain.json", "--output", "json"],
-    "\"a\"\n",
-    "3 {\"e Writing failed\n",
-)];
+const STOPPED: [Row; 2] = [
+    (
+        &["plain.json", "--output", "json"],
+        "\"a\"\n",
+        "3 {\"e Writing failed\n",
+    ),
+    (
+        &["plain.json", "--output", "text"],
+        "1\n",
+        "3 1:: Writing failed\n",
+    ),
+];
 
 #[test]
 fn stopped(rt: HostRuntime) {

@@ -17,12 +17,16 @@ const BESIDE: &str =
 const META: &str =
     "[{\"$schema\":\"https://json-schema.org/draft/2020-12/schema\",\"$id\":\"http://a.test/m2\",\"properties\":{\"type\":{\"type\":\"string\"}}},{\"$schema\":\"http://json-schema.org/draft-04/schema#\",\"id\":\"http://a.test/m4\",\"type\":\"object\"}]";
 
-const FILES: [(&str, &str); 12] = [
+const EITHER: &str =
+    "{\"properties\":{\"a\":{\"anyOf\":[{\"type\":\"string\"},{\"type\":\"null\"}]}}}";
+
+const FILES: [(&str, &str); 19] = [
     ("root.json", ROOT),
     ("leaf.json", LEAF),
     ("plain.json", "{\"type\":\"string\"}"),
     ("none", "{"),
     ("half", "1.5"),
+    ("deep.json", "{\"a\":[1.5]}"),
     ("wrong.json", "{\"type\":5}"),
     ("nowhere.json", "{\"$ref\":\"#/$defs/none\"}"),
     ("beside.json", BESIDE),
@@ -36,6 +40,12 @@ const FILES: [(&str, &str); 12] = [
         "refused.json",
         "{\"$schema\":\"http://a.test/m2\",\"type\":[\"string\"]}",
     ),
+    ("short.json", "[\n  1\n]\n"),
+    ("good.json", "\n[\"a\",\r\n\t\"b\"]"),
+    ("true.json", "true"),
+    ("either.json", EITHER),
+    ("empty.json", ""),
+    ("two.json", "[\"a\",\"b\"]\n[\"a\",\"b\"]\n"),
 ];
 
 fn files(rt: &impl Abort, alloc: Global) -> MapFiles {

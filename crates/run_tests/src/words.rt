@@ -48,6 +48,11 @@ fn in_any_order(rt: HostRuntime) {
     assert_eq!(rt; read.files.as_slice(), ["b=c"].as_slice());
     assert!(rt; read.ref_siblings);
     assert_eq!(rt; read.output, Some("json"));
+    assert!(rt; read.instances.is_empty());
+    let words = ["--instance", "i", "a", "b=c", "--instance=j", "d=e"];
+    let read = ProgramWords::read(rt.alloc(), &words).expect(&rt, "words");
+    assert_eq!(rt; read.files.as_slice(), ["b=c", "d=e"].as_slice());
+    assert_eq!(rt; read.instances.as_slice(), ["i", "j"].as_slice());
 }
 
 #[test]
@@ -87,6 +92,7 @@ fn help(rt: HostRuntime) {
         "--meta <FILE>",
         "--ref-siblings",
         "--output <FORM>",
+        "--instance <FILE>",
     ] {
         assert!(rt; text.contains(part), "{text}");
     }

@@ -3,3 +3,4 @@ mod Added
 mod Small
 mod Alone
 mod Running
+mod NamedFiles

@@ -19,8 +19,8 @@ pub(crate) struct Further<'a> {
     pub(crate) file: &'a str,
 }
 
-// Cuts a word at its last `=`.
-fn cut<'a>(word: &'a str) -> Option<Further<'a>>
+/// Cuts a word at its last `=`.
+pub(crate) fn cut<'a>(word: &'a str) -> Option<Further<'a>>
     ensures { MatchOption result ((cut_at_last 61 word.entry.now).1 ≡ None)
         (λ f. cut_at_last 61 word.entry.now ≡ (f.uri.now, Some f.file.now)) }
 {
@@ -49,6 +49,25 @@ pub(crate) fn cut_words<'a>(
     Ok(cuts)
 }
 
+/// The bytes of a file.
+///
+/// # Errors
+///
+/// A file that is not read, or want of memory.
+pub(crate) fn read_bytes<'a, F: SchemaFiles>(
+    alloc: Global,
+    files: &F,
+    name: &'a str,
+) -> Result<Vec<u8>, ProgramFault<'a>>
+    ensures { IfOk result (λ v. MayHold (F.held files.now name.entry.now) v.items) }
+{
+    match files.read(alloc, name) {
+        Ok(bytes) => Ok(bytes),
+        Err(FileError::Unreadable) => Err(ProgramFault::File { name }),
+        Err(FileError::Memory) => Err(ProgramFault::Run(RunError::Memory)),
+    }
+}
+
 /// The bytes of a file, which are UTF-8.
 ///
 /// # Errors
@@ -61,11 +80,7 @@ pub(crate) fn read_file<'a, F: SchemaFiles>(
 ) -> Result<Vec<u8>, ProgramFault<'a>>
     ensures { IfOk result (λ v. MayHold (F.held files.now name.entry.now) v.items) }
 {
-    let bytes = match files.read(alloc, name) {
-        Ok(bytes) => bytes,
-        Err(FileError::Unreadable) => return Err(ProgramFault::File { name }),
-        Err(FileError::Memory) => return Err(ProgramFault::Run(RunError::Memory)),
-    };
+    let bytes = read_bytes(alloc, files, name)?;
     if str::from_utf8(bytes.as_slice()).is_err() {
         return Err(ProgramFault::File { name });
     }

@@ -1,17 +1,21 @@
 //! The program.
 
-ghost use Rattle.std.specs.Prelude.{◌≡◌, ◌≤◌, ◌⊎◌, IfOk, IfErr, if◌then◌else◌};
-ghost use Rattle.clap.specs.Words.{matches_of};
+ghost use Rattle.std.specs.Prelude.{◌≡◌, ◌≤◌, ◌⊎◌, List, IfOk, IfErr, if◌then◌else◌};
+ghost use Rattle.clap.specs.Words.{Row, matches_of};
 ghost use Rattle.clap.specs.Walk.{texts};
 ghost use Rattle.program_inputs.specs.Program.{program_app};
+ghost use Rattle.program_inputs.specs.Read.{HasWordsOf};
 ghost use Rattle.validator_program.specs.Answered.{AnswersAll, StopsEarly};
 ghost use Rattle.validator_program.specs.Status.{status_of};
 
 use crate::fault::ProgramFault;
-use crate::output::{read_form, run_in};
+use crate::instances::answer_instances;
+use crate::output::read_form;
 use crate::preparing::prepare;
+use crate::refusal::Refusal;
+use crate::summary::{Answered, called_in};
 use line_cuts::{ByteSink, ByteSource};
-use line_runs::{RunError, RunReport};
+use line_runs::RunError;
 use program_inputs::{ProgramWords, SchemaFiles};
 use std::alloc::Global;
 use std::env;
@@ -23,11 +27,14 @@ const NO_MEMORY: &str = "No memory\n";
 
 /// Reads the words, builds the validator that they name, answers each line of the reader, and returns the exit status.
 ///
-/// The words also say what is written for a line: its faults as pairs of paths, an object that has them in words, or nothing.
+/// The words also say what is written for a line: its faults as pairs of paths, an object that has them in words, a sentence for each, or
+/// nothing; where it is sentences, a summary goes to `faults` at the end. Where they
+/// name files of instances, the whole of each is answered as a line is, in their order, and the reader is not read; all files are read
+/// before any is answered.
 ///
 /// The status is 0 where each line was valid, 1 where some line was not, 2 where the words, a file or the build were refused, and 3
 /// where reading, writing or memory failed. Where it is 2 or 3 the fault is told to `faults`: the first that is met, of the words, the
-/// base, SCHEMA, the further files in their order, the build and the lines. A write to `faults` that fails changes nothing.
+/// base, SCHEMA, the further files in their order, the build, the files of instances, and the lines. A write to `faults` that fails changes nothing.
 pub fn program<'a, F: SchemaFiles, S: ByteSource, K: ByteSink, T: ByteSink>(
     alloc: Global,
     words: &'a [&'a str],
@@ -47,8 +54,8 @@ pub fn program<'a, F: SchemaFiles, S: ByteSource, K: ByteSink, T: ByteSink>(
         (K.contents writer.old) (K.contents writer.new) }
 {
     match answer(alloc, words, files, reader, writer) {
-        Ok(report) => report.status(),
-        Err(fault) => told(alloc, &fault, faults),
+        Ok(answered) => summed(alloc, &answered, faults),
+        Err(refusal) => told(alloc, &refusal, faults),
     }
 }
 
@@ -67,12 +74,13 @@ pub fn run_program<R: Env + AllocGlobal, F: SchemaFiles, S: ByteSource, K: ByteS
     let alloc = rt.alloc();
     let given = match given_words(rt) {
         Ok(given) => given,
-        Err(fault) => return told(alloc, &fault, faults),
+        Err(fault) => return told(alloc, &Refusal::plain(fault), faults),
     };
     let mut words = Vec::new(alloc);
     for word in given.iter() {
         if words.push(word.as_str()).is_err() {
-            return told(alloc, &ProgramFault::Run(RunError::Memory), faults);
+            let fault = ProgramFault::Run(RunError::Memory);
+            return told(alloc, &Refusal::plain(fault), faults);
         }
     }
     program(alloc, words.as_slice(), files, reader, writer, faults)
@@ -89,39 +97,77 @@ fn given_words<R: Env + AllocGlobal>(rt: &R) -> Result<Vec<String>, ProgramFault
     }
 }
 
+// Reads the words, and answers what they ask for.
 fn answer<'a, F: SchemaFiles, S: ByteSource, K: ByteSink>(
     alloc: Global,
     words: &'a [&'a str],
     files: &F,
     reader: &mut S,
     writer: &mut K,
-) -> Result<RunReport, ProgramFault<'a>>
-    ensures ok { IfOk result (λ report. AnswersAll (matches_of program_app (texts words.entry.now))
+) -> Result<Answered, Refusal<'a>>
+    ensures ok { IfOk result (λ a. AnswersAll (matches_of program_app (texts words.entry.now))
         (F.held files.now) (S.remaining reader.old) (S.remaining reader.new)
-        (K.contents writer.old) (K.contents writer.new) (if report.any_refused then 1 else 0)) }
+        (K.contents writer.old) (K.contents writer.new) (if a.run.report.any_refused then 1 else 0)) }
     ensures err { IfErr result (λ e. ((reader.new ≡ reader.old) × (writer.new ≡ writer.old))
-        ⊎ ((status_of e ≡ 3) × StopsEarly (matches_of program_app (texts words.entry.now))
+        ⊎ ((status_of e.fault ≡ 3) × StopsEarly (matches_of program_app (texts words.entry.now))
         (F.held files.now) (S.remaining reader.old) (S.remaining reader.new)
         (K.contents writer.old) (K.contents writer.new))) }
 {
-    let words = ProgramWords::read(alloc, words)?;
-    let form = read_form(words.output)?;
-    let validator = prepare(alloc, &words, files)?;
-    match run_in(alloc, form, reader, writer, &validator) {
-        Ok(report) => Ok(report),
-        Err(error) => Err(ProgramFault::Run(error)),
+    let words = match ProgramWords::read(alloc, words) {
+        Ok(words) => words,
+        Err(error) => return Err(Refusal::plain(ProgramFault::from(error))),
+    };
+    match answer_words(alloc, &words, files, reader, writer) {
+        Ok(answered) => Ok(answered),
+        Err(fault) => Err(Refusal::described(alloc, &words, fault)),
     }
 }
 
-// Tells a fault, and answers its status.
-fn told<T: ByteSink>(alloc: Global, fault: &ProgramFault<'_>, faults: &mut T) -> u8
-    ensures range { (2 ≤ result) × (result ≤ 3) }
-    ensures refused { result ≡ 2 → status_of fault.now ≡ 2 }
+// Answers what the words ask for.
+fn answer_words<'a, F: SchemaFiles, S: ByteSource, K: ByteSink>(
+    alloc: Global,
+    words: &ProgramWords<'a>,
+    files: &F,
+    reader: &mut S,
+    writer: &mut K,
+) -> Result<Answered, ProgramFault<'a>>
+    ensures ok { IfOk result (λ a. (rows : List Row) → HasWordsOf rows words.now → AnswersAll rows
+        (F.held files.now) (S.remaining reader.old) (S.remaining reader.new)
+        (K.contents writer.old) (K.contents writer.new) (if a.run.report.any_refused then 1 else 0)) }
+    ensures err { IfErr result (λ e. ((reader.new ≡ reader.old) × (writer.new ≡ writer.old))
+        ⊎ ((status_of e ≡ 3) × ((rows : List Row) → HasWordsOf rows words.now → StopsEarly rows
+        (F.held files.now) (S.remaining reader.old) (S.remaining reader.new)
+        (K.contents writer.old) (K.contents writer.new)))) }
 {
-    match fault.text(alloc) {
+    let form = read_form(words.output)?;
+    let validator = prepare(alloc, words, files)?;
+    let names = words.instances.as_slice();
+    let done = answer_instances(alloc, form, names, files, reader, writer, &validator)?;
+    Ok(Answered {
+        run: done,
+        called: called_in(form, names),
+    })
+}
+
+// Sums a run up where that is wanted, and answers its status.
+fn summed<T: ByteSink>(alloc: Global, answered: &Answered, faults: &mut T) -> u8
+    ensures { result ≡ (if answered.now.run.report.any_refused then 1 else 0) }
+{
+    if let Ok(Some(text)) = answered.summary(alloc) {
+        write_text(faults, text.as_str());
+    }
+    answered.run.report.status()
+}
+
+// Tells a fault, and answers its status.
+fn told<T: ByteSink>(alloc: Global, refusal: &Refusal<'_>, faults: &mut T) -> u8
+    ensures range { (2 ≤ result) × (result ≤ 3) }
+    ensures refused { result ≡ 2 → status_of refusal.now.fault ≡ 2 }
+{
+    match refusal.text(alloc) {
         Ok(text) => {
             write_text(faults, text.as_str());
-            fault.status()
+            refusal.status()
         }
         Err(_) => {
             write_text(faults, NO_MEMORY);

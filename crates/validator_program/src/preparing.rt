@@ -19,7 +19,7 @@ use std::alloc::{AllocError, Global};
 use uri_references::uri::{Uri, from_str};
 
 /// The base where none is given.
-const DEFAULT_BASE: &str = "json-schema:///";
+pub(crate) const DEFAULT_BASE: &str = "json-schema:///";
 
 fn read_base<'a>(alloc: Global, base: Option<&'a str>) -> Result<Uri, ProgramFault<'a>>
     ensures { IfOk result (λ u. u ≡ base_of (option_map (λ s. s.now) base.entry)) }

@@ -1,28 +1,27 @@
-use Rattle.std.proofs.Common.{rules, ◌≡◌, ◌∙◌, ap, ap₂, refl}
+use Rattle.std.proofs.Common.{◌∙◌, ap, ap₂, refl}
 use Rattle.std.proofs.lemmas.Result.{IfOk-weaker}
-use Rattle.clap.specs.Words.{Rule, app_of, with_rule}
-use Rattle.program_inputs.specs.Program.{bare_app}
+use Rattle.clap.specs.Words.{Rule, with_rule}
 use Rattle.program_inputs.proofs.Chain.{has_schema}
 use Rattle.program_inputs.proofs.command.program_command.Goals as goal
 
 pub returns-clause-app : goal.returns-clause-app
 returns-clause-app c =
-    let start : app_of c.no_binary_name.result ≡ bare_app = search rules in
-    IfOk-weaker c.arg-7.result _ _ (λ m h. h.shape c.output.ensures.fits.1
+    IfOk-weaker c.arg-8.result _ _ (λ m h. h.shape c.instance.ensures.fits.1
+    ∙ ap₂ with_rule (c.in_ok-arg-7.ensures.shape c.output.ensures.fits.1
     ∙ ap₂ with_rule (c.in_ok-arg-6.ensures.shape c.ref_siblings.ensures.fits.1
     ∙ ap₂ with_rule (c.in_ok-arg-5.ensures.shape c.meta.ensures.fits.1
     ∙ ap₂ with_rule (c.in_ok-arg-4.ensures.shape c.draft.ensures.fits.1
     ∙ ap₂ with_rule (c.in_ok-arg-3.ensures.shape c.base.ensures.fits.1
     ∙ ap₂ with_rule (c.in_ok-arg-2.ensures.shape c.files.ensures.fits.1
-    ∙ ap₂ with_rule (c.in_ok-arg.ensures.shape c.schema.ensures.fits.1 ∙ ap₂ with_rule start c.schema.ensures.rule) c.files.ensures.rule) c.base.ensures.rule) c.draft.ensures.rule) c.meta.ensures.rule)
-    c.ref_siblings.ensures.rule) c.output.ensures.rule)
-    c.arg-7.ensures
+    ∙ ap₂ with_rule (c.in_ok-arg.ensures.shape c.schema.ensures.fits.1 ∙ ap₂ with_rule c.bare.ensures.app c.schema.ensures.rule) c.files.ensures.rule) c.base.ensures.rule) c.draft.ensures.rule) c.meta.ensures.rule)
+    c.ref_siblings.ensures.rule) c.output.ensures.rule) c.instance.ensures.rule)
+    c.arg-8.ensures
 
 pub returns-clause-schema : goal.returns-clause-schema
 returns-clause-schema c =
     let id = λ (r : Rule). r.id in
-    IfOk-weaker c.arg-7.result _ _ (λ m h. has_schema c.schema.result c.files.result c.base.result c.draft.result c.meta.result c.ref_siblings.result c.output.result
-    c.no_binary_name.result m (
+    IfOk-weaker c.arg-8.result _ _ (λ m h. has_schema c.schema.result c.files.result c.base.result c.draft.result c.meta.result c.ref_siblings.result c.output.result c.instance.result
+    c.bare.result m (
       c.in_ok-arg.field-0,
       c.in_ok-arg.ensures,
       (
@@ -37,13 +36,13 @@ returns-clause-schema c =
             (
               c.in_ok-arg-5.field-0,
               c.in_ok-arg-5.ensures,
-              (c.in_ok-arg-6.field-0, c.in_ok-arg-6.ensures, (m, h, refl)),
+              (c.in_ok-arg-6.field-0, c.in_ok-arg-6.ensures, (c.in_ok-arg-7.field-0, c.in_ok-arg-7.ensures, (m, h, refl))),
             ),
           ),
         ),
       ),
     )
-    (search rules) (search rules) (search rules) (search rules)
+    c.bare.ensures.empty
     (record {
       first = c.schema.ensures.fits;
       second = c.files.ensures.fits;
@@ -52,6 +51,7 @@ returns-clause-schema c =
       fifth = c.meta.ensures.fits;
       sixth = c.ref_siblings.ensures.fits;
       seventh = c.output.ensures.fits;
+      eighth = c.instance.ensures.fits;
     })
     c.schema.ensures.value
     (record {
@@ -62,5 +62,6 @@ returns-clause-schema c =
       fifth = ap id c.meta.ensures.rule;
       sixth = ap id c.ref_siblings.ensures.rule;
       seventh = ap id c.output.ensures.rule;
+      eighth = ap id c.instance.ensures.rule;
     }))
-    c.arg-7.ensures
+    c.arg-8.ensures

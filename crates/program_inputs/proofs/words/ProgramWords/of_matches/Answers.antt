@@ -19,4 +19,6 @@ returns c =
       meta = c.get_str-4.ensures ∙ first_value-rows f (codes "meta");
       ref_siblings = c.says_true.ensures ∙ ap says_true (c.get_str-5.ensures ∙ first_value-rows f (codes "ref-siblings"));
       output = c.get_str-6.ensures ∙ first_value-rows f (codes "output");
+      instances = ap texts c.in_ok-from_slice-2.ensures.items ∙ ap (λ s. texts s.now) c.unwrap_or-2.ensures ∙ texts_or_none c.get_strs-2.result _ refl
+          ∙ ap (λ o. unwrap_or o []) (c.get_strs-2.ensures ∙ raw_values-rows f (codes "instance"));
     }

@@ -1,0 +1,114 @@
+// What is said of refusals where the output is for people.
+use crate::whole::{Row, SOUND, assert_outcomes};
+
+const WORDS: [Row; 4] = [
+    (
+        &["plain.json", "u:x", "--output", "text"],
+        "1\n",
+        r"2  words refused: u:x
+  a further document is given as URI=FILE
+",
+    ),
+    (
+        &["plain.json", "--draft", "5", "--output", "json"],
+        "1\n",
+        r"2  words refused: --draft 5
+  the drafts are 4, 6, 7, 2019-09 and 2020-12
+",
+    ),
+    (
+        &["absent", "--output", "text"],
+        "1\n",
+        r"2  file refused: absent
+  it is not there, is not read, or holds something else than is asked of it
+",
+    ),
+    (
+        &["plain.json", "u:x", "--output", "none"],
+        "1\n",
+        "2  words refused: u:x\n",
+    ),
+];
+
+const DOCUMENTS: [Row; 3] = [
+    (
+        &["plain.json", "u:x=none", "--output", "text"],
+        "1\n",
+        r"2  build refused: Document 'u:x' is no JSON text
+  in the file 'none'
+",
+    ),
+    (
+        &["half", "--output", "json"],
+        "1\n",
+        r"2  build refused: Number at 'json-schema:///#' is no whole number of 64 bits
+  in the file 'half'
+",
+    ),
+    (
+        &[
+            "plain.json",
+            "HTTP://a.test/%7ex=deep.json",
+            "--output",
+            "text",
+        ],
+        "1\n",
+        r"2  build refused: Number at 'http://a.test/~x#/a/0' is no whole number of 64 bits
+  in the file 'deep.json' at '/a/0'
+",
+    ),
+];
+
+const BUILDS: [Row; 5] = [
+    (
+        &["wrong.json", "--output", "text"],
+        "1\n",
+        r"2  build refused: Keyword value at 'json-schema:///#/type': expected type name
+  in the file 'wrong.json' at '/type'
+",
+    ),
+    (
+        &[
+            "root.json",
+            "u:other=plain.json",
+            "--base",
+            "http://a.test/root.json",
+            "--output",
+            "text",
+        ],
+        "1\n",
+        r"2  build refused: Resource 'http://a.test/leaf.json' is not present and retrieving it failed
+  the documents at hand are
+    'http://a.test/root.json' in the file 'root.json'
+    'u:other' in the file 'plain.json'
+",
+    ),
+    (
+        &["own.json", "--output", "text"],
+        "1\n",
+        r"2  build refused: Unknown meta-schema 'http://a.test/m2'
+  a file with a list of meta-schemas is given by --meta
+",
+    ),
+    (
+        &["refused.json", "--meta", "meta.json", "--output", "json"],
+        "1\n",
+        r#"2  build refused: Schema refused by its meta-schema at '/type', '/properties/type/type'
+  in the file 'refused.json' at '/type': ["string"] is not of type string
+"#,
+    ),
+    (
+        &["nowhere.json", "--output", "text"],
+        "1\n",
+        r"2  build refused: Pointer '/$defs/none' does not exist
+  in the file 'nowhere.json' at '/$ref'
+",
+    ),
+];
+
+#[test]
+fn said_of_refusals(rt: HostRuntime) {
+    assert_outcomes(&rt, rt.alloc(), &SOUND, &WORDS);
+    assert_outcomes(&rt, rt.alloc(), &SOUND, &DOCUMENTS);
+    assert_outcomes(&rt, rt.alloc(), &SOUND, &BUILDS);
+}

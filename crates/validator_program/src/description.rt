@@ -1,0 +1,182 @@
+//! What is said of a refusal behind its text: the file and the place, and what could be given in place of what was.
+
+use crate::documents::cut;
+use crate::fault::ProgramFault;
+use crate::preparing::DEFAULT_BASE;
+use line_runs::{BuildError, DocumentError};
+use program_inputs::ProgramWords;
+use schema_reports::ValidationError;
+use schema_validators::{BuildCause, Error as ReferenceError, SchemaPlace};
+use std::alloc::{AllocError, Global};
+use uri_references::error::Error as UriReferenceError;
+use uri_references::uri::from_str;
+
+/// What a further document looks like.
+const FURTHER: &str = "  a further document is given as URI=FILE\n";
+
+/// The drafts that there are.
+const DRAFTS: &str = "  the drafts are 4, 6, 7, 2019-09 and 2020-12\n";
+
+/// What a file may lack.
+const FILE: &str = "  it is not there, is not read, or holds something else than is asked of it\n";
+
+/// How meta-schemas are given.
+const META_SCHEMAS: &str = "  a file with a list of meta-schemas is given by --meta\n";
+
+/// What is said of a fault behind its text: lines of two spaces and more, or nothing. A document that was given is named by its file.
+pub(crate) fn description(
+    alloc: Global,
+    words: &ProgramWords<'_>,
+    fault: &ProgramFault<'_>,
+) -> Result<String, AllocError> {
+    match fault {
+        ProgramFault::Word { .. } => String::from_str(alloc, FURTHER),
+        ProgramFault::Draft { .. } => String::from_str(alloc, DRAFTS),
+        ProgramFault::File { .. } => String::from_str(alloc, FILE),
+        ProgramFault::Document(error) => of_document(alloc, words, error),
+        ProgramFault::Build(error) => of_build(alloc, words, error),
+        _ => Ok(String::new(alloc)),
+    }
+}
+
+fn of_document(
+    alloc: Global,
+    words: &ProgramWords<'_>,
+    error: &DocumentError,
+) -> Result<String, AllocError> {
+    match error {
+        DocumentError::JsonText { uri } => in_file(alloc, words, uri.as_str(), ""),
+        DocumentError::OtherNumber { document, path } => {
+            let path = path.to_pointer(alloc)?;
+            in_file(alloc, words, document.as_str(), path.as_str())
+        }
+        _ => Ok(String::new(alloc)),
+    }
+}
+
+fn of_build(
+    alloc: Global,
+    words: &ProgramWords<'_>,
+    error: &BuildError,
+) -> Result<String, AllocError> {
+    match error {
+        BuildError::Document(error) => of_document(alloc, words, error),
+        BuildError::Registry(error) | BuildError::Root(error) => of_reference(alloc, words, error),
+        BuildError::Schema(cause) => of_cause(alloc, words, cause),
+        BuildError::MetaSchema(error) => of_fault(alloc, words, error),
+        BuildError::Memory => Ok(String::new(alloc)),
+    }
+}
+
+fn of_cause(
+    alloc: Global,
+    words: &ProgramWords<'_>,
+    cause: &BuildCause,
+) -> Result<String, AllocError> {
+    match cause {
+        BuildCause::KeywordValue { place, .. }
+        | BuildCause::BadPattern { place }
+        | BuildCause::Unevaluated { place } => at_place(alloc, words, place),
+        BuildCause::Reference { place, error } => {
+            let mut text = at_place(alloc, words, place)?;
+            let more = of_reference(alloc, words, error)?;
+            text.push_str(more.as_str())?;
+            Ok(text)
+        }
+        BuildCause::NodeLimit { .. } | BuildCause::Memory => Ok(String::new(alloc)),
+    }
+}
+
+fn of_reference(
+    alloc: Global,
+    words: &ProgramWords<'_>,
+    error: &ReferenceError,
+) -> Result<String, AllocError> {
+    match error {
+        ReferenceError::Unretrievable { .. } => at_hand(alloc, words),
+        ReferenceError::UnknownSpecification { .. } => String::from_str(alloc, META_SCHEMAS),
+        _ => Ok(String::new(alloc)),
+    }
+}
+
+// Why the meta-schema refuses the schema.
+fn of_fault(
+    alloc: Global,
+    words: &ProgramWords<'_>,
+    error: &ValidationError<'_>,
+) -> Result<String, AllocError> {
+    let place = error.instance_path().to_pointer(alloc)?;
+    let sentence = error.description(alloc)?;
+    let file = words.schema;
+    format!(in alloc; "  in the file '{file}' at '{place}': {sentence}\n")
+}
+
+fn at_place(
+    alloc: Global,
+    words: &ProgramWords<'_>,
+    place: &SchemaPlace,
+) -> Result<String, AllocError> {
+    let path = place.path.to_pointer(alloc)?;
+    in_file(alloc, words, place.document.uri.as_str(), path.as_str())
+}
+
+// The file of a document, and the path in it; nothing where the document was given by no file.
+fn in_file(
+    alloc: Global,
+    words: &ProgramWords<'_>,
+    uri: &str,
+    path: &str,
+) -> Result<String, AllocError> {
+    match file_of(alloc, words, uri)? {
+        Some(file) if path.is_empty() => format!(in alloc; "  in the file '{file}'\n"),
+        Some(file) => format!(in alloc; "  in the file '{file}' at '{path}'\n"),
+        None => Ok(String::new(alloc)),
+    }
+}
+
+// The documents that were given, a line each.
+fn at_hand(alloc: Global, words: &ProgramWords<'_>) -> Result<String, AllocError> {
+    let base = words.base.unwrap_or(DEFAULT_BASE);
+    let file = words.schema;
+    let mut text = format!(in alloc;
+        "  the documents at hand are\n    '{base}' in the file '{file}'\n"
+    )?;
+    for word in words.files.iter() {
+        if let Some(further) = cut(word) {
+            let uri = further.uri;
+            let file = further.file;
+            let line = format!(in alloc; "    '{uri}' in the file '{file}'\n")?;
+            text.push_str(line.as_str())?;
+        }
+    }
+    Ok(text)
+}
+
+// The file of the document of a URI: the last that was given under it.
+fn file_of<'a>(
+    alloc: Global,
+    words: &ProgramWords<'a>,
+    uri: &str,
+) -> Result<Option<&'a str>, AllocError> {
+    let mut found = None;
+    if is_under(alloc, words.base.unwrap_or(DEFAULT_BASE), uri)? {
+        found = Some(words.schema);
+    }
+    for word in words.files.iter() {
+        if let Some(further) = cut(word) {
+            if is_under(alloc, further.uri, uri)? {
+                found = Some(further.file);
+            }
+        }
+    }
+    Ok(found)
+}
+
+// Whether a word names a URI in its normal form.
+fn is_under(alloc: Global, word: &str, uri: &str) -> Result<bool, AllocError> {
+    match from_str(alloc, word) {
+        Ok(read) => Ok(read.as_str() == uri),
+        Err(UriReferenceError::InvalidUri(_)) => Ok(false),
+        Err(UriReferenceError::Memory) => Err(AllocError),
+    }
+}
