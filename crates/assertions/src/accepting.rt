@@ -182,7 +182,24 @@ impl<'s> Assertion<'s> {
     pub fn accept(&self, alloc: Global, value: &Value) -> Result<bool, AllocError>
         ensures { IfOk result (λ b. (matches : List ℕ → List ℕ → Bool) → b ≡ is_empty (wrong matches (assertion_of self.now) (view value.now))) }
     {
-        Ok(self.first_wrong(alloc, value)?.is_none())
+        Ok(match self {
+            Assertion::Types(names) => names.accept(value),
+            Assertion::Enumeration(options) => options.contains(value),
+            Assertion::Constant(expected) => equal(value, *expected),
+            Assertion::MultipleOf(divisor) => is_divided(*divisor, value),
+            Assertion::Limit { bound, limit } => is_within(*bound, limit.get(), value),
+            Assertion::LimitOfDraft4 {
+                side,
+                limit,
+                strict,
+            } => is_within(old_bound_of(*side, *strict), limit.get(), value),
+            Assertion::Count { count, limit } => has_count(*count, *limit, value),
+            Assertion::UniqueItems => has_distinct_items(alloc, value)?,
+            Assertion::Required(names) => first_missing(*names, value).is_none(),
+            Assertion::DependentRequired(entries) => first_missing_beside(
+                *entries, value,
+            ).is_none(),
+        })
     }
 
     /// All that is wrong with a value, in order: a name that is missing each by itself, and one thing at most for any other keyword.

@@ -24,20 +24,25 @@ use Rattle.reached_sites.specs.Causes.{RefusesWithin}
 use Rattle.reached_sites.specs.Patterns.{IsFront}
 use Rattle.reached_sites.specs.Roots.{IsPlaced}
 use Rattle.reached_sites.specs.Visits.{site_of, Belongs}
+use Rattle.graph_answers.specs.Linking.{IsLocatedAt}
+use Rattle.schema_engine.specs.declared.node.Node.{Node}
+use Rattle.compiled_keywords.specs.declared.keyword.Keyword.{Keyword}
 use Rattle.reached_sites.specs.declared.cause.BuildCause as refused
 use Rattle.reached_sites.specs.declared.visit.Visit.{Visit}
 use Rattle.reached_sites.proofs.Listing.{in-one, none-in}
 use Rattle.compiled_graphs.specs.Filled.{IsReached}
 use Rattle.compiled_graphs.specs.Graphs.{IsVisited, IsGraph}
 use Rattle.compiled_graphs.specs.Linking.{as_spelled, StandsFor, IsCompiledAt, KnowsTable}
-use Rattle.compiled_graphs.specs.Walked.{ArePlaced, Notes, Walks, IsBegun, IsWalked, RefusesWalk}
+use Rattle.compiled_graphs.specs.Walked.{ArePlaced, Notes, Walks, IsBegun, IsWalked, RefusesWalk, RefusesInOrder}
 use Rattle.compiled_graphs.specs.declared.walk.AtCause.TheVariants.{Stop}
 use Rattle.compiled_graphs.specs.declared.walk.Walk.{Walk}
 use Rattle.compiled_graphs.proofs.Ending.{no-cause, all-among, keys-within}
-use Rattle.compiled_graphs.proofs.Meaning.{same-order, is-sound, are-known, keywords-mean, paths-mean}
+use Rattle.compiled_graphs.proofs.Meaning.{same-order, is-sound, are-known, keywords-mean, located-mean, paths-mean}
 use Rattle.compiled_graphs.proofs.Growing.{visited-later}
 use Rattle.compiled_graphs.proofs.Positions.{in-place, within}
 use Rattle.compiled_graphs.proofs.Walks.{begun-walks}
+use Rattle.compiled_graphs.proofs.Stepping.{alone-steps}
+use Rattle.compiled_graphs.specs.Nearest.{IsInOrder, RefusesNearest}
 
 -- ---- roots
 
@@ -53,6 +58,10 @@ pub refuses-one : (makes : List ℕ → Bool) (own : List Document) (root : Site
 refuses-one makes own root limit e (inl h) = inl (record { named = h.named; exceeds = h.exceeds })
 refuses-one makes own root limit e (inr (inl h)) = inr (inr (h.cause, h.named, subst (λ r. IsCauseOf own makes r h.cause) (in-one h.listed) h.stands))
 refuses-one makes own root limit e (inr (inr m)) = inr (inl m)
+
+pub refuses-nearest : (makes : List ℕ → Bool) (own : List Document) (root : Site) (limit : ℕ) (e : refused.BuildCause) → RefusesInOrder makes own (root ∷ []) limit e → RefusesNearest own makes root limit e
+refuses-nearest makes own root limit e (inl h) = inl (record { named = h.named; exceeds = h.exceeds })
+refuses-nearest makes own root limit e (inr h) = inr h
 
 -- ---- once all nodes are filled
 
@@ -148,10 +157,16 @@ module _ {M : Type 0} (finds : M → List ℕ → Option Bool) (p : Patterns) (o
     paths = λ s n h. paths-mean own p.makes vs w.edges.items w.wrong.items (texts_of_table w.table) w.nodes.items walked.walks.nodes walked.all s n (to-visited own vs graph.belongs s n h);
   }
 
+  located : (n : ℕ) (s : Site) (node : Node Keyword) → slice_get (sites_of vs) n ≡ Some (Some s) → slice_get w.nodes.items n ≡ Some node → IsLocatedAt s node
+  located n s node at there =
+      let x = site-there own vs n s at in
+      subst (λ t. IsLocatedAt t node) x.2
+      (located-mean own p.makes vs w.edges.items w.wrong.items (texts_of_table w.table) w.nodes.items walked.walks.nodes walked.all n x.0 node x.1 there)
+
   pub compiled-at : IsCompiledAt own p.makes w.nodes.items (root_site root) 0
   compiled-at = record {
     sites = sites_of vs;
-    means = record { related = related };
+    means = record { related = related; located = located };
     begins = of-visited own vs graph.belongs (root_site root) 0 begins;
     within = (let all = walked.all in let one = within vs 0 begins.visit begins.there in omega (arith, all, one));
   }
@@ -177,6 +192,9 @@ module _ {M : Type 0} (finds : M → List ℕ → Option Bool) (p : Patterns) (o
     (b : IsBegun begun visits) (s : IsStarted own root visits) where
   pub walks-from-root : Walks finds p own (root_site root ∷ []) begun
   walks-from-root = begun-walks finds p own (root_site root ∷ []) begun visits b (s.graph p.makes)
+
+  pub ordered-from-root : length visits ≡ 1 → IsInOrder own p.makes (root_site root ∷ []) begun
+  ordered-from-root one = (zero ∷ [], rw (b.visits_are, b.edges, b.nodes) (alone-steps own p.makes (root_site root) visits one s.visited_first))
 
   pub built-of : (w : Walk M) → IsFront begun.visits.list.items w.visits.list.items
       → ((o : List Document) (roots : List Site) → ArePlaced o roots → Walks finds p o roots begun → IsWalked finds p o roots limit Stop w) → IsBuilt finds p own root limit w

@@ -17,3 +17,4 @@ pub mod Compiling
 pub mod Others
 pub mod Running
 pub mod Sorting
+pub mod Stepping

@@ -27,6 +27,7 @@ use Rattle.keyword_compilers.specs.Patterns.{table_texts}
 use Rattle.keyword_compilers.specs.Shapes.{shapes_in}
 use Rattle.keyword_compilers.proofs.Numbering.{knows_entries}
 use Rattle.reached_sites.specs.Visits.{site_of, Met, Belongs}
+use Rattle.graph_answers.specs.Linking.{IsLocatedAt}
 use Rattle.reached_sites.specs.declared.visit.Visit.{Visit}
 use Rattle.reached_sites.proofs.Listing.{in-none, none-in}
 use Rattle.compiled_graphs.specs.Asked.{asked_by, IsAnswered}
@@ -185,6 +186,11 @@ module _ (own : List Document) (makes : List ℕ → Bool) (vs : List Visit) (es
       subst (λ ks. AllZip (RelatedShape (IsReached n vs es)) (keywords_at own makes s) (map shape_of ks)) (sym (keywords-there n found.0 found.1))
       (shapes_through (AreAlike own) (IsReached n vs es) (IsReached n vs es) (λ t u m a y. (visited-alike t u m y.0 (belongs y.0.visit (in-place vs m y.0.visit y.0.there)) a, y.1)) (keywords_at own makes s)
       (keywords_at own makes (site_of v)) (map shape_of found.0.keywords.items) (alike_have_keywords own makes s (site_of v) alike) (all-related own (site_of v) n vs es texts (rows_at own makes (site_of v)) found.0.keywords.items means))
+
+  pub located-mean : (n : ℕ) (v : Visit) (node : Node Keyword) → slice_get vs n ≡ Some v → slice_get nodes n ≡ Some node → IsLocatedAt (site_of v) node
+  located-mean n v node at there =
+      let h = has.each n node there in
+      subst (λ (u : Visit). IsLocatedAt (site_of u) node) (one-there (slice_get vs n) h.visit v h.there at) h.is.located
 
   pub paths-mean : (s : Site) (n : ℕ) → IsVisited vs n s → spelled s.schema_path ≡ path_at nodes n
   paths-mean s n x =

@@ -23,13 +23,14 @@ use Rattle.marked_nodes.specs.Leading.{LeadsTo, here, along}
 use Rattle.marked_nodes.specs.Sources.{IsWithin}
 use Rattle.marked_nodes.specs.declared.graph.Edge.{Edge}
 use Rattle.schema_engine.specs.declared.node.Node.{Node}
-use Rattle.compiled_keywords.specs.declared.keyword.Keyword.{Keyword}
 use Rattle.schema_engine.specs.Graphs.{reading_of, IsSound as Sounds}
 use Rattle.compiled_keywords.specs.Shapes.{shape_of}
 use Rattle.graph_answers.specs.Tables.{AreForms}
 use Rattle.graph_answers.proofs.TableReads.{forms_of_made}
 use Rattle.reached_sites.specs.Patterns.{IsFront}
 use Rattle.reached_sites.specs.Visits.{site_of}
+use Rattle.graph_answers.specs.Linking.{IsLocatedAt}
+use Rattle.compiled_keywords.specs.declared.keyword.Keyword.{Keyword}
 use Rattle.reached_sites.specs.declared.visit.Visit.{Visit}
 use Rattle.reached_sites.specs.declared.cause.BuildCause as refused
 use Rattle.compiled_graphs.specs.Causes.{RefusesEach}
@@ -46,7 +47,7 @@ use Rattle.compiled_graphs.specs.declared.walk.Walk.{Walk}
 use Rattle.compiled_graphs.proofs.Begun.{sites-visited, start-later}
 use Rattle.compiled_graphs.proofs.Built.{all-read}
 use Rattle.compiled_graphs.proofs.Ending.{leads-wrong, no-cause, all-among, keys-within}
-use Rattle.compiled_graphs.proofs.Meaning.{same-order, is-sound, are-known, keywords-mean, paths-mean}
+use Rattle.compiled_graphs.proofs.Meaning.{same-order, is-sound, are-known, keywords-mean, located-mean, paths-mean}
 use Rattle.compiled_graphs.proofs.Walks.{begun-walks}
 use Rattle.compiled_graphs.proofs.Positions.{in-place, within, all-of, same-all}
 
@@ -179,10 +180,16 @@ module _ {M : Type 0} (finds : M → List ℕ → Option Bool) (p : Patterns) (o
     paths = λ s n h. paths-mean own p.makes vs es wrong (texts_of_table w.table) w.nodes.items walked.walks.nodes walked.all s n (to-visited s n h).0;
   }
 
+  located : (n : ℕ) (s : Site) (node : Node Keyword) → slice_get sites n ≡ Some (Some s) → slice_get w.nodes.items n ≡ Some node → IsLocatedAt s node
+  located n s node at there =
+      let x = clear-there vs marks n s at in
+      subst (λ t. IsLocatedAt t node) x.2
+      (located-mean own p.makes vs es wrong (texts_of_table w.table) w.nodes.items walked.walks.nodes walked.all n x.0 node x.1 there)
+
   compiled-at : (s : Site) (i : ℕ) → IsVisited vs i s → IsClear i → IsCompiledAt own p.makes w.nodes.items s i
   compiled-at s i x e = record {
     sites = sites;
-    means = record { related = related };
+    means = record { related = related; located = located };
     begins = of-visited s i x e;
     within = (let all = walked.all in let one = within vs i x.visit x.there in omega (arith, all, one));
   }

@@ -15,6 +15,7 @@ use Rattle.referencing.specs.Resolved.{documents_in}
 use Rattle.reached_sites.specs.Led.{causes_in}
 use Rattle.reached_sites.specs.Patterns.{written, IsFront, Holds}
 use Rattle.reached_sites.specs.Visits.{site_of, Met}
+use Rattle.graph_answers.specs.Linking.{IsLocatedAt}
 use Rattle.reached_sites.specs.declared.cause.BuildCause as refused
 use Rattle.reached_sites.specs.declared.visit.Visit.{Visit}
 use Rattle.reached_sites.proofs.Filling.{empty-filled}
@@ -22,6 +23,7 @@ use Rattle.reached_sites.proofs.Listing.{in-behind}
 use Rattle.compiled_graphs.specs.Filled.{Compiled, IsRank, HasNode, HasNodes}
 use Rattle.compiled_graphs.specs.Graphs.{IsReachedFrom, IsGraph, IsLed}
 use Rattle.compiled_graphs.specs.Linked.{Links, StandsFor}
+use Rattle.compiled_graphs.specs.Nearest.{AreSteps, IsNearest, IsInOrder}
 use Rattle.compiled_graphs.specs.Read.{StaysFilled, VisitReads, TellsFirst, IsFound}
 use Rattle.compiled_graphs.specs.Walked.{ArePlaced, Notes, Walks, IsFromOne, IsBegun}
 use Rattle.compiled_graphs.specs.declared.asking.Asking.{Asking}
@@ -31,6 +33,7 @@ use Rattle.compiled_graphs.proofs.Meant.{no-first, all-held, means-of, means-sta
 use Rattle.compiled_graphs.proofs.Growing.{kept-at, noted_wrong, wrong-before, stands-for, graph-goes, notes-go}
 use Rattle.compiled_graphs.proofs.Standing.{is-led, all-causes}
 use Rattle.compiled_graphs.proofs.Positions.{in-place}
+use Rattle.compiled_graphs.proofs.Stepping.{further, d, steps-go, deep-here, right-nearer}
 use Rattle.std.specs.List.{AllZip}
 
 -- ---- a list with one more at its end
@@ -67,6 +70,7 @@ pub record Step {M : Type 0} (finds : M → List ℕ → Option Bool) (p : Patte
   pub compiled : is_none cause ≡ true → Compiled (texts_of_table new.table) found.askings.items numbers node.keywords.items
   pub empty : is_none cause ≡ false → node.keywords.items ≡ []
   pub path : node.schema_path ≡ v.point.schema_path.steps
+  pub located : IsLocatedAt (site_of v) node
   pub rank : IsRank v.point.place.path node.rank
   pub pushed : new.nodes.items ≡ old.nodes.items ++ node ∷ []
 
@@ -146,6 +150,7 @@ module _ {M : Type 0} (finds : M → List ℕ → Option Bool) (p : Patterns) (o
       means = λ e. means-stays own (site_of h.visit) j vs us step.links.extends.added step.links.extends.grown old.edges.items new.edges.items step.links.kept (texts_of_table old.table) (texts_of_table new.table) step.grows _ _ (h.is.means e);
       empty = h.is.empty;
       path = h.is.path;
+      located = h.is.located;
       rank = h.is.rank;
     };
   }
@@ -174,6 +179,7 @@ module _ {M : Type 0} (finds : M → List ℕ → Option Bool) (p : Patterns) (o
           (λ u k n h t m. stands-for own p.makes roots placed vs us found.visits.items i v old.edges.items new.edges.items old.wrong.items b step.at step.links led w.graph u k n h t m);
       empty = step.empty;
       path = step.path;
+      located = step.located;
       rank = step.rank;
     };
   }
@@ -194,6 +200,39 @@ module _ {M : Type 0} (finds : M → List ℕ → Option Bool) (p : Patterns) (o
         noted = subst (λ n. Notes new.table us new.wrong.items n) (sym one-more) (subst (λ ws. Notes new.table us ws (i + 1)) (sym step.noted) notes);
         nodes = subst (λ ws. HasNodes own p.makes us new.edges.items ws (texts_of_table new.table) new.nodes.items) (sym step.noted) nodes;
       }
+
+  -- ---- the order of the steps
+
+  pub orders : IsInOrder own p.makes roots old → IsInOrder own p.makes roots new
+  orders h = (
+    further own p.makes roots vs us found.visits.items i v old.edges.items new.edges.items old.wrong.items b step.at step.links led w.graph h.0 h.1,
+    subst (λ n. AreSteps own p.makes roots us new.edges.items n (further own p.makes roots vs us found.visits.items i v old.edges.items new.edges.items old.wrong.items b step.at step.links led w.graph h.0 h.1)) (sym one-more)
+        (steps-go own p.makes roots vs us found.visits.items i v old.edges.items new.edges.items old.wrong.items b step.at step.links led w.graph h.0 h.1),
+  )
+
+  module _ (h : IsInOrder own p.makes roots old) (none : old.wrong.items ≡ []) where
+    nearest-here : (e : refused.BuildCause) → TellsFirst (Some e) (causes_at own p.makes (site_of v)) → IsNearest own p.makes roots e
+    nearest-here e t =
+        let deep = deep-here own p.makes roots vs us found.visits.items i v old.edges.items new.edges.items old.wrong.items b step.at step.links led w.graph h.0 h.1 none in
+        let same = all-causes own p.makes v found cause found-here deep.site (alike-here deep.site deep.met) in
+        record {
+          root = deep.root;
+          listed = deep.listed;
+          steps = d own p.makes roots vs us found.visits.items i v old.edges.items new.edges.items old.wrong.items b step.at step.links led w.graph h.0 h.1;
+          site = deep.site;
+          reached = deep.reached;
+          cause = t.0;
+          named = t.1;
+          wrong = subst (λ cs. In t.0 cs) (sym same) t.2;
+          nearer = right-nearer own p.makes roots vs us found.visits.items i v old.edges.items new.edges.items old.wrong.items b step.at step.links led w.graph h.0 h.1 none;
+        }
+
+    pub nearest-first : IfSome cause (IsNearest own p.makes roots)
+    nearest-first = by cause found-here.tells
+      where
+        by : (o : Option refused.BuildCause) → TellsFirst o (causes_at own p.makes (site_of v)) → IfSome o (IsNearest own p.makes roots)
+        by None t = tt
+        by (Some e) t = nearest-here e t
 
   -- ---- the first cause
 

@@ -17,6 +17,7 @@ use Rattle.compiled_keywords.specs.declared.keyword.Keyword.TheVariants as code
 use Rattle.keyword_compilers.specs.Patterns.{patterns_needed, patterns_in, AreHeld, AreEntries}
 use Rattle.keyword_compilers.specs.Shapes.{shapes_in}
 use Rattle.reached_sites.specs.Visits.{site_of}
+use Rattle.graph_answers.specs.Linking.{IsLocatedAt}
 use Rattle.reached_sites.specs.declared.visit.Visit.{Visit}
 use Rattle.compiled_graphs.specs.Asked.{asked_by, IsAnswered}
 use Rattle.marked_nodes.specs.declared.graph.Edge.{Edge}
@@ -84,6 +85,7 @@ pub record IsNodeOf (own : List Document) (makes : List ℕ → Bool) (i : ℕ) 
   pub means : is_right ≡ true → Means own (site_of v) i vs es texts (rows_at own makes (site_of v)) node.keywords.items
   pub empty : is_right ≡ false → node.keywords.items ≡ []
   pub path : node.schema_path ≡ v.point.schema_path.steps
+  pub located : IsLocatedAt (site_of v) node
   pub rank : IsRank v.point.place.path node.rank
 
 -- the node at a position

@@ -4,6 +4,7 @@ pub mod Graphs
 pub mod Asked
 pub mod Read
 pub mod Filled
+pub mod Nearest
 pub mod Walked
 pub mod Causes
 pub mod Linking

@@ -17,6 +17,7 @@ use keyword_compilers::nodes::Nodes;
 use reached_sites::visit::Visit;
 use schema_engine::node::Node;
 use schema_patterns::{PatternMatcher, PatternTable};
+use schema_reports::SchemaLocation;
 use schema_sites::keyword::Keyword as Met;
 use schema_steps::Path;
 use std::alloc::{AllocError, Global};
@@ -140,10 +141,19 @@ pub(crate) fn node_of(
     ensures keywords { IfOk result (λ n. n.keywords.items ≡ keywords.items) }
     ensures path { IfOk result (λ n. n.schema_path ≡ visit.now.point.schema_path.steps) }
     ensures rank { IfOk result (λ n. IsRank visit.now.point.place.path n.rank) }
+    ensures document { IfOk result (λ n. n.location.document.value ≡ visit.now.point.place.document.uri.value) }
+    ensures place { IfOk result (λ n. n.location.path ≡ visit.now.point.place.path) }
+    ensures draft { IfOk result (λ n. n.draft ≡ visit.now.site.dialect.draft) }
 {
+    let place = &visit.point.place;
     Ok(Node {
         keywords,
-        rank: rank(&visit.point.place.path)?,
+        rank: rank(&place.path)?,
         schema_path: visit.point.schema_path.steps.clone()?,
+        location: SchemaLocation {
+            document: place.document.uri.clone()?,
+            path: place.path.clone()?,
+        },
+        draft: visit.site.dialect.draft,
     })
 }

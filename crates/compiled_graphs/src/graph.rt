@@ -11,6 +11,7 @@ ghost use Rattle.schema_patterns.specs.Tables.{texts_of_table, AreMadeBy};
 ghost use Rattle.reached_sites.specs.Causes.{RefusesWithin};
 ghost use Rattle.reached_sites.specs.Roots.{IsPlaced};
 ghost use Rattle.compiled_graphs.specs.Linking.{IsCompiledAt};
+ghost use Rattle.compiled_graphs.specs.Nearest.{RefusesNearest};
 
 use crate::schemas::SchemaGraph;
 use crate::starting::start_at;
@@ -45,6 +46,7 @@ fn build_from<'r, P: PatternMaker>(
     ensures made { IfOk result (λ g. AreMadeBy P.Matcher.finds (P.patterns maker.now).finished g.schemas.table) }
     ensures linked { IfOk result (λ g. IsCompiledAt (documents_in root.now.resolver) (P.patterns maker.now).makes g.schemas.graph.nodes.items (root_site (target_in root.now)) g.start) }
     ensures refused { IfErr result (RefusesWithin (documents_in root.now.resolver) (P.patterns maker.now).makes (root_site (target_in root.now)) limit) }
+    ensures nearest { IfErr result (RefusesNearest (documents_in root.now.resolver) (P.patterns maker.now).makes (root_site (target_in root.now)) limit) }
 {
     let visits = start_at(alloc, root, matches)?;
     let begun = Walk::new(alloc, visits);
@@ -66,8 +68,8 @@ fn build_from<'r, P: PatternMaker>(
 ///
 /// # Errors
 ///
-/// A cause that stands at a place reached from the root, the first in the order of the nodes; more compile keys than the limit, or want of
-/// memory.
+/// A cause that stands at a place reached from the root, the first in the order of the nodes, so that no fewer steps lead to another; more
+/// compile keys than the limit, or want of memory.
 pub fn build<P: PatternMaker>(
     alloc: Global,
     root: &Resolved<'_>,
@@ -81,6 +83,7 @@ pub fn build<P: PatternMaker>(
     ensures made { IfOk result (λ g. AreMadeBy P.Matcher.finds (P.patterns maker.now).finished g.schemas.table) }
     ensures linked { IfOk result (λ g. IsCompiledAt (documents_in root.now.resolver) (P.patterns maker.now).makes g.schemas.graph.nodes.items (root_site (target_in root.now)) g.start) }
     ensures refused { IfErr result (RefusesWithin (documents_in root.now.resolver) (P.patterns maker.now).makes (root_site (target_in root.now)) limit) }
+    ensures nearest { IfErr result (RefusesNearest (documents_in root.now.resolver) (P.patterns maker.now).makes (root_site (target_in root.now)) limit) }
 {
     let matches = Matches::none(alloc);
     build_from(alloc, &*root, &matches, maker, limit)

@@ -1,6 +1,6 @@
 //! Where walks begin.
 
-ghost use Rattle.std.specs.Prelude.{◌≡◌, ◌∷◌, [], List, ℕ, Bool, true, map, string_bytes, IfOk};
+ghost use Rattle.std.specs.Prelude.{◌≡◌, ◌∷◌, [], List, ℕ, Bool, true, length, map, string_bytes, IfOk};
 ghost use Rattle.std.specs.List.{list_all};
 ghost use Rattle.schema_definitions.specs.Sites.{root_site};
 ghost use Rattle.document_laws.specs.TargetLaws.{are_apart, contents_rise};
@@ -32,6 +32,7 @@ pub(crate) fn start_at<'r>(
     matches: &'r Matches,
 ) -> Result<Visits<'r>, AllocError>
     ensures visited { IfOk result (λ s. IsVisited s.list.items 0 (root_site (target_in root.now))) }
+    ensures one { IfOk result (λ s. length s.list.items ≡ 1) }
     ensures graph { IfOk result (λ s. (makes : List ℕ → Bool) → IsGraph (documents_in root.now.resolver) makes (root_site (target_in root.now) ∷ []) s.list.items [] [] 0) }
 {
     let mut visits = Visits::new(alloc);

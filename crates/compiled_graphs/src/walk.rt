@@ -4,7 +4,8 @@ ghost use Rattle.std.specs.Prelude.{◌≡◌, ◌<◌, ◌+◌, List, [], IfOk,
 ghost use Rattle.schema_definitions.specs.Bearers.{Document};
 ghost use Rattle.schema_definitions.specs.Sites.{Site};
 ghost use Rattle.reached_sites.specs.Patterns.{IsFront};
-ghost use Rattle.compiled_graphs.specs.Walked.{ArePlaced, Walks, IsWalked, Fills, IsBegun, MayGoOn, IsStopped, RefusesWalk};
+ghost use Rattle.compiled_graphs.specs.Nearest.{IsInOrder};
+ghost use Rattle.compiled_graphs.specs.Walked.{ArePlaced, Walks, IsWalked, Fills, IsBegun, MayGoOn, IsStopped, RefusesWalk, RefusesInOrder};
 
 use crate::filling::{compile, node_of};
 use crate::linking::link;
@@ -106,6 +107,7 @@ impl<'r, M: PatternMatcher> Walk<'r, M> {
         requires right { self.wrong.items ≡ [] }
         ensures further { IfOk result (λ w. IsFront self.entry.visits.list.items w.visits.list.items) }
         ensures walked { IfOk result (λ w. (own : List Document) (roots : List Site) → ArePlaced own roots → Walks M.finds (P.patterns maker.now) own roots self.entry → IsWalked M.finds (P.patterns maker.now) own roots limit at_cause w) }
+        ensures nearest { IfErr result (λ e. (own : List Document) (roots : List Site) → ArePlaced own roots → Walks M.finds (P.patterns maker.now) own roots self.entry → IsInOrder own (P.patterns maker.now).makes roots self.entry → RefusesInOrder (P.patterns maker.now).makes own roots limit e) }
         ensures refused { IfErr result (λ e. (own : List Document) (roots : List Site) → ArePlaced own roots → Walks M.finds (P.patterns maker.now) own roots self.entry → RefusesWalk (P.patterns maker.now).makes own roots limit at_cause e) }
     {
         while self.nodes.len() < self.visits.list.len() {

@@ -12,10 +12,10 @@ use uri_references::uri::Uri;
 
 /// Gives the documents that are asked for by their URIs.
 pub trait Retrieve {
-    // What may be answered for a URI.
-    ghost may_answer: { Self → List ℕ → Data → Type 0 };
-    // Whether a URI may be refused.
-    ghost may_refuse: { Self → List ℕ → Type 0 };
+    // What may be answered for a URI: anything, unless an implementation says more.
+    ghost may_answer: { Self → List ℕ → Data → Type 0 } = { λ _ uri document. Unit {0} };
+    // Whether a URI may be refused: each, unless an implementation says more.
+    ghost may_refuse: { Self → List ℕ → Type 0 } = { λ _ uri. Unit {0} };
 
     /// The document of that URI.
     ///

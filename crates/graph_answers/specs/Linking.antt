@@ -1,5 +1,5 @@
 -- Graphs that mean what documents mean: their nodes.
-use Rattle.std.specs.Prelude.{◌≡◌, ◌<◌, ℕ, List, Bool, Option, Some, length, slice_get}
+use Rattle.std.specs.Prelude.{◌≡◌, ◌<◌, ◌∷◌, ℕ, List, Bool, Option, Some, length, slice_get}
 use Rattle.schema_definitions.specs.Bearers.{Documents}
 use Rattle.schema_definitions.specs.Plain.{plain}
 use Rattle.schema_definitions.specs.Sites.{Site}
@@ -22,9 +22,17 @@ as_spelled docs makes matches = record (plain docs makes matches) { schema_path 
 abbrev pub StandsFor : Documents → List (Option Site) → Site → ℕ → Type 0
 StandsFor docs sites s n = (t : Site) × (slice_get sites n ≡ Some (Some t)) × AreAlike docs s t
 
--- at each site stands what its node says: the same keywords, over sites with their nodes, under the same schema path
+-- where a node's schema stands, and its draft, as a site has them: its document by its URI, whatever the layer
+pub record IsLocatedAt {K : Type 0} (s : Site) (node : Node K) : Type 0 where
+  pub layer : ℕ
+  pub document : s.document ≡ layer ∷ node.location.document.value
+  pub path : s.path ≡ node.location.path
+  pub draft : s.dialect.draft ≡ node.draft
+
+-- at each site stands what its node says: the same keywords, over sites with their nodes, under the same schema path; and each node is where its site is
 pub record MeansDocuments {K : Type 0} (shape : K → Shape ℕ) (docs : Documents) (makes : List ℕ → Bool) (nodes : List (Node K)) (sites : List (Option Site)) : Type 0 where
   pub related : (matches : List ℕ → List ℕ → Bool) → AreRelated (as_spelled docs makes matches) (reading_of shape matches nodes) (StandsFor docs sites)
+  pub located : (n : ℕ) (s : Site) (node : Node K) → slice_get sites n ≡ Some (Some s) → slice_get nodes n ≡ Some node → IsLocatedAt s node
 
 -- a graph that means what documents mean, with the node of a site
 pub record IsCompiledAt {K : Type 0} (shape : K → Shape ℕ) (docs : Documents) (makes : List ℕ → Bool) (nodes : List (Node K)) (root : Site) (start : ℕ) : Type 0 where

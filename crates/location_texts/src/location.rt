@@ -9,7 +9,9 @@ ghost use Rattle.std.specs.Cmp.Lexicographic.{slice_cmp, nat_list_eq_equiv, nat_
 ghost use Rattle.std.specs.Cmp.Rules.{hashing};
 ghost use Rattle.json_values.specs.Pointers.{pointer_text};
 ghost use Rattle.location_texts.specs.Joined.{IsJoined};
+ghost use Rattle.location_texts.specs.Locations.{location_of};
 
+use crate::lazy_location::LazyLocation;
 use json_pointers::JsonPointerSegment;
 use schema_steps::Path;
 use std::alloc::{AllocError, Global};
@@ -67,6 +69,16 @@ impl Location {
         Ok(Location {
             text: path.to_pointer(alloc)?,
         })
+    }
+
+    /// The location of a path that is linked by borrows.
+    ///
+    /// It takes a stack frame and a push for each part. The error comes where memory is out.
+    pub fn from_road(alloc: Global, road: &LazyLocation<'_, '_>) -> Result<Location, AllocError>
+        ensures { IfOk result (λ location. location ≡ pointer_text (reverse (location_of road.now))) }
+    {
+        let path = road.to_path(alloc)?;
+        Location::from_path(alloc, &path)
     }
 
     /// The text, lent in constant time.

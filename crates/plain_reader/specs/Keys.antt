@@ -3,7 +3,7 @@ use Rattle.std.specs.Prelude.{ℕ, List, [], ◌∷◌, None}
 use Rattle.json_values.specs.Parts.{Part}
 use Rattle.schema_meaning.specs.Places.{Key}
 use Rattle.document_index.specs.Seen.{name_of}
-use Rattle.schema_reports.specs.Locations.{location_of}
+use Rattle.location_texts.specs.Locations.{location_of}
 use Rattle.plain_reader.specs.declared.progress.Progress.{Progress, Nothing, Target'}
 
 -- a target at a value's place

@@ -19,7 +19,7 @@ use Rattle.schema_sites.specs.Passed.{Resolved, target_in}
 use Rattle.schema_sites.specs.References.{name_of}
 use Rattle.schema_sites.specs.declared.keyword.Keyword.{Keyword}
 use Rattle.schema_sites.specs.declared.reference_keyword.ReferenceKeyword.{ReferenceKeyword}
-use Rattle.schema_reports.specs.Locations.{location_of}
+use Rattle.location_texts.specs.Locations.{location_of}
 use Rattle.plain_reader.specs.declared.standing.Reading.{Reading}
 use Rattle.plain_reader.specs.Spots.{spots_of}
 use Rattle.plain_reader.specs.Keys.{keys_in}

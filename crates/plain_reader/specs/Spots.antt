@@ -5,7 +5,7 @@ use Rattle.serde_json.specs.View.{view}
 use Rattle.json_values.specs.Parts.{Part}
 use Rattle.schema_meaning.specs.Members.{In}
 use Rattle.schema_definitions.specs.AllKeys.{spots_in}
-use Rattle.schema_reports.specs.Locations.{location_of}
+use Rattle.location_texts.specs.Locations.{location_of}
 use Rattle.plain_reader.specs.declared.whole.Whole.{Whole}
 
 abbrev pub Spots : Type 0

@@ -2,7 +2,7 @@
 ghost use Rattle.std.specs.Prelude.{◌≡◌, ◌==◌, bytes_eq};
 ghost use Rattle.document_index.specs.Seen.{name_of};
 ghost use Rattle.schema_meaning.specs.Cut.{is_in_progress as is_among, same_path};
-ghost use Rattle.schema_reports.specs.Locations.{location_of};
+ghost use Rattle.location_texts.specs.Locations.{location_of};
 ghost use Rattle.plain_reader.specs.Keys.{key, keys_in};
 
 use document_index::document::DocumentName;

@@ -4,7 +4,7 @@ ghost use Rattle.serde_json.specs.Data.{depth};
 ghost use Rattle.serde_json.specs.View.{view};
 ghost use Rattle.schema_definitions.specs.Plain.{deepest};
 ghost use Rattle.schema_sites.specs.Seen.{documents_at};
-ghost use Rattle.schema_reports.specs.Locations.{location_of};
+ghost use Rattle.location_texts.specs.Locations.{location_of};
 ghost use Rattle.plain_reader.specs.Spots.{spots_of, Within};
 
 use crate::progress::Progress;

@@ -147,10 +147,6 @@ fn documents_retrieved(rt: HostRuntime) {
 struct Web;
 
 impl Retrieve for Web {
-    ghost may_answer = { λ _ uri document. Unit {0} };
-
-    ghost may_refuse = { λ _ uri. Unit {0} };
-
     fn retrieve(&self, alloc: Global, uri: &Uri) -> Result<Value, RetrieveError> {
         let Ok(text) = format!(in alloc; "{{\"$ref\":\"{}x\"}}", uri.as_str()) else {
             return Err(RetrieveError::Memory);
@@ -173,10 +169,6 @@ struct Counting<'c> {
 }
 
 impl Retrieve for Counting<'_> {
-    ghost may_answer = { λ _ uri document. Unit {0} };
-
-    ghost may_refuse = { λ _ uri. Unit {0} };
-
     fn retrieve(&self, _alloc: Global, _uri: &Uri) -> Result<Value, RetrieveError> {
         let before = self.asked.get();
         self.asked.set(before.wrapping_add(1));

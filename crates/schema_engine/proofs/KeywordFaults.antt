@@ -7,7 +7,7 @@ use Rattle.schema_meaning.specs.Places.{Spot}
 use Rattle.schema_meaning.specs.Faults.{Fault, fault, Faults, none, also, joined, is_none}
 use Rattle.schema_meaning.specs.Rules.{Rule, every, together, each_named, some_branch, one_branch, refusal, counted, conditional, Note, asks, one_fault, own_faults, verdicts_of}
 use Rattle.schema_meaning.specs.Readings.{Reading}
-use Rattle.schema_reports.specs.Locations.{location_of}
+use Rattle.location_texts.specs.Locations.{location_of}
 use Rattle.schema_reports.specs.Observers.{Hears}
 use Rattle.schema_reports.specs.declared.observer.Observation.{Observation}
 use Rattle.schema_reports.specs.declared.observer.Observer.{Observer}

@@ -12,7 +12,7 @@ use Rattle.schema_meaning.specs.Questions.{at}
 use Rattle.schema_meaning.specs.Rules.{Rule, every, together, each_named, some_branch, one_branch, refusal, counted, conditional, Note, asks, own_fault, verdicts_of, count_refused_at, one_of_kind}
 use Rattle.schema_meaning.specs.Readings.{Reading}
 use Rattle.schema_reports.specs.Kinds.{StandsFor}
-use Rattle.schema_reports.specs.Locations.{location_of}
+use Rattle.location_texts.specs.Locations.{location_of}
 use Rattle.schema_reports.specs.Told.{AreBranches}
 use Rattle.schema_reports.specs.declared.error.ValidationError.{ValidationError}
 use Rattle.schema_reports.specs.declared.kind.ValidationErrorKind.{ValidationErrorKind}

@@ -8,7 +8,7 @@ use Rattle.schema_meaning.specs.Faults.{Faults, none}
 use Rattle.schema_meaning.specs.Keywords.{Shape}
 use Rattle.schema_meaning.specs.Readings.{Reading}
 use Rattle.schema_meaning.specs.Cut.{cut_unless, is_in_progress}
-use Rattle.schema_reports.specs.Locations.{location_of}
+use Rattle.location_texts.specs.Locations.{location_of}
 use Rattle.schema_reports.specs.declared.observer.Observer.{Observer}
 use Rattle.schema_engine.specs.declared.node.Node.{Node}
 use Rattle.schema_engine.specs.declared.there.There.{There}

@@ -7,7 +7,7 @@ use Rattle.schema_meaning.specs.Places.{Spot}
 use Rattle.schema_meaning.specs.Faults.{Kind, none, also}
 use Rattle.schema_meaning.specs.Rules.{Rule, own_fault}
 use Rattle.schema_reports.specs.Kinds.{StandsFor}
-use Rattle.schema_reports.specs.Locations.{location_of}
+use Rattle.location_texts.specs.Locations.{location_of}
 use Rattle.schema_reports.specs.declared.kind.ValidationErrorKind.{ValidationErrorKind}
 use Rattle.schema_reports.specs.declared.observer.Observer.{Observer}
 use Rattle.schema_engine.specs.declared.situation.Situation.{Situation}

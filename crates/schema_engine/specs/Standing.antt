@@ -6,7 +6,7 @@ use Rattle.json_values.specs.Parts.{Part}
 use Rattle.schema_meaning.specs.Faults.{Faults}
 use Rattle.schema_meaning.specs.Places.{Step}
 use Rattle.schema_meaning.specs.Readings.{Reading}
-use Rattle.schema_reports.specs.Locations.{location_of}
+use Rattle.location_texts.specs.Locations.{location_of}
 use Rattle.schema_reports.specs.declared.observer.Observer.{Observer}
 use Rattle.schema_engine.specs.declared.node.Node.{Node}
 use Rattle.schema_engine.specs.declared.here.Here.{Here}

@@ -4,7 +4,9 @@ ghost use Rattle.serde_json.specs.View.{view};
 ghost use Rattle.schema_meaning.specs.Questions.{at};
 ghost use Rattle.schema_engine.specs.Situations.{TellsOf};
 
-use schema_reports::{LazyLocation, Observer, ValidationError, ValidationErrorKind};
+use schema_reports::{
+    LazyLocation, Observer, SchemaLocation, ValidationError, ValidationErrorKind,
+};
 use schema_steps::Path;
 use serde_json::Value;
 use std::alloc::{AllocError, Global};
@@ -21,6 +23,8 @@ pub struct Situation<'p, 'o> {
     pub evaluation: &'p LazyLocation<'p, 'p>,
     /// The schema's own path.
     pub schema: &'p Path,
+    /// Where the schema stands.
+    pub location: &'p SchemaLocation,
 }
 
 impl<'o> Situation<'_, 'o> {
@@ -48,7 +52,7 @@ impl<'o> Situation<'_, 'o> {
         let evaluation = self.evaluation.push_name(keyword);
         let evaluation = evaluation.to_path(self.alloc)?;
         let error = ValidationError::new(self.alloc, kind, value, instance, schema, evaluation)?;
-        observer.keep(self.alloc, error)
+        observer.keep(self.alloc, error.standing_in(self.location.clone()?, true))
     }
 
     /// Tells an observer of an error of the schema itself, under no keyword's name. It costs and fails as [`Self::tell`].
@@ -67,6 +71,6 @@ impl<'o> Situation<'_, 'o> {
         let schema = self.schema.clone()?;
         let evaluation = self.evaluation.to_path(self.alloc)?;
         let error = ValidationError::new(self.alloc, kind, value, instance, schema, evaluation)?;
-        observer.keep(self.alloc, error)
+        observer.keep(self.alloc, error.standing_in(self.location.clone()?, false))
     }
 }

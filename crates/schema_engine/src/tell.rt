@@ -45,6 +45,7 @@ pub fn tell<'q, 'i: 'q, K: Validate, T: Matching>(
         instance: &start,
         evaluation: &start,
         schema: &graph.nodes[node].schema_path,
+        location: &graph.nodes[node].location,
     };
     tell_value(graph, node, situation, matching, questions, observer)
 }

@@ -4,7 +4,7 @@ ghost use Rattle.serde_json.specs.View.{view};
 ghost use Rattle.schema_meaning.specs.Members.{In};
 ghost use Rattle.schema_meaning.specs.Places.{stay, to_name};
 ghost use Rattle.schema_meaning.specs.Keywords.{rule};
-ghost use Rattle.schema_reports.specs.Locations.{location_of};
+ghost use Rattle.location_texts.specs.Locations.{location_of};
 ghost use Rattle.schema_engine.specs.Places.{value_at, step_of};
 ghost use Rattle.schema_engine.specs.Questions.{call_of};
 ghost use Rattle.schema_engine.specs.Refusals.{has_one_fault};
@@ -438,6 +438,7 @@ fn tell_step<'q, 'i: 'q, 'e, K: Validate, T: Matching>(
     let below = Situation {
         evaluation: &*evaluation,
         schema: &graph.nodes[node].schema_path,
+        location: &graph.nodes[node].location,
         ..there.situation
     };
     match question.asked {
@@ -500,6 +501,7 @@ fn tell_inside<'q, 'i: 'q, 'e, K: Validate, T: Matching>(
         situation: Situation {
             evaluation: &*evaluation,
             schema: &graph.nodes[node].schema_path,
+            location: &graph.nodes[node].location,
             ..there.situation
         },
     };
@@ -542,6 +544,7 @@ fn tell_target<'q, 'i: 'q, 'e, K: Validate, T: Matching>(
         situation: Situation {
             evaluation: &*evaluation,
             schema: &graph.nodes[target].schema_path,
+            location: &graph.nodes[target].location,
             ..there.situation
         },
     };
@@ -582,6 +585,7 @@ fn tell_name<'q, 'i: 'q, K: Validate, T: Matching>(
             instance: object.instance,
             evaluation: object.evaluation,
             schema: object.schema,
+            location: object.location,
         },
     };
     tell_node(&there, matching, &mut questions, &mut heard)?;

@@ -10,7 +10,7 @@ use Rattle.schema_reports.specs.declared.kind.ValidationErrorKind.TheVariants as
 
 faults-row : {n : _} (k : Row_of-ValidationError n) → row_faults k ≡ faults_of (items-the_row-ValidationError n k)
 faults-row end_of-ValidationError = refl
-faults-row (more_of-ValidationError q k v i s e rest) = ap (told.also (told.fault (kind_of k) (value_in v) i s e)) (faults-row rest)
+faults-row (more_of-ValidationError q k v i s e l rest) = ap (told.also (told.fault (kind_of k) (value_in v) i s e)) (faults-row rest)
 
 branches-row : {n : _} (k : Row_of-ErrorContext-branches-1 n) → row_branches k ≡ branches_in (items-the_row-ErrorContext-branches-1 n k)
 branches-row end_of-ErrorContext-branches-1 = refl
@@ -34,7 +34,7 @@ kind-OneOfNotValid context = ap told.OneOfNotValid (context-row context)
 
 proper-row : {n : _} (k : Row_of-ValidationError n) → row_is_proper k ≡ are_proper (items-the_row-ValidationError n k)
 proper-row end_of-ValidationError = refl
-proper-row (more_of-ValidationError q k v i s e rest) = ap (λ b. is_proper k && b) (proper-row rest)
+proper-row (more_of-ValidationError q k v i s e l rest) = ap (λ b. is_proper k && b) (proper-row rest)
 
 proper-branches : {n : _} (k : Row_of-ErrorContext-branches-1 n) → branches_are_proper k ≡ context_is_proper (items-the_row-ErrorContext-branches-1 n k)
 proper-branches end_of-ErrorContext-branches-1 = refl

@@ -41,7 +41,7 @@ abbrev mutual
   kind_of (kind.OneOfMultipleValid context) = told.OneOfMultipleValid (context_branches context)
   kind_of (kind.OneOfNotValid context) = told.OneOfNotValid (context_branches context)
   kind_of (kind.Pattern pattern) = told.Pattern (string_bytes pattern)
-  kind_of (kind.PropertyNames' p q k v i s e) = told.PropertyNames (told.fault (kind_of k) (value_in v) i s e)
+  kind_of (kind.PropertyNames' p q k v i s e l) = told.PropertyNames (told.fault (kind_of k) (value_in v) i s e)
   kind_of (kind.Required property) = told.Required (string_bytes property)
   kind_of (kind.Types names) = told.Types (names_in names)
   kind_of kind.UniqueItems = told.UniqueItems
@@ -51,7 +51,7 @@ abbrev mutual
 
   pub row_faults : {n : _} → Row_of-ValidationError n → told.Faults
   row_faults end_of-ValidationError = told.none
-  row_faults (more_of-ValidationError q k v i s e rest) = told.also (told.fault (kind_of k) (value_in v) i s e) (row_faults rest)
+  row_faults (more_of-ValidationError q k v i s e l rest) = told.also (told.fault (kind_of k) (value_in v) i s e) (row_faults rest)
 
   pub row_branches : {n : _} → Row_of-ErrorContext-branches-1 n → told.Branches
   row_branches end_of-ErrorContext-branches-1 = told.no_branch
@@ -88,7 +88,7 @@ abbrev mutual
   is_proper (kind.MultipleOf multiple_of) = is_factor (view multiple_of)
   is_proper (kind.OneOfMultipleValid context) = has_proper_branches context
   is_proper (kind.OneOfNotValid context) = has_proper_branches context
-  is_proper (kind.PropertyNames' p q k v i s e) = is_proper k
+  is_proper (kind.PropertyNames' p q k v i s e l) = is_proper k
   is_proper other = true
 
   pub has_proper_branches : ErrorContext → Bool
@@ -96,7 +96,7 @@ abbrev mutual
 
   pub row_is_proper : {n : _} → Row_of-ValidationError n → Bool
   row_is_proper end_of-ValidationError = true
-  row_is_proper (more_of-ValidationError q k v i s e rest) = is_proper k && row_is_proper rest
+  row_is_proper (more_of-ValidationError q k v i s e l rest) = is_proper k && row_is_proper rest
 
   pub branches_are_proper : {n : _} → Row_of-ErrorContext-branches-1 n → Bool
   branches_are_proper end_of-ErrorContext-branches-1 = true
@@ -133,7 +133,7 @@ kind_name (kind.Not schema) = codes "Not"
 kind_name (kind.OneOfMultipleValid context) = codes "OneOfMultipleValid"
 kind_name (kind.OneOfNotValid context) = codes "OneOfNotValid"
 kind_name (kind.Pattern pattern) = codes "Pattern"
-kind_name (kind.PropertyNames' p q k v i s e) = codes "PropertyNames"
+kind_name (kind.PropertyNames' p q k v i s e l) = codes "PropertyNames"
 kind_name (kind.Required property) = codes "Required"
 kind_name (kind.Types names) = codes "Types"
 kind_name kind.UniqueItems = codes "UniqueItems"

@@ -4,7 +4,7 @@ ghost use Rattle.serde_json.specs.View.{view};
 ghost use Rattle.schema_meaning.specs.Faults.{Faults, none, also, joined};
 
 use crate::error::ValidationError;
-use crate::location::LazyLocation;
+use location_texts::LazyLocation;
 use serde_json::Value;
 use std::alloc::{AllocError, Global};
 
@@ -18,7 +18,7 @@ impl<'i> AllFaults<'i> {
     ghost use Rattle.schema_reports.specs.Stands.{all_stand};
     ghost use Rattle.schema_reports.specs.Told.{AreAll, spot_of, fault_of, error_is_proper};
     ghost use Rattle.schema_meaning.specs.Rules.{each_of_object};
-    ghost use Rattle.schema_reports.specs.Locations.{location_of};
+    ghost use Rattle.location_texts.specs.Locations.{location_of};
 
     /// No fault was told. It allocates nothing.
     pub fn new(alloc: Global) -> Self

@@ -5,9 +5,10 @@ ghost use Rattle.schema_meaning.specs.Faults as told;
 ghost use Rattle.schema_reports.specs.LastNames.{last_name as name_at_end};
 
 use crate::instance::Instance;
+use crate::keyword_location::KeywordLocation;
 use crate::kind::ValidationErrorKind;
-use crate::location::LazyLocation;
 use crate::paths::Paths;
+use location_texts::LazyLocation;
 use schema_steps::{Path, Step};
 use serde_json::Value;
 use std::alloc::{AllocError, Global};
@@ -24,12 +25,13 @@ pub struct ValidationError<'i> {
     pub(crate) instance_path: Path,
     pub(crate) schema_path: Path,
     pub(crate) evaluation_path: Path,
+    pub(crate) standing: Option<KeywordLocation>,
 }
 
 impl<'i> ValidationError<'i> {
     ghost use Rattle.schema_reports.specs.Kinds.{kind_of, is_proper};
     ghost use Rattle.schema_meaning.specs.Rules.{of_object};
-    ghost use Rattle.schema_reports.specs.Locations.{location_of};
+    ghost use Rattle.location_texts.specs.Locations.{location_of};
     ghost use Rattle.schema_reports.specs.Told.{fault_of, fault_kind, fault_instance, error_is_proper, spot_of};
     ghost use Rattle.schema_reports.specs.Described.{keyword_of, message_of};
 
@@ -51,6 +53,7 @@ impl<'i> ValidationError<'i> {
             instance: instance_path,
             schema: schema_path,
             evaluation: evaluation_path,
+            standing: None,
         };
         Ok(ValidationError::of(Box::new(alloc, kind)?, instance, paths))
     }
@@ -66,6 +69,7 @@ impl<'i> ValidationError<'i> {
             instance_path: paths.instance,
             schema_path: paths.schema,
             evaluation_path: paths.evaluation,
+            standing: paths.standing,
         }
     }
 
@@ -73,7 +77,7 @@ impl<'i> ValidationError<'i> {
     ///
     /// The error comes where memory is out or a count of owners is full.
     pub(crate) fn told_of(
-        self,
+        mut self,
         alloc: Global,
         object: &'i Value,
         at: &LazyLocation<'_, '_>,
@@ -81,14 +85,20 @@ impl<'i> ValidationError<'i> {
         ensures told { IfOk result (λ e. fault_of e ≡ of_object (spot_of (view object.now) (location_of at.now)) (fault_of self.entry)) }
         ensures proper { IfOk result (λ e. error_is_proper e ≡ error_is_proper self.entry) }
     {
-        let paths = self.paths_at(alloc, at)?;
+        let standing = self.standing.take();
+        let paths = self.paths_at(alloc, at, standing)?;
         let error = Box::new(alloc, self)?;
         let kind = Box::new(alloc, ValidationErrorKind::PropertyNames { error })?;
         Ok(ValidationError::of(kind, object, paths))
     }
 
     // The paths of the error, but for that of another value.
-    fn paths_at(&self, alloc: Global, at: &LazyLocation<'_, '_>) -> Result<Paths, AllocError>
+    fn paths_at(
+        &self,
+        alloc: Global,
+        at: &LazyLocation<'_, '_>,
+        standing: Option<KeywordLocation>,
+    ) -> Result<Paths, AllocError>
         ensures instance { IfOk result (λ p. p.instance ≡ location_of at.now) }
         ensures schema { IfOk result (λ p. p.schema ≡ told.schema_path (fault_of self.now)) }
         ensures evaluation { IfOk result (λ p. p.evaluation ≡ told.evaluation_path (fault_of self.now)) }
@@ -97,6 +107,7 @@ impl<'i> ValidationError<'i> {
             instance: at.to_path(alloc)?,
             schema: self.schema_path.clone()?,
             evaluation: self.evaluation_path.clone()?,
+            standing,
         })
     }
 

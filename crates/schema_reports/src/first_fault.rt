@@ -4,7 +4,7 @@ ghost use Rattle.serde_json.specs.View.{view};
 ghost use Rattle.schema_meaning.specs.Faults.{Faults, none, also, joined};
 
 use crate::error::ValidationError;
-use crate::location::LazyLocation;
+use location_texts::LazyLocation;
 use serde_json::Value;
 use std::alloc::{AllocError, Global};
 
@@ -17,7 +17,7 @@ pub struct FirstFault<'i> {
 impl<'i> FirstFault<'i> {
     ghost use Rattle.schema_reports.specs.Stands.{first_stands, is_kept_of, is_one_of};
     ghost use Rattle.schema_meaning.specs.Rules.{each_of_object};
-    ghost use Rattle.schema_reports.specs.Locations.{location_of};
+    ghost use Rattle.location_texts.specs.Locations.{location_of};
     ghost use Rattle.schema_reports.specs.Told.{spot_of, fault_of, error_is_proper, IsOneOf};
 
     /// No fault was told.

@@ -3,7 +3,7 @@ ghost use Rattle.std.specs.Prelude.{◌≡◌, true, false, OnOk};
 ghost use Rattle.serde_json.specs.View.{view};
 ghost use Rattle.schema_meaning.specs.Faults.{Fault, Faults, none, also, joined, is_none};
 ghost use Rattle.schema_meaning.specs.Rules.{each_of_object};
-ghost use Rattle.schema_reports.specs.Locations.{location_of};
+ghost use Rattle.location_texts.specs.Locations.{location_of};
 ghost use Rattle.schema_reports.specs.Observers.{Hears, wants};
 ghost use Rattle.schema_reports.specs.Stands.{is_kept_of};
 ghost use Rattle.schema_reports.specs.Told.{AreAll, spot_of, fault_of, error_is_proper};
@@ -11,8 +11,8 @@ ghost use Rattle.schema_reports.specs.Told.{AreAll, spot_of, fault_of, error_is_
 use crate::all_faults::AllFaults;
 use crate::error::ValidationError;
 use crate::first_fault::FirstFault;
-use crate::location::LazyLocation;
 use crate::verdict::Verdict;
+use location_texts::LazyLocation;
 use serde_json::Value;
 use std::alloc::{AllocError, Global};
 

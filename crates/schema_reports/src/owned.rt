@@ -35,6 +35,7 @@ fn owned_error<'o>(
         instance_path,
         schema_path,
         evaluation_path,
+        standing,
     } = error;
     let kind = owned_kind(alloc, Box::into_inner(kind))?;
     Ok(ValidationError {
@@ -43,6 +44,7 @@ fn owned_error<'o>(
         instance_path,
         schema_path,
         evaluation_path,
+        standing,
     })
 }
 

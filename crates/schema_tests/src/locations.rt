@@ -1,6 +1,6 @@
 // Locations.
 use crate::rows::assert_text;
-use location_texts::Location;
+use location_texts::{LazyLocation, Location};
 use schema_steps::Path;
 use std::alloc::Global;
 use std::hash::{DefaultHasher, Hash, Hasher};
@@ -25,6 +25,17 @@ fn steps_are_joined(rt: HostRuntime) {
     assert_shown(&rt, rt.alloc(), &item, "/a~1b~0c/10");
     let unnamed = root.join("").expect(&rt, "memory");
     assert_shown(&rt, rt.alloc(), &unnamed, "/");
+}
+
+#[test]
+fn roads_have_locations(rt: HostRuntime) {
+    let root = LazyLocation::new();
+    let location = Location::from_road(rt.alloc(), &root).expect(&rt, "memory");
+    assert_shown(&rt, rt.alloc(), &location, "");
+    let member = root.push_name("m~n");
+    let item = member.push_index(0);
+    let location = Location::from_road(rt.alloc(), &item).expect(&rt, "memory");
+    assert_shown(&rt, rt.alloc(), &location, "/m~0n/0");
 }
 
 #[test]

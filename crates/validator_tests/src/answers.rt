@@ -143,6 +143,26 @@ pub(crate) fn first(rt: &impl Abort, alloc: Global, case: &str, input: &str) -> 
     first_by(rt, alloc, &subject_of(rt, alloc, case).validator, &value)
 }
 
+fn location(rt: &impl Abort, alloc: Global, error: ValidationError<'_>) -> String {
+    let owned = error.to_owned(alloc).expect(rt, "memory");
+    let location = owned.absolute_keyword_location(alloc).expect(rt, "memory");
+    location.expect(rt, "a location")
+}
+
+// Where the keyword of each fault stands, in any document.
+pub(crate) fn stands(rt: &impl Abort, alloc: Global, case: &str, input: &str) -> String {
+    let value = json(rt, alloc, input);
+    let subject = subject_of(rt, alloc, case);
+    let mut text = String::new(alloc);
+    for error in subject.validator.iter_errors(&value).expect(rt, "memory") {
+        let between = if text.is_empty() { "" } else { " " };
+        text.push_str(between).expect(rt, "memory");
+        text.push_str(location(rt, alloc, error).as_str())
+            .expect(rt, "memory");
+    }
+    text
+}
+
 // Whether a value is valid; that there is a validator, where there is no value.
 fn verdict(rt: &impl Abort, alloc: Global, validator: &Validator, input: &str) -> &'static str {
     if input.is_empty() {

@@ -17,6 +17,7 @@
 //
 //   told VALUE              the faults, each an instance path and an evaluation path, on which all observers and the check agree
 //   first VALUE             the fault that is met first: schema path, evaluation path, instance and kind
+//   stands VALUE            where the keywords of the faults stand, by URIs of documents with pointers
 //   build VALUE             whether the value is valid, or why there is no validator; with no value, whether there is one
 //   within NUMBER           the same with no value, by that limit of schema nodes
 //   alone VALUE             the same, of a document by itself, without options
@@ -49,6 +50,7 @@ fn answer(rt: &impl Abort, alloc: Global, case: &str, word: &str, input: &str) -
     match word {
         "told" => answers::told(rt, alloc, case, input),
         "first" => answers::first(rt, alloc, case, input),
+        "stands" => answers::stands(rt, alloc, case, input),
         "build" => answers::build(rt, alloc, case, input),
         "within" => answers::within(rt, alloc, case, input),
         "alone" => answers::alone(rt, alloc, case, input),

@@ -104,3 +104,43 @@ fn of_deep_ones(rt: HostRuntime) {
     assert_case(&rt, rt.alloc(), repeated(&rt, rt.alloc(), &DEEP).as_str());
     assert_case(&rt, rt.alloc(), linked(&rt, rt.alloc()).as_str());
 }
+
+const STANDING: &str = r##"
+# in another document, under a name with a slash and a space
+base http://a.test/r
+document <http://a.test/r> {"properties":{"a":{"$ref":"leaf#/$defs/x~1%20y"},"n":{"$ref":"#/$defs/no"}},"$defs":{"no":false}}
+document <http://a.test/leaf> {"$defs":{"x/ y":{"type":"string"}}}
+stands {"a":1} => http://a.test/leaf#/$defs/x~1%20y/type
+stands {"n":1} => http://a.test/r#/$defs/no
+
+# in a document, whatever the resource
+base http://a.test/e
+document <http://a.test/e> {"$ref":"http://b.test/i","$defs":{"i":{"$id":"http://b.test/i","minimum":3}}}
+stands 1 => http://a.test/e#/$defs/i/minimum
+
+# of a name
+base http://a.test/p
+document <http://a.test/p> {"propertyNames":{"maxLength":1}}
+stands {"ab":1} => http://a.test/p#/propertyNames/maxLength
+
+# of members that are not allowed
+base http://a.test/p
+document <http://a.test/p> {"additionalProperties":false}
+stands {"a":1} => http://a.test/p#/additionalProperties
+
+# behind a condition
+base http://a.test/p
+document <http://a.test/p> {"if":true,"then":{"required":["b"]}}
+stands {} => http://a.test/p#/then/required
+
+# of branches
+base http://a.test/p
+document <http://a.test/p> {"anyOf":[{"type":"string"},false]}
+stands 1 => http://a.test/p#/anyOf
+"##;
+
+// The location of a keyword names its document (Core 12.3.3).
+#[test]
+fn standing_somewhere(rt: HostRuntime) {
+    assert_cases(&rt, rt.alloc(), "", STANDING);
+}

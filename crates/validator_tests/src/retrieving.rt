@@ -11,10 +11,6 @@ use std::process::Abort;
 struct Leaf;
 
 impl Retrieve for Leaf {
-    ghost may_answer = { λ _ uri document. Unit {0} };
-
-    ghost may_refuse = { λ _ uri. Unit {0} };
-
     fn retrieve(&self, alloc: Global, uri: &Uri) -> Result<Value, RetrieveError> {
         if uri.as_str() != "http://a.test/leaf" {
             return Err(RetrieveError::Refused);

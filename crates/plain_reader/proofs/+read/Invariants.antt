@@ -2,7 +2,7 @@ use Rattle.std.proofs.Common.{[], ◌≡◌, ◌≤◌, ◌+◌, ◌*◌, drop}
 use Rattle.serde_json.specs.View.{view, members_view}
 use Rattle.schema_sites.specs.Seen.{documents_at}
 use Rattle.schema_definitions.specs.AllKeys.{spots_in}
-use Rattle.schema_reports.specs.Locations.{location_of}
+use Rattle.location_texts.specs.Locations.{location_of}
 use Rattle.plain_reader.specs.Spots.{spots_of}
 use Rattle.plain_reader.specs.Keys.{keys_in}
 use Rattle.plain_reader.specs.Readings.{path_in}

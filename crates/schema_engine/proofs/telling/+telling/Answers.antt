@@ -9,7 +9,7 @@ use Rattle.schema_meaning.specs.Members.{In}
 use Rattle.schema_meaning.specs.Places.{Step, stay}
 use Rattle.schema_meaning.specs.Keywords.{rule}
 use Rattle.schema_reports.specs.Kinds.{StandsFor}
-use Rattle.schema_reports.specs.Locations.{location_of}
+use Rattle.location_texts.specs.Locations.{location_of}
 use Rattle.schema_reports.specs.declared.kind.ValidationErrorKind.TheVariants as kind
 use Rattle.schema_reports.specs.declared.observer.Observer.TheVariants as observer
 use Rattle.schema_engine.specs.declared.place.Asked.{Asked}

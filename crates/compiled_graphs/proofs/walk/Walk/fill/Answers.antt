@@ -1,15 +1,17 @@
-use Rattle.std.proofs.Common.{◌≡◌, ◌∙◌, ◌<◌, Option, Some, slice_get, refl, sym, ap, subst, arith, is_none, length}
+use Rattle.std.proofs.Common.{◌≡◌, ◌∙◌, ◌<◌, ◌∷◌, Option, Some, slice_get, refl, sym, ap, subst, arith, is_none, length}
 use Rattle.std.proofs.lemmas.Option.{slice_get_read}
 use Rattle.std.specs.List.{AllZip}
 use Rattle.schema_patterns.specs.Tables.{texts_of_table}
 use Rattle.reached_sites.specs.declared.cause.BuildCause.{BuildCause}
 use Rattle.reached_sites.specs.declared.visit.Visit.{Visit}
+use Rattle.graph_answers.specs.Linking.{IsLocatedAt}
+use Rattle.reached_sites.specs.Visits.{site_of}
 use Rattle.compiled_graphs.specs.Linked.{Links, StandsFor}
 use Rattle.compiled_graphs.specs.Filled.{Compiled, IsRank}
 use Rattle.compiled_graphs.proofs.Compiling.{zip-length}
 use Rattle.compiled_graphs.proofs.Growing.{kept-at, noted_wrong}
 use Rattle.compiled_graphs.proofs.Positions.{one-there, within}
-use Rattle.compiled_graphs.proofs.Walks.{told-none, Step, IsFitting, fits-compiled, fits-empty, step-walks, first-from}
+use Rattle.compiled_graphs.proofs.Walks.{told-none, Step, IsFitting, fits-compiled, fits-empty, step-walks, first-from, orders, nearest-first}
 use Rattle.compiled_graphs.proofs.walk.Walk.fill.Goals.{then-is_none+in_ok-keywords, else-is_none}
 use Rattle.compiled_graphs.proofs.walk.Walk.fill.Goals as goal
 
@@ -69,11 +71,19 @@ returns-clause-fills g c = λ own roots placed.
       compiled = λ t. subst (λ ks. Compiled texts found.askings.items ns ks) (sym keeps.keywords) (fitting.compiled t);
       empty = λ f. keeps.keywords ∙ fitting.empty f;
       path = subst (λ (x : Visit). node.schema_path ≡ x.point.schema_path.steps) (sym same) keeps.path;
+      located = subst (λ (x : Visit). IsLocatedAt (site_of x) node) (sym same) (record {
+        layer = v2.point.place.document.layer;
+        document = ap (λ uri. v2.point.place.document.layer ∷ uri) (sym keeps.document);
+        path = sym keeps.place;
+        draft = sym keeps.draft;
+      });
       rank = subst (λ (x : Visit). IsRank x.point.place.path node.rank) (sym same) keeps.rank;
       pushed = c.in_ok-push.ensures.items;
     } in
     record {
       walks = λ w. step-walks finds p own roots placed old _ v found cause ns node step w;
       wrong = λ w. first-from finds p own roots placed old _ v found cause ns node step w;
+      orders = λ w h. orders finds p own roots placed old _ v found cause ns node step w h;
+      nearest = λ w h none. nearest-first finds p own roots placed old _ v found cause ns node step w h none;
       right = λ none. noted ∙ ap (λ (o : Option BuildCause). noted_wrong (is_none o) old.wrong.items (length old.nodes.items)) none;
     }

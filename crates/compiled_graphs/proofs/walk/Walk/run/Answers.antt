@@ -3,7 +3,7 @@ use Rattle.std.proofs.lemmas.Result.{err_from_is_err_and}
 use Rattle.reached_sites.proofs.Filing.{keys-apart}
 use Rattle.reached_sites.proofs.Filling.{same-front, further-front}
 use Rattle.compiled_graphs.proofs.Ending.{keys-exceed}
-use Rattle.compiled_graphs.proofs.Running.{none-wrong, still-none, stops-there, few-where, few-at-end, front-length}
+use Rattle.compiled_graphs.proofs.Running.{none-wrong, still-none, stops-there, nearest-there, few-where, few-at-end, front-length}
 use Rattle.compiled_graphs.proofs.walk.Walk.run.Goals as goal
 
 pub loop-alloc-init : goal.loop-alloc-init
@@ -13,12 +13,22 @@ loop-alloc-init g c =
     record {
       further = same-front vs vs refl;
       walks = λ own roots placed w. (w, none-wrong c.args.at_cause c.args.self.wrong.items c.requires.right);
+      ordered = λ own roots placed w h. h;
       few = few-where (length vs) (length c.args.self.nodes.items) c.args.limit (omega (arith, none));
       within = omega (arith, none);
     }
 
 pub returns-then-len-limit-clause-refused : goal.returns-then-len-limit-clause-refused
 returns-then-len-limit-clause-refused g c = λ own roots placed w.
+    let now = c.loop-alloc.self in
+    let known = (c.loop-alloc.invariant.walks own roots placed w).0 in
+    let makes = (g.P.PatternMaker.patterns c.args.maker.now).makes in
+    let count = c.len-in-loop-alloc-2.ensures ∙ now.visits.list.ok.0 in
+    let more : c.args.limit < length now.visits.list.items = omega (arith, c.if-len-limit.true, count) in
+    inl (record { named = refl; exceeds = keys-exceed own makes roots now.visits.list.items now.edges.items now.wrong.items (length now.nodes.items) known.graph (keys-apart now.visits) c.args.limit more })
+
+pub returns-then-len-limit-clause-nearest : goal.returns-then-len-limit-clause-nearest
+returns-then-len-limit-clause-nearest g c = λ own roots placed w h.
     let now = c.loop-alloc.self in
     let known = (c.loop-alloc.invariant.walks own roots placed w).0 in
     let makes = (g.P.PatternMaker.patterns c.args.maker.now).makes in
@@ -45,6 +55,7 @@ loop-alloc-preserved g c =
           let was = known.walks own roots placed w in
           let f = filled.fills own roots placed in
           (f.walks was.0, still-none c.args.at_cause now.wrong.items next.wrong.items c.in_ok-cause.cause c.in_ok-stopped.ensures.goes f.right was.1);
+      ordered = λ own roots placed w h. (filled.fills own roots placed).orders (known.walks own roots placed w).0 (known.ordered own roots placed w h);
       few = few-where (length next.visits.list.items) (length next.nodes.items) c.args.limit (omega (arith, one, before, few));
       within = omega (arith, one, before, longer);
     }
@@ -56,6 +67,16 @@ returns-in_err-stopped-clause-refused g c =
     rw (e.1, e.2) (λ own roots placed w.
     let was = (c.loop-alloc.invariant.walks own roots placed w).0 in
     inr (inl (stops-there c.args.at_cause c.in_ok-cause.cause _ makes own roots c.in_err-stopped.ensures.stops ((c.in_ok-cause.ensures.fills own roots placed).wrong was))))
+
+pub returns-in_err-stopped-clause-nearest : goal.returns-in_err-stopped-clause-nearest
+returns-in_err-stopped-clause-nearest g c =
+    let makes = (g.P.PatternMaker.patterns c.args.maker.now).makes in
+    let e = err_from_is_err_and c.from_residual-in_err-stopped.result c.from_residual-in_err-stopped.ensures.1 in
+    rw (e.1, e.2) (λ own roots placed w h.
+    let known = c.loop-alloc.invariant in
+    let was = known.walks own roots placed w in
+    inr (inr (nearest-there c.args.at_cause c.in_ok-cause.cause _ makes own roots c.loop-alloc.self.wrong.items c.in_err-stopped.ensures.stops was.1
+    (λ none. (c.in_ok-cause.ensures.fills own roots placed).nearest was.0 (known.ordered own roots placed w h) none))))
 
 pub returns-clause-walked : goal.returns-clause-walked
 returns-clause-walked g c = λ own roots placed w.

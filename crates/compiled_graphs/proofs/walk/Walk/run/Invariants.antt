@@ -2,6 +2,7 @@ use Rattle.std.proofs.Common.{◌≤◌, ◌-◌, List, length}
 use Rattle.schema_definitions.specs.Bearers.{Document}
 use Rattle.schema_definitions.specs.Sites.{Site}
 use Rattle.reached_sites.specs.Patterns.{IsFront}
+use Rattle.compiled_graphs.specs.Nearest.{IsInOrder}
 use Rattle.compiled_graphs.specs.Walked.{ArePlaced, Walks, NoneWrong}
 use Rattle.compiled_graphs.proofs.Running.{FewOrMore}
 use Rattle.compiled_graphs.proofs.walk.Walk.run.Given as goal
@@ -16,6 +17,7 @@ invariant-loop-alloc g l =
     record {
       further : IsFront l.initial.self.visits.list.items l.self.visits.list.items;
       walks : (own : List Document) (roots : List Site) → ArePlaced own roots → Walks finds p own roots l.initial.self → Walks finds p own roots l.self × NoneWrong l.at_cause l.self.wrong.items;
+      ordered : (own : List Document) (roots : List Site) → ArePlaced own roots → Walks finds p own roots l.initial.self → IsInOrder own p.makes roots l.initial.self → IsInOrder own p.makes roots l.self;
       few : FewOrMore (length l.self.visits.list.items) (length l.self.nodes.items) l.limit;
       within : length l.self.nodes.items ≤ length l.self.visits.list.items;
     }

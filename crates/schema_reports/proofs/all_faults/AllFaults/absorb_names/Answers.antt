@@ -1,7 +1,7 @@
 use Rattle.std.proofs.Common.{◌∙◌, refl, subst, sym}
 use Rattle.serde_json.specs.View.{view}
 use Rattle.schema_meaning.specs.Rules.{each_of_object}
-use Rattle.schema_reports.specs.Locations.{location_of}
+use Rattle.location_texts.specs.Locations.{location_of}
 use Rattle.std.proofs.lemmas.List.{map-id}
 use Rattle.std.proofs.lemmas.Iterator.Adapters.{YieldsList-from_vec}
 use Rattle.std.proofs.lemmas.Iterator.Consumers.{YieldsList-end}

@@ -1,6 +1,6 @@
 use Rattle.serde_json.specs.View.{view}
 use Rattle.schema_meaning.specs.Rules.{each_of_object}
-use Rattle.schema_reports.specs.Locations.{location_of}
+use Rattle.location_texts.specs.Locations.{location_of}
 use Rattle.schema_reports.specs.Told.{spot_of}
 use Rattle.schema_reports.proofs.FaultLemmas.{Absorbs}
 use Rattle.schema_reports.proofs.all_faults.AllFaults.absorb_names.Given as goal

@@ -2,7 +2,7 @@ use Rattle.std.proofs.Common.{sym, ap, subst, ◌∙◌, box_value}
 use Rattle.serde_json.specs.View.{view}
 use Rattle.schema_meaning.specs.Faults.{joined}
 use Rattle.schema_meaning.specs.Rules.{of_object, each_of_object}
-use Rattle.schema_reports.specs.Locations.{location_of}
+use Rattle.location_texts.specs.Locations.{location_of}
 use Rattle.schema_reports.specs.Stands.{is_kept_of}
 use Rattle.schema_reports.specs.Told.{fault_of, error_is_proper, spot_of}
 use Rattle.schema_reports.proofs.FaultLemmas.{still_one, first_absorbed, Told-object}

@@ -2,7 +2,7 @@
 ghost use Rattle.std.specs.Prelude.{◌≡◌, ◌∷◌, [], IfOk};
 ghost use Rattle.json_values.specs.Parts.{name, index};
 ghost use Rattle.schema_meaning.specs.Cut.{same_part, same_path};
-ghost use Rattle.schema_reports.specs.Locations.{part_of};
+ghost use Rattle.location_texts.specs.Locations.{part_of};
 
 use schema_steps::Path;
 use std::alloc::{AllocError, Global};
@@ -24,7 +24,7 @@ pub struct LazyLocation<'a, 'b> {
 }
 
 impl<'a, 'b> LazyLocation<'a, 'b> {
-    ghost use Rattle.schema_reports.specs.Locations.{location_of};
+    ghost use Rattle.location_texts.specs.Locations.{location_of};
 
     /// The empty path.
     pub const fn new() -> Self

@@ -1,9 +1,9 @@
 -- What the locations of the code stand for.
 use Rattle.std.specs.Prelude.{List, [], ◌∷◌}
 use Rattle.json_values.specs.Parts.{Part, name, index}
-use Rattle.schema_reports.specs.declared.location.LazyPart.{LazyPart}
-use Rattle.schema_reports.specs.declared.location.LazyPart.TheVariants.{Name, Index}
-use Rattle.schema_reports.specs.declared.location.LazyLocation.{LazyLocation, LazyLocation', Held-LazyLocation-above, None', Some'}
+use Rattle.location_texts.specs.declared.lazy_location.LazyPart.{LazyPart}
+use Rattle.location_texts.specs.declared.lazy_location.LazyPart.TheVariants.{Name, Index}
+use Rattle.location_texts.specs.declared.lazy_location.LazyLocation.{LazyLocation, LazyLocation', Held-LazyLocation-above, None', Some'}
 
 abbrev pub part_of : LazyPart → Part
 part_of (Name text) = name text.now
