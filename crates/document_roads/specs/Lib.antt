@@ -1,0 +1,4 @@
+pub mod Answers
+pub mod Rooms
+pub mod Roads
+pub mod Laws
