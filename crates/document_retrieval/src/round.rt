@@ -3,7 +3,7 @@
 ghost use Rattle.std.specs.Prelude.{◌≡◌, ◌⊎◌, ◌++◌, ◌∷◌, [], map, IfOk, IfErr, OnOk};
 ghost use Rattle.serde_json.specs.View.{view};
 ghost use Rattle.document_index.specs.Seen.{document_of, contents_view};
-ghost use Rattle.document_sources.specs.Causes.{IsMemory, NamesDocument};
+ghost use Rattle.document_sources.specs.Causes.{IsMemory, IsRefusal, NamesDocument};
 ghost use Rattle.document_sources.specs.Seen.{layer_of};
 ghost use Rattle.document_retrieval.specs.Known.{want_of};
 ghost use Rattle.document_retrieval.specs.Stages.{asking, documents_in, uris_in, IsAnswer, HasAnswer, Adds, RefusesWant, RefusesRound};
@@ -14,7 +14,7 @@ use document_index::document::{Contents, Document, DocumentName};
 use document_sources::Retrieve;
 use document_sources::error::{Error, RetrieveError};
 use document_sources::layer::Layer;
-use document_sources::named::{not_borne, unknown_specification};
+use document_sources::named::{not_retrieved, unknown_specification};
 use schema_dialects::Dialect;
 use serde_json::Value;
 use std::alloc::{AllocError, Global};
@@ -22,11 +22,12 @@ use std::rc::Rc;
 use uri_references::uri::Uri;
 
 // What documents are refused for where nobody gives the one that is wanted.
-fn refusal(alloc: Global, want: &Want) -> Error
+fn refusal(alloc: Global, want: &Want, source: RetrieveError) -> Error
+    requires { IsRefusal source }
     ensures { IsMemory result ⊎ NamesDocument (want_of want.now).cause result }
 {
     match want.purpose {
-        Purpose::Reference => not_borne(alloc, want.uri.as_str()),
+        Purpose::Reference => not_retrieved(alloc, want.uri.as_str(), source),
         Purpose::MetaSchema => unknown_specification(alloc, want.uri.as_str()),
     }
 }
@@ -57,8 +58,8 @@ fn answer_to<'a, R: Retrieve>(
             default: Dialect::standard(layer.siblings, layer.draft),
         }),
         Err(error) => match error {
-            RetrieveError::Refused => Err(refusal(alloc, want)),
             RetrieveError::Memory => Err(Error::Memory),
+            source => Err(refusal(alloc, want, source)),
         },
     }
 }

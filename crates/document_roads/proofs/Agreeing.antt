@@ -1,5 +1,5 @@
 -- Under the premises of moving, the texts of two forms are one.
-use Rattle.std.proofs.Common.{◌≡◌, ◌∙◌, ℕ, List, [], ◌∷◌, ◌++◌, Bool, false, if◌then◌else◌, bytes_eq, Option, Some, None, option_map, Result, Ok, Err, is_ok, true, ◌&&◌, inl, inr, codes, String, string_bytes, refl, sym, ap, ap₂, subst}
+use Rattle.std.proofs.Common.{◌⊎◌, ◌≡◌, ◌∙◌, ℕ, List, [], ◌∷◌, ◌++◌, Bool, false, if◌then◌else◌, bytes_eq, Option, Some, None, option_map, Result, Ok, Err, is_ok, true, ◌&&◌, inl, inr, codes, String, string_bytes, refl, sym, ap, ap₂, subst}
 use Rattle.std.proofs.lemmas.Option.{none-some, same_Some}
 use Rattle.std.proofs.lemmas.Slice.Eq.{bytes_eq-Decides}
 use Rattle.std.specs.List.{AllByRecursion}
@@ -33,7 +33,7 @@ use Rattle.schema_registries.specs.declared.documents.Documents.{Documents}
 use Rattle.schema_registries.specs.declared.registry.SharedRegistry.{SharedRegistry}
 use Rattle.schema_registries.specs.declared.registry.SchemaRegistry.{SchemaRegistry}
 use Rattle.moved_documents.specs.Forms.{root_alone, added, by_map, inside, joined}
-use Rattle.moved_documents.proofs.Retrieved.{wanted_is_added}
+use Rattle.moved_documents.proofs.Retrieved.{wanted_is_added, retrieved_is_added}
 use Rattle.moved_documents.proofs.Law.{inside_is_added}
 use Rattle.moved_documents.proofs.Order.{one_text, moved_text}
 use Rattle.schema_validators.specs.Answered.{AreThose}
@@ -44,7 +44,8 @@ use Rattle.schema_validators.specs.declared.options.ValidationOptions.{Validatio
 use Rattle.schema_validators.specs.declared.error.BuildError.{BuildError}
 use Rattle.document_roads.specs.Answers.{AnswersOne, IsTextOf}
 use Rattle.document_roads.specs.Roads.{root_given, both_given, IsWithin, IsAddedBy, IsRetrievedBy, IsInsideBy}
-use Rattle.document_roads.specs.Laws.{IsDecided, RootsAgree, pair_of, root_beside, root_inside, AreApart, IsWanting, MayMove, AreOne, SayOne}
+use Rattle.document_roads.specs.Laws.{IsDecided, RootsAgree, pair_of, root_beside, root_inside, AreApart, IsWanting, moved_alone, StaysAlone, IsSettled, MayMove, AreOne, SayOne}
+use Rattle.document_roads.proofs.Alone.{sound_still, text_still}
 use Rattle.document_roads.specs.declared.roads.Moving.{Moving}
 use Rattle.document_roads.specs.declared.roads.Roads.{Roads}
 
@@ -196,44 +197,80 @@ module _ (a b : Asking) (same : a.layer ≡ b.layer) (so : (uri : List ℕ) (d :
   rounds_so docs (answers ∷ rounds) h =
       (record { asked = h.0.asked; answered = each_so answers h.0.answered }, rounds_so (docs ++ answers) rounds h.1)
 
+-- the documents where one alone may be answered: those of the form in which it is added, or the root alone where it wants none
+abbrev AreAmong : Moving → List Document → Type 0
+AreAmong m docs = (docs ≡ root_alone (pair_of m)) ⊎ (docs ≡ added (pair_of m))
+
 module _ {P : Type 0} (may_answer : MapRetriever → List ℕ → Data → Type 0) (may_refuse : MapRetriever → List ℕ → Type 0)
-    (answers : (r : MapRetriever) (q : List ℕ) (d : Data) → may_answer r q d → answer_for r q ≡ Some d) (maker : P) (p : Patterns) (m : Moving) (d : Data) (wanting : IsWanting m) where
-  gathered_are : (o : ValidationOptions P MapRetriever) → AreDefault o → AnswersOne m.moved_uri.now (view m.moved.now) o.retriever.retriever → (docs : List Document) (uris : List (List ℕ))
-      → IsPrepared (asking_by may_answer may_refuse o (first_layer newest false)) o.limit (root_alone (pair_of m)) docs uris → docs ≡ added (pair_of m)
-  gathered_are o default asked docs uris h =
-      let r = o.retriever.retriever in
-      let rounds = h.gathered.rounds in
-      let known : Bool = is_reference (split m.moved_uri.now) in
-      let so : (q : List ℕ) (x : Data) → may_answer r q x × (only_whole x ≡ true) → AnsweredOne m q x =
-      λ q x a. answered_one m q x known (sym (asked q) ∙ answers r q x a.0) in
-      let are : AreRounds (by_map (pair_of m)) (root_alone (pair_of m)) rounds =
-      rounds_so (asking_by may_answer may_refuse o (first_layer newest false)) (by_map (pair_of m)) refl so (root_alone (pair_of m)) rounds h.gathered.are in
-      let complete : wants (gathered (root_alone (pair_of m)) rounds) ≡ [] = sym (ap (λ (ds : List Document). wants ds) h.gathered.gathers) ∙ h.complete in
-      h.gathered.gathers ∙ wanted_is_added (pair_of m) rounds are wanting complete
+    (answers : (r : MapRetriever) (q : List ℕ) (d : Data) → may_answer r q d → answer_for r q ≡ Some d) (maker : P) (p : Patterns) (m : Moving) (d : Data) where
+  module _ (o : ValidationOptions P MapRetriever) (default : AreDefault o) (asked : AnswersOne m.moved_uri.now (view m.moved.now) o.retriever.retriever) where
+    abbrev IsGiven : List Document → List (List ℕ) → Type 0
+    IsGiven docs uris = IsPrepared (asking_by may_answer may_refuse o (first_layer newest false)) o.limit (root_alone (pair_of m)) docs uris
 
-  retrieved_are : (o : ValidationOptions P MapRetriever) → AreDefault o → AnswersOne m.moved_uri.now (view m.moved.now) o.retriever.retriever → (registry : SchemaRegistry)
-      → IsRegistry may_answer may_refuse o (root_given m) registry → documents_in_registry registry ≡ added (pair_of m)
-  retrieved_are o default asked registry h = by registry.parent h.documents.parent h.documents.own
-    where
-      by : (parent : Option SharedRegistry) → AreMetaSchemas (asking_by may_answer may_refuse o) o.limit (layer_by o) (meta_schemas_given o) parent
-          → IsPrepared (asking_by may_answer may_refuse o (own_layer parent (layer_by o))) o.limit (own_documents parent (layer_by o) (root_given m)) (documents_in_registry registry)
-          (retrieved_shared registry.own)
-          → documents_in_registry registry ≡ added (pair_of m)
-      by None parent own =
-          gathered_are o default asked (documents_in_registry registry) (retrieved_shared registry.own)
-          (subst (λ (l : Layer). IsPrepared (asking_by may_answer may_refuse o l) o.limit (documents_by l (root_given m)) (documents_in_registry registry) (retrieved_shared registry.own))
-          (ap₂ (λ x (b : Bool). first_layer x b) default.draft default.siblings) own)
-      by (Some shared) parent own =
-          absurd
-          (subst (λ (ms : Option Documents). AreMetaSchemas (asking_by may_answer may_refuse o) o.limit (layer_by o) (option_map documents_given ms) (Some shared)) default.meta_schemas parent)
+    module _ (docs : List Document) (uris : List (List ℕ)) (h : IsGiven docs uris) where
+      by_one : AreRounds (by_map (pair_of m)) (root_alone (pair_of m)) h.gathered.rounds
+      by_one =
+          let r = o.retriever.retriever in
+          let known : Bool = is_reference (split m.moved_uri.now) in
+          let so : (q : List ℕ) (x : Data) → may_answer r q x × (only_whole x ≡ true) → AnsweredOne m q x =
+          λ q x a. answered_one m q x known (sym (asked q) ∙ answers r q x a.0) in
+          rounds_so (asking_by may_answer may_refuse o (first_layer newest false)) (by_map (pair_of m)) refl so (root_alone (pair_of m)) h.gathered.rounds h.gathered.are
 
-  said_retrieved : (text : String Global) → IsRetrievedBy p may_answer may_refuse maker m d (Ok text) → IsSaid p (root_beside m) d (string_bytes text)
-  said_retrieved text h =
-      let o = h.options in
-      let r = h.is.registry in
-      let same : root_on r m.root_uri.now ≡ root_beside m =
-      ap₂ (λ (docs : List Document) (base : List ℕ). root_of docs base m.root_uri.now) (retrieved_are o h.by.default h.asked r h.is.prepared) (h.is.prepared.base ∙ h.by.default.base) in
-      said_on p (root_on r m.root_uri.now) (root_beside m) d (string_bytes text) same h.is.sound h.is.text
+      gathered_are : IsWanting m → docs ≡ added (pair_of m)
+      gathered_are wanting =
+          let complete : wants (gathered (root_alone (pair_of m)) h.gathered.rounds) ≡ [] = sym (ap (λ (ds : List Document). wants ds) h.gathered.gathers) ∙ h.complete in
+          h.gathered.gathers ∙ wanted_is_added (pair_of m) h.gathered.rounds by_one wanting complete
+
+      gathered_among : AreAmong m docs
+      gathered_among =
+          elim (retrieved_is_added (pair_of m) h.gathered.rounds by_one) [ inl e ↦ inl (h.gathered.gathers ∙ e) | inr e ↦ inr (h.gathered.gathers ∙ e) ]
+
+    -- what holds of the documents that are given holds of a registry's
+    in_registry : (Q : List Document → Type 0) → ((docs : List Document) (uris : List (List ℕ)) → IsGiven docs uris → Q docs) → (registry : SchemaRegistry)
+        → IsRegistry may_answer may_refuse o (root_given m) registry → Q (documents_in_registry registry)
+    in_registry Q each registry h = by registry.parent h.documents.parent h.documents.own
+      where
+        by : (parent : Option SharedRegistry) → AreMetaSchemas (asking_by may_answer may_refuse o) o.limit (layer_by o) (meta_schemas_given o) parent
+            → IsPrepared (asking_by may_answer may_refuse o (own_layer parent (layer_by o))) o.limit (own_documents parent (layer_by o) (root_given m)) (documents_in_registry registry)
+            (retrieved_shared registry.own)
+            → Q (documents_in_registry registry)
+        by None parent own =
+            each (documents_in_registry registry) (retrieved_shared registry.own)
+            (subst (λ (l : Layer). IsPrepared (asking_by may_answer may_refuse o l) o.limit (documents_by l (root_given m)) (documents_in_registry registry) (retrieved_shared registry.own))
+            (ap₂ (λ x (b : Bool). first_layer x b) default.draft default.siblings) own)
+        by (Some shared) parent own =
+            absurd
+            (subst (λ (ms : Option Documents). AreMetaSchemas (asking_by may_answer may_refuse o) o.limit (layer_by o) (option_map documents_given ms) (Some shared)) default.meta_schemas parent)
+
+  module _ (text : String Global) (h : IsRetrievedBy p may_answer may_refuse maker m d (Ok text)) where
+    -- the text is that under the root in the documents of the registry
+    said_among : (docs : List Document) → documents_in_registry h.is.registry ≡ docs → IsSaid p (root_of docs (codes "json-schema:///") m.root_uri.now) d (string_bytes text)
+    said_among docs e =
+        let r = h.is.registry in
+        let same : root_on r m.root_uri.now ≡ root_of docs (codes "json-schema:///") m.root_uri.now =
+        ap₂ (λ (ds : List Document) (base : List ℕ). root_of ds base m.root_uri.now) e (h.is.prepared.base ∙ h.by.default.base) in
+        said_on p (root_on r m.root_uri.now) (root_of docs (codes "json-schema:///") m.root_uri.now) d (string_bytes text) same h.is.sound h.is.text
+
+    said_wanted : IsWanting m → IsSaid p (root_beside m) d (string_bytes text)
+    said_wanted wanting =
+        said_among (added (pair_of m))
+        (in_registry h.options h.by.default h.asked (λ docs. docs ≡ added (pair_of m)) (λ docs uris g. gathered_are h.options h.by.default h.asked docs uris g wanting) h.is.registry
+        h.is.prepared)
+
+    said_alone : (root : Target) → StaysAlone p m root → IsSaid p (root_beside m) d (string_bytes text)
+    said_alone root alone =
+        elim (in_registry h.options h.by.default h.asked (λ docs. AreAmong m docs) (λ docs uris g. gathered_among h.options h.by.default h.asked docs uris g) h.is.registry h.is.prepared) [
+          | inl e ↦
+              let said = said_among (root_alone (pair_of m)) e in
+              record {
+                sound = sound_still p (root_alone (pair_of m)) (moved_alone m) (added (pair_of m)) (codes "json-schema:///") m.root_uri.now root alone;
+                text = text_still p (root_alone (pair_of m)) (moved_alone m) (added (pair_of m)) (codes "json-schema:///") m.root_uri.now root alone d (string_bytes text) said.text;
+              }
+          | inr e ↦ said_among (added (pair_of m)) e
+        ]
+
+    said_retrieved : IsSettled p m → IsSaid p (root_beside m) d (string_bytes text)
+    said_retrieved settled = elim settled [ inl wanting ↦ said_wanted wanting | inr a ↦ said_alone a.0 a.1 ]
 
 -- ---- one text
 
@@ -257,17 +294,17 @@ module _ {P R : Type 0} (may_answer : R → List ℕ → Data → Type 0) (may_r
       let beside : AreApart m → (text : String Global) → r.added ≡ Ok text → IsSaid p (root_beside m) d (string_bytes text) =
       λ apart text is.
       said_beside may_answer may_refuse nothing maker p m d apart text (subst (λ (a : Result (String Global) BuildError). IsAddedBy p may_answer may_refuse maker m d a) is h) in
-      let asked : IsWanting m → (text : String Global) → r.retrieved ≡ Ok text → IsSaid p (root_beside m) d (string_bytes text) =
-      λ wanting text is.
-      said_retrieved map_answers map_refuses answers maker p m d wanting text
-      (subst (λ (a : Result (String Global) BuildError). IsRetrievedBy p map_answers map_refuses maker m d a) is k) in
+      let asked : IsSettled p m → (text : String Global) → r.retrieved ≡ Ok text → IsSaid p (root_beside m) d (string_bytes text) =
+      λ settled text is.
+      said_retrieved map_answers map_refuses answers maker p m d text (subst (λ (a : Result (String Global) BuildError). IsRetrievedBy p map_answers map_refuses maker m d a) is k)
+      settled in
       let within : (may : MayMove p m d) (text : String Global) → r.inside ≡ Ok text → IsSaid p (root_inside m may.whole) d (string_bytes text) =
       λ may text is.
       said_inside may_answer may_refuse nothing maker p m d may.whole may.can.joined text
       (subst (λ (a : Result (String Global) BuildError). IsInsideBy p may_answer may_refuse maker m d a) is g) in
       record {
         inside = λ apart may. are_one r.added r.inside (λ t u a b. moved_text_is p m d may (string_bytes t) (string_bytes u) (beside apart t a) (within may u b));
-        retrieved = λ apart wanting matches decided.
-            are_one r.added r.retrieved (λ t u a b. said_once p (root_beside m) d matches decided (string_bytes t) (string_bytes u) (beside apart t a) (asked wanting u b));
-        moved = λ wanting may. are_one r.retrieved r.inside (λ t u a b. moved_text_is p m d may (string_bytes t) (string_bytes u) (asked wanting t a) (within may u b));
+        retrieved = λ apart settled matches decided.
+            are_one r.added r.retrieved (λ t u a b. said_once p (root_beside m) d matches decided (string_bytes t) (string_bytes u) (beside apart t a) (asked settled u b));
+        moved = λ settled may. are_one r.retrieved r.inside (λ t u a b. moved_text_is p m d may (string_bytes t) (string_bytes u) (asked settled t a) (within may u b));
       }

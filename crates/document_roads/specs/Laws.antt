@@ -1,17 +1,19 @@
 -- Under the premises of moving, what two forms say of an instance is one text. Each statement is promised by a function of this crate.
-use Rattle.std.specs.Prelude.{◌≡◌, ℕ, List, [], Bool, false, bytes_eq, codes, Result, Ok, Err, String, string_bytes}
+use Rattle.std.specs.Prelude.{◌≡◌, ◌⊎◌, ℕ, List, [], ◌∷◌, Bool, false, bytes_eq, codes, Result, Ok, Err, String, string_bytes}
 use Rattle.std.specs.declared.alloc.Global.{Global}
 use Rattle.serde_json.specs.Data.{Data}
 use Rattle.serde_json.specs.View.{view}
 use Rattle.uri_references.specs.Identity.{identity_of}
 use Rattle.schema_drafts.specs.Drafts.{newest}
 use Rattle.schema_drafts.specs.declared.draft.Draft.{Draft}
+use Rattle.schema_definitions.specs.Bearers.{Documents}
 use Rattle.schema_definitions.specs.Lookup.{Target}
 use Rattle.schema_definitions.specs.Rounds.{wants}
 use Rattle.referencing.specs.Built.{first_layer}
 use Rattle.schema_registries.specs.Roots.{Root, Patterns, Finds, IsSound}
 use Rattle.schema_registries.specs.Answers.{Finish, ComesBack}
-use Rattle.moved_documents.specs.Forms.{Pair, root_alone, added, inside}
+use Rattle.added_documents.specs.ReadingLaws.{StandsAlone}
+use Rattle.moved_documents.specs.Forms.{Pair, document_at, root_alone, added, inside}
 use Rattle.moved_documents.specs.Premises.{CanMove}
 use Rattle.schema_validators.specs.Seen.{root_of}
 use Rattle.schema_validators.specs.declared.error.BuildError.{BuildError}
@@ -63,6 +65,18 @@ AreApart m = bytes_eq (identity_of m.root_uri.now) (identity_of m.moved_uri.now)
 abbrev pub IsWanting : Moving → Type 0
 IsWanting m = wants (root_alone (pair_of m)) ≡ [] → ⊥
 
+-- the other document by itself
+abbrev pub moved_alone : Moving → Documents
+moved_alone m = document_at (first_layer newest false) (identity_of m.moved_uri.now) (view m.moved.now) ∷ []
+
+-- the root builds by itself, and the other document bears the base of no schema that is reached
+abbrev pub StaysAlone : Patterns → Moving → Target → Type 0
+StaysAlone p m root = StandsAlone (root_alone (pair_of m)) (moved_alone m) (added (pair_of m)) p.makes (codes "json-schema:///") m.root_uri.now root
+
+-- what is retrieved is the other document, or it changes nothing
+abbrev pub IsSettled : Patterns → Moving → Type 0
+IsSettled p m = IsWanting m ⊎ ((root : Target) × StaysAlone p m root)
+
 -- the one document can be moved into the other, and both roots are decided
 pub record MayMove (p : Patterns) (m : Moving) (d : Data) : Type 0 where
   pub draft : Draft
@@ -79,5 +93,5 @@ AreOne (Err e) other = Unit {0}
 -- what is said is one text: with the document added and inside, added and retrieved, retrieved and inside
 pub record SayOne (p : Patterns) (m : Moving) (d : Data) (r : Roads) : Type 0 where
   pub inside : AreApart m → MayMove p m d → AreOne r.added r.inside
-  pub retrieved : AreApart m → IsWanting m → (matches : List ℕ → List ℕ → Bool) → IsDecided p matches (root_beside m) d → AreOne r.added r.retrieved
-  pub moved : IsWanting m → MayMove p m d → AreOne r.retrieved r.inside
+  pub retrieved : AreApart m → IsSettled p m → (matches : List ℕ → List ℕ → Bool) → IsDecided p matches (root_beside m) d → AreOne r.added r.retrieved
+  pub moved : IsSettled p m → MayMove p m d → AreOne r.retrieved r.inside

@@ -5,13 +5,20 @@ use Rattle.uri_references.specs.declared.error.Error.TheVariants as reference
 use Rattle.uri_references.specs.declared.error.UriError.TheVariants.{Parse, Resolve}
 use Rattle.schema_definitions.specs.Lookup.{LookupCause, unretrievable, pointer_to_nowhere, invalid_percent_encoding, invalid_array_index, no_such_anchor, invalid_anchor, invalid_uri}
 use Rattle.schema_definitions.specs.DocumentCauses.{DocumentCause, no_reference, unretrieved, unknown_specification, circular_metaschema}
-use Rattle.document_sources.specs.declared.error.RetrieveError.TheVariants.{Refused}
+use Rattle.document_sources.specs.declared.error.RetrieveError.{RetrieveError}
+use Rattle.document_sources.specs.declared.error.RetrieveError.TheVariants as retrieved
 use Rattle.document_sources.specs.declared.error.Error.{Error}
 use Rattle.document_sources.specs.declared.error.Error.TheVariants as error
 
+-- a retriever's refusal, with its reason or without
+abbrev pub IsRefusal : RetrieveError → Type 0
+IsRefusal retrieved.Refused = Unit {0}
+IsRefusal (retrieved.Failed text) = Unit {0}
+IsRefusal retrieved.Memory = ⊥
+
 -- what a lookup's error names
 abbrev pub NamesLookup : LookupCause → Error → Type 0
-NamesLookup cause (error.Unretrievable uri source) = (source ≡ Refused) × (cause ≡ unretrievable (string_bytes uri))
+NamesLookup cause (error.Unretrievable uri source) = (source ≡ retrieved.Refused) × (cause ≡ unretrievable (string_bytes uri))
 NamesLookup cause (error.PointerToNowhere pointer) = cause ≡ pointer_to_nowhere (string_bytes pointer)
 NamesLookup cause (error.InvalidPercentEncoding pointer) = cause ≡ invalid_percent_encoding (string_bytes pointer)
 NamesLookup cause (error.InvalidArrayIndex pointer index) = cause ≡ invalid_array_index (string_bytes index) (string_bytes pointer)
@@ -33,7 +40,7 @@ RefusesLookup answer e = IsMemory e ⊎ ((cause : LookupCause) × (answer ≡ Er
 
 -- what an error names that documents are the cause of
 abbrev pub NamesDocument : DocumentCause → Error → Type 0
-NamesDocument cause (error.Unretrievable uri source) = (source ≡ Refused) × (cause ≡ unretrieved (string_bytes uri))
+NamesDocument cause (error.Unretrievable uri source) = IsRefusal source × (cause ≡ unretrieved (string_bytes uri))
 NamesDocument cause (error.PointerToNowhere pointer) = ⊥
 NamesDocument cause (error.InvalidPercentEncoding pointer) = ⊥
 NamesDocument cause (error.InvalidArrayIndex pointer index) = ⊥

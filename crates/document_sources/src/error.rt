@@ -8,11 +8,14 @@ use uri_references::error::Error as UriReferenceError;
 pub use uri_references::error::UriError;
 
 /// Why a retriever gives no document.
-#[derive(Debug, Clone, Copy, PartialEq, Eq, Error)]
+#[derive(Debug, Drop, PartialEq, Eq, Error)]
 pub enum RetrieveError {
     /// The retriever refused, or nobody was asked.
     #[error("Retrieving was refused")]
     Refused,
+    /// The retriever refused, and says why.
+    #[error("Retrieving was refused: {text}")]
+    Failed { text: String },
     /// Memory was refused.
     #[error("No memory")]
     Memory,

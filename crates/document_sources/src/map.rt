@@ -8,6 +8,7 @@ ghost use Rattle.uri_references.specs.Identity.{identity_of};
 ghost use Rattle.uri_references.specs.Refusals.{Refuses};
 ghost use Rattle.document_sources.specs.declared.error.RetrieveError.TheVariants.{Refused};
 ghost use Rattle.document_sources.specs.Answers.{answer_for};
+ghost use Rattle.document_sources.specs.Causes.{IsRefusal};
 
 use crate::error::RetrieveError;
 use crate::retrieve::Retrieve;
@@ -62,7 +63,7 @@ impl Retrieve for MapRetriever {
     // A URI is looked up as it is spelled.
     fn retrieve(&self, _alloc: Global, uri: &Uri) -> Result<Value, RetrieveError>
         ensures given { IfOk result (λ v. answer_for self.now uri.now ≡ Some (view v)) }
-        ensures refused { IfErr result (λ e. e ≡ Refused → answer_for self.now uri.now ≡ None) }
+        ensures refused { IfErr result (λ e. IsRefusal e → answer_for self.now uri.now ≡ None) }
         ensures absent { answer_for self.now uri.now ≡ None → result ≡ Err Refused }
     {
         let Some(document) = self.documents.get(uri) else {

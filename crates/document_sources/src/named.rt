@@ -3,7 +3,7 @@
 ghost use Rattle.std.specs.Prelude.{◌⊎◌};
 ghost use Rattle.schema_definitions.specs.Lookup as lookup;
 ghost use Rattle.schema_definitions.specs.DocumentCauses as documents;
-ghost use Rattle.document_sources.specs.Causes.{IsMemory, NamesLookup, NamesDocument};
+ghost use Rattle.document_sources.specs.Causes.{IsMemory, IsRefusal, NamesLookup, NamesDocument};
 
 use crate::error::{Error, RetrieveError, UriError};
 use std::alloc::Global;
@@ -26,6 +26,17 @@ pub fn not_borne(alloc: Global, uri: &str) -> Error
 {
     match String::from_str(alloc, uri) {
         Ok(uri) => Error::unretrievable(uri, RetrieveError::Refused),
+        Err(_) => Error::Memory,
+    }
+}
+
+/// A document that nobody bears, and why the retriever does not give it.
+pub fn not_retrieved(alloc: Global, uri: &str, source: RetrieveError) -> Error
+    requires { IsRefusal source }
+    ensures { IsMemory result ⊎ NamesDocument (documents.unretrieved uri.now) result }
+{
+    match String::from_str(alloc, uri) {
+        Ok(uri) => Error::unretrievable(uri, source),
         Err(_) => Error::Memory,
     }
 }

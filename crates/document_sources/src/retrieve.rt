@@ -1,9 +1,9 @@
 //! What a retriever does.
 
-ghost use Rattle.std.specs.Prelude.{◌≡◌, ℕ, List, IfOk, Err};
+ghost use Rattle.std.specs.Prelude.{ℕ, List, IfOk, IfErr};
 ghost use Rattle.serde_json.specs.Data.{Data};
 ghost use Rattle.serde_json.specs.View.{view};
-ghost use Rattle.document_sources.specs.declared.error.RetrieveError.TheVariants.{Refused};
+ghost use Rattle.document_sources.specs.Causes.{IsRefusal};
 
 use crate::error::RetrieveError;
 use serde_json::Value;
@@ -24,5 +24,5 @@ pub trait Retrieve {
     /// Where the retriever refuses, or where memory was refused.
     fn retrieve(&self, alloc: Global, uri: &Uri) -> Result<Value, RetrieveError>
         ensures answered { IfOk result (λ v. may_answer self.now uri.now (view v)) }
-        ensures may_be_refused { result ≡ Err Refused → may_refuse self.now uri.now };
+        ensures may_be_refused { IfErr result (λ e. IsRefusal e → may_refuse self.now uri.now) };
 }

@@ -6,15 +6,16 @@ use Rattle.schema_definitions.specs.Lookup.{Target}
 use Rattle.schema_definitions.specs.Sites.{root_site}
 use Rattle.schema_definitions.specs.Rows as rows
 use Rattle.schema_definitions.specs.BuildCauses.{IsCauseOf}
-use Rattle.schema_patterns.specs.Texts.{texts_in}
-use Rattle.schema_patterns.specs.Read.{reads, IsReadBy}
+use Rattle.schema_patterns.specs.Read.{reads}
+use Rattle.schema_patterns.specs.Tables.{AreMadeBy, texts_of_table}
 use Rattle.schema_patterns.specs.declared.matches.Matches.{Matches}
+use Rattle.schema_patterns.specs.declared.table.PatternTable.{PatternTable}
 use Rattle.json_values.specs.Patterns.{matched, known}
 use Rattle.reading_laws.specs.Asked.{IsAsked, AreAmong}
 use Rattle.schema_registries.specs.Roots.{Root, Patterns, Finds, IsSound, site_of_root}
 use Rattle.schema_registries.specs.Answers.{Finish, ComesBack}
 use Rattle.schema_registries.specs.Certified.{AreCertificate}
-use Rattle.schema_registries.specs.Matched.{AreReadOf}
+use Rattle.schema_registries.specs.Matched.{AreReadOf, HoldsPatterns}
 use Rattle.reached_sites.specs.declared.cause.BuildCause.{BuildCause}
 use Rattle.reached_sites.specs.declared.cause.BuildCause.TheVariants.{KeywordValue, BadPattern, Unevaluated, Reference, NodeLimit, Memory}
 use Rattle.certificate_laws.specs.Spelled.{AreSpelled}
@@ -68,15 +69,19 @@ abbrev pub AreReadIn : Patterns → Root → Data → Option Matches → Type 0
 AreReadIn p r d None = IsSound p r → ⊥
 AreReadIn p r d (Some m) = AreReadOf p r d m
 
+-- patterns that are made hold those reached from a root
+pub record HoldsMade {M : Type 0} (finds : M → List ℕ → Option Bool) (p : Patterns) (r : Root) (table : PatternTable M) : Type 0 where
+  pub hold : HoldsPatterns p r (texts_of_table table)
+  pub made : AreMadeBy finds p.finished table
+
+-- what matches of any value are read by; there are none where no build takes the root
+abbrev pub AreReached : {M : Type 0} → (M → List ℕ → Option Bool) → Patterns → Root → Option (PatternTable M) → Type 0
+AreReached finds p r None = IsSound p r → ⊥
+AreReached finds p r (Some table) = HoldsMade finds p r table
+
 -- the answer for the two paths of a fault by matches that were read of the value
 abbrev pub AnswersBy : Option Matches → Root → Data → FaultPath → CheckAnswer → Type 0
 AnswersBy matches r d path answer = (p : Patterns) → AreReadIn p r d matches → AnswersPath p r d path answer
-
--- the same of the patterns reached from a target, and none where a schema there is wrong
-pub record ReadsReached (p : Patterns) (docs : Documents) (t : Target) (d : Data) (m : Matches) : Type 0 where
-  pub patterns : List (List ℕ)
-  pub among : AreAmong docs p.makes (root_site t) patterns
-  pub read : IsReadBy p.finished patterns (texts_in d) m
 
 -- whether a refusal names a cause at the schemas, and not want of memory or too many compile keys
 abbrev pub is_of_schemas : BuildCause → Bool
@@ -91,10 +96,15 @@ pub record HasCauseAt (p : Patterns) (docs : Documents) (t : Target) : Type 0 wh
   pub cause : rows.BuildCause
   pub stands : IsCauseOf docs p.makes (root_site t) cause
 
-abbrev pub ReadsAt : Patterns → Documents → Target → Data → Option Matches → Type 0
-ReadsAt p docs t d None = HasCauseAt p docs t
-ReadsAt p docs t d (Some m) = ReadsReached p docs t d m
+-- patterns that are made hold those of the schemas reached from a target; there are none where a schema there is wrong
+pub record HoldsReached {M : Type 0} (finds : M → List ℕ → Option Bool) (p : Patterns) (docs : Documents) (t : Target) (table : PatternTable M) : Type 0 where
+  pub among : AreAmong docs p.makes (root_site t) (texts_of_table table)
+  pub made : AreMadeBy finds p.finished table
+
+abbrev pub HoldsAt : {M : Type 0} → (M → List ℕ → Option Bool) → Patterns → Documents → Target → Option (PatternTable M) → Type 0
+HoldsAt finds p docs t None = HasCauseAt p docs t
+HoldsAt finds p docs t (Some table) = HoldsReached finds p docs t table
 
 -- from what a reference leads to, where that is placed in the documents
-abbrev pub ReadsPlaced : Patterns → Resolved → Data → Option Matches → Type 0
-ReadsPlaced p root d m = IsPlaced (documents_in root.resolver) (target_in root) → ReadsAt p (documents_in root.resolver) (target_in root) d m
+abbrev pub HoldsPlaced : {M : Type 0} → (M → List ℕ → Option Bool) → Patterns → Resolved → Option (PatternTable M) → Type 0
+HoldsPlaced finds p root table = IsPlaced (documents_in root.resolver) (target_in root) → HoldsAt finds p (documents_in root.resolver) (target_in root) table

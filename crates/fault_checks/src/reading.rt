@@ -1,16 +1,16 @@
-//! Matches that checks of faults go by.
-ghost use Rattle.std.specs.Prelude.{◌≡◌, IfOk};
+//! Patterns and matches that checks of faults go by.
+ghost use Rattle.std.specs.Prelude.{◌≡◌, IfOk, option_copied};
 ghost use Rattle.serde_json.specs.View.{view};
-ghost use Rattle.schema_registries.specs.Roots.{root_on};
+ghost use Rattle.schema_registries.specs.Roots.{Patterns, Root, root_on};
 ghost use Rattle.reached_sites.specs.Roots.{IsPlaced};
 ghost use Rattle.fault_checks.specs.Passed.{documents_in, target_in};
-ghost use Rattle.fault_checks.specs.Checked.{AreReadIn, ReadsPlaced, is_of_schemas as is_cause_of_schemas};
+ghost use Rattle.fault_checks.specs.Checked.{AreReadIn, AreReached, HoldsPlaced, is_of_schemas as is_cause_of_schemas};
 
 use crate::{Error, Resolved};
 use compiled_graphs::graph::build;
 use reached_sites::cause::BuildCause;
-use schema_patterns::PatternMaker;
 use schema_patterns::matches::Matches;
+use schema_patterns::{PatternMaker, PatternMatcher, PatternTable};
 use schema_registries::SchemaRegistry;
 use serde_json::Value;
 use std::alloc::{AllocError, Global};
@@ -26,18 +26,17 @@ fn is_of_schemas(cause: &BuildCause) -> bool
     }
 }
 
-// The matches of the patterns that are reached from a root, and none where something is wrong there.
-fn read_reached<P: PatternMaker>(
+// The patterns that are reached from a root, and none where something is wrong there.
+fn patterns_at<P: PatternMaker>(
     alloc: Global,
     root: &Resolved<'_>,
     maker: &P,
-    value: &Value,
-) -> Result<Option<Matches>, AllocError>
+) -> Result<Option<PatternTable<P::Matcher>>, AllocError>
     requires placed { IsPlaced (documents_in root.now.resolver) (target_in root.now) }
-    ensures { IfOk result (ReadsPlaced (P.patterns maker.now) root.now (view value.now)) }
+    ensures { IfOk result (HoldsPlaced P.Matcher.finds (P.patterns maker.now) root.now) }
 {
     match build(alloc, root, maker, usize::MAX) {
-        Ok(compiled) => Ok(Some(Matches::read(alloc, &compiled.schemas.table, value)?)),
+        Ok(compiled) => Ok(Some(compiled.schemas.table)),
         Err(cause) => {
             if is_of_schemas(&cause) {
                 Ok(None)
@@ -48,10 +47,62 @@ fn read_reached<P: PatternMaker>(
     }
 }
 
+/// The patterns that are reached from a root, each made once: what the matches of a value are read by, whatever the value. There are none
+/// where the root leads nowhere, or where no build takes the schemas that are reached from it.
+///
+/// It walks what is reached once.
+///
+/// # Errors
+///
+/// Where memory was refused or a count of owners is full.
+pub fn read_patterns<P: PatternMaker>(
+    alloc: Global,
+    registry: &SchemaRegistry,
+    root: &str,
+    maker: &P,
+) -> Result<Option<PatternTable<P::Matcher>>, AllocError>
+    ensures { IfOk result (AreReached P.Matcher.finds (P.patterns maker.now) (root_on registry.now root.now)) }
+{
+    let resolver = registry.registry().resolver(registry.base().clone()?)?;
+    match resolver.lookup(root) {
+        Ok(found) => {
+            registry.own().documents_are_apart();
+            registry.registry().names_rise();
+            patterns_at(alloc, &found, maker)
+        }
+        Err(error) => match error {
+            Error::Memory => Err(AllocError),
+            _ => Ok(None),
+        },
+    }
+}
+
+/// The matches of patterns that were read from a root, in the texts of a value and the names of its members: what checks of the value's
+/// faults go by. Without patterns there are none.
+///
+/// Each matcher is asked once of each text.
+///
+/// # Errors
+///
+/// Where memory was refused.
+pub fn matches_by<M: PatternMatcher>(
+    alloc: Global,
+    patterns: Option<&PatternTable<M>>,
+    value: &Value,
+) -> Result<Option<Matches>, AllocError>
+    ensures { IfOk result (λ m. (p : Patterns) (r : Root) → AreReached M.finds p r (option_copied patterns.entry) → AreReadIn p r (view value.now) m) }
+{
+    match patterns {
+        Some(table) => Ok(Some(Matches::read(alloc, table, value)?)),
+        None => Ok(None),
+    }
+}
+
 /// The matches of the patterns that are reached from a root, in the texts of a value and the names of its members: what checks of the
 /// value's faults go by. There are none where the root leads nowhere, or where no build takes the schemas that are reached from it.
 ///
-/// It walks what is reached once, makes each pattern once, and asks each matcher once of each text.
+/// It walks what is reached once, makes each pattern once, and asks each matcher once of each text. For many values [`read_patterns`] walks
+/// once for all.
 ///
 /// # Errors
 ///
@@ -65,16 +116,6 @@ pub fn read_matches<P: PatternMaker>(
 ) -> Result<Option<Matches>, AllocError>
     ensures { IfOk result (AreReadIn (P.patterns maker.now) (root_on registry.now root.now) (view value.now)) }
 {
-    let resolver = registry.registry().resolver(registry.base().clone()?)?;
-    match resolver.lookup(root) {
-        Ok(found) => {
-            registry.own().documents_are_apart();
-            registry.registry().names_rise();
-            read_reached(alloc, &found, maker, value)
-        }
-        Err(error) => match error {
-            Error::Memory => Err(AllocError),
-            _ => Ok(None),
-        },
-    }
+    let patterns = read_patterns(alloc, registry, root, maker)?;
+    matches_by(alloc, patterns.as_ref(), value)
 }

@@ -2,12 +2,14 @@
 //!
 //! [`Validator::options`] says how documents are read. Documents are prepared once, and validators are built on what was prepared,
 //! each at a root that a reference leads to. [`check_fault`] is lent the documents and no validator, and says of two paths whether they lead
-//! to a refusal.
+//! to a refusal. [`same_on_three_roads`] says what a document finds wrong where another stands beside it, is retrieved for it, or is put
+//! inside it.
 #![tactic(auto)]
 
 mod checking;
 
 pub use checking::{check_error, check_errors, check_first, check_path};
+pub use document_roads::{Moving, Roads, same_on_three_roads};
 pub use fault_checks::checking::{CheckAnswer, FaultPath, check_fault};
 pub use schema_validators::{
     BothAnswers, BothValidators, BuildCause, BuildError, Checker, DefaultRetriever, DocumentError,

@@ -4,3 +4,4 @@ mod Counting
 mod Going
 mod Reading
 mod Ending
+mod AtHand

@@ -12,6 +12,8 @@ mod report;
 mod run;
 mod sink;
 mod source;
+mod watched;
+mod whole;
 mod writing;
 
 pub use answers::LineAnswers;
@@ -23,3 +25,6 @@ pub use report::{RunError, RunReport};
 pub use run::answer_lines;
 pub use sink::ByteSink;
 pub use source::ByteSource;
+pub use watched::WatchedSource;
+pub use whole::{lines_in, read_all};
+pub use writing::write_whole;

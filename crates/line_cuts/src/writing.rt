@@ -7,8 +7,12 @@ ghost use Rattle.line_cuts.specs.Runs.{TakesSome};
 use crate::ByteSink;
 use crate::report::RunError;
 
-// Writes all the bytes, by as many writes as it takes.
-pub(crate) fn write_whole<K: ByteSink>(writer: &mut K, bytes: &[u8]) -> Result<(), RunError>
+/// Writes all the bytes, by as many writes as it takes.
+///
+/// # Errors
+///
+/// Where a write fails or takes nothing. A part of the bytes can then be written.
+pub fn write_whole<K: ByteSink>(writer: &mut K, bytes: &[u8]) -> Result<(), RunError>
     ensures written { OnOk result (Appends (K.contents writer.old) (K.contents writer.new) bytes.now) }
     ensures quiet { OnOk result (K.failures writer.new ≡ K.failures writer.old) }
     ensures error { IfErr result (λ e. e ≡ RunError.Write) }

@@ -4,8 +4,6 @@
 mod graph;
 mod leading;
 mod noting;
-#[cfg(test)]
-mod tests;
 
 pub use graph::Edge;
 pub use leading::leading_to;

@@ -2,7 +2,7 @@
 use crate::registries::{Prepared, assert_asked, assert_retrieved, assert_rows, prepared_with};
 use crate::scripts::{assert_last_row, documents_of, limit, set_by, text_of, topics};
 use document_retrieval::rounds::retrieve_wanted;
-use document_sources::error::RetrieveError;
+use document_sources::error::{Error, RetrieveError};
 use document_sources::layer::Layer;
 use document_sources::{DefaultRetriever, MapRetriever, Retrieve};
 use referencing::registry::Registry;
@@ -161,6 +161,36 @@ impl Retrieve for Web {
 const WEB: &str = r##"document http://a.test/r {"$ref":"x"}
 limit 3
 refused :: More than 3 documents wanted"##;
+
+// Gives nothing, and says why.
+#[derive(Drop)]
+struct Closed;
+
+impl Retrieve for Closed {
+    fn retrieve(&self, alloc: Global, _uri: &Uri) -> Result<Value, RetrieveError> {
+        match String::from_str(alloc, "closed on Sundays") {
+            Ok(text) => Err(RetrieveError::Failed { text }),
+            Err(_) => Err(RetrieveError::Memory),
+        }
+    }
+}
+
+const CLOSED: &str = r##"document http://a.test/r {"$ref":"x"}
+refused :: Resource 'http://a.test/x' is not present and retrieving it failed"##;
+
+#[test]
+fn a_retriever_says_why(rt: HostRuntime) {
+    let alloc = rt.alloc();
+    assert_gathered(&rt, alloc, CLOSED, &Closed);
+    match prepared_with(&rt, alloc, CLOSED, Closed) {
+        Err(Error::Unretrievable { uri, source }) => {
+            let closed = String::from_str(alloc, "closed on Sundays").expect(&rt, "memory");
+            assert_eq!(rt; uri.as_str(), "http://a.test/x");
+            assert!(rt; source == RetrieveError::Failed { text: closed });
+        }
+        _ => panic!(rt; "another answer"),
+    }
+}
 
 // Answers `true` once and `false` from then on, and counts how often it is asked.
 #[derive(Drop)]

@@ -186,6 +186,50 @@ module _ {K : Type 0} (shape : K → Shape ℕ) (matches : List ℕ → List ℕ
           let rest = (subst (KeywordsLeft shape matches nodes n p progress (keywords_at nodes n)) none left).left y f low in
           sym (node_told x m e fits ∙ rest)
 
+  no_longer : (b : Bool) → (b && false) ≡ false
+  no_longer true = refl
+  no_longer false = refl
+
+  -- where one is not right of itself, not all are accepted
+  some_wrong : (x : Setting) (ks : List K) → all_true (map (λ k. is_right (rule matches (value_at p) (shape k))) ks) ≡ false
+      → all_true (map (λ k. rule_in (reading_of shape matches nodes) (rule matches (value_at p) (shape k)) x) ks) ≡ false
+  some_wrong x [] e = absurd (cc)
+  some_wrong x (k ∷ ks) e = by_test (is_right (rule matches (value_at p) (shape k))) refl e (some_wrong x ks)
+    where
+      by_test : (b : Bool) → is_right (rule matches (value_at p) (shape k)) ≡ b → (b && all_true (map (λ k. is_right (rule matches (value_at p) (shape k))) ks)) ≡ false
+          → (all_true (map (λ k. is_right (rule matches (value_at p) (shape k))) ks) ≡ false → all_true (map (λ k. rule_in (reading_of shape matches nodes) (rule matches (value_at p) (shape k)) x) ks) ≡ false)
+          → all_true (map (λ k. rule_in (reading_of shape matches nodes) (rule matches (value_at p) (shape k)) x) (k ∷ ks)) ≡ false
+      by_test true is rest others =
+          ap (λ c. rule_in (reading_of shape matches nodes) (rule matches (value_at p) (shape k)) x && c) (others rest)
+          ∙ no_longer (rule_in (reading_of shape matches nodes) (rule matches (value_at p) (shape k)) x)
+      by_test false is rest others =
+          let refused : rule_in (reading_of shape matches nodes) (rule matches (value_at p) (shape k)) x ≡ false =
+          rule_combined (reading_of shape matches nodes) x (rule matches (value_at p) (shape k)) ∙ rw is refl in
+          ap (λ c. c && all_true (map (λ k. rule_in (reading_of shape matches nodes) (rule matches (value_at p) (shape k)) x) ks)) refused
+
+  -- a node with a keyword by which the value itself is wrong
+  pub node_wrong : (b : Bool) → b ≡ all_true (map (λ k. is_right (rule matches (value_at p) (shape k))) (keywords_at nodes n)) → b ≡ false
+      → Tells p progress (suc (size nodes (value_at p) progress (rank_at nodes n))) (node_in (reading_of shape matches nodes) n) false
+  node_wrong b is wrong = record { same = λ x fits deep. told x x.depth refl fits deep }
+    where
+      told : (x : Setting) (m : ℕ) → x.depth ≡ m → Fits p progress x → suc (size nodes (value_at p) progress (rank_at nodes n)) ≤ x.depth
+          → false ≡ node_in (reading_of shape matches nodes) n x
+      told x zero e fits deep = absurd (omega arith)
+      told x (suc m) e fits deep = sym (node_told x m e fits ∙ some_wrong (record { depth = m; keys = x.keys; spot = x.spot }) (keywords_at nodes n) (sym is ∙ wrong))
+
+  one_right : (b c : Bool) → (b && c) ≡ true → b ≡ true
+  one_right true c e = refl
+  one_right false c e = absurd (cc)
+
+  others_right : (b c : Bool) → (b && c) ≡ true → c ≡ true
+  others_right true c e = e
+  others_right false c e = absurd (cc)
+
+  pub each_right : (ks : List K) (k : K) → In k ks → all_true (map (λ k. is_right (rule matches (value_at p) (shape k))) ks) ≡ true → is_right (rule matches (value_at p) (shape k)) ≡ true
+  each_right [] k i e = elim i [ ]
+  each_right (j ∷ ks) k first e = one_right _ _ e
+  each_right (j ∷ ks) k (later i) e = each_right ks k i (others_right _ _ e)
+
 -- ---- a keyword
 
 and_true : (b : Bool) → b ≡ b && true
@@ -193,9 +237,6 @@ and_true true = refl
 and_true false = refl
 
 module _ (r : Reading ℕ) (p : Place) (progress : List ℕ) (enough : ℕ) (k : Rule ℕ) where
-  pub keyword_wrong : (b : Bool) → b ≡ is_right k → b ≡ false → Tells p progress enough (rule_in r k) false
-  keyword_wrong b is wrong = record { same = λ x fits deep. sym (rule_combined r x k ∙ rw (sym is ∙ wrong) refl) }
-
   pub keyword_told : (b right : Bool) (combination : Combination) (calls : List Call) → right ≡ is_right k → right ≡ true → combination ≡ combination_of k → calls ≡ questions_of k
       → Tells p progress enough (λ x. combined combination (asked_in r x) calls) b → Tells p progress enough (rule_in r k) b
   keyword_told b right combination calls is good c q tells = record {

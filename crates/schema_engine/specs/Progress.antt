@@ -1,12 +1,16 @@
 -- The references in progress at a place.
-use Rattle.std.specs.Prelude.{ℕ, zero, suc, List, [], ◌∷◌, Bool, false, ◌||◌, ◌==◌}
+use Rattle.std.specs.Prelude.{ℕ, zero, suc, nat_le, List, [], ◌∷◌, Bool, false, ◌&&◌, ◌||◌, ◌==◌}
+use Rattle.std.specs.List.{filter}
 use Rattle.schema_meaning.specs.Cut.{one_unless}
 use Rattle.schema_engine.specs.declared.progress.Progress.{Progress, Nothing, Target'}
 
--- the last one first
+abbrev pub is_between : ℕ → ℕ → ℕ → Bool
+is_between lowest highest n = nat_le lowest n && nat_le n highest
+
+-- the last one first; those outside the bounds are none
 abbrev pub numbers_in : Progress → List ℕ
 numbers_in Nothing = []
-numbers_in (Target' node p before) = node ∷ numbers_in before
+numbers_in (Target' node lowest highest p before) = filter (is_between lowest highest) (node ∷ numbers_in before)
 
 abbrev pub is_among : ℕ → List ℕ → Bool
 is_among n [] = false

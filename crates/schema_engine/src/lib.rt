@@ -8,6 +8,7 @@ mod counting;
 pub mod entry;
 pub mod graph;
 mod here;
+mod itself;
 pub mod matching;
 pub mod node;
 pub mod place;

@@ -530,10 +530,7 @@ fn tell_target<'q, 'i: 'q, 'e, K: Validate, T: Matching>(
         return Ok(());
     }
     let graph = there.here.graph;
-    let entered = Progress::Target {
-        node: target,
-        before: there.here.progress,
-    };
+    let entered = there.here.progress.enter(target);
     let inside = There {
         here: Here {
             graph,

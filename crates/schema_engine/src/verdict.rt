@@ -16,6 +16,7 @@ use crate::asking::Asking;
 use crate::combination::{Combination, is_within, settled};
 use crate::graph::Graph;
 use crate::here::Here;
+use crate::itself::accept_itself;
 use crate::matching::Matching;
 use crate::place::{Asked, Place, Question};
 use crate::progress::{Progress, is_in_progress};
@@ -51,7 +52,11 @@ pub fn accepts_node<'q, 'i: 'q, K: Validate, T: Matching>(
         place,
         progress,
     };
-    for keyword in &graph.nodes[node].keywords {
+    let keywords = graph.nodes[node].keywords.as_slice();
+    if !accept_itself(keywords, place, matching)? {
+        return Ok(false);
+    }
+    for keyword in keywords {
         if !accepts_keyword(&here, keyword, matching, questions)? {
             return Ok(false);
         }
@@ -59,7 +64,7 @@ pub fn accepts_node<'q, 'i: 'q, K: Validate, T: Matching>(
     Ok(true)
 }
 
-// Whether a keyword of a node accepts what is at a place.
+// Whether a keyword of a node, with which nothing is wrong of the value itself, accepts what is at a place.
 #[cycle(verdict)]
 fn accepts_keyword<'q, 'i: 'q, K: Validate, T: Matching>(
     here: &Here<'q, 'i, '_, K>,
@@ -69,15 +74,13 @@ fn accepts_keyword<'q, 'i: 'q, K: Validate, T: Matching>(
 ) -> Result<bool, AllocError>
     requires known { AreKnown K.knows (T.matches matching.old).pattern here.now.graph.now.nodes.items }
     requires stands { In keyword.now (keywords_at here.now.graph.now.nodes.items here.now.node) }
+    requires right { is_right (rule (T.matches matching.old).reads (value_at here.now.place) (K.shape keyword.now)) ≡ true }
     ensures matches { OnOk result (T.matches matching.new ≡ T.matches matching.old) }
     ensures questions { OnOk result (questions.new.items ≡ questions.old.items) }
     ensures verdict { let nodes = here.now.graph.now.nodes.items in let m = (T.matches matching.old).reads in
         IfOk result (TellsFrom nodes here.now.node here.now.place (numbers_in here.now.progress.now)
         (rule_in (reading_of K.shape m nodes) (rule m (value_at here.now.place) (K.shape keyword.now)))) }
 {
-    if !keyword.accepts_itself(here.place, matching)? {
-        return Ok(false);
-    }
     match keyword.asking(here.place) {
         Asking::Nothing => Ok(true),
         Asking::Target(node) => accepts_target(here, node, matching, questions),
@@ -88,7 +91,7 @@ fn accepts_keyword<'q, 'i: 'q, K: Validate, T: Matching>(
     }
 }
 
-// Whether a keyword of a node, with which nothing is wrong of the value itself, accepts what is at a place, by its questions.
+// The same, by its questions.
 #[cycle(verdict)]
 fn accepts_listed<'q, 'i: 'q, K: Validate, T: Matching>(
     here: &Here<'q, 'i, '_, K>,
@@ -281,6 +284,7 @@ pub(crate) fn accepts_question<'q, 'i: 'q, K: Validate, T: Matching>(
         IfOk result (TellsFrom nodes here.now.node here.now.place (numbers_in here.now.progress.now)
         (λ x. asked_in r x (call_of question.entry))) }
 {
+    let below = Progress::Nothing;
     match question.asked {
         Asked::Here => {
             if question.follows {
@@ -300,7 +304,7 @@ pub(crate) fn accepts_question<'q, 'i: 'q, K: Validate, T: Matching>(
             here.graph,
             question.node,
             Place::Value(item),
-            &Progress::Nothing,
+            &below,
             matching,
             questions,
         ),
@@ -308,7 +312,7 @@ pub(crate) fn accepts_question<'q, 'i: 'q, K: Validate, T: Matching>(
             here.graph,
             question.node,
             Place::Value(member),
-            &Progress::Nothing,
+            &below,
             matching,
             questions,
         ),
@@ -316,7 +320,7 @@ pub(crate) fn accepts_question<'q, 'i: 'q, K: Validate, T: Matching>(
             here.graph,
             question.node,
             Place::Name(name),
-            &Progress::Nothing,
+            &below,
             matching,
             questions,
         ),
@@ -342,10 +346,7 @@ fn accepts_target<'q, 'i: 'q, K: Validate, T: Matching>(
     if is_in_progress(here.progress, target) {
         return Ok(true);
     }
-    let entered = Progress::Target {
-        node: target,
-        before: here.progress,
-    };
+    let entered = here.progress.enter(target);
     accepts_node(
         here.graph, target, here.place, &entered, matching, questions,
     )

@@ -1,8 +1,10 @@
-//! Tests of schema places, pointers followed from them, registries, and graphs of what is reached.
+//! Tests of schema places, pointers followed from them, registries, graphs of what is reached, and nodes that lead to marked ones.
 #![tactic(auto)]
 
 #[cfg(test)]
 mod graphs;
+#[cfg(test)]
+mod marks;
 #[cfg(test)]
 mod places;
 #[cfg(test)]

@@ -1,4 +1,4 @@
-use Rattle.std.proofs.Common.{rules, ◌≡◌, ◌<◌, ◌+◌, ◌∙◌, ◌++◌, ◌∷◌, ℕ, List, Bool, true, false, map, drop, length, get_or, [], refl, sym, ap, subst, arith, string_bytes}
+use Rattle.std.proofs.Common.{rules, ◌≡◌, ◌<◌, ◌+◌, ◌∙◌, ◌++◌, ◌∷◌, ℕ, List, Bool, true, false, map, drop, length, get_or, [], refl, sym, ap, subst, arith, string_bytes, OnOk, suc}
 use Rattle.std.proofs.lemmas.Result.{IfOk-weaker, on_ok_weaker}
 use Rattle.serde_json.specs.Data.{string}
 use Rattle.serde_json.specs.View.{view}
@@ -828,7 +828,10 @@ tell_target-tell_node-requires g t c κs within =
     let h = c.args.there.now.here in
     let nodes = h.graph.now.nodes.items in
     let fresh : is_among c.args.target (numbers_in h.progress.now) ≡ false = sym c.is_in_progress.ensures ∙ c.if-is_in_progress.false in
-    let falls = size_target nodes (value_at h.place) (numbers_in h.progress.now) (rank_at nodes h.node) c.args.target c.requires.there fresh in
+    let d = value_at h.place in
+    let enough = size nodes d (numbers_in h.progress.now) (rank_at nodes h.node) in
+    let falls = subst (λ ms. size nodes d ms (rank_at nodes c.args.target) < enough) (sym c.enter-entered.ensures)
+    (size_target nodes d (numbers_in h.progress.now) (rank_at nodes h.node) c.args.target c.requires.there fresh) in
     (omega arith, (within.0, (within.1, (c.requires.known, (record { value = c.requires.right.value; path = path_here nodes c.args.target _ c.requires.there c.index.ensures }, c.requires.there)))))
 
 pub tell_target-returns-clause-heard : goal.tell_target-returns-clause-heard
@@ -838,7 +841,12 @@ tell_target-returns-clause-heard g t c =
     let nodes = h.graph.now.nodes.items in
     let fresh : is_among c.args.target (numbers_in h.progress.now) ≡ false = sym c.is_in_progress.ensures ∙ c.if-is_in_progress.false in
     let falls = size_target nodes (value_at h.place) (numbers_in h.progress.now) (rank_at nodes h.node) c.args.target c.requires.there fresh in
-    on_ok_weaker c.tell_node.result (target_heard g.K.Validate.shape _ nodes there (location_of c.args.evaluation.now) c.args.target _ _ _ fresh falls) c.tell_node.ensures.heard
+    let r = reading_of g.K.Validate.shape (g.T.Matching.matches c.args.matching.now).reads nodes in
+    let road = location_of c.args.evaluation.now in
+    on_ok_weaker c.tell_node.result (target_heard g.K.Validate.shape _ nodes there road c.args.target _ _ _ fresh falls)
+    (subst
+    (λ ms. OnOk c.tell_node.result (Hearing (record { place = h.place; progress = ms; path = (stand_of there).path; road = road }) (suc (size nodes (value_at h.place) ms (rank_at nodes c.args.target)))
+    (node_faults r c.args.target) c.args.observer.now c.tell_node.new.observer)) c.enter-entered.ensures c.tell_node.ensures.heard)
 
 -- ---- a name
 

@@ -1,8 +1,8 @@
-use Rattle.std.proofs.Common.{rules, ◌≡◌, ◌<◌, ◌+◌, ◌∙◌, Bool, true, false, map, drop, length, [], ◌∷◌, IfOk, refl, sym, ap, subst, arith}
+use Rattle.std.proofs.Common.{rules, ◌≡◌, ◌<◌, ◌+◌, ◌∙◌, suc, Bool, true, false, map, drop, length, [], ◌∷◌, IfOk, refl, sym, ap, subst, arith}
 use Rattle.std.proofs.lemmas.Result.{IfOk-weaker}
 use Rattle.serde_json.specs.View.{view}
 use Rattle.serde_json.specs.View.{items_view}
-use Rattle.schema_meaning.specs.Members.{In, first}
+use Rattle.schema_meaning.specs.Members.{In, first, all_true}
 use Rattle.schema_meaning.specs.Places.{Step, stay}
 use Rattle.schema_meaning.specs.Keywords.{rule}
 use Rattle.schema_engine.specs.declared.place.Asked.{Asked}
@@ -12,14 +12,14 @@ use Rattle.schema_engine.specs.Places.{value_at, step_of}
 use Rattle.schema_engine.specs.Progress.{numbers_in, is_among}
 use Rattle.schema_engine.specs.Questions.{Call, call_of}
 use Rattle.schema_engine.specs.Asking.{AsksEach, AsksSo, target_call, item_call, item_calls}
-use Rattle.schema_engine.specs.Rules.{combined, questions_of, is_right, all_beside}
+use Rattle.schema_engine.specs.Rules.{combined, is_right}
 use Rattle.schema_engine.specs.Graphs.{keywords_at, rank_at, reading_of, AreKnown}
-use Rattle.schema_engine.specs.Verdicts.{Setting, Fits, asked_in, rule_in, size, Tells, EachMayAsk, GoesDown}
+use Rattle.schema_engine.specs.Verdicts.{Setting, Fits, node_in, asked_in, rule_in, size, Tells, EachMayAsk, GoesDown}
 use Rattle.schema_engine.proofs.Items.{items_begin, items_yes, items_no, items_end, may_ask_item, may_ask_items}
 use Rattle.schema_engine.proofs.Left.{KeywordsLeft}
 use Rattle.schema_engine.proofs.Sizes.{size_inside, size_down, size_target}
 use Rattle.schema_engine.proofs.Settings.{stepped, stay_fits, item_fits, member_fits, name_fits}
-use Rattle.schema_engine.proofs.Steps.{may_ask_one, may_ask_rest, each_may_ask, keywords_here, keyword_stands, keywords_yes, node_refuses, node_accepts, keyword_wrong, keyword_told, keyword_each, keyword_alone, keyword_targeted, question_told, follows_told, back_told, entered_told}
+use Rattle.schema_engine.proofs.Steps.{may_ask_one, may_ask_rest, each_may_ask, keywords_here, keyword_stands, keywords_yes, node_refuses, node_accepts, node_wrong, each_right, keyword_told, keyword_each, keyword_alone, keyword_targeted, question_told, follows_told, back_told, entered_told}
 use Rattle.schema_engine.proofs.verdict.+verdict.Goals as goal
 
 -- ---- the target of a reference
@@ -33,15 +33,23 @@ pub accepts_target-accepts_node-requires : goal.accepts_target-accepts_node-requ
 accepts_target-accepts_node-requires g t c κs within =
     let new : is_among c.args.target (numbers_in c.args.here.now.progress.now) ≡ false = sym c.is_in_progress.ensures ∙ c.if-is_in_progress.false in
     let nodes = c.args.here.now.graph.now.nodes.items in
-    let falls = size_target nodes (value_at c.args.here.now.place) (numbers_in c.args.here.now.progress.now) (rank_at nodes c.args.here.now.node) c.args.target c.requires.there new in
+    let d = value_at c.args.here.now.place in
+    let progress = numbers_in c.args.here.now.progress.now in
+    let enough = size nodes d progress (rank_at nodes c.args.here.now.node) in
+    let falls = subst (λ ms. size nodes d ms (rank_at nodes c.args.target) < enough) (sym c.enter-entered.ensures)
+    (size_target nodes d progress (rank_at nodes c.args.here.now.node) c.args.target c.requires.there new) in
     (omega arith, (within.0, (within.1, (c.requires.known, c.requires.there))))
 
 pub accepts_target-returns-clause-verdict : goal.accepts_target-returns-clause-verdict
 accepts_target-returns-clause-verdict g t c =
     let new : is_among c.args.target (numbers_in c.args.here.now.progress.now) ≡ false = sym c.is_in_progress.ensures ∙ c.if-is_in_progress.false in
     let nodes = c.args.here.now.graph.now.nodes.items in
-    let falls = size_target nodes (value_at c.args.here.now.place) (numbers_in c.args.here.now.progress.now) (rank_at nodes c.args.here.now.node) c.args.target c.requires.there new in
-    IfOk-weaker c.accepts_node.result _ _ (λ b. entered_told g.K.Validate.shape _ nodes c.args.target c.args.here.now.place _ _ _ b falls new) c.accepts_node.ensures.verdict
+    let place = c.args.here.now.place in
+    let falls = size_target nodes (value_at place) (numbers_in c.args.here.now.progress.now) (rank_at nodes c.args.here.now.node) c.args.target c.requires.there new in
+    let r = reading_of g.K.Validate.shape (g.T.Matching.matches c.args.matching.now).reads nodes in
+    IfOk-weaker c.accepts_node.result _ _ (λ b. entered_told g.K.Validate.shape _ nodes c.args.target place _ _ _ b falls new)
+    (subst (λ ms. IfOk c.accepts_node.result (Tells place ms (suc (size nodes (value_at place) ms (rank_at nodes c.args.target))) (node_in r c.args.target))) c.enter-entered.ensures
+    c.accepts_node.ensures.verdict)
 
 -- ---- a question
 
@@ -222,11 +230,6 @@ accepts_each-accepts_question-requires g t c κs within =
 
 -- ---- a keyword
 
-pub accepts_keyword-returns-then-not-branch-clause-verdict :
-    goal.accepts_keyword-returns-then-not-branch-clause-verdict
-accepts_keyword-returns-then-not-branch-clause-verdict g t c =
-    keyword_wrong _ c.args.here.now.place _ _ _ c.in_ok-accepts_itself.field-0 c.in_ok-accepts_itself.ensures.right (search rules)
-
 pub accepts_keyword-accepts_target-requires : goal.accepts_keyword-accepts_target-requires
 accepts_keyword-accepts_target-requires g t c κs within =
     let nodes = c.args.here.now.graph.now.nodes.items in
@@ -240,7 +243,7 @@ accepts_keyword-accepts_target-requires g t c κs within =
         (
           within.1,
           (
-            subst (λ m. AreKnown g.K.Validate.knows m.pattern nodes) (sym c.in_ok-accepts_itself.ensures.same) c.requires.known,
+            c.requires.known,
             ((subst (EachMayAsk nodes (rank_at nodes c.args.here.now.node) d) asks.questions may).each (target_call c.in-Target.node) first).below,
           ),
         ),
@@ -261,30 +264,8 @@ accepts_keyword-accepts_items-requires g t c κs within =
         (
           within.1,
           (
-            subst (λ m. AreKnown g.K.Validate.knows m.pattern nodes) (sym c.in_ok-accepts_itself.ensures.same) c.requires.known,
+            c.requires.known,
             subst (EachMayAsk nodes (rank_at nodes c.args.here.now.node) d) asks.questions may,
-          ),
-        ),
-      ),
-    )
-
-pub accepts_keyword-accepts_listed-requires : goal.accepts_keyword-accepts_listed-requires
-accepts_keyword-accepts_listed-requires g t c κs within =
-    let nodes = c.args.here.now.graph.now.nodes.items in
-    let itself = c.in_ok-accepts_itself.ensures.same in
-    let right : c.in_ok-accepts_itself.field-0 ≡ true = search rules in (
-      omega arith,
-      (
-        within.0,
-        (
-          within.1,
-          (
-            subst (λ m. AreKnown g.K.Validate.knows m.pattern nodes) (sym itself) c.requires.known,
-            (
-              c.requires.stands,
-              subst (λ (m : Matches). is_right (rule m.reads (value_at c.args.here.now.place) (g.K.Validate.shape c.args.keyword.now)) ≡ true) (sym itself)
-                  (sym c.in_ok-accepts_itself.ensures.right ∙ right),
-            ),
           ),
         ),
       ),
@@ -294,7 +275,7 @@ pub accepts_keyword-returns-in-Nothing-clause-verdict :
     goal.accepts_keyword-returns-in-Nothing-clause-verdict
 accepts_keyword-returns-in-Nothing-clause-verdict g t c =
     let k = rule (g.T.Matching.matches c.args.matching.now).reads (value_at c.args.here.now.place) (g.K.Validate.shape c.args.keyword.now) in
-    keyword_alone _ c.args.here.now.place _ _ k c.in_ok-accepts_itself.field-0 c.in_ok-accepts_itself.ensures.right (search rules)
+    keyword_alone _ c.args.here.now.place _ _ k true (sym c.requires.right) refl
     (subst (λ a. AsksSo a k) c.in-Nothing.is (c.asking.ensures _))
 
 pub accepts_keyword-returns-in-Target-clause-verdict :
@@ -306,10 +287,8 @@ accepts_keyword-returns-in-Target-clause-verdict g t c =
     let enough = size nodes (value_at place) progress (rank_at nodes c.args.here.now.node) in
     let k = rule (g.T.Matching.matches c.args.matching.now).reads (value_at place) (g.K.Validate.shape c.args.keyword.now) in
     let asks : AsksEach k (target_call c.in-Target.node ∷ []) = subst (λ a. AsksSo a k) c.in-Target.is (c.asking.ensures _) in
-    let told = subst (λ (m : Matches). IfOk c.accepts_target.result (Tells place progress enough (λ x. asked_in (reading_of g.K.Validate.shape m.reads nodes) x (target_call c.in-Target.node))))
-    c.in_ok-accepts_itself.ensures.same c.accepts_target.ensures.verdict in
     IfOk-weaker c.accepts_target.result _ _
-    (λ b tells. keyword_targeted _ place progress enough k b c.in_ok-accepts_itself.field-0 c.in-Target.node c.in_ok-accepts_itself.ensures.right (search rules) asks tells) told
+    (λ b tells. keyword_targeted _ place progress enough k b true c.in-Target.node (sym c.requires.right) refl asks tells) c.accepts_target.ensures.verdict
 
 pub accepts_keyword-returns-in-Items-clause-verdict :
     goal.accepts_keyword-returns-in-Items-clause-verdict
@@ -321,20 +300,8 @@ accepts_keyword-returns-in-Items-clause-verdict g t c =
     let k = rule (g.T.Matching.matches c.args.matching.now).reads (value_at place) (g.K.Validate.shape c.args.keyword.now) in
     let calls = item_calls c.in-Items.node c.in-Items.start (items_view (drop c.in-Items.start c.in-Items.items.now)) in
     let asks : AsksEach k calls = subst (λ a. AsksSo a k) c.in-Items.is (c.asking.ensures _) in
-    let told = subst (λ (m : Matches). IfOk c.accepts_items.result (Tells place progress enough (λ x. all_beside (asked_in (reading_of g.K.Validate.shape m.reads nodes) x) true calls)))
-    c.in_ok-accepts_itself.ensures.same c.accepts_items.ensures.verdict in
     IfOk-weaker c.accepts_items.result _ _
-    (λ b tells. keyword_each _ place progress enough k b c.in_ok-accepts_itself.field-0 calls c.in_ok-accepts_itself.ensures.right (search rules) asks tells) told
-
-pub accepts_keyword-returns-in-Listed-clause-verdict :
-    goal.accepts_keyword-returns-in-Listed-clause-verdict
-accepts_keyword-returns-in-Listed-clause-verdict g t c =
-    let nodes = c.args.here.now.graph.now.nodes.items in
-    let place = c.args.here.now.place in
-    let progress = numbers_in c.args.here.now.progress.now in
-    subst (λ (m : Matches). IfOk c.accepts_listed.result (Tells place progress (size nodes (value_at place) progress (rank_at nodes c.args.here.now.node))
-    (rule_in (reading_of g.K.Validate.shape m.reads nodes) (rule m.reads (value_at place) (g.K.Validate.shape c.args.keyword.now)))))
-    c.in_ok-accepts_itself.ensures.same c.accepts_listed.ensures.verdict
+    (λ b tells. keyword_each _ place progress enough k b true calls (sym c.requires.right) refl asks tells) c.accepts_items.ensures.verdict
 
 -- ---- one whose questions are listed
 
@@ -434,12 +401,31 @@ accepts_items-returns-clause-verdict g t c =
 
 -- ---- a node
 
+pub accepts_node-accept_itself-requires : goal.accepts_node-accept_itself-requires
+accepts_node-accept_itself-requires g t c =
+    let nodes = c.args.graph.now.nodes.items in
+    let here = keywords_here nodes c.args.node c.index.result.now c.requires.there c.index.ensures ∙ sym c.as_slice-keywords.ensures.value in
+    record { known = λ k i. c.requires.known.each c.args.node k (subst (In k) (sym here) i) }
+
+pub accepts_node-returns-then-not-branch-clause-verdict :
+    goal.accepts_node-returns-then-not-branch-clause-verdict
+accepts_node-returns-then-not-branch-clause-verdict g t c =
+    let nodes = c.args.graph.now.nodes.items in
+    let here = keywords_here nodes c.args.node c.index.result.now c.requires.there c.index.ensures ∙ sym c.as_slice-keywords.ensures.value in
+    let refused : c.in_ok-accept_itself.field-0 ≡ false = search rules in
+    node_wrong g.K.Validate.shape _ nodes c.args.node c.args.place (numbers_in c.args.progress.now) c.in_ok-accept_itself.field-0
+    (subst (λ ks. c.in_ok-accept_itself.field-0 ≡ all_true (map (λ k. is_right (rule (g.T.Matching.matches c.args.matching.now).reads (value_at c.args.place) (g.K.Validate.shape k))) ks)) (sym here) c.in_ok-accept_itself.ensures.right)
+    refused
+
 pub accepts_node-accepts_keyword-requires : goal.accepts_node-accepts_keyword-requires
 accepts_node-accepts_keyword-requires g t c κs within =
     let nodes = c.args.graph.now.nodes.items in
     let l = c.loop-keyword in
-    let items : c.deref-keyword-items.result.now ≡ c.index.result.now.keywords.items = c.deref-keyword-items.ensures.value in
-    let here : keywords_at nodes c.args.node ≡ c.deref-keyword-items.result.now = keywords_here nodes c.args.node c.index.result.now c.requires.there c.index.ensures ∙ sym items in (
+    let items : c.as_slice-keywords.result.now ≡ c.index.result.now.keywords.items = c.as_slice-keywords.ensures.value in
+    let here : keywords_at nodes c.args.node ≡ c.as_slice-keywords.result.now = keywords_here nodes c.args.node c.index.result.now c.requires.there c.index.ensures ∙ sym items in
+    let stands = keyword_stands l.keyword-index c.as_slice-keywords.result.now c.keyword-item.result c.loop-keyword-test.true c.keyword-item.is in
+    let accepted : c.in_ok-accept_itself.field-0 ≡ true = search rules in
+    let right = sym c.in_ok-accept_itself.ensures.right ∙ accepted in (
       omega arith,
       (
         within.0,
@@ -447,25 +433,29 @@ accepts_node-accepts_keyword-requires g t c κs within =
           within.1,
           (
             subst (λ m. AreKnown g.K.Validate.knows m.pattern nodes) (sym l.invariant.matches) c.requires.known,
-            subst (In c.keyword-item.result) (sym here) (keyword_stands l.keyword-index c.deref-keyword-items.result.now c.keyword-item.result c.loop-keyword-test.true c.keyword-item.is),
+            (
+              subst (In c.keyword-item.result) (sym here) stands,
+              subst (λ (m : Matches). is_right (rule m.reads (value_at c.args.place) (g.K.Validate.shape c.keyword-item.result)) ≡ true) (sym l.invariant.matches)
+                  (each_right g.K.Validate.shape _ nodes c.args.node c.args.place (numbers_in c.args.progress.now) c.as_slice-keywords.result.now c.keyword-item.result stands right),
+            ),
           ),
         ),
       ),
     )
 
-pub accepts_node-returns-then-not-branch-clause-verdict :
-    goal.accepts_node-returns-then-not-branch-clause-verdict
-accepts_node-returns-then-not-branch-clause-verdict g t c =
+pub accepts_node-returns-then-not-branch-2-clause-verdict :
+    goal.accepts_node-returns-then-not-branch-2-clause-verdict
+accepts_node-returns-then-not-branch-2-clause-verdict g t c =
     let nodes = c.args.graph.now.nodes.items in
     let l = c.loop-keyword in
-    let items : c.deref-keyword-items.result.now ≡ c.index.result.now.keywords.items = c.deref-keyword-items.ensures.value in
-    let here : keywords_at nodes c.args.node ≡ c.deref-keyword-items.result.now = keywords_here nodes c.args.node c.index.result.now c.requires.there c.index.ensures ∙ sym items in
+    let items : c.as_slice-keywords.result.now ≡ c.index.result.now.keywords.items = c.as_slice-keywords.ensures.value in
+    let here : keywords_at nodes c.args.node ≡ c.as_slice-keywords.result.now = keywords_here nodes c.args.node c.index.result.now c.requires.there c.index.ensures ∙ sym items in
     let refused : c.in_ok-accepts_keyword.field-0 ≡ false = search rules in
     let place = c.args.place in
     let progress = numbers_in c.args.progress.now in
     let verdict = subst (λ m. Tells place progress (size nodes (value_at place) progress (rank_at nodes c.args.node))
     (rule_in (reading_of g.K.Validate.shape m.reads nodes) (rule m.reads (value_at place) (g.K.Validate.shape c.keyword-item.result))) c.in_ok-accepts_keyword.field-0) l.invariant.matches c.in_ok-accepts_keyword.ensures.verdict in
-    node_refuses g.K.Validate.shape _ nodes c.args.node place progress l.keyword-index c.deref-keyword-items.result.now c.keyword-item.result c.loop-keyword-test.true c.keyword-item.is
+    node_refuses g.K.Validate.shape _ nodes c.args.node place progress l.keyword-index c.as_slice-keywords.result.now c.keyword-item.result c.loop-keyword-test.true c.keyword-item.is
     (subst (λ ks. KeywordsLeft g.K.Validate.shape (g.T.Matching.matches c.args.matching.now).reads nodes c.args.node place progress (keywords_at nodes c.args.node) (drop l.keyword-index ks)) here l.invariant.left)
     (subst (Tells place progress _ _) refused verdict)
 
@@ -473,8 +463,8 @@ pub accepts_node-loop-keyword-preserved : goal.accepts_node-loop-keyword-preserv
 accepts_node-loop-keyword-preserved g t c =
     let nodes = c.args.graph.now.nodes.items in
     let l = c.loop-keyword in
-    let items : c.deref-keyword-items.result.now ≡ c.index.result.now.keywords.items = c.deref-keyword-items.ensures.value in
-    let here : keywords_at nodes c.args.node ≡ c.deref-keyword-items.result.now = keywords_here nodes c.args.node c.index.result.now c.requires.there c.index.ensures ∙ sym items in
+    let items : c.as_slice-keywords.result.now ≡ c.index.result.now.keywords.items = c.as_slice-keywords.ensures.value in
+    let here : keywords_at nodes c.args.node ≡ c.as_slice-keywords.result.now = keywords_here nodes c.args.node c.index.result.now c.requires.there c.index.ensures ∙ sym items in
     let taken : c.in_ok-accepts_keyword.field-0 ≡ true = search rules in
     let place = c.args.place in
     let progress = numbers_in c.args.progress.now in
@@ -485,16 +475,16 @@ accepts_node-loop-keyword-preserved g t c =
       matches = c.in_ok-accepts_keyword.ensures.matches ∙ l.invariant.matches;
       questions = c.in_ok-accepts_keyword.ensures.questions ∙ l.invariant.questions;
       left = subst (λ ks. KeywordsLeft g.K.Validate.shape (g.T.Matching.matches c.args.matching.now).reads nodes c.args.node place progress (keywords_at nodes c.args.node) (drop (l.keyword-index + 1) ks)) (sym here)
-          (keywords_yes g.K.Validate.shape _ nodes c.args.node place progress l.keyword-index _ c.deref-keyword-items.result.now c.keyword-item.result c.loop-keyword-test.true c.keyword-item.is left (subst (Tells place progress _ _) taken verdict));
+          (keywords_yes g.K.Validate.shape _ nodes c.args.node place progress l.keyword-index _ c.as_slice-keywords.result.now c.keyword-item.result c.loop-keyword-test.true c.keyword-item.is left (subst (Tells place progress _ _) taken verdict));
     }
 
 pub accepts_node-returns-clause-verdict : goal.accepts_node-returns-clause-verdict
 accepts_node-returns-clause-verdict g t c =
     let nodes = c.args.graph.now.nodes.items in
     let l = c.loop-keyword in
-    let items : c.deref-keyword-items.result.now ≡ c.index.result.now.keywords.items = c.deref-keyword-items.ensures.value in
-    let here : keywords_at nodes c.args.node ≡ c.deref-keyword-items.result.now = keywords_here nodes c.args.node c.index.result.now c.requires.there c.index.ensures ∙ sym items in
+    let items : c.as_slice-keywords.result.now ≡ c.index.result.now.keywords.items = c.as_slice-keywords.ensures.value in
+    let here : keywords_at nodes c.args.node ≡ c.as_slice-keywords.result.now = keywords_here nodes c.args.node c.index.result.now c.requires.there c.index.ensures ∙ sym items in
     let place = c.args.place in
     let progress = numbers_in c.args.progress.now in
-    node_accepts g.K.Validate.shape _ nodes c.args.node place progress l.keyword-index c.deref-keyword-items.result.now (omega arith)
+    node_accepts g.K.Validate.shape _ nodes c.args.node place progress l.keyword-index c.as_slice-keywords.result.now (omega arith)
     (subst (λ ks. KeywordsLeft g.K.Validate.shape (g.T.Matching.matches c.args.matching.now).reads nodes c.args.node place progress (keywords_at nodes c.args.node) (drop l.keyword-index ks)) here l.invariant.left)

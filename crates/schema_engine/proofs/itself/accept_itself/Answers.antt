@@ -1,0 +1,39 @@
+use Rattle.std.proofs.Common.{rules, ◌≡◌, ◌∙◌, true, false, sym, subst, arith}
+use Rattle.schema_meaning.specs.Keywords.{rule}
+use Rattle.schema_engine.specs.Matches.{Matches}
+use Rattle.schema_engine.specs.Places.{value_at}
+use Rattle.schema_engine.specs.Rules.{is_right}
+use Rattle.schema_engine.proofs.Rightness.{right_next, wrong_now, right_all}
+use Rattle.schema_engine.proofs.Steps.{keyword_stands}
+use Rattle.schema_engine.proofs.itself.accept_itself.Goals as goal
+
+pub accepts_itself-requires : goal.accepts_itself-requires
+accepts_itself-requires g c =
+    let l = c.loop-keyword in
+    let k = c.keyword-item.result in
+    subst (λ (m : Matches). g.K.Validate.knows k m.pattern) (sym l.invariant.matches)
+    (c.requires.known k (keyword_stands l.keyword-index c.args.keywords.now k c.loop-keyword-test.true c.keyword-item.is))
+
+pub loop-keyword-preserved : goal.loop-keyword-preserved
+loop-keyword-preserved g c =
+    let l = c.loop-keyword in
+    let k = c.keyword-item.result in
+    let told = subst (λ (m : Matches). c.in_ok-accepts_itself.field-0 ≡ is_right (rule m.reads (value_at c.args.place) (g.K.Validate.shape k))) l.invariant.matches c.in_ok-accepts_itself.ensures.right in
+    let taken : c.in_ok-accepts_itself.field-0 ≡ true = search rules in
+    record {
+      matches = c.in_ok-accepts_itself.ensures.same ∙ l.invariant.matches;
+      left = right_next _ l.keyword-index c.args.keywords.now _ l.invariant.left k _ c.loop-keyword-test.true c.keyword-item.is told taken;
+    }
+
+pub returns-then-not-branch-clause-right : goal.returns-then-not-branch-clause-right
+returns-then-not-branch-clause-right g c =
+    let l = c.loop-keyword in
+    let k = c.keyword-item.result in
+    let told = subst (λ (m : Matches). c.in_ok-accepts_itself.field-0 ≡ is_right (rule m.reads (value_at c.args.place) (g.K.Validate.shape k))) l.invariant.matches c.in_ok-accepts_itself.ensures.right in
+    let refused : c.in_ok-accepts_itself.field-0 ≡ false = search rules in
+    wrong_now _ l.keyword-index c.args.keywords.now _ l.invariant.left k _ c.loop-keyword-test.true c.keyword-item.is told refused
+
+pub returns-clause-right : goal.returns-clause-right
+returns-clause-right g c =
+    let l = c.loop-keyword in
+    right_all _ l.keyword-index c.args.keywords.now _ l.invariant.left (omega arith)

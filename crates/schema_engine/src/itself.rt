@@ -1,0 +1,30 @@
+//! Whether nothing is wrong with a value itself.
+ghost use Rattle.std.specs.Prelude.{◌≡◌, map, OnOk, IfOk};
+ghost use Rattle.schema_meaning.specs.Members.{In, all_true};
+ghost use Rattle.schema_meaning.specs.Keywords.{rule};
+ghost use Rattle.schema_engine.specs.Places.{value_at};
+ghost use Rattle.schema_engine.specs.Rules.{is_right};
+
+use crate::matching::Matching;
+use crate::place::Place;
+use crate::validate::Validate;
+use std::alloc::AllocError;
+
+// Whether by none of these keywords anything is wrong with the value itself. No question is asked.
+pub(crate) fn accept_itself<K: Validate, T: Matching>(
+    keywords: &[K],
+    place: Place<'_>,
+    matching: &mut T,
+) -> Result<bool, AllocError>
+    requires known { (k : K) → In k keywords.now → K.knows k (T.matches matching.old).pattern }
+    ensures matches { OnOk result (T.matches matching.new ≡ T.matches matching.old) }
+    ensures right { let m = (T.matches matching.old).reads in
+        IfOk result (λ b. b ≡ all_true (map (λ k. is_right (rule m (value_at place.entry) (K.shape k))) keywords.now)) }
+{
+    for keyword in keywords {
+        if !keyword.accepts_itself(place, matching)? {
+            return Ok(false);
+        }
+    }
+    Ok(true)
+}
