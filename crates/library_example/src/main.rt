@@ -1,5 +1,8 @@
-//! The library at work: two documents, options, a value, and its faults, each checked against the documents alone.
+//! The library at work: two documents, options, a value, and its faults, each checked against the documents alone; and a document that
+//! is moved, which changes no answer.
 #![tactic(auto)]
+
+mod moving;
 
 ghost use Rattle.std.specs.Prelude.{◌≡◌, true};
 ghost use Rattle.serde_json.specs.View.{view};
@@ -108,8 +111,14 @@ fn report(alloc: Global) -> Result<String, Failure> {
     Ok(text)
 }
 
+fn both(alloc: Global) -> Result<String, Failure> {
+    let mut text = report(alloc)?;
+    text.push_str(moving::report(alloc)?.as_str())?;
+    Ok(text)
+}
+
 fn main(rt: HostRuntime) -> ExitCode {
-    match report(rt.alloc()) {
+    match both(rt.alloc()) {
         Ok(text) => match print!(rt; "{text}") {
             Ok(()) => ExitCode::SUCCESS,
             Err(_) => ExitCode::FAILURE,
