@@ -6,7 +6,5 @@ mod given;
 pub mod laws;
 mod places;
 pub mod roads;
-#[cfg(test)]
-mod tests;
 
 pub use roads::{Moving, Roads, same_on_three_roads};

@@ -30,6 +30,8 @@ mod limits;
 #[cfg(test)]
 mod maps;
 #[cfg(test)]
+mod moving;
+#[cfg(test)]
 mod options;
 #[cfg(test)]
 mod patterns;

@@ -1,12 +1,9 @@
 // Rows of documents, and what each form says.
 ghost use Rattle.std.specs.Prelude.{◌≡◌, true};
 ghost use Rattle.serde_json.specs.View.{view};
-ghost use Rattle.schema_registries.specs.Whole.{only_whole};
+ghost use Rattle.json_schema_validator.specs.Numbers.{only_whole};
 
-use crate::roads::{Moving, same_on_three_roads};
-use regex_patterns::RegexMaker;
-use schema_registries::has_only_whole;
-use schema_validators::BuildError;
+use json_schema_validator::{BuildError, Moving, RegexMaker, has_only_whole, same_on_three_roads};
 use serde_json::Value;
 use std::alloc::Global;
 use std::process::Abort;
