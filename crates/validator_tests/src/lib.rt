@@ -41,3 +41,5 @@ mod references;
 mod retrieving;
 #[cfg(test)]
 mod siblings;
+#[cfg(test)]
+mod taking;
