@@ -1,6 +1,5 @@
 // Errors taken apart, by the names that the library gives on.
-use crate::given::{documents_of, options_of};
-use json_schema_validator::{BuildError, DocumentError, Documents, Path, UriError};
+use json_schema_validator::{DocumentError, Documents, Path, UriError};
 use std::alloc::Global;
 use std::process::Abort;
 
@@ -14,7 +13,7 @@ fn pointer_of(rt: &impl Abort, alloc: Global, path: &Path) -> String {
     path.to_pointer(alloc).expect(rt, "memory")
 }
 
-// The text that is no URI, or the pointer to a number that is refused.
+// The text that is no URI, the pointer to a number that is refused, or the URI of what is no JSON.
 fn carried(rt: &impl Abort, alloc: Global, error: DocumentError) -> String {
     match error {
         DocumentError::InvalidUri(error) => refused_text(error),
@@ -24,23 +23,19 @@ fn carried(rt: &impl Abort, alloc: Global, error: DocumentError) -> String {
     }
 }
 
-#[test]
-fn texts_that_are_no_uris(rt: HostRuntime) {
-    let mut documents = Documents::new(rt.alloc());
-    let refused = documents.add_text("a b", b"{}");
-    let error = refused.expect_err(&rt, "a document was added");
-    assert_eq!(rt; carried(&rt, rt.alloc(), error).as_str(), "a b");
-}
+// A URI, a text, and what the error carries.
+const REFUSED: [(&str, &str, &str); 3] = [
+    ("a b", "{}", "a b"),
+    ("http://a.test/r", r#"{"a/b":[1,0.5]}"#, "/a~1b/1"),
+    ("http://a.test/r", "{", "http://a.test/r"),
+];
 
 #[test]
-fn places_of_numbers(rt: HostRuntime) {
-    let case = r##"document <> {"a/b":[1,0.5]}"##;
-    let documents = documents_of(&rt, rt.alloc(), case, "document <");
-    let options = options_of(&rt, rt.alloc(), case);
-    match options.build(&documents, "") {
-        Err(BuildError::Document(error)) => {
-            assert_eq!(rt; carried(&rt, rt.alloc(), error).as_str(), "/a~1b/1");
-        }
-        _ => assert!(rt; false, "another answer"),
+fn texts_and_places(rt: HostRuntime) {
+    let mut documents = Documents::new(rt.alloc());
+    for (uri, text, want) in &REFUSED {
+        let refused = documents.add_text(uri, text.as_bytes());
+        let error = refused.expect_err(&rt, "a document was added");
+        assert_eq!(rt; carried(&rt, rt.alloc(), error).as_str(), *want);
     }
 }
