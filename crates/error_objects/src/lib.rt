@@ -1,6 +1,7 @@
 //! JSON objects that say of a value whether it is accepted, and each error in words.
 #![tactic(auto)]
 
+mod fields;
 mod objects;
 
 pub use objects::{is_accepted_line, write_accepted, write_refused, write_unread};

@@ -1,14 +1,16 @@
 //! What is said of a value, as the text of a JSON object.
-ghost use Rattle.std.specs.Prelude.{◌≡◌, ◌++◌, ◌∷◌, [], List, map, bytes_eq, string_bytes, IfOk, OnOk};
+ghost use Rattle.std.specs.Prelude.{◌≡◌, ◌++◌, ◌∷◌, [], ℕ, List, map, bytes_eq, string_bytes, IfOk, OnOk};
 ghost use Rattle.std.specs.List.{AllZip};
 ghost use Rattle.serde_json.specs.Data.{Data};
-ghost use Rattle.serde_json.specs.View.{view, items_of};
+ghost use Rattle.serde_json.specs.View.{view, items_of, members_view};
 ghost use Rattle.serde_json.specs.Written.{compact_text};
 ghost use Rattle.schema_reports.specs.Left.{errors_left};
-ghost use Rattle.error_objects.specs.Objects.{IsObject, accepted_text, error_data, location_data, refused_data, unread_data};
+ghost use Rattle.error_objects.specs.Fields.{field_data, with_fields};
+ghost use Rattle.error_objects.specs.Objects.{HasObjects, IsObject, accepted_text, location_data, own_members, refused_data, unread_data};
 
+use crate::fields::{Field, fields_of};
 use schema_reports::{ErrorIterator, ValidationError};
-use serde_json::{Value, json};
+use serde_json::{Map, Value, json, put};
 use std::alloc::{AllocError, Global};
 
 /// What is written of a value that is accepted.
@@ -32,16 +34,17 @@ pub fn is_accepted_line(written: &[u8]) -> bool
 }
 
 /// Appends what is said of a value that is refused: that it is not valid, and an object for each error, with the name of its kind, its
-/// three paths as pointers' texts, the absolute location of its keyword and its description. The members are in the order of their names.
+/// three paths as pointers' texts, the absolute location of its keyword, its description and the fields of its kind. The members are in the
+/// order of their names.
 ///
-/// It costs what the descriptions cost. The text is as it was where memory is out.
+/// It costs what the descriptions cost, and a copy of what the kinds carry. The text is as it was where memory is out.
 pub fn write_refused(
     alloc: Global,
     errors: ErrorIterator<'_>,
     text: &mut String,
 ) -> Result<(), AllocError>
-    ensures { OnOk result ((ds : List Data) × AllZip IsObject (errors_left errors.entry) ds
-        × (string_bytes text.new ≡ string_bytes text.old ++ compact_text (refused_data (items_of ds)))) }
+    ensures { OnOk result ((written : List ℕ) × HasObjects (errors_left errors.entry) written
+        × (string_bytes text.new ≡ string_bytes text.old ++ written)) }
 {
     let written = refused_value(alloc, errors)?.to_string(alloc)?;
     text.push_str(written.as_str())
@@ -82,7 +85,23 @@ fn error_value(alloc: Global, error: &ValidationError<'_>) -> Result<Value, Allo
     ensures { IfOk result (λ v. IsObject error.now (view v)) }
 {
     let description = error.description(alloc)?;
-    described(alloc, error, description)
+    let members = common_members(alloc, error, description)?;
+    let fields = fields_of(alloc, error.kind())?;
+    Ok(Value::Object(insert_all(alloc, members, fields)?))
+}
+
+// Members with further ones.
+fn insert_all(
+    alloc: Global,
+    mut members: Map<String, Value>,
+    fields: Vec<Field>,
+) -> Result<Map<String, Value>, AllocError>
+    ensures { IfOk result (λ ms. members_view ms.entries ≡ with_fields (map field_data fields.entry.items) (members_view members.entries)) }
+{
+    for (name, value) in fields {
+        put(&mut members, alloc, name, value)?;
+    }
+    Ok(members)
 }
 
 // Where the keyword of an error stands, and `null` where no validator told it.
@@ -95,23 +114,26 @@ fn keyword_location(alloc: Global, error: &ValidationError<'_>) -> Result<Value,
     })
 }
 
-fn described(
+// What each error has, whatever its kind carries.
+fn common_members(
     alloc: Global,
     error: &ValidationError<'_>,
     description: String,
-) -> Result<Value, AllocError>
-    ensures { IfOk result (λ v. view v ≡ error_data error.now (string_bytes description)) }
+) -> Result<Map<String, Value>, AllocError>
+    ensures { IfOk result (λ ms. members_view ms.entries ≡ own_members error.now (string_bytes description)) }
 {
     let evaluation_path = error.evaluation_path().to_pointer(alloc)?;
     let instance_path = error.instance_path().to_pointer(alloc)?;
     let keyword_location = keyword_location(alloc, error)?;
     let schema_path = error.schema_path().to_pointer(alloc)?;
-    json!(in alloc; {
-        "description": description,
-        "evaluation_path": evaluation_path,
-        "instance_path": instance_path,
-        "keyword_location": keyword_location,
-        "kind": error.message(),
-        "schema_path": schema_path
-    })
+    let kind = String::from_str(alloc, error.message())?;
+    let fields = vec![in alloc;
+        ("description", Value::String(description)),
+        ("evaluation_path", Value::String(evaluation_path)),
+        ("instance_path", Value::String(instance_path)),
+        ("keyword_location", keyword_location),
+        ("kind", Value::String(kind)),
+        ("schema_path", Value::String(schema_path)),
+    ]?;
+    insert_all(alloc, Map::new(alloc), fields)
 }

@@ -11,6 +11,7 @@ mod checking;
 pub use checking::{check_error, check_errors, check_first, check_path};
 pub use document_roads::{Moving, Roads, same_on_three_roads};
 pub use fault_checks::checking::{CheckAnswer, FaultPath, check_fault};
+pub use schema_steps::Path;
 pub use schema_validators::{
     BothAnswers, BothValidators, BuildCause, BuildError, Checker, DefaultRetriever, DocumentError,
     Documents, Draft, Error, ErrorContext, ErrorIterator, Location, MapRetriever, MatchAnswer,
@@ -20,3 +21,4 @@ pub use schema_validators::{
     build_on_both, has_only_whole, is_valid_by_both, is_valid_twice, iter_errors_by_both,
     iter_errors_twice, uri,
 };
+pub use uri_references::error::UriError;

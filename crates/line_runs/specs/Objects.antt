@@ -1,21 +1,16 @@
 -- Objects that are written for lines.
 use Rattle.std.specs.Prelude.{◌≡◌, ℕ, List, [], ◌∷◌, ◌++◌, Bool, not, bytes_eq}
-use Rattle.std.specs.List.{AllZip}
-use Rattle.serde_json.specs.Data.{Data}
-use Rattle.serde_json.specs.View.{items_of}
 use Rattle.serde_json.specs.Written.{compact_text}
 use Rattle.schema_meaning.specs.Faults.{Faults, none, also}
 use Rattle.schema_reports.specs.Told.{faults_of}
 use Rattle.schema_reports.specs.declared.error.ValidationError.{ValidationError}
-use Rattle.error_objects.specs.Objects.{IsObject, accepted_text, refused_data, unread_data}
+use Rattle.error_objects.specs.Objects.{HasObjects, accepted_text, unread_data}
 
 -- it is not valid, and there is an object for each of these faults, in order
 pub record IsRefusedText (fs : Faults) (text : List ℕ) : Type 0 where
   pub errors : List ValidationError
-  pub objects : List Data
   pub told : faults_of errors ≡ fs
-  pub zipped : AllZip IsObject errors objects
-  pub is_text : text ≡ compact_text (refused_data (items_of objects))
+  pub has : HasObjects errors text
 
 -- it is valid exactly where there are no faults
 abbrev pub IsObjectText : Faults → List ℕ → Type 0

@@ -11,7 +11,7 @@ const OBJECTS: [Row; 3] = [
         &["--output=json", "plain.json"],
         "\"a\"\n1\n\n{\n1.5",
         r#"1 {"errors":[],"valid":true}
-{"errors":[{"description":"1 is not of type string","evaluation_path":"/type","instance_path":"","keyword_location":"json-schema:///#/type","kind":"Types","schema_path":"/type"}],"valid":false}
+{"errors":[{"description":"1 is not of type string","evaluation_path":"/type","instance_path":"","keyword_location":"json-schema:///#/type","kind":"Types","names":["string"],"schema_path":"/type"}],"valid":false}
 {"reason":"EOF while parsing at line 1 column 0","valid":null}
 {"reason":"EOF while parsing at line 1 column 1","valid":null}
 {"reason":"a number is no whole number of 64 bits","valid":null}
@@ -21,20 +21,29 @@ const OBJECTS: [Row; 3] = [
 ];
 
 // Of several faults each has its object. The paths of a fault in another document begin there, and its evaluation path at the first.
-const LINKED_OBJECTS: [Row; 1] = [(
-    &[
-        "root.json",
-        "http://a.test/leaf.json=leaf.json",
-        "--base",
-        "http://a.test/root.json",
-        "--output",
-        "json",
-    ],
-    "[1]\n[\"a\",\"b\"]\n",
-    r#"1 {"errors":[{"description":"1 is not of type string","evaluation_path":"/items/$ref/type","instance_path":"/0","keyword_location":"http://a.test/leaf.json#/type","kind":"Types","schema_path":"/type"},{"description":"[1] has fewer items than the minimum 2","evaluation_path":"/minItems","instance_path":"","keyword_location":"http://a.test/root.json#/minItems","kind":"MinItems","schema_path":"/minItems"}],"valid":false}
+// A fault of several schemas has those of each.
+const LINKED_OBJECTS: [Row; 2] = [
+    (
+        &[
+            "root.json",
+            "http://a.test/leaf.json=leaf.json",
+            "--base",
+            "http://a.test/root.json",
+            "--output",
+            "json",
+        ],
+        "[1]\n[\"a\",\"b\"]\n",
+        r#"1 {"errors":[{"description":"1 is not of type string","evaluation_path":"/items/$ref/type","instance_path":"/0","keyword_location":"http://a.test/leaf.json#/type","kind":"Types","names":["string"],"schema_path":"/type"},{"description":"[1] has fewer items than the minimum 2","evaluation_path":"/minItems","instance_path":"","keyword_location":"http://a.test/root.json#/minItems","kind":"MinItems","limit":2,"schema_path":"/minItems"}],"valid":false}
 {"errors":[],"valid":true}
  "#,
-)];
+    ),
+    (
+        &["either.json", "--output", "json"],
+        "{\"a\":1}\n",
+        r#"1 {"errors":[{"accepting":0,"context":[[{"evaluation_path":"/properties/a/anyOf/0/type","instance_path":"/a","kind":"Types","schema_path":"/properties/a/anyOf/0/type"}],[{"evaluation_path":"/properties/a/anyOf/1/type","instance_path":"/a","kind":"Types","schema_path":"/properties/a/anyOf/1/type"}]],"description":"1 is to be accepted by a schema of anyOf, and is by 0 of 2\n  anyOf/0: /a: 1 is not of type string\n  anyOf/1: /a: 1 is not of type null","evaluation_path":"/properties/a/anyOf","instance_path":"/a","keyword_location":"json-schema:///#/properties/a/anyOf","kind":"AnyOf","schema_path":"/properties/a/anyOf"}],"valid":false}
+ "#,
+    ),
+];
 
 #[test]
 fn objects(rt: HostRuntime) {

@@ -12,6 +12,8 @@ mod locations;
 #[cfg(test)]
 mod makers;
 #[cfg(test)]
+mod objects;
+#[cfg(test)]
 mod read;
 #[cfg(test)]
 mod reports;

@@ -148,7 +148,7 @@ fn texts_of(rt: &impl Abort, alloc: Global, value: &Value) -> Vec<String> {
     texts
 }
 
-fn at_root<'v>(
+pub(crate) fn at_root<'v>(
     rt: &impl Abort,
     alloc: Global,
     kind: Kind<'v>,
@@ -179,7 +179,12 @@ fn kind_of_value<'v>(name: &str, limit: Value) -> Kind<'v> {
     }
 }
 
-fn kind_of<'v>(rt: &impl Abort, alloc: Global, name: &str, carried: &'v Value) -> Kind<'v> {
+pub(crate) fn kind_of<'v>(
+    rt: &impl Abort,
+    alloc: Global,
+    name: &str,
+    carried: &'v Value,
+) -> Kind<'v> {
     let limit = carried.as_u64().unwrap_or(0);
     match name {
         "AdditionalProperties" => Kind::AdditionalProperties {
@@ -231,7 +236,7 @@ fn kinds_have_sentences(rt: HostRuntime) {
 }
 
 // The errors of three branches, of which the second accepts: two in the first, of a member and of a branch of its own, and one in the last.
-fn branches<'v>(
+pub(crate) fn branches<'v>(
     rt: &impl Abort,
     alloc: Global,
     value: &'v Value,

@@ -43,3 +43,5 @@ mod references;
 mod retrieving;
 #[cfg(test)]
 mod siblings;
+#[cfg(test)]
+mod taking;

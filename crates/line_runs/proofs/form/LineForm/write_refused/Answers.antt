@@ -1,11 +1,9 @@
 use Rattle.std.proofs.Common.{refl, string_bytes}
 use Rattle.std.specs.List.{AllZip, concat}
-use Rattle.serde_json.specs.View.{items_of}
-use Rattle.serde_json.specs.Written.{compact_text}
 use Rattle.schema_definitions.specs.Lines.{faults_text}
 use Rattle.schema_reports.specs.Left.{errors_left}
 use Rattle.schema_reports.specs.Told.{faults_of}
-use Rattle.error_objects.specs.Objects.{IsObject, refused_data}
+use Rattle.error_objects.specs.Objects.{HasObjects}
 use Rattle.error_sentences.specs.Sentences.{IsSentence}
 use Rattle.line_runs.specs.Forms.{Tells}
 use Rattle.line_runs.specs.declared.form.LineForm.TheVariants.{Pairs, Objects, Sentences}
@@ -24,8 +22,8 @@ returns-in-Objects c =
     let es = errors_left c.args.errors in
     let fs = faults_of es in
     in_form (λ f. Tells f fs) _ Objects c.write_refused.result _ _ c.in-Objects.is
-    (told_so (Tells Objects fs) (string_bytes c.args.text.now) _ c.write_refused.result (λ ds. AllZip IsObject es ds) (λ ds. compact_text (refused_data (items_of ds)))
-    (λ ds zipped. refused_text fs es ds c.requires refl zipped) c.write_refused.ensures)
+    (told_so (Tells Objects fs) (string_bytes c.args.text.now) _ c.write_refused.result (HasObjects es) (λ text. text)
+    (λ text has. refused_text fs es text c.requires refl has) c.write_refused.ensures)
 
 pub returns-in-Sentences : goal.returns-in-Sentences
 returns-in-Sentences c =

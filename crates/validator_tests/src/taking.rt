@@ -1,0 +1,41 @@
+// Errors taken apart, by the names that the library gives on.
+use json_schema_validator::{DocumentError, Documents, Path, UriError};
+use std::alloc::Global;
+use std::process::Abort;
+
+fn refused_text(error: UriError) -> String {
+    match error {
+        UriError::Parse { uri } | UriError::Resolve { uri, .. } => uri,
+    }
+}
+
+fn pointer_of(rt: &impl Abort, alloc: Global, path: &Path) -> String {
+    path.to_pointer(alloc).expect(rt, "memory")
+}
+
+// The text that is no URI, the pointer to a number that is refused, or the URI of what is no JSON.
+fn carried(rt: &impl Abort, alloc: Global, error: DocumentError) -> String {
+    match error {
+        DocumentError::InvalidUri(error) => refused_text(error),
+        DocumentError::OtherNumber { path, .. } => pointer_of(rt, alloc, &path),
+        DocumentError::JsonText { uri } => uri,
+        DocumentError::Memory => String::new(alloc),
+    }
+}
+
+// A URI, a text, and what the error carries.
+const REFUSED: [(&str, &str, &str); 3] = [
+    ("a b", "{}", "a b"),
+    ("http://a.test/r", r#"{"a/b":[1,0.5]}"#, "/a~1b/1"),
+    ("http://a.test/r", "{", "http://a.test/r"),
+];
+
+#[test]
+fn texts_and_places(rt: HostRuntime) {
+    let mut documents = Documents::new(rt.alloc());
+    for (uri, text, want) in &REFUSED {
+        let refused = documents.add_text(uri, text.as_bytes());
+        let error = refused.expect_err(&rt, "a document was added");
+        assert_eq!(rt; carried(&rt, rt.alloc(), error).as_str(), *want);
+    }
+}
