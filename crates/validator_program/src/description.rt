@@ -45,7 +45,7 @@ fn of_document(
     error: &DocumentError,
 ) -> Result<String, AllocError> {
     match error {
-        DocumentError::JsonText { uri } => in_file(alloc, words, uri.as_str(), ""),
+        DocumentError::JsonText { uri, .. } => in_file(alloc, words, uri.as_str(), ""),
         DocumentError::OtherNumber { document, path } => {
             let path = path.to_pointer(alloc)?;
             in_file(alloc, words, document.as_str(), path.as_str())
