@@ -75,9 +75,9 @@ fn of_cause(
 ) -> Result<String, AllocError> {
     match cause {
         BuildCause::KeywordValue { place, .. }
-        | BuildCause::BadPattern { place }
+        | BuildCause::BadPattern { place, .. }
         | BuildCause::Unevaluated { place } => at_place(alloc, words, place),
-        BuildCause::Reference { place, error } => {
+        BuildCause::Reference { place, error, .. } => {
             let mut text = at_place(alloc, words, place)?;
             let more = of_reference(alloc, words, error)?;
             text.push_str(more.as_str())?;
