@@ -19,7 +19,7 @@ use reached_sites::cause::BuildCause;
 use reached_sites::identifying::check_identifier;
 use reached_sites::making::add_patterns;
 use reached_sites::pattern::{Pattern, push_patterns};
-use reached_sites::refusing::refused;
+use reached_sites::refusing::{refused, shown};
 use reached_sites::visit::Visit;
 use schema_patterns::{PatternMaker, PatternTable};
 use schema_sites::reading::keyword;
@@ -102,7 +102,10 @@ fn push_member<'r, P: PatternMaker>(
             found.askings.push(Asking::Keyword { keyword, asks })?;
             Ok(None)
         }
-        Err(refusal) => Ok(Some(refused(alloc, &visit.point.place, name, refusal)?)),
+        Err(refusal) => {
+            let place = &visit.point.place;
+            Ok(Some(refused(alloc, place, name, member.value, refusal)?))
+        }
     }
 }
 
@@ -146,6 +149,7 @@ fn read_members<'r, P: PatternMaker>(
 
 // What is no object: a boolean, or no schema.
 fn read_other<'r>(
+    alloc: Global,
     visit: &Visit<'r>,
     found: &mut Found<'r>,
 ) -> Result<Option<BuildCause>, AllocError>
@@ -163,6 +167,7 @@ fn read_other<'r>(
         None => Ok(Some(BuildCause::KeywordValue {
             place: visit.point.place.shared()?,
             expected: "schema",
+            found: shown(alloc, visit.site.contents)?,
         })),
     }
 }
@@ -197,6 +202,6 @@ pub(crate) fn read<'r, P: PatternMaker>(
         let cause = read_members(alloc, visit, members, maker, &mut found, table)?;
         return Ok((found, first_cause(named, cause)));
     }
-    let cause = read_other(visit, &mut found)?;
+    let cause = read_other(alloc, visit, &mut found)?;
     Ok((found, first_cause(named, cause)))
 }

@@ -12,8 +12,10 @@ use document_sources::error::Error;
 use document_sources::uri::document_uri;
 use reached_sites::cause::BuildCause;
 use reached_sites::place::SchemaPlace;
+use reached_sites::refusing::shown;
 use schema_registries::{DocumentError, Path};
 use schema_validators::BuildError;
+use serde_json::Value;
 use std::alloc::{AllocError, Global};
 
 // The place of a root.
@@ -34,13 +36,18 @@ fn root_place(alloc: Global, root_uri: &str) -> Result<SchemaPlace, BuildError>
 }
 
 /// A root that is no object.
-pub(crate) fn no_object(alloc: Global, root_uri: &str) -> Result<BuildError, AllocError>
+pub(crate) fn no_object(
+    alloc: Global,
+    root_uri: &str,
+    root: &Value,
+) -> Result<BuildError, AllocError>
     ensures { IfOk result (NamesWord root_uri.now [] (codes "object")) }
 {
     match root_place(alloc, root_uri) {
         Ok(place) => Ok(BuildError::Schema(BuildCause::KeywordValue {
             place,
             expected: "object",
+            found: shown(alloc, root)?,
         })),
         Err(BuildError::Memory) => Err(AllocError),
         Err(error) => Ok(error),
@@ -48,13 +55,18 @@ pub(crate) fn no_object(alloc: Global, root_uri: &str) -> Result<BuildError, All
 }
 
 /// A `$defs` that is none, or has the name.
-pub(crate) fn not_fresh(alloc: Global, root_uri: &str) -> Result<BuildError, AllocError>
+pub(crate) fn not_fresh(
+    alloc: Global,
+    root_uri: &str,
+    root: &Value,
+) -> Result<BuildError, AllocError>
     ensures { IfOk result (NamesWord root_uri.now (name (codes "$defs") ∷ []) (codes "fresh name")) }
 {
     match root_place(alloc, root_uri) {
         Ok(place) => Ok(BuildError::Schema(BuildCause::KeywordValue {
             place: place.member(alloc, "$defs")?,
             expected: "fresh name",
+            found: shown(alloc, root.get("$defs").unwrap_or(root))?,
         })),
         Err(BuildError::Memory) => Err(AllocError),
         Err(error) => Ok(error),

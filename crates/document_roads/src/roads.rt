@@ -109,8 +109,8 @@ fn inside<P: PatternMaker + Drop, R: Retrieve + Drop>(
             let documents = one_document(alloc, moving.root_uri, &whole);
             answer_from(alloc, options, documents, moving.root_uri, instance)
         }
-        Joined::NoObject => Ok(Err(no_object(alloc, moving.root_uri)?)),
-        Joined::NotFresh => Ok(Err(not_fresh(alloc, moving.root_uri)?)),
+        Joined::NoObject => Ok(Err(no_object(alloc, moving.root_uri, moving.root)?)),
+        Joined::NotFresh => Ok(Err(not_fresh(alloc, moving.root_uri, moving.root)?)),
     }
 }
 

@@ -85,10 +85,10 @@ AnswersBy matches r d path answer = (p : Patterns) → AreReadIn p r d matches �
 
 -- whether a refusal names a cause at the schemas, and not want of memory or too many compile keys
 abbrev pub is_of_schemas : BuildCause → Bool
-is_of_schemas (KeywordValue place expected) = true
-is_of_schemas (BadPattern place) = true
+is_of_schemas (KeywordValue place expected found) = true
+is_of_schemas (BadPattern place pattern) = true
 is_of_schemas (Unevaluated place) = true
-is_of_schemas (Reference place error) = true
+is_of_schemas (Reference place reference error) = true
 is_of_schemas (NodeLimit limit) = false
 is_of_schemas Memory = false
 

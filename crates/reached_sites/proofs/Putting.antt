@@ -8,7 +8,7 @@ use Rattle.applicators.specs.Applied.{Applicator}
 use Rattle.schema_sites.specs.Read.{patterns_in}
 use Rattle.schema_sites.specs.declared.keyword.Keyword.{Keyword}
 use Rattle.schema_sites.specs.declared.keyword.Keyword.TheVariants as keyword
-use Rattle.reached_sites.specs.Patterns.{text_of, texts_of, place_with, Puts, RefusesPattern}
+use Rattle.reached_sites.specs.Patterns.{text_of, texts_of, place_with, Puts, RefusesPattern, TellsPattern}
 use Rattle.reached_sites.specs.Places.{place_in}
 use Rattle.reached_sites.specs.declared.cause.BuildCause.{BuildCause}
 use Rattle.reached_sites.specs.declared.pattern.Pattern.{Pattern}
@@ -65,3 +65,7 @@ no-patterns (keyword.Reference r text target) p a = refl
 pub refuses-more : (makes : List ℕ → Bool) (q : Pattern) (qs : List Pattern) (e : BuildCause) → In q qs → RefusesPattern makes (q ∷ []) e → RefusesPattern makes qs e
 refuses-more makes q qs e i (inl m) = inl m
 refuses-more makes q qs e i (inr r) = inr (r.0, subst (λ (p : Pattern). In p qs) (sym (in-one r.1)) i, r.2, r.3)
+
+pub tells-more : (q : Pattern) (qs : List Pattern) (e : BuildCause) → In q qs → TellsPattern (q ∷ []) e → TellsPattern qs e
+tells-more q qs e i (inl m) = inl m
+tells-more q qs e i (inr r) = inr (r.0, subst (λ (p : Pattern). In p qs) (sym (in-one r.1)) i, r.2, r.3)

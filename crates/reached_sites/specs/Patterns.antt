@@ -12,7 +12,7 @@ use Rattle.schema_definitions.specs.Rows.{Place, bad_pattern, names_of_object, h
 use Rattle.applicators.specs.Made.{is_made_by, AreMade}
 use Rattle.schema_patterns.specs.Tables.{texts_of_table, AreMadeBy}
 use Rattle.schema_patterns.specs.declared.table.PatternTable.{PatternTable}
-use Rattle.reached_sites.specs.Causes.{NamesCause}
+use Rattle.reached_sites.specs.Causes.{told_in, NamesCause}
 use Rattle.reached_sites.specs.Places.{place_in}
 use Rattle.reached_sites.specs.declared.cause.BuildCause.{BuildCause}
 use Rattle.reached_sites.specs.declared.cause.BuildCause.TheVariants.{Memory}
@@ -71,3 +71,7 @@ Holds table texts = (p : List ℕ) → In p texts → is_listed p (texts_of_tabl
 -- want of memory, or one of some patterns that is not made
 abbrev pub RefusesPattern : (List ℕ → Bool) → List Pattern → BuildCause → Type 0
 RefusesPattern makes qs e = (e ≡ Memory) ⊎ ((q : Pattern) × In q qs × (is_made_by makes (text_of q) ≡ false) × NamesCause (bad_pattern (place_in q.place)) e)
+
+-- its text is told, and where it stands
+abbrev pub TellsPattern : List Pattern → BuildCause → Type 0
+TellsPattern qs e = (e ≡ Memory) ⊎ ((q : Pattern) × In q qs × NamesCause (bad_pattern (place_in q.place)) e × (told_in e ≡ text_of q))

@@ -9,3 +9,4 @@ pub mod Certified
 pub mod Matched
 pub mod Pointers
 pub mod ChainAnswers
+pub mod Described

@@ -158,6 +158,8 @@ fn read_text(alloc: Global, uri: &Uri, text: &[u8]) -> Result<Value, DocumentErr
             Category::Memory => Err(DocumentError::Memory),
             _ => Err(DocumentError::JsonText {
                 uri: String::from_str(alloc, uri.as_str())?,
+                line: error.line(),
+                column: error.column(),
             }),
         },
     }

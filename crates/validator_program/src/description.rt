@@ -45,7 +45,7 @@ fn of_document(
     error: &DocumentError,
 ) -> Result<String, AllocError> {
     match error {
-        DocumentError::JsonText { uri } => in_file(alloc, words, uri.as_str(), ""),
+        DocumentError::JsonText { uri, .. } => in_file(alloc, words, uri.as_str(), ""),
         DocumentError::OtherNumber { document, path } => {
             let path = path.to_pointer(alloc)?;
             in_file(alloc, words, document.as_str(), path.as_str())
@@ -75,9 +75,9 @@ fn of_cause(
 ) -> Result<String, AllocError> {
     match cause {
         BuildCause::KeywordValue { place, .. }
-        | BuildCause::BadPattern { place }
+        | BuildCause::BadPattern { place, .. }
         | BuildCause::Unevaluated { place } => at_place(alloc, words, place),
-        BuildCause::Reference { place, error } => {
+        BuildCause::Reference { place, error, .. } => {
             let mut text = at_place(alloc, words, place)?;
             let more = of_reference(alloc, words, error)?;
             text.push_str(more.as_str())?;

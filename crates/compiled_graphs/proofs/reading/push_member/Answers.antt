@@ -68,7 +68,7 @@ returns-in_ok-refused-in-Err-clause-read g c = λ filled.
     let all = members_view c.args.member.members.now.entries in
     let k = c.args.member.name.now in
     let d = view c.args.member.value.now in
-    let h = c.in_ok-refused-in-Err.ensures (context_of v makes all) d (row_here v makes all k d) refl (c.in-Err.ensures.refused makes (site_of v) (stands-itself v) refl) in
+    let h = c.in_ok-refused-in-Err.ensures.names (context_of v makes all) d (row_here v makes all k d) refl (c.in-Err.ensures.refused makes (site_of v) (stands-itself v) refl) in
     member-wrong v makes all k d c.args.found.now h.0 c.in_ok-refused-in-Err.field-0 h.2 h.1
 
 pub returns-in_ok-refused-in-Err-clause-kept : goal.returns-in_ok-refused-in-Err-clause-kept

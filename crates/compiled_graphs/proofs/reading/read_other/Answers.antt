@@ -17,8 +17,8 @@ returns-in_ok-push-in-Some-false-clause-read c = λ makes.
     let v = c.args.visit.now in
     false-read (own_of v) makes (site_of v) c.args.found.now _ (as-boolean (view v.site.contents.now) false (sym c.as_bool.ensures ∙ c.in-Some-false.is ∙ ap Some c.in-Some-false.field-0-test)) c.in_ok-push-in-Some-false.ensures.items refl
 
-pub returns-in_ok-shared-in-None-clause-read : goal.returns-in_ok-shared-in-None-clause-read
-returns-in_ok-shared-in-None-clause-read c = λ makes.
+pub returns-in_ok-shown-in-None-clause-read : goal.returns-in_ok-shown-in-None-clause-read
+returns-in_ok-shown-in-None-clause-read c = λ makes.
     let v = c.args.visit.now in
     other-read (own_of v) makes (site_of v) c.args.found.now _ (other-of (view v.site.contents.now) c.requires (ap is_some (sym c.as_bool.ensures ∙ c.in-None.is)))
     (ap (λ (p : Place). keyword_value p (codes "schema")) (sym c.in_ok-shared-in-None.ensures))

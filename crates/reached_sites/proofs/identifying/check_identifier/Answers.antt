@@ -1,4 +1,4 @@
-use Rattle.std.proofs.Common.{◌≡◌, Some, sym, ap, inr}
+use Rattle.std.proofs.Common.{◌≡◌, ◌∙◌, Some, sym, ap, inr}
 use Rattle.serde_json.specs.View.{view}
 use Rattle.schema_definitions.specs.Identifiers.{identifier_text}
 use Rattle.schema_definitions.specs.Lookup.{invalid_uri}
@@ -18,3 +18,6 @@ returns-clause-refused c = λ s m.
       (invalid_uri i, ap invalid_uri (sym c.in_ok-uri.ensures.ok), ap (λ (p : Place). bad_reference p (invalid_uri i)) (sym c.in_ok-shared.ensures)),
       wrongly-named v s m i text (sym c.if-is_uri_reference.ensures),
     )
+
+pub returns-clause-tells : goal.returns-clause-tells
+returns-clause-tells c = inr (sym c.in-Some.ensures ∙ ap Some (sym c.in_ok-from_str.ensures.ok))

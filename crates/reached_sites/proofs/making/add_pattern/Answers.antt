@@ -23,8 +23,8 @@ returns-in-Ok-clause-kept g c =
 pub returns-in-Ok-clause-held : goal.returns-in-Ok-clause-held
 returns-in-Ok-clause-held g c = numbered-listed c.add_with.new.self c.in-Ok.field-0 c.args.pattern.now.text.now c.in-Ok.ensures.numbered
 
-pub returns-in_ok-shared-in-Err-BadPattern-clause-refused : goal.returns-in_ok-shared-in-Err-BadPattern-clause-refused
-returns-in_ok-shared-in-Err-BadPattern-clause-refused g c =
+pub returns-in_ok-from_str-in-Err-BadPattern-clause-refused : goal.returns-in_ok-from_str-in-Err-BadPattern-clause-refused
+returns-in_ok-from_str-in-Err-BadPattern-clause-refused g c =
     let makes = (g.P.PatternMaker.patterns c.args.maker.now).makes in
     let q = c.args.pattern.now in
     let r = c.in-Err-BadPattern.ensures.refused c.in-Err-BadPattern.field-0-is in
@@ -32,21 +32,33 @@ returns-in_ok-shared-in-Err-BadPattern-clause-refused g c =
     let unmade : makes q.text.now ≡ false = search rules in
     inr (q, first, not-made makes q.text.now r.0 unmade, ap (λ (p : Place). bad_pattern p) (sym c.in_ok-shared-in-Err-BadPattern.ensures))
 
+pub returns-in_ok-from_str-in-Err-BadPattern-clause-tells : goal.returns-in_ok-from_str-in-Err-BadPattern-clause-tells
+returns-in_ok-from_str-in-Err-BadPattern-clause-tells g c =
+    inr (c.args.pattern.now, first, ap (λ (p : Place). bad_pattern p) (sym c.in_ok-shared-in-Err-BadPattern.ensures), c.in_ok-from_str-in-Err-BadPattern.ensures.ok)
+
 pub returns-in_err-shared-in-Err-BadPattern-clause-filled : goal.returns-in_err-shared-in-Err-BadPattern-clause-filled
 returns-in_err-shared-in-Err-BadPattern-clause-filled g c =
+    refused-filled c.args.table.now c.add_with.new.self c.in-Err-BadPattern.ensures.unchanged g.P.Matcher.PatternMatcher.finds (g.P.PatternMaker.patterns c.args.maker.now).finished (g.P.PatternMaker.patterns c.args.maker.now).makes
+    (c.in-Err-BadPattern.ensures.made (g.P.PatternMaker.patterns c.args.maker.now).finished (λ m k. search rules))
+
+pub returns-in_err-from_str-in-Err-BadPattern-clause-filled : goal.returns-in_err-from_str-in-Err-BadPattern-clause-filled
+returns-in_err-from_str-in-Err-BadPattern-clause-filled g c =
     refused-filled c.args.table.now c.add_with.new.self c.in-Err-BadPattern.ensures.unchanged g.P.Matcher.PatternMatcher.finds (g.P.PatternMaker.patterns c.args.maker.now).finished (g.P.PatternMaker.patterns c.args.maker.now).makes
     (c.in-Err-BadPattern.ensures.made (g.P.PatternMaker.patterns c.args.maker.now).finished (λ m k. search rules))
 
 pub returns-in_err-shared-in-Err-BadPattern-clause-kept : goal.returns-in_err-shared-in-Err-BadPattern-clause-kept
 returns-in_err-shared-in-Err-BadPattern-clause-kept g c = refused-holds c.args.table.now c.add_with.new.self c.in-Err-BadPattern.ensures.unchanged
 
-pub returns-in_ok-shared-in-Err-BadPattern-clause-filled : goal.returns-in_ok-shared-in-Err-BadPattern-clause-filled
-returns-in_ok-shared-in-Err-BadPattern-clause-filled g c =
+pub returns-in_err-from_str-in-Err-BadPattern-clause-kept : goal.returns-in_err-from_str-in-Err-BadPattern-clause-kept
+returns-in_err-from_str-in-Err-BadPattern-clause-kept g c = refused-holds c.args.table.now c.add_with.new.self c.in-Err-BadPattern.ensures.unchanged
+
+pub returns-in_ok-from_str-in-Err-BadPattern-clause-filled : goal.returns-in_ok-from_str-in-Err-BadPattern-clause-filled
+returns-in_ok-from_str-in-Err-BadPattern-clause-filled g c =
     refused-filled c.args.table.now c.add_with.new.self c.in-Err-BadPattern.ensures.unchanged g.P.Matcher.PatternMatcher.finds (g.P.PatternMaker.patterns c.args.maker.now).finished (g.P.PatternMaker.patterns c.args.maker.now).makes
     (c.in-Err-BadPattern.ensures.made (g.P.PatternMaker.patterns c.args.maker.now).finished (λ m k. search rules))
 
-pub returns-in_ok-shared-in-Err-BadPattern-clause-kept : goal.returns-in_ok-shared-in-Err-BadPattern-clause-kept
-returns-in_ok-shared-in-Err-BadPattern-clause-kept g c = refused-holds c.args.table.now c.add_with.new.self c.in-Err-BadPattern.ensures.unchanged
+pub returns-in_ok-from_str-in-Err-BadPattern-clause-kept : goal.returns-in_ok-from_str-in-Err-BadPattern-clause-kept
+returns-in_ok-from_str-in-Err-BadPattern-clause-kept g c = refused-holds c.args.table.now c.add_with.new.self c.in-Err-BadPattern.ensures.unchanged
 
 pub returns-in-Err-Memory-clause-filled : goal.returns-in-Err-Memory-clause-filled
 returns-in-Err-Memory-clause-filled g c =
@@ -63,8 +75,11 @@ returns-in-Ok-clause-grows g c =
 pub returns-in_err-shared-in-Err-BadPattern-clause-grows : goal.returns-in_err-shared-in-Err-BadPattern-clause-grows
 returns-in_err-shared-in-Err-BadPattern-clause-grows g c = refused-front c.args.table.now c.add_with.new.self c.in-Err-BadPattern.ensures.unchanged
 
-pub returns-in_ok-shared-in-Err-BadPattern-clause-grows : goal.returns-in_ok-shared-in-Err-BadPattern-clause-grows
-returns-in_ok-shared-in-Err-BadPattern-clause-grows g c = refused-front c.args.table.now c.add_with.new.self c.in-Err-BadPattern.ensures.unchanged
+pub returns-in_err-from_str-in-Err-BadPattern-clause-grows : goal.returns-in_err-from_str-in-Err-BadPattern-clause-grows
+returns-in_err-from_str-in-Err-BadPattern-clause-grows g c = refused-front c.args.table.now c.add_with.new.self c.in-Err-BadPattern.ensures.unchanged
+
+pub returns-in_ok-from_str-in-Err-BadPattern-clause-grows : goal.returns-in_ok-from_str-in-Err-BadPattern-clause-grows
+returns-in_ok-from_str-in-Err-BadPattern-clause-grows g c = refused-front c.args.table.now c.add_with.new.self c.in-Err-BadPattern.ensures.unchanged
 
 pub returns-in-Err-Memory-clause-grows : goal.returns-in-Err-Memory-clause-grows
 returns-in-Err-Memory-clause-grows g c = refused-front c.args.table.now c.add_with.new.self c.in-Err-Memory.ensures.unchanged

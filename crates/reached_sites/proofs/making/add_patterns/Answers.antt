@@ -5,7 +5,7 @@ use Rattle.schema_patterns.specs.Tables.{texts_of_table}
 use Rattle.reached_sites.specs.Patterns.{texts_of, text_of, Holds}
 use Rattle.reached_sites.proofs.Filling.{holds-itself, holds-none, holds-both, holds-one, holds-too, same-front, further-front}
 use Rattle.reached_sites.proofs.Listing.{in-at}
-use Rattle.reached_sites.proofs.Putting.{texts-behind, refuses-more}
+use Rattle.reached_sites.proofs.Putting.{texts-behind, refuses-more, tells-more}
 use Rattle.reached_sites.proofs.making.add_patterns.Goals as goal
 
 pub loop-pattern-init : goal.loop-pattern-init
@@ -18,6 +18,14 @@ returns-in_err-add_pattern-clause-refused g c =
     let p = err_from_is_err_and c.from_residual.result c.from_residual.ensures.1 in
     let listed = in-at qs c.loop-pattern.pattern-index q c.loop-pattern-test.true c.pattern-item.is in
     rw (p.1, p.2) (refuses-more (g.P.PatternMaker.patterns c.args.maker.now).makes q qs c.in_err-add_pattern.field-0.0 listed c.in_err-add_pattern.ensures.refused)
+
+pub returns-in_err-add_pattern-clause-tells : goal.returns-in_err-add_pattern-clause-tells
+returns-in_err-add_pattern-clause-tells g c =
+    let qs = c.args.patterns.now in
+    let q = c.pattern-item.result in
+    let p = err_from_is_err_and c.from_residual.result c.from_residual.ensures.1 in
+    let listed = in-at qs c.loop-pattern.pattern-index q c.loop-pattern-test.true c.pattern-item.is in
+    rw (p.1, p.2) (tells-more q qs c.in_err-add_pattern.field-0.0 listed c.in_err-add_pattern.ensures.tells)
 
 pub loop-pattern-preserved : goal.loop-pattern-preserved
 loop-pattern-preserved g c =

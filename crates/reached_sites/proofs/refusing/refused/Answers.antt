@@ -7,15 +7,15 @@ use Rattle.schema_sites.specs.declared.keyword.Refusal.{Refusal}
 use Rattle.reached_sites.proofs.Placing.{placed, placed-in, member-in, item-in}
 use Rattle.reached_sites.proofs.refusing.refused.Goals as goal
 
-pub returns-in-Value : goal.returns-in-Value
-returns-in-Value c = λ x d row at h.
+pub returns-in-Value-clause-names : goal.returns-in-Value-clause-names
+returns-in-Value-clause-names c = λ x d row at h.
     let k = c.args.name.now in
     let here = member-in x.site.document x.site.path k c.args.place.now c.in_ok-here.here at c.in_ok-here.ensures.document c.in_ok-here.ensures.path in
     let r = subst (λ (q : Refusal). Refuses x k d row q) c.in-Value.is h in
     (keyword_value (placed x.site.document (name k ∷ x.site.path)) c.in-Value.expected.now, ap (λ (p : Place). keyword_value p c.in-Value.expected.now) here, r.stands)
 
-pub returns-in_ok-member-in-Entry : goal.returns-in_ok-member-in-Entry
-returns-in_ok-member-in-Entry c = λ x d row at h.
+pub returns-in_ok-member-in-Entry-clause-names : goal.returns-in_ok-member-in-Entry-clause-names
+returns-in_ok-member-in-Entry-clause-names c = λ x d row at h.
     let k = c.args.name.now in
     let n = c.in-Entry.name.now in
     let word = c.in-Entry.expected.now in
@@ -24,8 +24,8 @@ returns-in_ok-member-in-Entry c = λ x d row at h.
     let r = subst (λ (q : Refusal). Refuses x k d row q) c.in-Entry.is h in
     (keyword_value (placed x.site.document (name n ∷ name k ∷ x.site.path)) word, ap (λ (p : Place). keyword_value p word) there, r.stands)
 
-pub returns-in_ok-item-in-Element : goal.returns-in_ok-item-in-Element
-returns-in_ok-item-in-Element c = λ x d row at h.
+pub returns-in_ok-item-in-Element-clause-names : goal.returns-in_ok-item-in-Element-clause-names
+returns-in_ok-item-in-Element-clause-names c = λ x d row at h.
     let k = c.args.name.now in
     let i = c.in-Element.index in
     let word = c.in-Element.expected.now in
@@ -34,23 +34,23 @@ returns-in_ok-item-in-Element c = λ x d row at h.
     let r = subst (λ (q : Refusal). Refuses x k d row q) c.in-Element.is h in
     (keyword_value (placed x.site.document (index i ∷ name k ∷ x.site.path)) word, ap (λ (p : Place). keyword_value p word) there, r.stands)
 
-pub returns-in_ok-of_target-in-Target : goal.returns-in_ok-of_target-in-Target
-returns-in_ok-of_target-in-Target c = λ x d row at h.
+pub returns-in_ok-of_target-in-Target-clause-names : goal.returns-in_ok-of_target-in-Target-clause-names
+returns-in_ok-of_target-in-Target-clause-names c = λ x d row at h.
     let k = c.args.name.now in
     let t = target_in c.in-Target.target in
     let there = placed-in t.document t.path c.in_ok-of_target-in-Target.field-0 c.in_ok-of_target-in-Target.ensures.document c.in_ok-of_target-in-Target.ensures.path in
     let r = subst (λ (q : Refusal). Refuses x k d row q) c.in-Target.is h in
     (keyword_value (placed t.document t.path) (codes "schema"), ap (λ (p : Place). keyword_value p (codes "schema")) there, r.stands)
 
-pub returns-in-Reference : goal.returns-in-Reference
-returns-in-Reference c = λ x d row at h.
+pub returns-in-Reference-clause-names : goal.returns-in-Reference-clause-names
+returns-in-Reference-clause-names c = λ x d row at h.
     let k = c.args.name.now in
     let here = member-in x.site.document x.site.path k c.args.place.now c.in_ok-here.here at c.in_ok-here.ensures.document c.in_ok-here.ensures.path in
     let r = subst (λ (q : Refusal). Refuses x k d row q) c.in-Reference.is h in
     (bad_reference (placed x.site.document (name k ∷ x.site.path)) r.0, (r.0, r.1, ap (λ (p : Place). bad_reference p r.0) here), r.2.stands)
 
-pub returns-in-LeftOut : goal.returns-in-LeftOut
-returns-in-LeftOut c = λ x d row at h.
+pub returns-in-LeftOut-clause-names : goal.returns-in-LeftOut-clause-names
+returns-in-LeftOut-clause-names c = λ x d row at h.
     let k = c.args.name.now in
     let here = member-in x.site.document x.site.path k c.args.place.now c.in_ok-here.here at c.in_ok-here.ensures.document c.in_ok-here.ensures.path in
     let r = subst (λ (q : Refusal). Refuses x k d row q) c.in-LeftOut.is h in
