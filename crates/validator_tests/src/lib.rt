@@ -1,4 +1,4 @@
-//! Tests of validators built from documents.
+//! Tests of validators built from documents, and of keywords by them.
 #![tactic(auto)]
 
 #[cfg(test)]
@@ -23,6 +23,8 @@ mod faults;
 mod given;
 #[cfg(test)]
 mod keeping;
+#[cfg(test)]
+mod keywords;
 #[cfg(test)]
 mod layers;
 #[cfg(test)]

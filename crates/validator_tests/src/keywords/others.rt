@@ -1,5 +1,5 @@
 // Members that are not declared beside (Core 10.3.2.3).
-use crate::subject::assert_told;
+use crate::keywords::subject::assert_told;
 
 const OTHERS: &str = r##"
 - {"properties":{"a":{"type":"integer"}},"additionalProperties":false,"required":["a"]}

@@ -3,7 +3,7 @@ ghost use Rattle.std.specs.Prelude.{◌≡◌, true};
 ghost use Rattle.serde_json.specs.View.{view};
 ghost use Rattle.json_schema_validator.specs.Numbers.{only_whole};
 
-use crate::subject::{documents_of, options_at, value_of};
+use crate::keywords::subject::{documents_of, options_at, value_of};
 use json_schema_validator::{
     CheckAnswer, FaultPath, RegexMaker, SchemaRegistry, Validator, check_errors, check_fault,
     check_first, check_path,

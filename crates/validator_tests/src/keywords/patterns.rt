@@ -1,5 +1,5 @@
 // Texts and names of members by patterns (Validation 6.3.3; Core 10.3.2.2, 10.3.2.3).
-use crate::subject::assert_told;
+use crate::keywords::subject::assert_told;
 
 const TEXTS: &str = r##"
 - {"pattern":"a.c"}

@@ -1,5 +1,5 @@
 // Values that keywords may not have, and texts that are no pattern: what is said of schemas, each the document at `http://a.test/r`.
-use crate::subject::{documents_of, options_at};
+use crate::keywords::subject::{documents_of, options_at};
 use json_schema_validator::{BuildError, Validator};
 use std::alloc::Global;
 use std::process::Abort;

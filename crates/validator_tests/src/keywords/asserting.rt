@@ -1,5 +1,5 @@
 // Keywords that only assert (Validation 6).
-use crate::subject::assert_told;
+use crate::keywords::subject::assert_told;
 
 // What asserts nothing.
 const NOTHING: &str = r##"

@@ -1,5 +1,5 @@
 // Names and schemas that depend on a member (Validation 6.5.7 of Draft 7).
-use crate::subject::assert_told;
+use crate::keywords::subject::assert_told;
 
 const DEPENDING: &str = r##"
 - {"dependencies":{"a":["b","c"],"x":{"required":["y"]}}}

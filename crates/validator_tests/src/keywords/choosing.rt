@@ -1,5 +1,5 @@
 // Schemas that a condition chooses (Core 10.2.2).
-use crate::subject::assert_told;
+use crate::keywords::subject::assert_told;
 
 const CHOSEN: &str = r##"
 - {"if":{"type":"integer"},"then":{"minimum":3},"else":{"minLength":2}}

@@ -1,5 +1,5 @@
 // How many items a schema accepts (Core 10.3.1.3, Validation 6.4.4 and 6.4.5; Draft 7, Validation 6.4.6).
-use crate::subject::assert_told;
+use crate::keywords::subject::assert_told;
 
 const COUNTED: &str = r##"
 - {"contains":{"type":"integer"}}

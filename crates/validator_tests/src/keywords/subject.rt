@@ -3,7 +3,7 @@ ghost use Rattle.std.specs.Prelude.{◌≡◌, true};
 ghost use Rattle.serde_json.specs.View.{view};
 ghost use Rattle.json_schema_validator.specs.Numbers.{only_whole};
 
-use crate::details::write_details;
+use crate::keywords::details::write_details;
 use json_schema_validator::{
     CheckAnswer, Documents, ErrorIterator, RegexMaker, SchemaRegistry, ValidationError,
     ValidationOptions, Validator, check_error, has_only_whole,

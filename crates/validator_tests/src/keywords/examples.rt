@@ -1,5 +1,5 @@
 // Small schemas whose faults were written out by hand.
-use crate::subject::assert_told;
+use crate::keywords::subject::assert_told;
 
 // Schemas that refer to others. Of two that bear one URI the last counts.
 const REFERENCES: &str = r##"

@@ -1,5 +1,5 @@
 // What faults carry.
-use crate::subject::assert_detailed;
+use crate::keywords::subject::assert_detailed;
 
 const CARRIED: &str = r##"
 - {"enum":[1,"a"],"required":["k"],"minProperties":2}

@@ -1,5 +1,5 @@
 // Keywords that ask several schemas, or one of which the answer is turned (Core 10.2.1), and the items behind a list (Core 9.3.1.2 of 2019-09).
-use crate::subject::assert_told;
+use crate::keywords::subject::assert_told;
 
 const BRANCHES: &str = r##"
 - {"anyOf":[{"type":"integer"},{"minimum":2}]}

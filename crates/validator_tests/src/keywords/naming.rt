@@ -1,5 +1,5 @@
 // Names of members that a schema applies to (Core 10.3.2.4).
-use crate::subject::assert_told;
+use crate::keywords::subject::assert_told;
 
 const NAMES: &str = r##"
 - {"propertyNames":{"$ref":"#/$defs/s"},"$defs":{"s":{"minLength":2}}}
