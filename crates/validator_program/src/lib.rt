@@ -1,6 +1,7 @@
 //! The program: words, files, a validator built of them, and the lines of its input answered.
 #![tactic(auto)]
 
+mod checking;
 mod description;
 mod documents;
 mod entry;
