@@ -22,6 +22,8 @@ mod outputs;
 #[cfg(test)]
 mod texts;
 #[cfg(test)]
+mod warnings;
+#[cfg(test)]
 mod whole;
 #[cfg(test)]
 mod words;

@@ -1,7 +1,7 @@
 -- Registries of documents for which nobody is asked, and roots in them.
-use Rattle.std.proofs.Common.{◌≡◌, ◌∙◌, ℕ, List, [], Option, Some, None, ap, sym, subst}
+use Rattle.std.proofs.Common.{◌≡◌, ◌∙◌, ℕ, List, [], Option, Some, None, ap, subst}
 use Rattle.serde_json.specs.Data.{Data}
-use Rattle.schema_definitions.specs.Bearers.{Document, Documents, Layer}
+use Rattle.schema_definitions.specs.Bearers.{Document, Layer}
 use Rattle.schema_definitions.specs.Lookup.{Target}
 use Rattle.schema_definitions.specs.DocumentCauses.{document_causes}
 use Rattle.document_sources.specs.Given.{Given, documents_by}

@@ -16,6 +16,7 @@ use crate::output::read_form;
 use crate::preparing::prepare;
 use crate::refusal::Refusal;
 use crate::summary::{Answered, sum_in};
+use crate::warnings::warnings;
 use line_cuts::{ByteSink, ByteSource};
 use line_runs::RunError;
 use program_inputs::{ProgramWords, SchemaFiles};
@@ -39,6 +40,8 @@ const NO_MEMORY: &str = "No memory\n";
 /// build were refused, and 3 where reading, writing or memory failed, or a file to be checked has not as many lines as there are instances.
 /// Where it is 2 or 3 the fault is told to `faults`: the first that is met, of the words, the
 /// base, SCHEMA, the further files in their order, the build, the file to be checked, the files of instances, and the lines. A write to `faults` that fails changes nothing.
+///
+/// Where sentences or objects are written, `faults` is told before all else of each document that replaces another under its URI.
 pub fn program<'a, F: SchemaFiles, S: ByteSource, K: ByteSink, T: ByteSink>(
     alloc: Global,
     words: &'a [&'a str],
@@ -57,7 +60,7 @@ pub fn program<'a, F: SchemaFiles, S: ByteSource, K: ByteSink, T: ByteSink>(
         (F.held files.now) (S.remaining reader.old) (S.remaining reader.new)
         (K.contents writer.old) (K.contents writer.new) }
 {
-    match answer(alloc, words, files, reader, writer) {
+    match answer(alloc, words, files, reader, writer, faults) {
         Ok(answered) => summed(alloc, &answered, faults),
         Err(refusal) => told(alloc, &refusal, faults),
     }
@@ -101,13 +104,14 @@ fn given_words<R: Env + AllocGlobal>(rt: &R) -> Result<Vec<String>, ProgramFault
     }
 }
 
-// Reads the words, and answers what they ask for.
-fn answer<'a, F: SchemaFiles, S: ByteSource, K: ByteSink>(
+// Reads the words, tells what is to be told of them, and answers what they ask for.
+fn answer<'a, F: SchemaFiles, S: ByteSource, K: ByteSink, T: ByteSink>(
     alloc: Global,
     words: &'a [&'a str],
     files: &F,
     reader: &mut S,
     writer: &mut K,
+    faults: &mut T,
 ) -> Result<Answered, Refusal<'a>>
     ensures ok { IfOk result (λ a. Does (matches_of program_app (texts words.entry.now))
         (F.held files.now) (S.remaining reader.old) (S.remaining reader.new)
@@ -121,6 +125,9 @@ fn answer<'a, F: SchemaFiles, S: ByteSource, K: ByteSink>(
         Ok(words) => words,
         Err(error) => return Err(Refusal::plain(ProgramFault::from(error))),
     };
+    if let Ok(text) = warnings(alloc, &words) {
+        write_text(faults, text.as_str());
+    }
     match follow(alloc, &words, files, reader, writer) {
         Ok(answered) => Ok(answered),
         Err(fault) => Err(Refusal::described(alloc, &words, fault)),

@@ -12,6 +12,7 @@ mod output;
 mod preparing;
 mod refusal;
 mod summary;
+mod warnings;
 
 pub use entry::{program, run_program};
 pub use line_runs::{Documents, Validator, run, run_objects};
