@@ -36,11 +36,16 @@ pub record ChecksSource (p : Patterns) (r : Root) (listed : List ℕ) (from to b
   pub ended : IsAtEnd to
   pub checked : ChecksTexts p r (lines_of input) listed before after report
 
--- some of it was read and nothing is written, or all of it was and the checks ended with an error
+-- it is one of a run
+abbrev pub IsOfRun : CheckError → Type 0
+IsOfRun (Count n m) = ⊥
+IsOfRun (Run e) = Unit {0}
+
+-- an error of a run before any check: some of it was read and nothing is written; or all of it was read, and the checks ended with an error
 pub record StopsSource (e : CheckError) (p : Patterns) (r : Root) (listed : List ℕ) (from to before after : Option (List ℕ)) : Type 0 where
   pub input : List ℕ
   pub read : Consumes from to input
-  pub stopped : (after ≡ before) ⊎ (IsAtEnd to × StopsTexts e p r (lines_of input) listed before after)
+  pub stopped : (IsOfRun e × (after ≡ before)) ⊎ (IsAtEnd to × StopsTexts e p r (lines_of input) listed before after)
 
 -- ---- texts that are given, or else the lines of a reader, which is not read where texts are given
 
