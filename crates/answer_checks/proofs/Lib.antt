@@ -1,3 +1,4 @@
 mod Lists
 mod Reading
 mod Going
+mod Pairing

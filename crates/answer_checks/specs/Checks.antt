@@ -1,6 +1,7 @@
 -- What checks say of the faults that a line lists.
-use Rattle.std.specs.Prelude.{◌≡◌, ℕ, List, Bool, Option, Some, None}
+use Rattle.std.specs.Prelude.{◌≡◌, ℕ, List, Bool, Option, Some, None, map}
 use Rattle.std.specs.List.{AllZip}
+use Rattle.std.specs.Borrow.{Bor}
 use Rattle.serde_json.specs.Data.{Data}
 use Rattle.schema_definitions.specs.Lines.{line_value}
 use Rattle.schema_registries.specs.Roots.{Patterns, Root, IsSound, root_on}
@@ -34,6 +35,14 @@ pair_bytes pair = (pair.instance.now, pair.answers.now)
 
 abbrev pub IsPairChecked : Patterns → Root → Listed → CheckAnswers → Type 0
 IsPairChecked p r lines answers = ValueChecked p r (line_value lines.0) (paths_in lines.1) answers
+
+-- at a root that builds
+abbrev pub IsSaidAt : Patterns → Root → Listed → CheckAnswers → Type 0
+IsSaidAt p r lines answers = IsSound p r → IsPairChecked p r lines answers
+
+-- the bytes that are lent
+abbrev pub views : List (Bor (List ℕ)) → List (List ℕ)
+views texts = map (λ s. s.now) texts
 
 -- ---- by a checker
 

@@ -2,3 +2,4 @@ pub mod Paths
 pub mod Words
 pub mod Checks
 pub mod Written
+pub mod Listing

@@ -2,9 +2,11 @@
 #![tactic(auto)]
 
 mod checker;
+mod given;
 mod paths;
 mod run;
 mod words;
 
 pub use checker::AnswerChecker;
+pub use given::{CheckError, check_given};
 pub use run::{LinePair, check_lines};

@@ -1,4 +1,4 @@
--- A command of eight arguments, of which the first is required, has a value of that one in each parse.
+-- A command of nine arguments, of which the first is required, has a value of that one in each parse.
 use Rattle.std.proofs.Common.{◌≡◌, ◌∙◌, ◌<◌, ℕ, zero, suc, List, [], ◌∷◌, refl, sym, ap, arith, codes, bytes_eq, slice_index_or, if◌then◌else◌}
 use Rattle.std.proofs.lemmas.Slice.Eq.{bytes_eq-Decides}
 use Rattle.std.specs.List.{All}
@@ -17,13 +17,14 @@ position_of id =
     else (if bytes_eq id (codes "draft") then 3
     else (if bytes_eq id (codes "meta") then 4
     else (if bytes_eq id (codes "ref-siblings") then 5
-    else (if bytes_eq id (codes "output") then 6 else 7))))))
+    else (if bytes_eq id (codes "output") then 6
+    else (if bytes_eq id (codes "instance") then 7 else 8)))))))
 
-module _ (a b c e u f o n : Arg) where
-  abbrev pub all_eight : List Arg
-  all_eight = a ∷ b ∷ c ∷ e ∷ u ∷ f ∷ o ∷ n ∷ []
+module _ (a b c e u f o n k : Arg) where
+  abbrev pub all_nine : List Arg
+  all_nine = a ∷ b ∷ c ∷ e ∷ u ∷ f ∷ o ∷ n ∷ k ∷ []
 
-  -- the ids of the eight arguments
+  -- the ids of the nine arguments
   pub record Ids : Type 0 where
     pub first : a.id.now ≡ codes "schema"
     pub second : b.id.now ≡ codes "files"
@@ -33,6 +34,7 @@ module _ (a b c e u f o n : Arg) where
     pub sixth : f.id.now ≡ codes "ref-siblings"
     pub seventh : o.id.now ≡ codes "output"
     pub eighth : n.id.now ≡ codes "instance"
+    pub ninth : k.id.now ≡ codes "check"
 
   pub record Fit : Type 0 where
     pub first : FitsChain a
@@ -43,8 +45,9 @@ module _ (a b c e u f o n : Arg) where
     pub sixth : FitsChain f
     pub seventh : FitsChain o
     pub eighth : FitsChain n
+    pub ninth : FitsChain k
 
-  placed : Ids → (k : ℕ) (d : Arg) → k < 8 → position_of (slice_index_or all_eight k d).id.now ≡ k
+  placed : Ids → (j : ℕ) (d : Arg) → j < 9 → position_of (slice_index_or all_nine j d).id.now ≡ j
   placed i zero d l = rw i.first refl
   placed i (suc zero) d l = rw i.second refl
   placed i (suc (suc zero)) d l = rw i.third refl
@@ -53,15 +56,16 @@ module _ (a b c e u f o n : Arg) where
   placed i (suc (suc (suc (suc (suc zero))))) d l = rw i.sixth refl
   placed i (suc (suc (suc (suc (suc (suc zero)))))) d l = rw i.seventh refl
   placed i (suc (suc (suc (suc (suc (suc (suc zero))))))) d l = rw i.eighth refl
-  placed i (suc (suc (suc (suc (suc (suc (suc (suc k)))))))) d l = absurd (omega arith)
+  placed i (suc (suc (suc (suc (suc (suc (suc (suc zero)))))))) d l = rw i.ninth refl
+  placed i (suc (suc (suc (suc (suc (suc (suc (suc (suc j))))))))) d l = absurd (omega arith)
 
-  distinct : Ids → HasDistinctIds all_eight
-  distinct i j k d g l r same =
+  distinct : Ids → HasDistinctIds all_nine
+  distinct i j m d g l r same =
       sym (placed i j g (omega arith))
-      ∙ ap position_of ((bytes_eq-Decides (slice_index_or all_eight j g).id.now (slice_index_or all_eight k d).id.now).0 same)
-      ∙ placed i k d (omega arith)
+      ∙ ap position_of ((bytes_eq-Decides (slice_index_or all_nine j g).id.now (slice_index_or all_nine m d).id.now).0 same)
+      ∙ placed i m d (omega arith)
 
-  fits : Fit → All FitsChain all_eight
+  fits : Fit → All FitsChain all_nine
   fits f zero d l = f.first
   fits f (suc zero) d l = f.second
   fits f (suc (suc zero)) d l = f.third
@@ -70,9 +74,10 @@ module _ (a b c e u f o n : Arg) where
   fits f (suc (suc (suc (suc (suc zero))))) d l = f.sixth
   fits f (suc (suc (suc (suc (suc (suc zero)))))) d l = f.seventh
   fits f (suc (suc (suc (suc (suc (suc (suc zero))))))) d l = f.eighth
-  fits f (suc (suc (suc (suc (suc (suc (suc (suc k)))))))) d l = absurd (omega arith)
+  fits f (suc (suc (suc (suc (suc (suc (suc (suc zero)))))))) d l = f.ninth
+  fits f (suc (suc (suc (suc (suc (suc (suc (suc (suc j))))))))) d l = absurd (omega arith)
 
-  pub has_schema : (start cmd : Command) → AddsInTurn AddsArg start all_eight cmd
+  pub has_schema : (start cmd : Command) → AddsInTurn AddsArg start all_nine cmd
       → IsEmpty start → Fit → TakesValue a → Ids → HasSchema cmd
   has_schema start cmd chain none f value ids = λ x p.
-      rw (← ids.first) (required_in_chain start cmd all_eight 0 a x chain none.args none.groups none.globals none.negates (fits f) (distinct ids) (omega arith) value p)
+      rw (← ids.first) (required_in_chain start cmd all_nine 0 a x chain none.args none.groups none.globals none.negates (fits f) (distinct ids) (omega arith) value p)

@@ -46,6 +46,10 @@ output_rule = record (new_rule (codes "output")) { long = Some (codes "output");
 abbrev pub instance_rule : Rule
 instance_rule = record (new_rule (codes "instance")) { long = Some (codes "instance"); value_names = 1; action = Some Append }
 
+-- `--check FILE`
+abbrev pub check_rule : Rule
+check_rule = record (new_rule (codes "check")) { long = Some (codes "check"); value_names = 1; action = Some Set }
+
 -- no name of the program among the words, and a version
 abbrev pub bare_app : App
 bare_app = on_top (λ s. record s { no_binary_name = true; has_version = true }) (new_app (codes "cribhemlock"))
@@ -57,10 +61,10 @@ pub record IsEmpty (c : Command) : Type 0 where
   pub globals : (out-Command c).has_globals ≡ false
   pub negates : (out-Command c).subcommand_negates_reqs ≡ false
 
--- with the eight arguments
+-- with the nine arguments
 abbrev pub program_app : App
-program_app = with_rule (with_rule (with_rule (with_rule (with_rule (with_rule (with_rule (with_rule bare_app schema_rule) files_rule) base_rule)
-    draft_rule) meta_rule) siblings_rule) output_rule) instance_rule
+program_app = with_rule (with_rule (with_rule (with_rule (with_rule (with_rule (with_rule (with_rule (with_rule bare_app schema_rule) files_rule) base_rule)
+    draft_rule) meta_rule) siblings_rule) output_rule) instance_rule) check_rule
 
 -- each parse of the command that succeeds has a schema
 abbrev pub HasSchema : Command → Type 0

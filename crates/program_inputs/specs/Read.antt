@@ -9,8 +9,8 @@ abbrev pub says_true : Option (List ℕ) → Bool
 says_true None = false
 says_true (Some text) = bytes_eq text (codes "true")
 
--- the first value of the schema, each value of the files and of the instances in order, the first values of the base, of the draft, of the meta-schemas and of
--- the output where they have one, and the flag
+-- the first value of the schema, each value of the files and of the instances in order, the first values of the base, of the draft, of the meta-schemas, of
+-- the output and of the file that is checked where they have one, and the flag
 pub record HasWordsOf (rows : List Row) (w : ProgramWords) : Type 0 where
   pub schema : Some w.schema.now ≡ first_of (codes "schema") rows
   pub files : texts w.files.items ≡ unwrap_or (all_of (codes "files") rows) []
@@ -20,3 +20,4 @@ pub record HasWordsOf (rows : List Row) (w : ProgramWords) : Type 0 where
   pub ref_siblings : w.ref_siblings ≡ says_true (first_of (codes "ref-siblings") rows)
   pub output : option_map (λ s. s.now) w.output ≡ first_of (codes "output") rows
   pub instances : texts w.instances.items ≡ unwrap_or (all_of (codes "instance") rows) []
+  pub check : option_map (λ s. s.now) w.check ≡ first_of (codes "check") rows

@@ -3,7 +3,7 @@
 ghost use Rattle.std.specs.Prelude.{◌≡◌, IfOk};
 ghost use Rattle.clap.specs.Built.{FitsChain, TakesValue};
 ghost use Rattle.clap.specs.Words.{app_of, rule_of};
-ghost use Rattle.program_inputs.specs.Program.{bare_app, program_app, schema_rule, files_rule, base_rule, draft_rule, meta_rule, siblings_rule, output_rule, instance_rule, HasSchema, IsEmpty};
+ghost use Rattle.program_inputs.specs.Program.{bare_app, program_app, schema_rule, files_rule, base_rule, draft_rule, meta_rule, siblings_rule, output_rule, instance_rule, check_rule, HasSchema, IsEmpty};
 
 use clap::{Arg, ArgAction, Command};
 use std::alloc::{AllocError, Global};
@@ -14,13 +14,14 @@ Each line of the standard input is checked as JSON against SCHEMA, and one line 
 each a pair of the place in the instance and the path of keywords; [] where it is valid. With --output json it is an object \
 that says whether the line is valid, and each fault in words; with --output text a line for each fault is written for people, \
 nothing for a valid line, and a summary to standard error at the end. With --instance the whole of each file is one instance, answered \
-as a line is, and the standard input is not read.
+as a line is, and the standard input is not read. With --check nothing is validated: FILE has a line for each instance, the list of \
+its faults in pairs, and for each line the list of what the documents say of them is written, accepted or not.
 
 Status:
-  0  each line is valid
-  1  some line is not
+  0  each line is valid, or each fault of FILE is accepted
+  1  some line is not, or some fault is not accepted
   2  the words, a file or the schema were refused
-  3  a read, a write or memory failed
+  3  a read, a write or memory failed, or FILE has another number of lines than there are instances
 
 Example:
   cribhemlock root.json http://a.test/leaf.json=leaf.json --base http://a.test/root.json < lines.json";
@@ -125,6 +126,20 @@ fn instance<'a>(alloc: Global) -> Arg<'a>
         )
 }
 
+/// `--check FILE`
+fn check<'a>(alloc: Global) -> Arg<'a>
+    ensures rule { rule_of result ≡ check_rule }
+    ensures fits { FitsChain result }
+{
+    Arg::new(alloc, "check")
+        .long("check")
+        .value_name("FILE")
+        .action(ArgAction::Set)
+        .help(
+            "Checks the faults that FILE lists, a line for each instance, and writes what is said of each",
+        )
+}
+
 /// What stands before any argument.
 fn bare<'a>(alloc: Global) -> Command<'a>
     ensures app { app_of result ≡ bare_app }
@@ -150,5 +165,6 @@ pub(crate) fn program_command<'a>(alloc: Global) -> Result<Command<'a>, AllocErr
         .arg(meta(alloc))?
         .arg(ref_siblings(alloc))?
         .arg(output(alloc))?
-        .arg(instance(alloc))
+        .arg(instance(alloc))?
+        .arg(check(alloc))
 }

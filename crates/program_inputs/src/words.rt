@@ -30,6 +30,8 @@ pub struct ProgramWords<'a> {
     pub output: Option<&'a str>,
     /// The files that are an instance each, in their order. Where there are none, the instances are lines of the standard input.
     pub instances: Vec<&'a str>,
+    /// The file that lists faults of each instance, where they are to be checked.
+    pub check: Option<&'a str>,
 }
 
 // Whether the value of a flag says that it was given.
@@ -70,6 +72,7 @@ impl<'a> ProgramWords<'a> {
             ref_siblings: says_true(matches.get_str("ref-siblings")),
             output: matches.get_str("output"),
             instances: Vec::from_slice(alloc, matches.get_strs("instance").unwrap_or(&[]))?,
+            check: matches.get_str("check"),
         })
     }
 }

@@ -2,6 +2,8 @@
 #![tactic(auto)]
 
 #[cfg(test)]
+mod checks;
+#[cfg(test)]
 mod cuts;
 #[cfg(test)]
 mod descriptions;
@@ -19,6 +21,8 @@ mod lines;
 mod outputs;
 #[cfg(test)]
 mod texts;
+#[cfg(test)]
+mod warnings;
 #[cfg(test)]
 mod whole;
 #[cfg(test)]

@@ -20,7 +20,17 @@ const META: &str =
 const EITHER: &str =
     "{\"properties\":{\"a\":{\"anyOf\":[{\"type\":\"string\"},{\"type\":\"null\"}]}}}";
 
-const FILES: [(&str, &str); 19] = [
+// Faults that are listed, a line for each instance: right ones of `root.json`, one of `plain.json`, some of which one is right, and texts
+// that are no lists of them.
+const RIGHT: &str = "[[\"\",\"/minItems\"],[\"/0\",\"/items/$ref/type\"]]\n[]\n";
+
+const SOME: &str =
+    "[[\"/0\",\"/items/$ref/type\"],[\"/0\",\"/items\"],[\"/0\",\"/minItems\"]]\n[[\"\",\"/minItems\"]]\n";
+
+const OTHERS: &str =
+    "null\n[[\"\",\"/type\",\"\"]]\n[[\"\",\"/type\"]\n{}\n[[\"\",\"/type\"]]\n[[\"\",\"/type\"]]\n[]";
+
+const FILES: [(&str, &str); 23] = [
     ("root.json", ROOT),
     ("leaf.json", LEAF),
     ("plain.json", "{\"type\":\"string\"}"),
@@ -46,6 +56,10 @@ const FILES: [(&str, &str); 19] = [
     ("either.json", EITHER),
     ("empty.json", ""),
     ("two.json", "[\"a\",\"b\"]\n[\"a\",\"b\"]\n"),
+    ("right", RIGHT),
+    ("typed", "[[\"\",\"/type\"]]\n"),
+    ("some", SOME),
+    ("others", OTHERS),
 ];
 
 fn files(rt: &impl Abort, alloc: Global) -> MapFiles {

@@ -53,11 +53,16 @@ fn in_any_order(rt: HostRuntime) {
     let read = ProgramWords::read(rt.alloc(), &words).expect(&rt, "words");
     assert_eq!(rt; read.files.as_slice(), ["b=c", "d=e"].as_slice());
     assert_eq!(rt; read.instances.as_slice(), ["i", "j"].as_slice());
+    assert!(rt; read.check.is_none());
+    let words = ["--check", "f", "a", "--instance", "i"];
+    let read = ProgramWords::read(rt.alloc(), &words).expect(&rt, "words");
+    assert_eq!(rt; read.check, Some("f"));
+    assert_eq!(rt; read.instances.as_slice(), ["i"].as_slice());
 }
 
 #[test]
 fn refused(rt: HostRuntime) {
-    let cases: [(&[&str], ErrorKind); 9] = [
+    let cases: [(&[&str], ErrorKind); 10] = [
         (&[], ErrorKind::MissingRequiredArgument),
         (&["--base", "u:/"], ErrorKind::MissingRequiredArgument),
         (&["a", "--drafts", "7"], ErrorKind::UnknownArgument),
@@ -69,6 +74,10 @@ fn refused(rt: HostRuntime) {
         (&["a", "--base"], ErrorKind::InvalidValue),
         (
             &["a", "--ref-siblings", "--ref-siblings"],
+            ErrorKind::ArgumentConflict,
+        ),
+        (
+            &["a", "--check", "f", "--check", "g"],
             ErrorKind::ArgumentConflict,
         ),
         (&["--help"], ErrorKind::DisplayHelp),
@@ -93,6 +102,7 @@ fn help(rt: HostRuntime) {
         "--ref-siblings",
         "--output <FORM>",
         "--instance <FILE>",
+        "--check <FILE>",
     ] {
         assert!(rt; text.contains(part), "{text}");
     }

@@ -1,7 +1,7 @@
 -- Registries of documents for which nobody is asked, and roots in them.
-use Rattle.std.proofs.Common.{◌≡◌, ◌∙◌, ℕ, List, [], Option, Some, None, ap, sym, subst}
+use Rattle.std.proofs.Common.{◌≡◌, ◌∙◌, ℕ, List, [], Option, Some, None, ap, subst}
 use Rattle.serde_json.specs.Data.{Data}
-use Rattle.schema_definitions.specs.Bearers.{Document, Documents, Layer}
+use Rattle.schema_definitions.specs.Bearers.{Document, Layer}
 use Rattle.schema_definitions.specs.Lookup.{Target}
 use Rattle.schema_definitions.specs.DocumentCauses.{document_causes}
 use Rattle.document_sources.specs.Given.{Given, documents_by}
@@ -54,19 +54,19 @@ stays_alone may_answer may_refuse o given registry never is metas first are_meta
       accepted = are.own.accepted;
     }
 
-module _ (first : Layer) (metas : Option (List Given)) (given : List Given) (registry : SchemaRegistry) (alone : StaysAlone first metas given registry)
-    (root : Root) (reference : List ℕ) (is_root : root ≡ root_on registry reference) where
-  -- a root there, by the documents that were given
-  pub root_alone : (base : List ℕ) → registry.base ≡ base → root ≡ root_of (documents_alone metas first given) base reference
-  root_alone base is_base =
-      is_root ∙ ap (λ ds. root_of ds registry.base reference) alone.own ∙ ap (λ u. root_of (documents_alone metas first given) u reference) is_base
+-- a root there, by the documents that were given
+pub root_alone : (first : Layer) (metas : Option (List Given)) (given : List Given) (registry : SchemaRegistry) → StaysAlone first metas given registry
+    → (root : Root) (reference : List ℕ) → root ≡ root_on registry reference → (base : List ℕ) → registry.base ≡ base → root ≡ root_of (documents_alone metas first given) base reference
+root_alone first metas given registry alone root reference is_root base is_base =
+    is_root ∙ ap (λ ds. root_of ds registry.base reference) alone.own ∙ ap (λ u. root_of (documents_alone metas first given) u reference) is_base
 
-  -- one that was built under a limit
-  pub builds_with : (limit : ℕ) → limit ≡ default_node_limit → IsSound patterns_of_regex root → IsWithin patterns_of_regex limit root
-      → ((target : Target) → Finds root target → IsMet patterns_of_regex limit registry.parent target) → BuildsWith registry.parent root
-  builds_with limit is_limit sound within met = record {
-    accepted = subst (λ (docs : Documents). document_causes docs ≡ []) (sym (ap (λ r. r.documents) is_root)) alone.accepted;
-    sound = sound;
-    within = subst (λ (n : ℕ). IsWithin patterns_of_regex n root) is_limit within;
-    met = λ target found. subst (λ (n : ℕ). IsMet patterns_of_regex n registry.parent target) is_limit (met target found);
-  }
+-- one that was built under a limit
+pub builds_with : (parent : Option SharedRegistry) (root : Root) → document_causes root.documents ≡ [] → (limit : ℕ) → limit ≡ default_node_limit
+    → IsSound patterns_of_regex root → IsWithin patterns_of_regex limit root
+    → ((target : Target) → Finds root target → IsMet patterns_of_regex limit parent target) → BuildsWith parent root
+builds_with parent root accepted limit is_limit sound within met = record {
+  accepted = accepted;
+  sound = sound;
+  within = subst (λ (n : ℕ). IsWithin patterns_of_regex n root) is_limit within;
+  met = λ target found. subst (λ (n : ℕ). IsMet patterns_of_regex n parent target) is_limit (met target found);
+}

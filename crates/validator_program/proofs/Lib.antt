@@ -4,3 +4,4 @@ mod Small
 mod Alone
 mod Running
 mod NamedFiles
+mod ListedFaults

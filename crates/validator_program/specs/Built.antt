@@ -47,14 +47,13 @@ pub record BuildsWith (parent : Option SharedRegistry) (root : Root) : Type 0 wh
   pub met : (target : Target) → Finds root target → IsMet patterns_of_regex default_node_limit parent target
 
 -- The schema is added under the base and each further document under its URI, and meta-schemas, where some are given, are prepared first
--- and by themselves; nothing is retrieved. The root is what the base leads to, and it builds. Documents that name no draft have the one that
--- is given, and what stands beside `$ref` is read in Drafts 6 and 7 where that is asked for.
-pub record IsBuiltOf (held : List ℕ → Held) (words : Words) (root : Root) : Type 0 where
+-- and by themselves; nothing is retrieved, and no document has a cause to be refused. The root is what the base leads to. Documents that name
+-- no draft have the one that is given, and what stands beside `$ref` is read in Drafts 6 and 7 where that is asked for.
+pub record IsPreparedOf (held : List ℕ → Held) (words : Words) (parent : Option SharedRegistry) (root : Root) : Type 0 where
   pub pairs : List Pair
   pub given : List Given
   pub first : Layer
   pub meta_schemas : Option (List Given)
-  pub parent : Option SharedRegistry
   pub cut : AreCut words.files pairs
   pub is_first : first.number ≡ 0
   pub is_draft : draft_of words.draft ≡ Some first.draft
@@ -63,4 +62,10 @@ pub record IsBuiltOf (held : List ℕ → Held) (words : Words) (root : Root) : 
   pub are_meta_schemas : MayBeMetaSchemas held first words.meta meta_schemas
   pub are_alone : AreAlone first meta_schemas parent
   pub is_root : root ≡ root_of (documents_alone meta_schemas first given) (base_of words.base) []
+  pub accepted : document_causes root.documents ≡ []
+
+-- such a root that builds, beside the registry of the meta-schemas
+pub record IsBuiltOf (held : List ℕ → Held) (words : Words) (root : Root) : Type 0 where
+  pub parent : Option SharedRegistry
+  pub prepared : IsPreparedOf held words parent root
   pub builds : BuildsWith parent root

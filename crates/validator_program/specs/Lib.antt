@@ -4,4 +4,6 @@ pub mod Prepared
 pub mod Outputs
 pub mod Instances
 pub mod Answered
+pub mod Checked
+pub mod Done
 pub mod Status

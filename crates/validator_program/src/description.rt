@@ -172,8 +172,8 @@ fn file_of<'a>(
     Ok(found)
 }
 
-// Whether a word names a URI in its normal form.
-fn is_under(alloc: Global, word: &str, uri: &str) -> Result<bool, AllocError> {
+/// Whether a word names a URI in its normal form.
+pub(crate) fn is_under(alloc: Global, word: &str, uri: &str) -> Result<bool, AllocError> {
     match from_str(alloc, word) {
         Ok(read) => Ok(read.as_str() == uri),
         Err(UriReferenceError::InvalidUri(_)) => Ok(false),

@@ -6,14 +6,17 @@ ghost use Rattle.clap.specs.Walk.{texts};
 ghost use Rattle.program_inputs.specs.Program.{program_app};
 ghost use Rattle.program_inputs.specs.Read.{HasWordsOf};
 ghost use Rattle.validator_program.specs.Answered.{AnswersAll, StopsEarly};
+ghost use Rattle.validator_program.specs.Done.{BreaksOff, Does};
 ghost use Rattle.validator_program.specs.Status.{status_of};
 
+use crate::checking::check_words;
 use crate::fault::ProgramFault;
 use crate::instances::answer_instances;
 use crate::output::read_form;
 use crate::preparing::prepare;
 use crate::refusal::Refusal;
-use crate::summary::{Answered, called_in};
+use crate::summary::{Answered, sum_in};
+use crate::warnings::warnings;
 use line_cuts::{ByteSink, ByteSource};
 use line_runs::RunError;
 use program_inputs::{ProgramWords, SchemaFiles};
@@ -30,11 +33,15 @@ const NO_MEMORY: &str = "No memory\n";
 /// The words also say what is written for a line: its faults as pairs of paths, an object that has them in words, a sentence for each, or
 /// nothing; where it is sentences, a summary goes to `faults` at the end. Where they
 /// name files of instances, the whole of each is answered as a line is, in their order, and the reader is not read; all files are read
-/// before any is answered.
+/// before any is answered. Where they name a file to be checked, no validator is built: for each instance the faults that a line of that
+/// file lists are checked by the documents, and what is said of each is written.
 ///
-/// The status is 0 where each line was valid, 1 where some line was not, 2 where the words, a file or the build were refused, and 3
-/// where reading, writing or memory failed. Where it is 2 or 3 the fault is told to `faults`: the first that is met, of the words, the
-/// base, SCHEMA, the further files in their order, the build, the files of instances, and the lines. A write to `faults` that fails changes nothing.
+/// The status is 0 where each line was valid, or each fault that is checked accepted, 1 where some was not, 2 where the words, a file or the
+/// build were refused, and 3 where reading, writing or memory failed, or a file to be checked has not as many lines as there are instances.
+/// Where it is 2 or 3 the fault is told to `faults`: the first that is met, of the words, the
+/// base, SCHEMA, the further files in their order, the build, the file to be checked, the files of instances, and the lines. A write to `faults` that fails changes nothing.
+///
+/// Where sentences or objects are written, `faults` is told before all else of each document that replaces another under its URI.
 pub fn program<'a, F: SchemaFiles, S: ByteSource, K: ByteSink, T: ByteSink>(
     alloc: Global,
     words: &'a [&'a str],
@@ -44,16 +51,16 @@ pub fn program<'a, F: SchemaFiles, S: ByteSource, K: ByteSink, T: ByteSink>(
     faults: &mut T,
 ) -> u8
     ensures range { result ≤ 3 }
-    ensures answered { result ≤ 1 → AnswersAll (matches_of program_app (texts words.entry.now))
+    ensures answered { result ≤ 1 → Does (matches_of program_app (texts words.entry.now))
         (F.held files.now) (S.remaining reader.old) (S.remaining reader.new)
         (K.contents writer.old) (K.contents writer.new) result }
     ensures refused { result ≡ 2 → (reader.new ≡ reader.old) × (writer.new ≡ writer.old) }
     ensures stopped { result ≡ 3 → ((reader.new ≡ reader.old) × (writer.new ≡ writer.old))
-        ⊎ StopsEarly (matches_of program_app (texts words.entry.now))
+        ⊎ BreaksOff (matches_of program_app (texts words.entry.now))
         (F.held files.now) (S.remaining reader.old) (S.remaining reader.new)
         (K.contents writer.old) (K.contents writer.new) }
 {
-    match answer(alloc, words, files, reader, writer) {
+    match answer(alloc, words, files, reader, writer, faults) {
         Ok(answered) => summed(alloc, &answered, faults),
         Err(refusal) => told(alloc, &refusal, faults),
     }
@@ -97,19 +104,20 @@ fn given_words<R: Env + AllocGlobal>(rt: &R) -> Result<Vec<String>, ProgramFault
     }
 }
 
-// Reads the words, and answers what they ask for.
-fn answer<'a, F: SchemaFiles, S: ByteSource, K: ByteSink>(
+// Reads the words, tells what is to be told of them, and answers what they ask for.
+fn answer<'a, F: SchemaFiles, S: ByteSource, K: ByteSink, T: ByteSink>(
     alloc: Global,
     words: &'a [&'a str],
     files: &F,
     reader: &mut S,
     writer: &mut K,
+    faults: &mut T,
 ) -> Result<Answered, Refusal<'a>>
-    ensures ok { IfOk result (λ a. AnswersAll (matches_of program_app (texts words.entry.now))
+    ensures ok { IfOk result (λ a. Does (matches_of program_app (texts words.entry.now))
         (F.held files.now) (S.remaining reader.old) (S.remaining reader.new)
-        (K.contents writer.old) (K.contents writer.new) (if a.run.report.any_refused then 1 else 0)) }
+        (K.contents writer.old) (K.contents writer.new) (if a.report.any_refused then 1 else 0)) }
     ensures err { IfErr result (λ e. ((reader.new ≡ reader.old) × (writer.new ≡ writer.old))
-        ⊎ ((status_of e.fault ≡ 3) × StopsEarly (matches_of program_app (texts words.entry.now))
+        ⊎ ((status_of e.fault ≡ 3) × BreaksOff (matches_of program_app (texts words.entry.now))
         (F.held files.now) (S.remaining reader.old) (S.remaining reader.new)
         (K.contents writer.old) (K.contents writer.new))) }
 {
@@ -117,13 +125,39 @@ fn answer<'a, F: SchemaFiles, S: ByteSource, K: ByteSink>(
         Ok(words) => words,
         Err(error) => return Err(Refusal::plain(ProgramFault::from(error))),
     };
-    match answer_words(alloc, &words, files, reader, writer) {
+    if let Ok(text) = warnings(alloc, &words) {
+        write_text(faults, text.as_str());
+    }
+    match follow(alloc, &words, files, reader, writer) {
         Ok(answered) => Ok(answered),
         Err(fault) => Err(Refusal::described(alloc, &words, fault)),
     }
 }
 
-// Answers what the words ask for.
+// Does what the words ask for.
+fn follow<'a, F: SchemaFiles, S: ByteSource, K: ByteSink>(
+    alloc: Global,
+    words: &ProgramWords<'a>,
+    files: &F,
+    reader: &mut S,
+    writer: &mut K,
+) -> Result<Answered, ProgramFault<'a>>
+    ensures ok { IfOk result (λ a. (rows : List Row) → HasWordsOf rows words.now → Does rows
+        (F.held files.now) (S.remaining reader.old) (S.remaining reader.new)
+        (K.contents writer.old) (K.contents writer.new) (if a.report.any_refused then 1 else 0)) }
+    ensures err { IfErr result (λ e. ((reader.new ≡ reader.old) × (writer.new ≡ writer.old))
+        ⊎ ((status_of e ≡ 3) × ((rows : List Row) → HasWordsOf rows words.now → BreaksOff rows
+        (F.held files.now) (S.remaining reader.old) (S.remaining reader.new)
+        (K.contents writer.old) (K.contents writer.new)))) }
+{
+    let Some(file) = words.check else {
+        return answer_words(alloc, words, files, reader, writer);
+    };
+    let report = check_words(alloc, words, file, files, reader, writer)?;
+    Ok(Answered { report, sum: None })
+}
+
+// Answers the instances.
 fn answer_words<'a, F: SchemaFiles, S: ByteSource, K: ByteSink>(
     alloc: Global,
     words: &ProgramWords<'a>,
@@ -133,7 +167,7 @@ fn answer_words<'a, F: SchemaFiles, S: ByteSource, K: ByteSink>(
 ) -> Result<Answered, ProgramFault<'a>>
     ensures ok { IfOk result (λ a. (rows : List Row) → HasWordsOf rows words.now → AnswersAll rows
         (F.held files.now) (S.remaining reader.old) (S.remaining reader.new)
-        (K.contents writer.old) (K.contents writer.new) (if a.run.report.any_refused then 1 else 0)) }
+        (K.contents writer.old) (K.contents writer.new) (if a.report.any_refused then 1 else 0)) }
     ensures err { IfErr result (λ e. ((reader.new ≡ reader.old) × (writer.new ≡ writer.old))
         ⊎ ((status_of e ≡ 3) × ((rows : List Row) → HasWordsOf rows words.now → StopsEarly rows
         (F.held files.now) (S.remaining reader.old) (S.remaining reader.new)
@@ -144,19 +178,21 @@ fn answer_words<'a, F: SchemaFiles, S: ByteSource, K: ByteSink>(
     let names = words.instances.as_slice();
     let done = answer_instances(alloc, form, names, files, reader, writer, &validator)?;
     Ok(Answered {
-        run: done,
-        called: called_in(form, names),
+        report: done.report,
+        sum: sum_in(form, names, done.counts),
     })
 }
 
 // Sums a run up where that is wanted, and answers its status.
 fn summed<T: ByteSink>(alloc: Global, answered: &Answered, faults: &mut T) -> u8
-    ensures { result ≡ (if answered.now.run.report.any_refused then 1 else 0) }
+    ensures { result ≡ (if answered.now.report.any_refused then 1 else 0) }
 {
-    if let Ok(Some(text)) = answered.summary(alloc) {
-        write_text(faults, text.as_str());
+    if let Some(sum) = &answered.sum {
+        if let Ok(text) = sum.text(alloc) {
+            write_text(faults, text.as_str());
+        }
     }
-    answered.run.report.status()
+    answered.report.status()
 }
 
 // Tells a fault, and answers its status.

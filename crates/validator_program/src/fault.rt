@@ -3,6 +3,7 @@
 ghost use Rattle.std.specs.Prelude.{◌≡◌, ◌≤◌};
 ghost use Rattle.validator_program.specs.Status.{status_of};
 
+use answer_checks::CheckError;
 use clap::error::ErrorKind;
 use line_runs::{BuildError, DocumentError, RunError};
 use std::alloc::{AllocError, AllocFailed, Global};
@@ -17,19 +18,27 @@ pub(crate) enum ProgramFault<'a> {
     Words(clap::Error),
     /// A further word without `=`.
     #[error("words refused: {word}")]
-    Word { word: &'a str },
+    Word {
+        word: &'a str,
+    },
     /// A word for the draft that names none.
     #[error("words refused: --draft {word}")]
-    Draft { word: &'a str },
+    Draft {
+        word: &'a str,
+    },
     /// A word for the output that names no form of it.
     #[error("words refused: --output {word}")]
-    Output { word: &'a str },
+    Output {
+        word: &'a str,
+    },
     /// A word that is no text.
     #[error("words refused: a word is no UTF-8")]
     NotText,
     /// A file that is not read, or is no UTF-8.
     #[error("file refused: {name}")]
-    File { name: &'a str },
+    File {
+        name: &'a str,
+    },
     /// The base.
     #[error("build refused: {0}")]
     Base(UriError),
@@ -39,19 +48,41 @@ pub(crate) enum ProgramFault<'a> {
     /// The documents together, or the schema.
     #[error("build refused: {0}")]
     Build(BuildError),
+    /// A file that lists the faults of another number of instances.
+    #[error("answers refused: lines of {name}: {lines}, instances: {instances}")]
+    Count {
+        name: &'a str,
+        instances: usize,
+        lines: usize,
+    },
     /// Reading, writing or memory.
     #[error(transparent)]
     Run(RunError),
 }
 
 impl<'a> ProgramFault<'a> {
-    /// The exit status: 2 where the words, a file or the build were refused, and 3 where reading, writing or memory failed.
+    /// Why what a file lists was not checked.
+    pub(crate) fn of_checks(name: &'a str, error: CheckError) -> ProgramFault<'a>
+        ensures { status_of result ≡ 3 }
+    {
+        match error {
+            CheckError::Count { instances, lines } => ProgramFault::Count {
+                name,
+                instances,
+                lines,
+            },
+            CheckError::Run(error) => ProgramFault::Run(error),
+        }
+    }
+
+    /// The exit status: 2 where the words, a file or the build were refused, and 3 where reading, writing or memory failed, or a file does
+    /// not list the faults of as many instances as there are.
     pub(crate) fn status(&self) -> u8
         ensures value { result ≡ status_of self.now }
         ensures range { (2 ≤ result) × (result ≤ 3) }
     {
         match self {
-            ProgramFault::Run(_) => 3,
+            ProgramFault::Count { .. } | ProgramFault::Run(_) => 3,
             _ => 2,
         }
     }

@@ -19,7 +19,7 @@ use std::alloc::Global;
 /// # Errors
 ///
 /// The first file that is not read, or want of memory.
-fn read_instances<'a, F: SchemaFiles>(
+pub(crate) fn read_instances<'a, F: SchemaFiles>(
     alloc: Global,
     files: &F,
     names: &[&'a str],

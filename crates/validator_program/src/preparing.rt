@@ -1,12 +1,13 @@
 //! The validator of some words and files.
 
-ghost use Rattle.std.specs.Prelude.{◌≡◌, IfOk, Some, option_map};
+ghost use Rattle.std.specs.Prelude.{◌≡◌, [], IfOk, Some, option_map};
 ghost use Rattle.document_sources.specs.Seen.{layer_of};
 ghost use Rattle.line_runs.specs.Passed.{meta_schemas_given};
 ghost use Rattle.schema_drafts.specs.Drafts.{draft_among};
+ghost use Rattle.schema_registries.specs.Roots.{root_on};
 ghost use Rattle.schema_registries.specs.Seen.{documents_given};
 ghost use Rattle.validator_program.specs.Given.{MayBeMetaSchemas, base_of, draft_of, draft_words, words_of};
-ghost use Rattle.validator_program.specs.Built.{default_node_limit};
+ghost use Rattle.validator_program.specs.Built.{IsPreparedOf, default_node_limit};
 ghost use Rattle.validator_program.specs.Prepared.{IsValidatorOf};
 
 use crate::documents::{cut_words, read_documents};
@@ -15,6 +16,7 @@ use crate::meta_files::read_meta_schemas;
 use document_sources::layer::Layer;
 use line_runs::{Documents, Draft, ValidationOptions, Validator};
 use program_inputs::{ProgramWords, SchemaFiles};
+use schema_registries::SchemaRegistry;
 use std::alloc::{AllocError, Global};
 use uri_references::uri::{Uri, from_str};
 
@@ -107,18 +109,27 @@ fn options_of(
     }
 }
 
-/// Builds the validator that the words name.
+/// Documents that are prepared, and how a validator is built on them.
+#[derive(Drop)]
+pub(crate) struct PreparedDocuments {
+    pub(crate) options: ValidationOptions,
+    pub(crate) registry: SchemaRegistry,
+}
+
+/// Prepares the documents that the words name.
 ///
 /// # Errors
 ///
-/// The first that is met: a further word without `=`, the draft, the base, the files and documents in their order, the meta-schemas, the
-/// build; or want of memory.
-pub(crate) fn prepare<'a, F: SchemaFiles>(
+/// The first that is met: a further word without `=`, the draft, the base, the files and documents in their order, the meta-schemas, what
+/// the documents together are refused for; or want of memory.
+pub(crate) fn prepare_documents<'a, F: SchemaFiles>(
     alloc: Global,
     words: &ProgramWords<'a>,
     files: &F,
-) -> Result<Validator, ProgramFault<'a>>
-    ensures { IfOk result (IsValidatorOf (F.held files.now) (words_of words.now)) }
+) -> Result<PreparedDocuments, ProgramFault<'a>>
+    ensures prepared { IfOk result (λ d. IsPreparedOf (F.held files.now) (words_of words.now)
+        d.registry.parent (root_on d.registry [])) }
+    ensures node_limit { IfOk result (λ d. d.options.node_limit ≡ default_node_limit) }
 {
     let further = cut_words(alloc, words.files.as_slice())?;
     let layer = read_layer(words.draft, words.ref_siblings)?;
@@ -133,5 +144,21 @@ pub(crate) fn prepare<'a, F: SchemaFiles>(
     let meta_schemas = read_meta(alloc, files, layer, words.meta)?;
     let options = options_of(alloc, layer, base, meta_schemas)?;
     let registry = options.prepare(&documents)?;
-    Ok(options.build_on(&registry, "")?)
+    Ok(PreparedDocuments { options, registry })
+}
+
+/// Builds the validator that the words name.
+///
+/// # Errors
+///
+/// Those of the documents, the build, or want of memory.
+pub(crate) fn prepare<'a, F: SchemaFiles>(
+    alloc: Global,
+    words: &ProgramWords<'a>,
+    files: &F,
+) -> Result<Validator, ProgramFault<'a>>
+    ensures { IfOk result (IsValidatorOf (F.held files.now) (words_of words.now)) }
+{
+    let documents = prepare_documents(alloc, words, files)?;
+    Ok(documents.options.build_on(&documents.registry, "")?)
 }

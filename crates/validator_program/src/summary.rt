@@ -1,43 +1,45 @@
 //! What is told of a whole run, for people.
 
 use crate::output::OutputForm;
-use line_runs::{FormedRun, LineForm};
+use line_runs::{LineCounts, LineForm, RunReport};
 use std::alloc::{AllocError, Global};
 
-/// A run that came to its end, and what its instances are called where it is summed up.
+/// A run that came to its end.
 #[derive(Clone, Copy, Debug, PartialEq, Eq)]
 pub(crate) struct Answered {
-    pub(crate) run: FormedRun,
-    pub(crate) called: Option<&'static str>,
+    pub(crate) report: RunReport,
+    /// How it is summed up, where that is wanted.
+    pub(crate) sum: Option<Sum>,
 }
 
-impl Answered {
-    /// The line that sums it up, where one is wanted.
-    pub(crate) fn summary(&self, alloc: Global) -> Result<Option<String>, AllocError> {
-        let Some(called) = self.called else {
-            return Ok(None);
-        };
-        let counts = self.run.counts;
-        let text = format!(in alloc;
+/// How many instances were valid, and what they are called.
+#[derive(Clone, Copy, Debug, PartialEq, Eq)]
+pub(crate) struct Sum {
+    called: &'static str,
+    counts: LineCounts,
+}
+
+impl Sum {
+    /// The line that sums a run up.
+    pub(crate) fn text(&self, alloc: Global) -> Result<String, AllocError> {
+        let called = self.called;
+        let counts = self.counts;
+        format!(in alloc;
             "{called}: {}, valid: {}, not valid: {}, not read: {}\n",
             counts.lines(),
             counts.valid,
             counts.refused,
             counts.unread
-        )?;
-        Ok(Some(text))
+        )
     }
 }
 
-/// What instances are called in a summary; none where the form has no summary.
-pub(crate) fn called_in(form: OutputForm, names: &[&str]) -> Option<&'static str> {
+/// How a run is summed up; none where the form has no summary.
+pub(crate) fn sum_in(form: OutputForm, names: &[&str], counts: LineCounts) -> Option<Sum> {
     match form {
         OutputForm::Lines(LineForm::Sentences) => {
-            if names.is_empty() {
-                Some("lines")
-            } else {
-                Some("files")
-            }
+            let called = if names.is_empty() { "lines" } else { "files" };
+            Some(Sum { called, counts })
         }
         _ => None,
     }

@@ -6,7 +6,8 @@ use Rattle.program_inputs.proofs.command.program_command.Goals as goal
 
 pub returns-clause-app : goal.returns-clause-app
 returns-clause-app c =
-    IfOk-weaker c.arg-8.result _ _ (λ m h. h.shape c.instance.ensures.fits.1
+    IfOk-weaker c.arg-9.result _ _ (λ m h. h.shape c.check.ensures.fits.1
+    ∙ ap₂ with_rule (c.in_ok-arg-8.ensures.shape c.instance.ensures.fits.1
     ∙ ap₂ with_rule (c.in_ok-arg-7.ensures.shape c.output.ensures.fits.1
     ∙ ap₂ with_rule (c.in_ok-arg-6.ensures.shape c.ref_siblings.ensures.fits.1
     ∙ ap₂ with_rule (c.in_ok-arg-5.ensures.shape c.meta.ensures.fits.1
@@ -14,13 +15,13 @@ returns-clause-app c =
     ∙ ap₂ with_rule (c.in_ok-arg-3.ensures.shape c.base.ensures.fits.1
     ∙ ap₂ with_rule (c.in_ok-arg-2.ensures.shape c.files.ensures.fits.1
     ∙ ap₂ with_rule (c.in_ok-arg.ensures.shape c.schema.ensures.fits.1 ∙ ap₂ with_rule c.bare.ensures.app c.schema.ensures.rule) c.files.ensures.rule) c.base.ensures.rule) c.draft.ensures.rule) c.meta.ensures.rule)
-    c.ref_siblings.ensures.rule) c.output.ensures.rule) c.instance.ensures.rule)
-    c.arg-8.ensures
+    c.ref_siblings.ensures.rule) c.output.ensures.rule) c.instance.ensures.rule) c.check.ensures.rule)
+    c.arg-9.ensures
 
 pub returns-clause-schema : goal.returns-clause-schema
 returns-clause-schema c =
     let id = λ (r : Rule). r.id in
-    IfOk-weaker c.arg-8.result _ _ (λ m h. has_schema c.schema.result c.files.result c.base.result c.draft.result c.meta.result c.ref_siblings.result c.output.result c.instance.result
+    IfOk-weaker c.arg-9.result _ _ (λ m h. has_schema c.schema.result c.files.result c.base.result c.draft.result c.meta.result c.ref_siblings.result c.output.result c.instance.result c.check.result
     c.bare.result m (
       c.in_ok-arg.field-0,
       c.in_ok-arg.ensures,
@@ -36,7 +37,11 @@ returns-clause-schema c =
             (
               c.in_ok-arg-5.field-0,
               c.in_ok-arg-5.ensures,
-              (c.in_ok-arg-6.field-0, c.in_ok-arg-6.ensures, (c.in_ok-arg-7.field-0, c.in_ok-arg-7.ensures, (m, h, refl))),
+              (
+                c.in_ok-arg-6.field-0,
+                c.in_ok-arg-6.ensures,
+                (c.in_ok-arg-7.field-0, c.in_ok-arg-7.ensures, (c.in_ok-arg-8.field-0, c.in_ok-arg-8.ensures, (m, h, refl))),
+              ),
             ),
           ),
         ),
@@ -52,6 +57,7 @@ returns-clause-schema c =
       sixth = c.ref_siblings.ensures.fits;
       seventh = c.output.ensures.fits;
       eighth = c.instance.ensures.fits;
+      ninth = c.check.ensures.fits;
     })
     c.schema.ensures.value
     (record {
@@ -63,5 +69,6 @@ returns-clause-schema c =
       sixth = ap id c.ref_siblings.ensures.rule;
       seventh = ap id c.output.ensures.rule;
       eighth = ap id c.instance.ensures.rule;
+      ninth = ap id c.check.ensures.rule;
     }))
-    c.arg-8.ensures
+    c.arg-9.ensures

@@ -21,4 +21,5 @@ returns c =
       output = c.get_str-6.ensures ∙ first_value-rows f (codes "output");
       instances = ap texts c.in_ok-from_slice-2.ensures.items ∙ ap (λ s. texts s.now) c.unwrap_or-2.ensures ∙ texts_or_none c.get_strs-2.result _ refl
           ∙ ap (λ o. unwrap_or o []) (c.get_strs-2.ensures ∙ raw_values-rows f (codes "instance"));
+      check = c.get_str-7.ensures ∙ first_value-rows f (codes "check");
     }
