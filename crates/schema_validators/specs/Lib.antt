@@ -18,3 +18,4 @@ pub mod Hashes
 pub mod Maps
 pub mod Mapped
 pub mod Agreed
+pub mod Described

@@ -50,6 +50,17 @@ impl From<AllocError> for BuildError {
     }
 }
 
+impl From<DocumentError> for BuildError {
+    ghost from_gives = { IsOfDocument };
+
+    fn from(error: DocumentError) -> BuildError {
+        match error {
+            DocumentError::Memory => BuildError::Memory,
+            error => BuildError::Document(error),
+        }
+    }
+}
+
 /// Why a value is not answered.
 #[derive(Debug, Drop)]
 pub enum NumberError {
@@ -83,16 +94,6 @@ impl fmt::Display for NumberError {
 impl std::error::Error for NumberError {}
 
 impl BuildError {
-    /// The error of a schema that is no document.
-    pub(crate) fn of_document(error: DocumentError) -> BuildError
-        ensures { IsOfDocument error result }
-    {
-        match error {
-            DocumentError::Memory => BuildError::Memory,
-            error => BuildError::Document(error),
-        }
-    }
-
     /// The error of documents that are refused.
     pub(crate) fn of_registry(error: ReferenceError) -> BuildError
         ensures { IsOfRegistry error result }

@@ -7,6 +7,7 @@
 mod agreement;
 mod building;
 mod checker;
+mod describing;
 mod error;
 mod mapping;
 mod meta_schema;

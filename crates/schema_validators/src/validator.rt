@@ -92,7 +92,7 @@ impl<M: PatternMatcher> Validator<M> {
         let mut documents = Documents::new(alloc);
         match documents.add("", schema) {
             Ok(()) => options.build(&documents, ""),
-            Err(error) => Err(BuildError::of_document(error)),
+            Err(error) => Err(BuildError::from(error)),
         }
     }
 
