@@ -24,6 +24,8 @@ mod texts;
 #[cfg(test)]
 mod warnings;
 #[cfg(test)]
+mod watched;
+#[cfg(test)]
 mod whole;
 #[cfg(test)]
 mod words;
