@@ -14,6 +14,8 @@ mod building;
 #[cfg(test)]
 mod cases;
 #[cfg(test)]
+mod describing;
+#[cfg(test)]
 mod dialects;
 #[cfg(test)]
 mod drafts;
