@@ -18,7 +18,7 @@ fn carried(rt: &impl Abort, alloc: Global, error: DocumentError) -> String {
     match error {
         DocumentError::InvalidUri(error) => refused_text(error),
         DocumentError::OtherNumber { path, .. } => pointer_of(rt, alloc, &path),
-        DocumentError::JsonText { uri } => uri,
+        DocumentError::JsonText { uri, .. } => uri,
         DocumentError::Memory => String::new(alloc),
     }
 }
