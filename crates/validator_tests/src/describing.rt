@@ -220,9 +220,9 @@ const TEXTS: [(&str, &str, &str); 8] = [
 
 #[test]
 fn documents(rt: HostRuntime) {
-    for (uri, text, words) in TEXTS {
+    for (uri, text, words) in &TEXTS {
         let found = described(&rt, rt.alloc(), &added(rt.alloc(), uri, text));
-        assert!(rt; found.as_str() == words, "{found}\nand not\n{words}");
+        assert!(rt; found.as_str() == *words, "{found}\nand not\n{words}");
     }
     let found = DocumentError::Memory.description(rt.alloc());
     assert!(rt; found.expect(&rt, "memory").as_str() == "No memory");

@@ -5,7 +5,8 @@ use std::process::Abort;
 
 fn refused_text(error: UriError) -> String {
     match error {
-        UriError::Parse { uri } | UriError::Resolve { uri, .. } => uri,
+        UriError::Parse { uri } => uri,
+        UriError::Resolve { uri, base: _base } => uri,
     }
 }
 
