@@ -1,20 +1,19 @@
 -- Members that are walked in the order of their names.
-use Rattle.std.proofs.Common.{◌≡◌, ◌∙◌, ℕ, List, [], ◌∷◌, true, Option, None, Some, String, Global, Ordering, Less, Equal, Greater, refl, sym, ap}
+use Rattle.std.proofs.Common.{◌≡◌, ◌∙◌, ℕ, List, [], ◌∷◌, true, Option, None, Some, String, Global, Ordering, Less, Equal, Greater, bytes_eq, refl, sym, ap}
 use Rattle.std.proofs.lemmas.Cmp.{nat_list_cmp_total}
-use Rattle.std.specs.Bool.{◌==◌}
+use Rattle.std.proofs.lemmas.Slice.Eq.{bytes_eq-Decides}
 use Rattle.std.specs.Borrow.{Bor}
 use Rattle.std.specs.Prelude.{MatchOption}
 use Rattle.serde_json.specs.View.{members_view}
 use Rattle.serde_json.specs.declared.value.Value.{Value}
 use Rattle.std.specs.Cmp.{first_so, second_so}
 use Rattle.std.specs.Cmp.Lexicographic.{slice_cmp}
-use Rattle.std.specs.Ordering.{nat_cmp, is_lt, ordering_reverse, ordering_index}
+use Rattle.std.specs.Ordering.{nat_cmp, is_lt, ordering_reverse}
 use Rattle.serde_json.specs.Data.{Data, Members, member}
 use Rattle.serde_json.specs.Find.{get, get_member}
 use Rattle.json_values.specs.Equality.{rises_from}
-use Rattle.json_values.proofs.Names.{both, name_same, get_same, get_greater}
+use Rattle.json_values.proofs.Names.{both, get_same, get_greater}
 use Rattle.json_values.proofs.Kept.{behind_none}
-use Rattle.schema_meaning.specs.Questions.{each_declared}
 use Rattle.json_values.specs.Rising.{are_rising}
 use Rattle.compiled_keywords.specs.declared.walk.Walk.{Walk}
 use Rattle.compiled_keywords.specs.Walked.{left_from, left_of, is_behind, rise_behind, IsInStep}
@@ -23,17 +22,6 @@ less_of : (o : Ordering) → is_lt o ≡ true → o ≡ Less
 less_of Less h = refl
 less_of Equal h = cc
 less_of Greater h = cc
-
--- orders as the code compares them
-pub is_less : (o : Ordering) → (ordering_index o == 0) ≡ true → o ≡ Less
-is_less Less h = refl
-is_less Equal h = cc
-is_less Greater h = cc
-
-pub is_tie : (o : Ordering) → (ordering_index o == 1) ≡ true → o ≡ Equal
-is_tie Less h = cc
-is_tie Equal h = refl
-is_tie Greater h = cc
 
 module _ (n : List ℕ) (e : Data) (ms : Members) where
   rising_rest : (p : Option (Bor (List ℕ))) → rise_behind p (member n e ms) ≡ true → rises_from n ms ≡ true
@@ -67,11 +55,6 @@ module _ (n : List ℕ) (e : Data) (ms : Members) where
         let turned : slice_cmp nat_cmp k n ≡ Greater = nat_list_cmp_total.antisymm k n ∙ ap ordering_reverse (less_of (slice_cmp nat_cmp n k) behind) in
         sym (get_greater k n e ms turned) ∙ same k (further p k (behind_first p rising) behind)
 
--- no member is declared of a value that has none
-pub none_declared : {S : Type 0} (k : List ℕ) (d : Data) (ps : List (List ℕ × S)) → ((n : List ℕ) → get n d ≡ None) → each_declared k d ps ≡ []
-none_declared k d [] none = refl
-none_declared k d (p ∷ ps) none = rw (none p.0) (none_declared k d ps none)
-
 -- what is left, by what the iterator gave
 pub left_is : (r : Option (Bor (String Global) × Bor Value)) (before after : List (String Global × Value)) → MatchOption r ((before ≡ []) × (after ≡ [])) (λ x. before ≡ (x.0.now, x.1.now) ∷ after)
     → left_from r (members_view after) ≡ members_view before
@@ -85,11 +68,11 @@ module _ (w : Walk) (d : Data) (step : IsInStep w d) (n : List ℕ) (e : Data) (
   same : (k : List ℕ) → is_behind w.passed k ≡ true → get_member k (member n e ms) ≡ get k d
   same k behind = ap (get_member k) (sym next) ∙ step.same k behind
 
-  pub none_left : (k : List ℕ) → slice_cmp nat_cmp k n ≡ Less → get_member k (left_of w) ≡ None
-  none_left k less = ap (get_member k) next ∙ none_before n e ms w.passed k rising less
+  pub none_left : (k : List ℕ) → is_lt (slice_cmp nat_cmp k n) ≡ true → get_member k (left_of w) ≡ None
+  none_left k less = ap (get_member k) next ∙ none_before n e ms w.passed k rising (less_of (slice_cmp nat_cmp k n) less)
 
-  pub found_next : (k : List ℕ) → slice_cmp nat_cmp k n ≡ Equal → get k d ≡ Some e
-  found_next k tie = ap (λ (m : List ℕ). get m d) (name_same k n tie) ∙ next_there n e ms w.passed d rising same
+  pub found_next : (k : List ℕ) → bytes_eq k n ≡ true → get k d ≡ Some e
+  found_next k is = ap (λ (m : List ℕ). get m d) ((bytes_eq-Decides k n).0 is) ∙ next_there n e ms w.passed d rising same
 
   pub passed_on : (v : Walk) (p : Bor (List ℕ)) → v.passed ≡ Some p → p.now ≡ n → left_of v ≡ ms → IsInStep v d
   passed_on v p passed is left = record {

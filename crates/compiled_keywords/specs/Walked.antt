@@ -33,7 +33,3 @@ rise_behind (Some p) ms = rises_from p.now ms
 pub record IsInStep (w : Walk) (d : Data) : Type 0 where
   pub rising : rise_behind w.passed (left_of w) ≡ true
   pub same : (k : List ℕ) → is_behind w.passed k ≡ true → get_member k (left_of w) ≡ get k d
-
-abbrev pub StartsIn : Option Walk → Data → Type 0
-StartsIn None d = (k : List ℕ) → get k d ≡ None
-StartsIn (Some w) d = IsInStep w d

@@ -15,7 +15,7 @@ ghost use Rattle.compiled_keywords.specs.Seen.{Puts};
 use crate::asks::Declared;
 use crate::patterns::is_declared;
 use crate::subschemas::{Dependency, NamedDependency, NamedNode, PatternNode};
-use crate::walk::Walk;
+use crate::walk::{member_in, walk_for};
 use schema_engine::matching::Matching;
 use schema_engine::place::{Asked, Place, Question};
 use serde_json::{Map, Value};
@@ -49,12 +49,10 @@ pub(crate) fn push_declared<'q, 'i: 'q>(
 ) -> Result<(), AllocError>
     ensures { OnOk result ((k : List ℕ) → Puts (name_at k (map named nodes.now)) into.old.items into.new.items (map alone (each_declared k (value_at place.entry) (map named nodes.now)))) }
 {
-    let Some(mut walk) = Walk::of(place) else {
-        return Ok(());
-    };
+    let mut walk = walk_for(nodes.len(), place);
     for (index, named) in nodes.iter().enumerate() {
         let name = named.name.as_str();
-        if let Some(member) = walk.find(place, name) {
+        if let Some(member) = member_in(&mut walk, place, name) {
             into.push(Question {
                 node: named.node,
                 asked: Asked::Member { name, member },

@@ -11,9 +11,8 @@ use Rattle.schema_engine.specs.declared.place.Asked.TheVariants as asked
 use Rattle.compiled_keywords.specs.Forms.{alone, name_at}
 use Rattle.compiled_keywords.specs.Owned.{named}
 use Rattle.compiled_keywords.proofs.MemberLemmas.{name_there, declared_absent, declared_there}
-use Rattle.compiled_keywords.proofs.PushLemmas.{put_nothing, put_same, put_next, put_done}
-use Rattle.compiled_keywords.proofs.WalkLemmas.{none_declared}
-use Rattle.compiled_keywords.proofs.members.push_declared.Goals.{in-Some-find+in_ok-push, in_default-find}
+use Rattle.compiled_keywords.proofs.PushLemmas.{put_same, put_next, put_done}
+use Rattle.compiled_keywords.proofs.members.push_declared.Goals.{in-Some+in_ok-push, in_default}
 use Rattle.compiled_keywords.proofs.members.push_declared.Goals as goal
 
 pub loop-index-preserved : goal.loop-index-preserved
@@ -27,26 +26,23 @@ loop-index-preserved c =
     let short = c.loop-index-test.true in
     let name : c.as_str-name.result.now ≡ string_bytes p.name = c.as_str-name.ensures.value in
     record {
-      step = c.find.ensures.step;
+      step = c.member_in.ensures.step;
       left = λ k.
           let more = map alone (each_declared k d (map named (drop (i + 1) nodes))) in
           let part = name_there k named nodes i p short is in
-          elim c.match-find.branch [
-            | in-Some-find+in_ok-push w ↦
-                (let e = view w.in-Some-find.member.now in
-                let there : get (named p).0 d ≡ Some e = ap (λ n. get n d) (sym name) ∙ sym w.in-Some-find.ensures.there in
+          elim c.match-member_in.branch [
+            | in-Some+in_ok-push w ↦
+                (let e = view w.in-Some.member.now in
+                let there : get (named p).0 d ≡ Some e = ap (λ n. get n d) (sym name) ∙ sym w.in-Some.ensures.there in
                 let next = declared_there k d nodes i p short is e there
                 ∙ ap₂ (λ (n : List ℕ) (r : List Part). (true, record { site = p.node; step = to_member n e; added = r; follows = false }) ∷ more) (sym name) (sym part) in
-                put_next (name_at k (map named nodes)) _ _ _ (record { node = p.node; asked = asked.Member c.as_str-name.result w.in-Some-find.member; follows = false; beside = true; entry = i }) _ more _ next
+                put_next (name_at k (map named nodes)) _ _ _ (record { node = p.node; asked = asked.Member c.as_str-name.result w.in-Some.member; follows = false; beside = true; entry = i }) _ more _ next
                 (l.invariant.left k) (ap (λ (v : Vec Question Global). v.items) w.into-is ∙ w.in_ok-push.ensures.items))
-            | in_default-find w ↦
-                (let none : get (named p).0 d ≡ None = ap (λ n. get n d) (sym name) ∙ sym w.in_default-find.ensures.there in
+            | in_default w ↦
+                (let none : get (named p).0 d ≡ None = ap (λ n. get n d) (sym name) ∙ sym w.in_default.ensures.there in
                 rw w.into-is (put_same (name_at k (map named nodes)) _ _ _ more _ (declared_absent k d nodes i p short is none) (l.invariant.left k)))
           ];
     }
-
-pub returns-in_default : goal.returns-in_default
-returns-in_default c = λ k. put_nothing _ _ _ (ap (map alone) (none_declared k (value_at c.args.place) (map named c.args.nodes.now) c.in_default.ensures))
 
 pub returns : goal.returns
 returns c = λ k.

@@ -6,7 +6,7 @@ use Rattle.schema_engine.specs.Places.{value_at}
 use Rattle.json_values.specs.Rising.{are_rising}
 use Rattle.json_values.proofs.Walked.{entries_rise}
 use Rattle.compiled_keywords.proofs.WalkLemmas.{left_is, first_in_step}
-use Rattle.compiled_keywords.proofs.walk.Walk.of.Goals as goal
+use Rattle.compiled_keywords.proofs.walk.walk_for.Goals as goal
 
 pub returns-in-Object : goal.returns-in-Object
 returns-in-Object c =
