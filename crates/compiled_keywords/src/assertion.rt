@@ -1,6 +1,7 @@
 //! Compiled keywords that only assert.
 ghost use Rattle.std.specs.Prelude.{◌≡◌, ℕ, List, Bool, IfOk, map, string_bytes};
 ghost use Rattle.std.specs.List.{filter, flat_map};
+ghost use Rattle.serde_json.specs.Data.{string};
 ghost use Rattle.serde_json.specs.Find.{get};
 ghost use Rattle.serde_json.specs.View.{view, items_view};
 ghost use Rattle.json_values.specs.Equality.{is_among as is_equal_to_some};
@@ -31,6 +32,7 @@ pub enum Assertion {
 }
 
 // Whether a value equals one of these.
+#[inline(never)]
 pub(crate) fn is_among(options: &[Value], value: &Value) -> bool
     ensures { result ≡ is_equal_to_some (view value.now) (items_view options.now) }
 {
@@ -52,6 +54,7 @@ pub(crate) fn lacks(value: &Value, name: &str) -> bool
     }
 }
 
+#[inline(never)]
 fn lacks_none(names: &[String], value: &Value) -> bool
     ensures { result ≡ is_empty (filter (λ k. none_there (get k (view value.now))) (map string_bytes names.now)) }
 {
@@ -84,6 +87,7 @@ fn has_all_beside(name: &str, names: &[String], value: &Value) -> bool
     }
 }
 
+#[inline(never)]
 fn has_needed(entries: &[NeededNames], value: &Value) -> bool
     ensures { result ≡ is_empty (missing_beside (map needed_by entries.now) (view value.now)) }
 {
@@ -105,6 +109,7 @@ fn has_named(entry: &NamedDependency, value: &Value) -> bool
 }
 
 // Whether no name is missing beside the names of the entries that list some.
+#[inline(never)]
 pub(crate) fn has_dependencies(entries: &[NamedDependency], value: &Value) -> bool
     ensures { result ≡ is_empty (flat_map (λ p. if_member (get p.0 (view value.now)) (λ e. needed (view value.now) p.1)) (map depending entries.now)) }
 {
@@ -144,10 +149,16 @@ impl Assertion {
     {
         match place {
             Place::Value(value) => self.accept(alloc, value),
-            Place::Name(name) => {
-                let text = Value::String(String::from_str(alloc, name)?);
-                self.accept(alloc, &text)
-            }
+            Place::Name(name) => self.accept_name(alloc, name),
         }
+    }
+
+    // The same of a name. It stands apart, so that no value waits for what a name needs.
+    #[inline(never)]
+    fn accept_name(&self, alloc: Global, name: &str) -> Result<bool, AllocError>
+        ensures { IfOk result (λ b. (matches : List ℕ → List ℕ → Bool) → b ≡ is_empty (wrong matches (assertion_of self.now) (string name.now))) }
+    {
+        let text = Value::String(String::from_str(alloc, name)?);
+        self.accept(alloc, &text)
     }
 }

@@ -26,6 +26,15 @@ told {"c":1} => valid
 
 document <> {"allOf":[{"$ref":"#/$defs/n"}],"$defs":{"n":{"type":"object","properties":{"x":{"$ref":"#"}}}}}
 told {"x":{"x":1}} => #/x/x #/allOf/0/$ref/properties/x/$ref/allOf/0/$ref/properties/x/$ref/allOf/0/$ref/type
+
+# more names than are looked up one by one
+document <> {"properties":{"":false,"b":false,"d":false,"e":false,"o":false,"p":false,"z":false}}
+told {} => valid
+told [0] => valid
+told {"":1,"a":1,"b":1,"e":1,"f":1,"zz":1} => #/ #/properties/, #/b #/properties/b, #/e #/properties/e
+told {"e":1,"f":1,"g":1,"h":1,"i":1,"j":1,"k":1,"l":1,"m":1,"n":1,"o":1,"q":1,"z":1} => #/e #/properties/e, #/o #/properties/o, #/z #/properties/z
+told {"f":1,"g":1,"h":1,"i":1,"j":1,"k":1,"l":1,"m":1,"n":1,"nn":1,"y":1} => valid
+told {"a":1,"c":1,"d":1} => #/d #/properties/d
 "##;
 
 #[test]
