@@ -6,5 +6,6 @@ pub mod AcceptLemmas
 pub mod MemberLemmas
 pub mod TellLemmas
 pub mod PushLemmas
+pub mod WalkLemmas
 pub mod LeadLemmas
 pub mod CheckLemmas

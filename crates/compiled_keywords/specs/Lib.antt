@@ -9,3 +9,4 @@ pub mod Told
 pub mod Nodes
 pub mod Checks
 pub mod Tables
+pub mod Walked

@@ -18,3 +18,4 @@ mod patterns;
 mod reasons;
 mod rules;
 pub mod subschemas;
+mod walk;

@@ -15,13 +15,14 @@ ghost use Rattle.compiled_keywords.specs.Seen.{Puts};
 use crate::asks::Declared;
 use crate::patterns::is_declared;
 use crate::subschemas::{Dependency, NamedDependency, NamedNode, PatternNode};
+use crate::walk::{member_in, walk_for};
 use schema_engine::matching::Matching;
 use schema_engine::place::{Asked, Place, Question};
 use serde_json::{Map, Value};
 use std::alloc::AllocError;
 
 // The member of a name, where there is one.
-fn member_at<'i>(place: Place<'i>, name: &str) -> Option<&'i Value>
+pub(crate) fn member_at<'i>(place: Place<'i>, name: &str) -> Option<&'i Value>
     ensures { option_map (λ v. view v.now) result ≡ get name.now (value_at place.entry) }
 {
     match place {
@@ -48,9 +49,10 @@ pub(crate) fn push_declared<'q, 'i: 'q>(
 ) -> Result<(), AllocError>
     ensures { OnOk result ((k : List ℕ) → Puts (name_at k (map named nodes.now)) into.old.items into.new.items (map alone (each_declared k (value_at place.entry) (map named nodes.now)))) }
 {
+    let mut walk = walk_for(nodes.len(), place);
     for (index, named) in nodes.iter().enumerate() {
         let name = named.name.as_str();
-        if let Some(member) = member_at(place, name) {
+        if let Some(member) = member_in(&mut walk, place, name) {
             into.push(Question {
                 node: named.node,
                 asked: Asked::Member { name, member },

@@ -16,7 +16,7 @@ use Rattle.compiled_keywords.proofs.members.push_declared.Goals.{in-Some+in_ok-p
 use Rattle.compiled_keywords.proofs.members.push_declared.Goals as goal
 
 pub loop-index-preserved : goal.loop-index-preserved
-loop-index-preserved c = λ k.
+loop-index-preserved c =
     let l = c.loop-index in
     let d = value_at c.args.place in
     let nodes = c.args.nodes.now in
@@ -25,23 +25,27 @@ loop-index-preserved c = λ k.
     let is = c.index-nodes-index.is in
     let short = c.loop-index-test.true in
     let name : c.as_str-name.result.now ≡ string_bytes p.name = c.as_str-name.ensures.value in
-    let more = map alone (each_declared k d (map named (drop (i + 1) nodes))) in
-    let part = name_there k named nodes i p short is in
-    elim c.match-member_at.branch [
-      | in-Some+in_ok-push w ↦
-          (let e = view w.in-Some.member.now in
-          let there : get (named p).0 d ≡ Some e = ap (λ n. get n d) (sym name) ∙ sym w.in-Some.ensures in
-          let next = declared_there k d nodes i p short is e there
-          ∙ ap₂ (λ (n : List ℕ) (r : List Part). (true, record { site = p.node; step = to_member n e; added = r; follows = false }) ∷ more) (sym name) (sym part) in
-          put_next (name_at k (map named nodes)) _ _ _ (record { node = p.node; asked = asked.Member c.as_str-name.result w.in-Some.member; follows = false; beside = true; entry = i }) _ more _ next
-          (l.invariant k) (ap (λ (v : Vec Question Global). v.items) w.into-is ∙ w.in_ok-push.ensures.items))
-      | in_default w ↦
-          (let none : get (named p).0 d ≡ None = ap (λ n. get n d) (sym name) ∙ sym w.in_default.ensures in
-          rw w.into-is (put_same (name_at k (map named nodes)) _ _ _ more _ (declared_absent k d nodes i p short is none) (l.invariant k)))
-    ]
+    record {
+      step = c.member_in.ensures.step;
+      left = λ k.
+          let more = map alone (each_declared k d (map named (drop (i + 1) nodes))) in
+          let part = name_there k named nodes i p short is in
+          elim c.match-member_in.branch [
+            | in-Some+in_ok-push w ↦
+                (let e = view w.in-Some.member.now in
+                let there : get (named p).0 d ≡ Some e = ap (λ n. get n d) (sym name) ∙ sym w.in-Some.ensures.there in
+                let next = declared_there k d nodes i p short is e there
+                ∙ ap₂ (λ (n : List ℕ) (r : List Part). (true, record { site = p.node; step = to_member n e; added = r; follows = false }) ∷ more) (sym name) (sym part) in
+                put_next (name_at k (map named nodes)) _ _ _ (record { node = p.node; asked = asked.Member c.as_str-name.result w.in-Some.member; follows = false; beside = true; entry = i }) _ more _ next
+                (l.invariant.left k) (ap (λ (v : Vec Question Global). v.items) w.into-is ∙ w.in_ok-push.ensures.items))
+            | in_default w ↦
+                (let none : get (named p).0 d ≡ None = ap (λ n. get n d) (sym name) ∙ sym w.in_default.ensures.there in
+                rw w.into-is (put_same (name_at k (map named nodes)) _ _ _ more _ (declared_absent k d nodes i p short is none) (l.invariant.left k)))
+          ];
+    }
 
 pub returns : goal.returns
 returns c = λ k.
     let nodes = c.args.nodes.now in
     let i = c.loop-index.index in
-    put_done (name_at k (map named nodes)) _ _ _ _ (at_drop_all (λ ns. map alone (each_declared k (value_at c.args.place) (map named ns))) nodes i (omega (arith, c.loop-index-test.false))) (c.loop-index.invariant k)
+    put_done (name_at k (map named nodes)) _ _ _ _ (at_drop_all (λ ns. map alone (each_declared k (value_at c.args.place) (map named ns))) nodes i (omega (arith, c.loop-index-test.false))) (c.loop-index.invariant.left k)
