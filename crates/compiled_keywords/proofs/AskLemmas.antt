@@ -1,5 +1,5 @@
 -- What a compiled keyword asks where that is simple.
-use Rattle.std.proofs.Common.{◌≡◌, ◌∙◌, ℕ, List, [], ◌∷◌, Bool, Global, map, drop, refl, sym, ap}
+use Rattle.std.proofs.Common.{◌≡◌, ◌∙◌, ℕ, List, [], ◌∷◌, Bool, map, drop, refl, sym, ap}
 use Rattle.serde_json.specs.Data.{Data}
 use Rattle.serde_json.specs.View.{items_view}
 use Rattle.serde_json.specs.declared.value.Value.{Value}
@@ -15,7 +15,6 @@ use Rattle.compiled_keywords.specs.Rules.{combination_by}
 use Rattle.compiled_keywords.specs.Shapes.{shape_of}
 use Rattle.compiled_keywords.specs.declared.applicator.Applicator.{Applicator}
 use Rattle.compiled_keywords.specs.declared.asks.Asks.TheVariants as asking
-use Rattle.compiled_keywords.specs.declared.assertion.Assertion.{Assertion}
 use Rattle.compiled_keywords.specs.declared.keyword.Keyword.{Keyword}
 use Rattle.compiled_keywords.specs.declared.keyword.Keyword.TheVariants as keyword
 use Rattle.compiled_keywords.specs.declared.keyword.ReferenceKind.{ReferenceKind}
