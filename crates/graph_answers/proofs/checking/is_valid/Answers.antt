@@ -12,7 +12,7 @@ use Rattle.schema_engine.specs.declared.node.Node.{Node}
 use Rattle.schema_patterns.specs.declared.table.PatternTable.{PatternTable}
 use Rattle.graph_answers.specs.Tables.{table_reads, matches_of}
 use Rattle.graph_answers.proofs.TableReads.{reads_in_each}
-use Rattle.graph_answers.specs.Answers.{IsAnswer, IsVerdict, IsCertified}
+use Rattle.graph_answers.specs.Answers.{IsVerdict, IsCertified}
 use Rattle.graph_answers.proofs.Joined.{answered, is_verdict, is_certified}
 use Rattle.graph_answers.proofs.checking.is_valid.Goals as goal
 

@@ -25,7 +25,7 @@ reads_answer table number text c k b forms at is told rest =
 
 pub returns-in_default-clause-read : goal.returns-in_default-clause-read
 returns-in_default-clause-read c rest =
-    read_in_each finds_by_regex c.args.self.now.table.now rest _ c.args.text.now false
+    read_in_each finds_by_regex c.args.self.now.table.now rest (table_texts (texts_of_table c.args.self.now.table.now) c.args.pattern) c.args.text.now false
     (reads_nothing finds_by_regex c.args.self.now.table.now (table_texts (texts_of_table c.args.self.now.table.now) c.args.pattern) c.args.text.now
     (sym c.in_default.ensures.found) c.in_default.ensures.absent)
 
