@@ -1,6 +1,7 @@
 -- Where one document can be moved into the other, no URI is borne by both, and a root that builds by itself stands alone.
-use Rattle.std.proofs.Common.{◌≡◌, ◌∙◌, ℕ, List, [], ◌∷◌, ◌++◌, map, inl, inr, true, codes, reverse, Option, Some, None, is_some, refl, sym, ap, subst}
+use Rattle.std.proofs.Common.{◌≡◌, ◌∙◌, ℕ, List, [], ◌∷◌, ◌++◌, ◌||◌, map, inl, inr, Bool, true, false, bytes_eq, codes, reverse, Option, Some, None, is_some, refl, sym, ap, subst}
 use Rattle.std.proofs.lemmas.List.{reverse-append}
+use Rattle.std.proofs.lemmas.Slice.Eq.{bytes_eq-Decides}
 use Rattle.serde_json.specs.Data.{Data}
 use Rattle.json_values.specs.Parts.{Part, name}
 use Rattle.json_values.specs.Pointers.{value_at}
@@ -9,6 +10,7 @@ use Rattle.schema_meaning.specs.Members.{In}
 use Rattle.schema_definitions.specs.Places.{Dialect, SchemaPlace, places}
 use Rattle.schema_definitions.specs.Bearers.{Standing, by_default, standings, bears, last_standing, bearer, meta}
 use Rattle.document_laws.proofs.Listed.{in_either, of_in}
+use Rattle.document_laws.proofs.Levels.{root_among}
 use Rattle.document_laws.proofs.TargetPlaces.{PlaceInside, places_inside}
 use Rattle.added_documents.specs.Added.{Joined, neither, one_kept, one_added, EachNamedBy, IsToldAlike, IsFree, LeftAlone}
 use Rattle.added_documents.proofs.Walking.{same_last}
@@ -16,11 +18,15 @@ use Rattle.moved_documents.specs.Forms.{Pair, document_at, root_alone, moved_alo
 use Rattle.moved_documents.specs.Premises.{CanMove}
 use Rattle.moved_documents.specs.Laws.{RootStandsAlone}
 use Rattle.moved_documents.proofs.Twins.{IsUnder}
-use Rattle.moved_documents.proofs.Roots.{moved_path, nothing_there}
+use Rattle.moved_documents.proofs.Roots.{the_root, the_moved, root_is, moved_is, moved_path, nothing_there}
 use Rattle.moved_documents.proofs.Placed.{OfRoot, both_roots, both_below, OfMoved, moved_root, moved_below, root_has, moved_has}
 use Rattle.moved_documents.proofs.Standings.{standing, in_mapped, found_last, root_name, moved_name, root_alike, moved_alike, inside_listed}
 use Rattle.moved_documents.proofs.Told.{told, tell, once}
 use Rattle.moved_documents.proofs.Settled.{stands_alone}
+
+first_or : (a b : Bool) → a ≡ true → (a || b) ≡ true
+first_or true b e = refl
+first_or false b e = (let no : false ≡ true = e in cc)
 
 -- a place of one document, among what stands in it alone
 record IsPlaceOf (document : List ℕ) (ps : List SchemaPlace) (s : Standing) : Type 0 where
@@ -69,6 +75,21 @@ module _ (p : Pair) (draft : Draft) (whole : Data) (can : CanMove p draft whole)
 
   -- ---- no URI is borne by both
 
+  both_places : (uri : List ℕ) (x z : SchemaPlace) → In x root_places → In z moved_places → bears uri (standing (root_name p draft whole can there) x) ≡ true
+      → bears uri (standing (moved_name p draft whole can there) z) ≡ true → ⊥
+  both_places uri x z i j e f =
+      let document = root_name p draft whole can there in
+      let y = root_has p draft whole can there x i in
+      let w = moved_has p draft whole can there z j in
+      let first : bears uri (standing document y.0) ≡ true = sym ((root_alike p draft whole can there x y.0 y.2).bears_alike uri) ∙ e in
+      let second : bears uri (standing document w.0) ≡ true = sym ((moved_alike p draft whole can there z w.0 w.2).bears_alike uri) ∙ f in
+      let one : standing document y.0 ≡ standing document w.0 =
+      (once p draft whole can).uris uri (standing document y.0) (standing document w.0) (inside_listed p draft whole can there y.0 y.1) (inside_listed p draft whole can there w.0 w.1)
+      first second in
+      let path : x.path ≡ w.0.path = same_path x y.0 y.2 ∙ ap (λ (r : Standing). r.place.path) one in
+      let u = under z w.0 w.2 in
+      never_under x i (record { parts = u.parts; is = path ∙ u.is })
+
   both_bear : (uri : List ℕ) (s t : Standing) → last_standing (bears uri) there (root_alone p) ≡ Some s → last_standing (bears uri) there (moved_alone p) ≡ Some t → ⊥
   unfolding standings
   both_bear uri s t e f =
@@ -76,19 +97,23 @@ module _ (p : Pair) (draft : Draft) (whole : Data) (can : CanMove p draft whole)
       let other = found_last (bears uri) (standings there (moved_alone p)) t f in
       let x = place_of (root_name p draft whole can there) root_places s last.among in
       let z = place_of (moved_name p draft whole can there) moved_places t other.among in
-      let y = root_has p draft whole can there x.place x.among in
-      let w = moved_has p draft whole can there z.place z.among in
-      let document = root_name p draft whole can there in
-      let first : bears uri (standing document y.0) ≡ true =
-      sym ((root_alike p draft whole can there x.place y.0 y.2).bears_alike uri) ∙ sym (ap (bears uri) x.is) ∙ last.passes in
-      let second : bears uri (standing document w.0) ≡ true =
-      sym ((moved_alike p draft whole can there z.place w.0 w.2).bears_alike uri) ∙ sym (ap (bears uri) z.is) ∙ other.passes in
-      let one : standing document y.0 ≡ standing document w.0 =
-      (once p draft whole can).uris uri (standing document y.0) (standing document w.0) (inside_listed p draft whole can there y.0 y.1) (inside_listed p draft whole can there w.0 w.1)
-      first second in
-      let path : x.place.path ≡ w.0.path = same_path x.place y.0 y.2 ∙ ap (λ (r : Standing). r.place.path) one in
-      let u = under z.place w.0 w.2 in
-      never_under x.place x.among (record { parts = u.parts; is = path ∙ u.is })
+      both_places uri x.place z.place x.among z.among (sym (ap (bears uri) x.is) ∙ last.passes) (sym (ap (bears uri) z.is) ∙ other.passes)
+
+  -- so their own are two
+  pub uris_apart : bytes_eq p.root_uri p.moved_uri ≡ false
+  uris_apart = by (bytes_eq p.root_uri p.moved_uri) refl
+    where
+      by : (b : Bool) → bytes_eq p.root_uri p.moved_uri ≡ b → bytes_eq p.root_uri p.moved_uri ≡ false
+      by false is = is
+      by true is =
+          let root = root_is p draft whole can there in
+          let moved = moved_is p draft whole can there in
+          let x = the_root p draft whole can there in
+          let z = the_moved p draft whole can there in
+          absurd
+          (both_places p.moved_uri x z (subst (λ (q : SchemaPlace). In q root_places) root (root_among there p.root_uri (by_default p.layer) p.root))
+          (subst (λ (q : SchemaPlace). In q moved_places) moved (root_among there p.moved_uri (by_default p.layer) p.moved))
+          (first_or _ _ is) (first_or _ _ ((bytes_eq-Decides p.moved_uri p.moved_uri).1 refl)))
 
   pub bear_apart : EachNamedBy (IsToldAlike (meta (root_alone p)) (meta (added p))) (root_alone p) → (uri : List ℕ) → is_some (bearer (root_alone p) uri) ≡ true
       → IsFree (moved_alone p) (added p) uri
