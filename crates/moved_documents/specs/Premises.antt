@@ -61,8 +61,8 @@ pub record CanMove (p : Pair) (draft : Draft) (whole : Data) : Type 0 where
 
 -- ---- where the root by itself wants no document, the moved one is not retrieved
 
--- A schema has no identifier, or its base is the URI of a schema place of the root, or one that the moved document does not bear. Those at
--- schema places bear their own identifiers; so this is asked of the others, to which pointers lead through what is no schema.
+-- A schema has no identifier, or its base is the URI of a schema place of the root, or one that the moved document does not bear. Schema places
+-- bear their own; so this is asked of what stands inside a value that is no schema place, and that a pointer makes a schema.
 abbrev pub KeepsApart : Pair → Site → Type 0
 KeepsApart p s =
     (identifier s.dialect s.contents ≡ None)
