@@ -63,7 +63,7 @@ module _ (own : List Document) (makes : List ℕ → Bool) where
   -- ---- once all are read
 
   module _ (roots : List Site) (vs : List Visit) (es : List Edge) (wrong : List ℕ) (g : IsGraph own makes roots vs es wrong (length vs)) where
-    read-at : (i : ℕ) (s : Site) (x : IsVisited vs i s) → IsRead own makes vs es wrong i s
+    pub read-at : (i : ℕ) (s : Site) (x : IsVisited vs i s) → IsRead own makes vs es wrong i s
     read-at i s x = g.read i (within vs i x.visit x.there) x.visit x.there s x.met
 
     -- what leads to a wrong one has a cause
@@ -106,7 +106,7 @@ module _ (own : List Document) (makes : List ℕ → Bool) where
     -- ---- all that is reached is visited
 
     module _ (begins : (r : Site) → In r roots → (i : ℕ) × IsVisited vs i r) where
-      is-visited : (r s : Site) → In r roots → Reached own makes r s → (i : ℕ) × IsVisited vs i s
+      pub is-visited : (r s : Site) → In r roots → Reached own makes r s → (i : ℕ) × IsVisited vs i s
       is-visited r _ listed at_root = begins r listed
       is-visited r _ listed (by_keyword {s = u} row t q k j) =
           let h = is-visited r u listed q in

@@ -18,3 +18,4 @@ pub mod Others
 pub mod Running
 pub mod Sorting
 pub mod Stepping
+pub mod Told

@@ -7,6 +7,7 @@ pub mod Filled
 pub mod Nearest
 pub mod Walked
 pub mod Causes
+pub mod Told
 pub mod Linking
 pub mod Marked
 pub mod Several

@@ -2,6 +2,7 @@
 #![tactic(auto)]
 
 mod asking;
+pub mod causes;
 pub mod each;
 mod filling;
 pub mod graph;

@@ -53,9 +53,9 @@ fn unmade<P: PatternMaker>(
     }
 }
 
-// What is wrong with the identifier of a schema, if anything is.
+/// What is wrong with the identifier of a schema, if anything is.
 #[tactic(auto, using(crate::proofs::Others::told_wrong))]
-fn misnamed(alloc: Global, visit: &Visit<'_>) -> Result<Option<BuildCause>, AllocError>
+pub(crate) fn misnamed(alloc: Global, visit: &Visit<'_>) -> Result<Option<BuildCause>, AllocError>
     ensures right { IfOk result (λ o. o ≡ None → (s : Site) → Met visit.now s → rows.identifier_causes s ≡ []) }
     ensures wrong { IfOk result (λ o. IfSome o (IsMisnamed visit.now)) }
 {
@@ -66,16 +66,16 @@ fn misnamed(alloc: Global, visit: &Visit<'_>) -> Result<Option<BuildCause>, Allo
     }
 }
 
-// A member of a schema, among all of them.
+/// A member of a schema, among all of them.
 #[derive(Clone, Copy)]
-struct Member<'m, 'r> {
-    members: &'r Map<String, Value>,
-    name: &'m str,
-    value: &'r Value,
+pub(crate) struct Member<'m, 'r> {
+    pub(crate) members: &'r Map<String, Value>,
+    pub(crate) name: &'m str,
+    pub(crate) value: &'r Value,
 }
 
-// Puts a member's keyword behind others, where it has no cause, and else answers the first.
-fn push_member<'r, P: PatternMaker>(
+/// Puts a member's keyword behind others, where it has no cause, and else answers the first.
+pub(crate) fn push_member<'r, P: PatternMaker>(
     alloc: Global,
     visit: &Visit<'r>,
     member: Member<'_, 'r>,
@@ -147,8 +147,8 @@ fn read_members<'r, P: PatternMaker>(
     Ok(cause)
 }
 
-// What is no object: a boolean, or no schema.
-fn read_other<'r>(
+/// What is no object: a boolean, or no schema.
+pub(crate) fn read_other<'r>(
     alloc: Global,
     visit: &Visit<'r>,
     found: &mut Found<'r>,

@@ -34,6 +34,11 @@ module _ (s : Situation) (k : List ℕ) where
   tells_right true kind d o h = tells_none o
   tells_right false kind d o h = absurd (cc (h))
 
+  -- where something is
+  pub tells_wrong : (b : Bool) (kind : Kind) (d : Data) (old new : Observer) → b ≡ false → TellsEach s k (record { kind = kind; value = d } ∷ []) old new → TellsEach s k (unless b kind d) old new
+  tells_wrong true kind d old new h told = absurd (cc (h))
+  tells_wrong false kind d old new h told = told
+
   pub tells_there : (b : Bool) (note : Note) (o : Observer) → b ≡ false → TellsEach s k (noted_if b note) o o
   tells_there true note o h = absurd (cc (h))
   tells_there false note o h = tells_none o

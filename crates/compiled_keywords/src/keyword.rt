@@ -5,6 +5,7 @@ ghost use Rattle.schema_meaning.specs.Keywords.{rule, reference_name};
 ghost use Rattle.schema_meaning.specs.Members.{is_empty};
 ghost use Rattle.schema_meaning.specs.Places.{stay};
 ghost use Rattle.schema_meaning.specs.Questions.{at};
+ghost use Rattle.schema_engine.specs.Matches.{InEach};
 ghost use Rattle.schema_engine.specs.Places.{value_at};
 ghost use Rattle.applicators.specs.Forms.{noted};
 ghost use Rattle.compiled_keywords.specs.Forms.{alone, form_of, whole_at, added_in, asked_beside};
@@ -107,8 +108,8 @@ fn push_asked<'q, 'i: 'q, T: Matching>(
 ) -> Result<(), AllocError>
     requires { KnowsAsked asks.now (T.matches matching.old).pattern }
     ensures same { OnOk result (T.matches matching.new ≡ T.matches matching.old) }
-    ensures put { OnOk result ((k : List ℕ) → Puts (added_in k (form_of asks.now)) into.old.items into.new.items
-        (asked_beside (T.matches matching.old).reads k (value_at place.entry) (form_of asks.now))) }
+    ensures put { OnOk result (InEach (T.matches matching.old) (λ m. (k : List ℕ) → Puts (added_in k (form_of asks.now)) into.old.items into.new.items
+        (asked_beside m k (value_at place.entry) (form_of asks.now)))) }
 {
     match asks {
         Asks::ItemsFrom { start, node } => push_items(*start, *node, place, into),
@@ -155,8 +156,8 @@ impl Keyword {
     ) -> Result<(), AllocError>
         requires { Knows self.now (T.matches matching.old).pattern }
         ensures same { OnOk result (T.matches matching.new ≡ T.matches matching.old) }
-        ensures put { OnOk result (Puts (added_by self.now) into.old.items into.new.items
-            (beside_in (rule (T.matches matching.old).reads (value_at place.entry) (shape_of self.now)))) }
+        ensures put { OnOk result (InEach (T.matches matching.old) (λ m. Puts (added_by self.now) into.old.items into.new.items
+            (beside_in (rule m (value_at place.entry) (shape_of self.now))))) }
     {
         match self {
             Keyword::Applicator(applicator) => {

@@ -5,6 +5,7 @@ ghost use Rattle.json_values.specs.Parts.{Part};
 ghost use Rattle.serde_json.specs.Find.{get};
 ghost use Rattle.serde_json.specs.View.{view};
 ghost use Rattle.schema_meaning.specs.Questions.{at, at_name, members_of, names_of, other_members, each_declared, each_member, each_name, each_triggered, each_matching};
+ghost use Rattle.schema_engine.specs.Matches.{InEach};
 ghost use Rattle.schema_engine.specs.Places.{value_at};
 ghost use Rattle.applicators.specs.Questions.{each_dependency};
 ghost use Rattle.compiled_keywords.specs.Forms.{alone, whole_at, name_at};
@@ -202,8 +203,8 @@ fn push_matched<'q, 'i: 'q, T: Matching>(
 ) -> Result<(), AllocError>
     requires { IsNumbered (T.matches matching.old).pattern node.now.pattern }
     ensures same { OnOk result (T.matches matching.new ≡ T.matches matching.old) }
-    ensures put { OnOk result ((k : List ℕ) (added : ℕ → List Part) → added entry ≡ at_name k (by_pattern node.now).0
-        → Puts added into.old.items into.new.items (map alone (matching_of (T.matches matching.old).reads k (by_pattern node.now) (listed members.now)))) }
+    ensures put { OnOk result (InEach (T.matches matching.old) (λ m. (k : List ℕ) (added : ℕ → List Part) → added entry ≡ at_name k (by_pattern node.now).0
+        → Puts added into.old.items into.new.items (map alone (matching_of m k (by_pattern node.now) (listed members.now))))) }
 {
     for (name, member) in members.iter() {
         let name = name.as_str();
@@ -228,8 +229,8 @@ fn push_each_matched<'q, 'i: 'q, T: Matching>(
 ) -> Result<(), AllocError>
     requires { AreNumbered (T.matches matching.old).pattern nodes.now }
     ensures same { OnOk result (T.matches matching.new ≡ T.matches matching.old) }
-    ensures put { OnOk result ((k : List ℕ) → Puts (name_at k (map by_pattern nodes.now)) into.old.items into.new.items
-        (map alone (flat_map (λ p. matching_of (T.matches matching.old).reads k p (listed members.now)) (map by_pattern nodes.now)))) }
+    ensures put { OnOk result (InEach (T.matches matching.old) (λ m. (k : List ℕ) → Puts (name_at k (map by_pattern nodes.now)) into.old.items into.new.items
+        (map alone (flat_map (λ p. matching_of m k p (listed members.now)) (map by_pattern nodes.now))))) }
 {
     for (index, node) in nodes.iter().enumerate() {
         push_matched(index, node, members, matching, into)?;
@@ -246,8 +247,8 @@ pub(crate) fn push_matching<'q, 'i: 'q, T: Matching>(
 ) -> Result<(), AllocError>
     requires { AreNumbered (T.matches matching.old).pattern nodes.now }
     ensures same { OnOk result (T.matches matching.new ≡ T.matches matching.old) }
-    ensures put { OnOk result ((k : List ℕ) → Puts (name_at k (map by_pattern nodes.now)) into.old.items into.new.items
-        (map alone (each_matching (T.matches matching.old).reads k (value_at place.entry) (map by_pattern nodes.now)))) }
+    ensures put { OnOk result (InEach (T.matches matching.old) (λ m. (k : List ℕ) → Puts (name_at k (map by_pattern nodes.now)) into.old.items into.new.items
+        (map alone (each_matching m k (value_at place.entry) (map by_pattern nodes.now))))) }
 {
     match object_at(place) {
         Some(members) => push_each_matched(nodes, members, matching, into),
@@ -264,8 +265,8 @@ fn push_others_of<'q, 'i: 'q, T: Matching>(
 ) -> Result<(), AllocError>
     requires { AllNumbered (T.matches matching.old).pattern declared.now.patterns.items }
     ensures same { OnOk result (T.matches matching.new ≡ T.matches matching.old) }
-    ensures put { OnOk result ((k : List ℕ) → Puts (whole_at k) into.old.items into.new.items
-        (map alone (each_member k node (others_among (T.matches matching.old).reads (declared_by declared.now) (listed members.now))))) }
+    ensures put { OnOk result (InEach (T.matches matching.old) (λ m. (k : List ℕ) → Puts (whole_at k) into.old.items into.new.items
+        (map alone (each_member k node (others_among m (declared_by declared.now) (listed members.now)))))) }
 {
     for (name, member) in members.iter() {
         let name = name.as_str();
@@ -292,8 +293,8 @@ pub(crate) fn push_others<'q, 'i: 'q, T: Matching>(
 ) -> Result<(), AllocError>
     requires { AllNumbered (T.matches matching.old).pattern declared.now.patterns.items }
     ensures same { OnOk result (T.matches matching.new ≡ T.matches matching.old) }
-    ensures put { OnOk result ((k : List ℕ) → Puts (whole_at k) into.old.items into.new.items
-        (map alone (each_member k node (other_members (T.matches matching.old).reads (declared_by declared.now) (value_at place.entry))))) }
+    ensures put { OnOk result (InEach (T.matches matching.old) (λ m. (k : List ℕ) → Puts (whole_at k) into.old.items into.new.items
+        (map alone (each_member k node (other_members m (declared_by declared.now) (value_at place.entry)))))) }
 {
     match object_at(place) {
         Some(members) => push_others_of(declared, node, members, matching, into),

@@ -6,6 +6,7 @@ ghost use Rattle.serde_json.specs.View.{view};
 ghost use Rattle.schema_meaning.specs.Faults as faults;
 ghost use Rattle.schema_meaning.specs.Questions.{if_member};
 ghost use Rattle.schema_meaning.specs.Keywords.{missing, missing_beside, needed, named, pattern as asserted, unless, wrong as found_wrong};
+ghost use Rattle.schema_engine.specs.Matches.{InEach};
 ghost use Rattle.assertions.specs.Shapes.{assertion_of as plain_of};
 ghost use Rattle.assertions.specs.Wrong.{kind_of, note_of, notes_of};
 ghost use Rattle.compiled_keywords.specs.Owned.{needed_by, depending, text_of, IsNumbered};
@@ -267,7 +268,7 @@ pub(crate) fn tell_pattern<'o, T: Matching>(
 ) -> Result<(), AllocError>
     requires { IsNumbered (T.matches matching.old).pattern pattern.now }
     ensures same { OnOk result (T.matches matching.new ≡ T.matches matching.old) }
-    ensures told { OnOk result (TellsEach situation.now (codes "pattern") (found_wrong (T.matches matching.old).reads (asserted (text_of pattern.now)) (view situation.now.value.now)) observer.old observer.new) }
+    ensures told { OnOk result (InEach (T.matches matching.old) (λ m. TellsEach situation.now (codes "pattern") (found_wrong m (asserted (text_of pattern.now)) (view situation.now.value.now)) observer.old observer.new)) }
 {
     if is_matched(pattern, Place::Value(situation.value), matching)? {
         Ok(())

@@ -5,6 +5,7 @@ ghost use Rattle.json_values.specs.Patterns.{matched};
 ghost use Rattle.schema_meaning.specs.Keywords.{text_is};
 ghost use Rattle.schema_meaning.specs.Members.{is_listed};
 ghost use Rattle.schema_meaning.specs.Questions.{is_declared as is_among};
+ghost use Rattle.schema_engine.specs.Matches.{InEach};
 ghost use Rattle.schema_engine.specs.Places.{value_at};
 ghost use Rattle.compiled_keywords.specs.Owned.{text_of, declared_by, IsNumbered, AllNumbered};
 
@@ -27,7 +28,7 @@ pub(crate) fn is_matched<T: Matching>(
 ) -> Result<bool, AllocError>
     requires { IsNumbered (T.matches matching.old).pattern pattern.now }
     ensures same { OnOk result (T.matches matching.new ≡ T.matches matching.old) }
-    ensures read { IfOk result (λ b. b ≡ text_is (matched (T.matches matching.old).reads (text_of pattern.now)) (value_at place.entry)) }
+    ensures read { IfOk result (λ b. InEach (T.matches matching.old) (λ m. b ≡ text_is (matched m (text_of pattern.now)) (value_at place.entry))) }
 {
     match place {
         Place::Value(value) => match value {
@@ -56,7 +57,7 @@ fn is_matched_by<T: Matching>(
 ) -> Result<bool, AllocError>
     requires { AllNumbered (T.matches matching.old).pattern patterns.now }
     ensures same { OnOk result (T.matches matching.new ≡ T.matches matching.old) }
-    ensures read { IfOk result (λ b. b ≡ list_any (λ p. matched (T.matches matching.old).reads p name.now) (map text_of patterns.now)) }
+    ensures read { IfOk result (λ b. InEach (T.matches matching.old) (λ m. b ≡ list_any (λ p. matched m p name.now) (map text_of patterns.now))) }
 {
     for pattern in patterns {
         if matching.is_match(pattern.number, name)? {
@@ -78,7 +79,7 @@ pub(crate) fn is_declared<T: Matching>(
 ) -> Result<bool, AllocError>
     requires { AllNumbered (T.matches matching.old).pattern declared.now.patterns.items }
     ensures same { OnOk result (T.matches matching.new ≡ T.matches matching.old) }
-    ensures read { IfOk result (λ b. b ≡ is_among (T.matches matching.old).reads (declared_by declared.now) name.now) }
+    ensures read { IfOk result (λ b. InEach (T.matches matching.old) (λ m. b ≡ is_among m (declared_by declared.now) name.now)) }
 {
     if is_named(&declared.names, name) {
         Ok(true)

@@ -4,6 +4,7 @@ ghost use Rattle.serde_json.specs.View.{view};
 ghost use Rattle.schema_meaning.specs.Keywords.{first_value};
 ghost use Rattle.schema_meaning.specs.Questions.{members_of, other_members};
 ghost use Rattle.schema_reports.specs.Kinds.{StandsFor};
+ghost use Rattle.schema_engine.specs.Matches.{InEach};
 ghost use Rattle.schema_engine.specs.Refusals.{IsNote};
 ghost use Rattle.applicators.specs.Forms.{kind_in, value_in};
 ghost use Rattle.compiled_keywords.specs.Forms.{form_of};
@@ -49,7 +50,7 @@ fn undeclared_among<T: Matching>(
 ) -> Result<Vec<String>, AllocError>
     requires { AllNumbered (T.matches matching.old).pattern declared.now.patterns.items }
     ensures same { OnOk result (T.matches matching.new ≡ T.matches matching.old) }
-    ensures listed { IfOk result (λ names. map string_bytes names.items ≡ map (λ m. m.0) (others_among (T.matches matching.old).reads (declared_by declared.now) (listed members.now))) }
+    ensures listed { IfOk result (λ names. InEach (T.matches matching.old) (λ m. map string_bytes names.items ≡ map (λ x. x.0) (others_among m (declared_by declared.now) (listed members.now)))) }
 {
     let mut names = Vec::new(alloc);
     for (name, _) in members.iter() {
@@ -69,7 +70,7 @@ fn undeclared<T: Matching>(
 ) -> Result<Vec<String>, AllocError>
     requires { AllNumbered (T.matches matching.old).pattern declared.now.patterns.items }
     ensures same { OnOk result (T.matches matching.new ≡ T.matches matching.old) }
-    ensures listed { IfOk result (λ names. map string_bytes names.items ≡ map (λ m. m.0) (other_members (T.matches matching.old).reads (declared_by declared.now) (view value.now))) }
+    ensures listed { IfOk result (λ names. InEach (T.matches matching.old) (λ m. map string_bytes names.items ≡ map (λ x. x.0) (other_members m (declared_by declared.now) (view value.now)))) }
 {
     match object_at(Place::Value(value)) {
         Some(members) => undeclared_among(alloc, declared, members, matching),
@@ -84,7 +85,7 @@ fn kind_of<'o, T: Matching>(
 ) -> Result<ValidationErrorKind<'o>, AllocError>
     requires { KnowsAsked asks.now (T.matches matching.old).pattern }
     ensures same { OnOk result (T.matches matching.new ≡ T.matches matching.old) }
-    ensures stands { IfOk result (λ k. StandsFor k (kind_in (T.matches matching.old).reads (form_of asks.now) (view situation.now.value.now))) }
+    ensures stands { IfOk result (λ k. InEach (T.matches matching.old) (λ m. StandsFor k (kind_in m (form_of asks.now) (view situation.now.value.now)))) }
 {
     match asks {
         Asks::ItemsFrom { .. } => Ok(ValidationErrorKind::AdditionalItems),
@@ -120,10 +121,10 @@ pub(crate) fn reason_of<'o, T: Matching>(
 ) -> Result<Reason<'o>, AllocError>
     requires { KnowsAsked asks.now (T.matches matching.old).pattern }
     ensures same { OnOk result (T.matches matching.new ≡ T.matches matching.old) }
-    ensures noted { IfOk result (λ r. IsNote r (record {
-      kind = kind_in (T.matches matching.old).reads (form_of asks.now) (view situation.now.value.now);
+    ensures noted { IfOk result (λ r. InEach (T.matches matching.old) (λ m. IsNote r (record {
+      kind = kind_in m (form_of asks.now) (view situation.now.value.now);
       value = value_in (form_of asks.now) (view situation.now.value.now);
-    })) }
+    }))) }
 {
     let kind = kind_of(asks, situation, matching)?;
     let value = value_of(asks, situation.value);

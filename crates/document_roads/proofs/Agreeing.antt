@@ -7,18 +7,21 @@ use Rattle.std.specs.declared.alloc.Global.{Global}
 use Rattle.serde_json.specs.Data.{Data}
 use Rattle.serde_json.specs.View.{view}
 use Rattle.schema_drafts.specs.Drafts.{newest}
+use Rattle.schema_drafts.specs.declared.draft.Draft.{Draft}
 use Rattle.uri_grammar.specs.Parts.{split}
 use Rattle.uri_grammar.specs.Grammar.{is_reference}
 use Rattle.uri_references.specs.Identity.{identity_of}
 use Rattle.schema_meaning.specs.Places.{whole as whole_value}
 use Rattle.schema_meaning.specs.Faults.{Faults}
 use Rattle.schema_meaning.specs.Readings.{bags}
-use Rattle.schema_definitions.specs.Bearers.{Document, Layer}
+use Rattle.schema_definitions.specs.Bearers.{Document, Layer, meta}
+use Rattle.schema_definitions.specs.DocumentCauses.{document_causes}
 use Rattle.schema_definitions.specs.Lines.{faults_text}
 use Rattle.schema_definitions.specs.Lookup.{LookupCause, Target, lookup}
 use Rattle.schema_definitions.specs.Plain.{plain}
 use Rattle.schema_definitions.specs.Rounds.{Asking, IsOfLayer, AreRounds, gathered, wants}
 use Rattle.reading_laws.specs.Spelled.{spelled}
+use Rattle.added_documents.specs.Added.{EachNamedBy, IsToldAlike}
 use Rattle.added_documents.specs.ReadingLaws.{Builds}
 use Rattle.document_sources.specs.Given.{Given, documents_by}
 use Rattle.referencing.specs.Built.{first_layer}
@@ -32,7 +35,10 @@ use Rattle.schema_registries.specs.Seen.{documents_in_registry, documents_given,
 use Rattle.schema_registries.specs.declared.documents.Documents.{Documents}
 use Rattle.schema_registries.specs.declared.registry.SharedRegistry.{SharedRegistry}
 use Rattle.schema_registries.specs.declared.registry.SchemaRegistry.{SchemaRegistry}
-use Rattle.moved_documents.specs.Forms.{root_alone, added, by_map, inside, joined}
+use Rattle.moved_documents.specs.Forms.{root_alone, moved_alone, added, by_map, inside, joined}
+use Rattle.moved_documents.specs.Premises.{CanMove}
+use Rattle.moved_documents.proofs.Apart.{uris_apart, bear_apart, added_is_joined}
+use Rattle.moved_documents.proofs.Settled.{stands_alone as left_alone}
 use Rattle.moved_documents.proofs.Retrieved.{wanted_is_added, retrieved_is_added}
 use Rattle.moved_documents.proofs.Law.{inside_is_added}
 use Rattle.moved_documents.proofs.Order.{one_text, moved_text}
@@ -44,7 +50,7 @@ use Rattle.schema_validators.specs.declared.options.ValidationOptions.{Validatio
 use Rattle.schema_validators.specs.declared.error.BuildError.{BuildError}
 use Rattle.document_roads.specs.Answers.{AnswersOne, IsTextOf}
 use Rattle.document_roads.specs.Roads.{root_given, both_given, IsWithin, IsAddedBy, IsRetrievedBy, IsInsideBy}
-use Rattle.document_roads.specs.Laws.{IsDecided, RootsAgree, pair_of, root_beside, root_inside, AreApart, IsWanting, moved_alone, StaysAlone, IsSettled, MayMove, AreOne, SayOne}
+use Rattle.document_roads.specs.Laws.{IsDecided, RootsAgree, pair_of, root_beside, root_inside, root_by_itself, AreApart, BearApart, ShareNone, IsWanting, IsLeftOut, MayMove, AreOne, SayOne}
 use Rattle.document_roads.proofs.Alone.{sound_still, text_still}
 use Rattle.document_roads.specs.declared.roads.Moving.{Moving}
 use Rattle.document_roads.specs.declared.roads.Roads.{Roads}
@@ -198,8 +204,9 @@ module _ (a b : Asking) (same : a.layer ≡ b.layer) (so : (uri : List ℕ) (d :
       (record { asked = h.0.asked; answered = each_so answers h.0.answered }, rounds_so (docs ++ answers) rounds h.1)
 
 -- the documents where one alone may be answered: those of the form in which it is added, or the root alone where it wants none
-abbrev AreAmong : Moving → List Document → Type 0
-AreAmong m docs = (docs ≡ root_alone (pair_of m)) ⊎ (docs ≡ added (pair_of m))
+record AreAmong (m : Moving) (docs : List Document) : Type 0 where
+  accepted : document_causes docs ≡ []
+  are : (docs ≡ root_alone (pair_of m)) ⊎ (docs ≡ added (pair_of m))
 
 module _ {P : Type 0} (may_answer : MapRetriever → List ℕ → Data → Type 0) (may_refuse : MapRetriever → List ℕ → Type 0)
     (answers : (r : MapRetriever) (q : List ℕ) (d : Data) → may_answer r q d → answer_for r q ≡ Some d) (maker : P) (p : Patterns) (m : Moving) (d : Data) where
@@ -222,8 +229,10 @@ module _ {P : Type 0} (may_answer : MapRetriever → List ℕ → Data → Type 
           h.gathered.gathers ∙ wanted_is_added (pair_of m) h.gathered.rounds by_one wanting complete
 
       gathered_among : AreAmong m docs
-      gathered_among =
-          elim (retrieved_is_added (pair_of m) h.gathered.rounds by_one) [ inl e ↦ inl (h.gathered.gathers ∙ e) | inr e ↦ inr (h.gathered.gathers ∙ e) ]
+      gathered_among = record {
+        accepted = h.accepted;
+        are = elim (retrieved_is_added (pair_of m) h.gathered.rounds by_one) [ inl e ↦ inl (h.gathered.gathers ∙ e) | inr e ↦ inr (h.gathered.gathers ∙ e) ];
+      }
 
     -- what holds of the documents that are given holds of a registry's
     in_registry : (Q : List Document → Type 0) → ((docs : List Document) (uris : List (List ℕ)) → IsGiven docs uris → Q docs) → (registry : SchemaRegistry)
@@ -257,20 +266,37 @@ module _ {P : Type 0} (may_answer : MapRetriever → List ℕ → Data → Type 
         (in_registry h.options h.by.default h.asked (λ docs. docs ≡ added (pair_of m)) (λ docs uris g. gathered_are h.options h.by.default h.asked docs uris g wanting) h.is.registry
         h.is.prepared)
 
-    said_alone : (root : Target) → StaysAlone p m root → IsSaid p (root_beside m) d (string_bytes text)
-    said_alone root alone =
-        elim (in_registry h.options h.by.default h.asked (λ docs. AreAmong m docs) (λ docs uris g. gathered_among h.options h.by.default h.asked docs uris g) h.is.registry h.is.prepared) [
+    -- where the root by itself leaves the other document out, nothing changes where that is added
+    said_out : IsLeftOut p m → (EachNamedBy (IsToldAlike (meta (root_alone (pair_of m))) (meta (added (pair_of m)))) (root_alone (pair_of m)) → BearApart m)
+        → IsSaid p (root_beside m) d (string_bytes text)
+    said_out out apart =
+        let among = in_registry h.options h.by.default h.asked (AreAmong m) (λ docs uris g. gathered_among h.options h.by.default h.asked docs uris g) h.is.registry h.is.prepared in
+        elim among.are [
           | inl e ↦
               let said = said_among (root_alone (pair_of m)) e in
+              let from = leads p (root_by_itself m) said.sound in
+              let left = out from.target from.finds in
+              let builds : Builds (root_alone (pair_of m)) p.makes (codes "json-schema:///") m.root_uri.now from.target =
+              record { found = from.finds; right = said.sound.right from.target from.finds } in
+              let accepted : document_causes (root_alone (pair_of m)) ≡ [] = sym (ap (λ (ds : List Document). document_causes ds) e) ∙ among.accepted in
+              let alone =
+              left_alone (root_alone (pair_of m)) (moved_alone (pair_of m)) (added (pair_of m)) accepted
+              (record { joined = added_is_joined (pair_of m); told = left.told; apart = apart left.told }) p.makes (codes "json-schema:///") m.root_uri.now from.target builds left.reached in
               record {
-                sound = sound_still p (root_alone (pair_of m)) (moved_alone m) (added (pair_of m)) (codes "json-schema:///") m.root_uri.now root alone;
-                text = text_still p (root_alone (pair_of m)) (moved_alone m) (added (pair_of m)) (codes "json-schema:///") m.root_uri.now root alone d (string_bytes text) said.text;
+                sound = sound_still p (root_alone (pair_of m)) (moved_alone (pair_of m)) (added (pair_of m)) (codes "json-schema:///") m.root_uri.now from.target alone;
+                text =
+                    text_still p (root_alone (pair_of m)) (moved_alone (pair_of m)) (added (pair_of m)) (codes "json-schema:///") m.root_uri.now from.target alone d (string_bytes text)
+                    said.text;
               }
           | inr e ↦ said_among (added (pair_of m)) e
         ]
 
-    said_retrieved : IsSettled p m → IsSaid p (root_beside m) d (string_bytes text)
-    said_retrieved settled = elim settled [ inl wanting ↦ said_wanted wanting | inr a ↦ said_alone a.0 a.1 ]
+    said_moved : (draft : Draft) (whole : Data) → CanMove (pair_of m) draft whole → IsLeftOut p m → IsSaid p (root_beside m) d (string_bytes text)
+    said_moved draft whole can out = said_out out (bear_apart (pair_of m) draft whole can)
+
+    said_apart : ShareNone m → IsLeftOut p m → IsSaid p (root_beside m) d (string_bytes text)
+    said_apart (inl apart) out = said_out out (λ told. apart)
+    said_apart (inr can) out = said_moved can.0 can.1 can.2 out
 
 -- ---- one text
 
@@ -294,17 +320,29 @@ module _ {P R : Type 0} (may_answer : R → List ℕ → Data → Type 0) (may_r
       let beside : AreApart m → (text : String Global) → r.added ≡ Ok text → IsSaid p (root_beside m) d (string_bytes text) =
       λ apart text is.
       said_beside may_answer may_refuse nothing maker p m d apart text (subst (λ (a : Result (String Global) BuildError). IsAddedBy p may_answer may_refuse maker m d a) is h) in
-      let asked : IsSettled p m → (text : String Global) → r.retrieved ≡ Ok text → IsSaid p (root_beside m) d (string_bytes text) =
+      let got : (text : String Global) → r.retrieved ≡ Ok text → IsRetrievedBy p map_answers map_refuses maker m d (Ok text) =
+      λ text is. subst (λ (a : Result (String Global) BuildError). IsRetrievedBy p map_answers map_refuses maker m d a) is k in
+      let asked : IsWanting m ⊎ (ShareNone m × IsLeftOut p m) → (text : String Global) → r.retrieved ≡ Ok text → IsSaid p (root_beside m) d (string_bytes text) =
       λ settled text is.
-      said_retrieved map_answers map_refuses answers maker p m d text (subst (λ (a : Result (String Global) BuildError). IsRetrievedBy p map_answers map_refuses maker m d a) is k)
-      settled in
+      elim settled [
+        | inl wanting ↦ said_wanted map_answers map_refuses answers maker p m d text (got text is) wanting
+        | inr a ↦ said_apart map_answers map_refuses answers maker p m d text (got text is) a.0 a.1
+      ] in
+      let moving : (may : MayMove p m d) → IsWanting m ⊎ IsLeftOut p m → (text : String Global) → r.retrieved ≡ Ok text → IsSaid p (root_beside m) d (string_bytes text) =
+      λ may settled text is.
+      elim settled [
+        | inl wanting ↦ said_wanted map_answers map_refuses answers maker p m d text (got text is) wanting
+        | inr out ↦ said_moved map_answers map_refuses answers maker p m d text (got text is) may.draft may.whole may.can out
+      ] in
       let within : (may : MayMove p m d) (text : String Global) → r.inside ≡ Ok text → IsSaid p (root_inside m may.whole) d (string_bytes text) =
       λ may text is.
       said_inside may_answer may_refuse nothing maker p m d may.whole may.can.joined text
       (subst (λ (a : Result (String Global) BuildError). IsInsideBy p may_answer may_refuse maker m d a) is g) in
       record {
-        inside = λ apart may. are_one r.added r.inside (λ t u a b. moved_text_is p m d may (string_bytes t) (string_bytes u) (beside apart t a) (within may u b));
+        inside = λ may.
+            are_one r.added r.inside
+            (λ t u a b. moved_text_is p m d may (string_bytes t) (string_bytes u) (beside (uris_apart (pair_of m) may.draft may.whole may.can) t a) (within may u b));
         retrieved = λ apart settled matches decided.
             are_one r.added r.retrieved (λ t u a b. said_once p (root_beside m) d matches decided (string_bytes t) (string_bytes u) (beside apart t a) (asked settled u b));
-        moved = λ settled may. are_one r.retrieved r.inside (λ t u a b. moved_text_is p m d may (string_bytes t) (string_bytes u) (asked settled t a) (within may u b));
+        moved = λ settled may. are_one r.retrieved r.inside (λ t u a b. moved_text_is p m d may (string_bytes t) (string_bytes u) (moving may settled t a) (within may u b));
       }

@@ -1,5 +1,5 @@
 -- What is said of a value by a root that stands alone is said where a document is added.
-use Rattle.std.proofs.Common.{◌≡◌, ◌∙◌, ℕ, List, ◌∷◌, Bool, true, Ok, is_ok, map, sym, ap, subst}
+use Rattle.std.proofs.Common.{◌≡◌, ◌∙◌, ℕ, List, Bool, Ok, is_ok, map, sym, ap, subst}
 use Rattle.std.specs.List.{flat_map}
 use Rattle.serde_json.specs.Data.{Data}
 use Rattle.schema_meaning.specs.Members.{In}
@@ -10,17 +10,17 @@ use Rattle.schema_meaning.specs.Readings.{Asks, bags}
 use Rattle.schema_meaning.specs.Circular.{Leads, starts, inside, follows}
 use Rattle.schema_meaning.specs.Faults.{Faults}
 use Rattle.schema_definitions.specs.Bearers.{Documents}
-use Rattle.schema_definitions.specs.Lookup.{Target, lookup}
+use Rattle.schema_definitions.specs.Lookup.{Target}
 use Rattle.schema_definitions.specs.Sites.{Site, root_site}
-use Rattle.schema_definitions.specs.Rows.{BuildCause, Row}
+use Rattle.schema_definitions.specs.Rows.{Row}
 use Rattle.schema_definitions.specs.BuildCauses.{Reached, IsCauseOf}
 use Rattle.schema_definitions.specs.Plain.{keywords_at, plain}
-use Rattle.reading_laws.specs.Asked.{IsAsked, AreFinished}
+use Rattle.reading_laws.specs.Asked.{IsAsked}
 use Rattle.reading_laws.proofs.Reached.{led_is_reached}
 use Rattle.added_documents.specs.ReadingLaws.{StandsAlone, SameSites, SameAnswer}
 use Rattle.added_documents.proofs.Readings.{answers_stay}
 use Rattle.added_documents.proofs.Sites.{sites_stay}
-use Rattle.schema_registries.specs.Roots.{Root, Patterns, Finds, IsSound}
+use Rattle.schema_registries.specs.Roots.{Patterns, Finds, IsSound}
 use Rattle.schema_registries.specs.Answers.{Finish, ComesBack}
 use Rattle.schema_validators.specs.Answered.{AreThose}
 use Rattle.schema_validators.specs.Seen.{root_of}

@@ -1,20 +1,20 @@
 -- Under the premises of moving, what two forms say of an instance is one text. Each statement is promised by a function of this crate.
-use Rattle.std.specs.Prelude.{◌≡◌, ◌⊎◌, ℕ, List, [], ◌∷◌, Bool, false, bytes_eq, codes, Result, Ok, Err, String, string_bytes}
+use Rattle.std.specs.Prelude.{◌≡◌, ◌⊎◌, ℕ, List, [], Bool, true, false, bytes_eq, codes, is_some, Result, Ok, Err, String, string_bytes}
 use Rattle.std.specs.declared.alloc.Global.{Global}
 use Rattle.serde_json.specs.Data.{Data}
 use Rattle.serde_json.specs.View.{view}
 use Rattle.uri_references.specs.Identity.{identity_of}
 use Rattle.schema_drafts.specs.Drafts.{newest}
 use Rattle.schema_drafts.specs.declared.draft.Draft.{Draft}
-use Rattle.schema_definitions.specs.Bearers.{Documents}
+use Rattle.schema_definitions.specs.Bearers.{bearer}
 use Rattle.schema_definitions.specs.Lookup.{Target}
 use Rattle.schema_definitions.specs.Rounds.{wants}
 use Rattle.referencing.specs.Built.{first_layer}
 use Rattle.schema_registries.specs.Roots.{Root, Patterns, Finds, IsSound}
 use Rattle.schema_registries.specs.Answers.{Finish, ComesBack}
-use Rattle.added_documents.specs.ReadingLaws.{StandsAlone}
-use Rattle.moved_documents.specs.Forms.{Pair, document_at, root_alone, added, inside}
-use Rattle.moved_documents.specs.Premises.{CanMove}
+use Rattle.added_documents.specs.Added.{IsFree}
+use Rattle.moved_documents.specs.Forms.{Pair, root_alone, moved_alone, added, inside}
+use Rattle.moved_documents.specs.Premises.{CanMove, LeavesOut}
 use Rattle.schema_validators.specs.Seen.{root_of}
 use Rattle.schema_validators.specs.declared.error.BuildError.{BuildError}
 use Rattle.document_roads.specs.Answers.{IsTextOf}
@@ -57,25 +57,29 @@ root_beside m = root_of (added (pair_of m)) (codes "json-schema:///") m.root_uri
 abbrev pub root_inside : Moving → Data → Root
 root_inside m whole = root_of (inside (pair_of m) whole) (codes "json-schema:///") m.root_uri.now
 
+-- the root by itself
+abbrev pub root_by_itself : Moving → Root
+root_by_itself m = root_of (root_alone (pair_of m)) (codes "json-schema:///") m.root_uri.now
+
 -- the two documents have two URIs
 abbrev pub AreApart : Moving → Type 0
 AreApart m = bytes_eq (identity_of m.root_uri.now) (identity_of m.moved_uri.now) ≡ false
+
+-- no URI is borne by both
+abbrev pub BearApart : Moving → Type 0
+BearApart m = (uri : List ℕ) → is_some (bearer (root_alone (pair_of m)) uri) ≡ true → IsFree (moved_alone (pair_of m)) (added (pair_of m)) uri
+
+-- or the one can be moved into the other, where none is
+abbrev pub ShareNone : Moving → Type 0
+ShareNone m = BearApart m ⊎ ((draft : Draft) × (whole : Data) × CanMove (pair_of m) draft whole)
 
 -- the root by itself wants a document
 abbrev pub IsWanting : Moving → Type 0
 IsWanting m = wants (root_alone (pair_of m)) ≡ [] → ⊥
 
--- the other document by itself
-abbrev pub moved_alone : Moving → Documents
-moved_alone m = document_at (first_layer newest false) (identity_of m.moved_uri.now) (view m.moved.now) ∷ []
-
--- the root builds by itself, and the other document bears the base of no schema that is reached
-abbrev pub StaysAlone : Patterns → Moving → Target → Type 0
-StaysAlone p m root = StandsAlone (root_alone (pair_of m)) (moved_alone m) (added (pair_of m)) p.makes (codes "json-schema:///") m.root_uri.now root
-
--- what is retrieved is the other document, or it changes nothing
-abbrev pub IsSettled : Patterns → Moving → Type 0
-IsSettled p m = IsWanting m ⊎ ((root : Target) × StaysAlone p m root)
+-- the root by itself leaves the other document out
+abbrev pub IsLeftOut : Patterns → Moving → Type 0
+IsLeftOut p m = (root : Target) → Finds (root_by_itself m) root → LeavesOut (pair_of m) p.makes root
 
 -- the one document can be moved into the other, and both roots are decided
 pub record MayMove (p : Patterns) (m : Moving) (d : Data) : Type 0 where
@@ -92,6 +96,7 @@ AreOne (Err e) other = Unit {0}
 
 -- what is said is one text: with the document added and inside, added and retrieved, retrieved and inside
 pub record SayOne (p : Patterns) (m : Moving) (d : Data) (r : Roads) : Type 0 where
-  pub inside : AreApart m → MayMove p m d → AreOne r.added r.inside
-  pub retrieved : AreApart m → IsSettled p m → (matches : List ℕ → List ℕ → Bool) → IsDecided p matches (root_beside m) d → AreOne r.added r.retrieved
-  pub moved : IsSettled p m → MayMove p m d → AreOne r.retrieved r.inside
+  pub inside : MayMove p m d → AreOne r.added r.inside
+  pub retrieved : AreApart m → IsWanting m ⊎ (ShareNone m × IsLeftOut p m) → (matches : List ℕ → List ℕ → Bool) → IsDecided p matches (root_beside m) d
+      → AreOne r.added r.retrieved
+  pub moved : IsWanting m ⊎ IsLeftOut p m → MayMove p m d → AreOne r.retrieved r.inside

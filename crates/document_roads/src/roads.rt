@@ -120,7 +120,7 @@ fn inside<P: PatternMaker + Drop, R: Retrieve + Drop>(
 /// until it is said otherwise, and each document is copied for each form that it is in.
 ///
 /// Where the moved document can be moved, the matches that the instance asks for finish and no references come back, the texts are one: with it
-/// added and inside where the two have two URIs, and retrieved where the root by itself wants a document.
+/// added and inside, and retrieved where the root by itself wants a document, or leaves the moved one out.
 ///
 /// # Errors
 ///

@@ -76,7 +76,7 @@ asked_there c d a qs are x s meets =
     let site = below x.documents s in are site ∙ ap (λ (m : List ℕ → List ℕ → Bool). asks (rule m d (shape_of site a))) (sym meets.matches)
 
 module _ (c : code.Site) (d : Data) (a : Applicator) (qs : List Question) (are : AreAsked (reads c.matches.now) a d qs) (by_answers : is_by_answers a ≡ true) where
-  there : (x : Scene) (s : Site) → Meets c x s → (q : Question) → In q qs → In (question_of (below x.documents s) q) (applied_questions a d x s)
+  pub there : (x : Scene) (s : Site) → Meets c x s → (q : Question) → In q qs → In (question_of (below x.documents s) q) (applied_questions a d x s)
   there x s meets q i = subst (λ ks. In (question_of (below x.documents s) q) ks) (asked_there c d a qs are x s meets) (elements.in_mapped (question_of (below x.documents s)) q qs i)
 
   pub one_refused : (q : Question) → In q qs → IsAnswered c d q false → AreRefused c d (applied_row a) (applied_questions a d) true

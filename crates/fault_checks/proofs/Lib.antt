@@ -20,5 +20,8 @@ pub mod ReferenceSteps
 pub mod OwnNames
 pub mod WalkSteps
 mod Checked
+pub mod CircleLemmas
+mod CircularOrNot
+mod CircularAnswers
 mod ReadLemmas
 pub mod FinishedLemmas

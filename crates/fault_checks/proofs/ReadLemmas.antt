@@ -1,5 +1,5 @@
 -- Patterns that checks of faults go by.
-use Rattle.std.proofs.Common.{◌≡◌, ◌∙◌, inl, inr, ℕ, List, [], Bool, true, true≢false, Option, Some, None, Ok, refl, sym, ap, subst}
+use Rattle.std.proofs.Common.{◌≡◌, ◌<◌, ◌+◌, ◌++◌, ◌∷◌, ◌∙◌, inl, inr, ℕ, zero, suc, List, [], length, map, take, Bool, true, true≢false, Option, Some, None, Ok, refl, sym, ap, ap₂, subst, slice_get, arith}
 use Rattle.std.specs.List.{list_all}
 use Rattle.schema_definitions.specs.Bearers.{Document, Documents}
 use Rattle.schema_definitions.specs.Lookup.{Target, lookup}
@@ -45,3 +45,26 @@ has_cause p docs t limit e h is = elim h [
   | inl x ↦ absurd (true≢false (sym is ∙ ap is_of_schemas x.named))
   | inr r ↦ elim r [ inl m ↦ absurd (true≢false (sym is ∙ ap is_of_schemas m)) | inr c ↦ record { cause = c.0; stands = c.2 } ]
 ]
+
+-- ---- the texts of a table
+
+map_push : {A B : Type 0} (f : A → B) (xs : List A) (x : A) → map f (xs ++ x ∷ []) ≡ map f xs ++ f x ∷ []
+map_push f [] x = refl
+map_push f (y ∷ xs) x = ap (λ zs. f y ∷ zs) (map_push f xs x)
+
+take_push : {A B : Type 0} (f : A → B) (xs : List A) (n : ℕ) (x : A) → slice_get xs n ≡ Some x → take (suc n) (map f xs) ≡ take n (map f xs) ++ f x ∷ []
+take_push f [] n x e = cc
+take_push f (y ∷ xs) zero x e = let same : y ≡ x = cc in ap (λ z. f z ∷ []) same
+take_push f (y ∷ xs) (suc n) x e = ap (λ zs. f y ∷ zs) (take_push f xs n x e)
+
+-- one more of them
+pub more_texts : {A S : Type 0} (entries : List (List ℕ × A)) (n : ℕ) (p : List ℕ) (x : A) (old new : List S) (s : S) (bytes : S → List ℕ) → slice_get entries n ≡ Some (p, x)
+    → new ≡ old ++ s ∷ [] → bytes s ≡ p → map bytes old ≡ take n (map (λ e. e.0) entries) → map bytes new ≡ take (n + 1) (map (λ e. e.0) entries)
+more_texts entries n p x old new s bytes found pushed is so_far =
+    let next : n + 1 ≡ suc n = omega arith in
+    ap (map bytes) pushed ∙ map_push bytes old s ∙ ap₂ (λ ts t. ts ++ t ∷ []) so_far is ∙ sym (take_push (λ e. e.0) entries n (p, x) found) ∙ ap (λ k. take k (map (λ e. e.0) entries)) (sym next)
+
+pub none_past : {A : Type 0} (xs : List A) (n : ℕ) → n < length xs → slice_get xs n ≡ None → ⊥
+none_past [] n short none = omega (arith, short)
+none_past (x ∷ xs) zero short none = cc
+none_past (x ∷ xs) (suc n) short none = none_past xs n (omega (arith, short)) none

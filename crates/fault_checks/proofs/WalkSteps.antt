@@ -37,7 +37,8 @@ use Rattle.fault_checks.specs.declared.walk.Step.TheVariants.{Answered, On, Name
 use Rattle.fault_paths.specs.Texts.{text_left}
 use Rattle.fault_checks.specs.Steps.{Outcome, IsLeft, Passes, PassesAs, PassesBy}
 use Rattle.fault_checks.specs.Names.{bears}
-use Rattle.fault_checks.specs.Scenes.{Scene, reading_of, IsRight, Meets, Stage}
+use Rattle.fault_checks.specs.Scenes.{Scene, reading_of, IsRight, Meets, IsStraight, Stage}
+use Rattle.fault_checks.specs.Circles.{ComesBackBy, keyword_row, WalkComesBack}
 use Rattle.fault_checks.specs.Verdicts.{SomeRefusesAt, rules_by, IsRefusalAt}
 use Rattle.fault_checks.proofs.RefusedNames.{listed_found, found_listed}
 use Rattle.fault_checks.proofs.Right.{right_read, no_cause}
@@ -218,28 +219,35 @@ module _ (w : Walk) (text : List ℕ) (is : text_left w.evaluation ≡ 47 ∷ te
           subst (λ (r : Row). AllByRecursion (IsUnder (is_draft_4 s.dialect.draft) member) r.shapes) (row_here x s meets)
           (shapes_are_under (context x.documents x.makes x.matches s ms) member v)
 
+      the_stage : bears k member token ≡ true → (x : Scene) (s : Site) → Meets w.site x s → IsStraight x s (view w.value.now)
+          → Stage w.site (view w.value.now) token (row_of x.documents s k) x s
+      the_stage same x s meets straight =
+          let own = own_named (is_draft_4 s.dialect.draft) member token k x.documents s (under_here x s meets) same in
+          record {
+            meets = meets;
+            straight = straight;
+            stands = subst (λ r. In r (rows_at x.documents x.makes s)) (row_here x s meets)
+                (member_row x.documents x.makes x.matches s ms member v (meets.stands.contents ∙ contents) (found_listed member v ms found));
+            named = are_named token (row_of x.documents s k).shapes own;
+            plain = λ shape i. (each_in (IsOwn token) (row_of x.documents s k).shapes own shape i).plain;
+          }
+
+      -- where references come back below the keyword
+      pub member_back : bears k member token ≡ true → ComesBackBy w.site (view w.value.now) (keyword_row k) → WalkComesBack w
+      member_back same h = record { back = λ x s meets straight. h.back x s token (the_stage same x s meets straight) }
+
       -- where the keyword refuses under the name
       under_name : (step : Step) → bears k member token ≡ true → PassesBy w k token after step → Passes w step
       under_name step same p = record {
         outcome = λ x s meets straight.
             let d = view w.value.now in
-            let stands : In (row_of x.documents s k) (rows_at x.documents x.makes s) =
-            subst (λ r. In r (rows_at x.documents x.makes s)) (row_here x s meets)
-            (member_row x.documents x.makes x.matches s ms member v (meets.stands.contents ∙ contents) (found_listed member v ms found)) in
-            let own = own_named (is_draft_4 s.dialect.draft) member token k x.documents s (under_here x s meets) same in
-            let stage : Stage w.site d token (row_of x.documents s k) x s = record {
-              meets = meets;
-              straight = straight;
-              stands = stands;
-              named = are_named token (row_of x.documents s k).shapes own;
-              plain = λ shape i. (each_in (IsOwn token) (row_of x.documents s k).shapes own shape i).plain;
-            } in
+            let stage : Stage w.site d token (row_of x.documents s k) x s = the_stage same x s meets straight in
             let to : IsLeft x w s → AreSpelledBy (reading_of x) d (rules_by x s d k) (text_left w.instance) (47 ∷ (token ++ text_left after)) =
             λ h. subst (λ e. AreSpelledBy (reading_of x) d (rules_by x s d k) (text_left w.instance) e) joined (spelled_here x s meets h) in
             let from : AreSpelledBy (reading_of x) d (rules_by x s d k) (text_left w.instance) (47 ∷ (token ++ text_left after)) → IsLeft x w s = λ h.
             subst (λ e. AreSpelled (reading_of x) s d (text_left w.instance) e) (sym (is ∙ joined))
             (from_step (reading_of x) s d (rules_by x s d k) (text_left w.instance) (47 ∷ (token ++ text_left after))
-            (rules_stand x.documents x.makes x.matches s (row_of x.documents s k) d stands) h) in
+            (rules_stand x.documents x.makes x.matches s (row_of x.documents s k) d stage.stands) h) in
             outcome_through x s s d d (IsLeft x w s) _ step (λ c. c) to from (p.outcome x s stage);
       }
 

@@ -1,5 +1,5 @@
 -- What the answer of a check says of two paths.
-use Rattle.std.specs.Prelude.{◌≡◌, ℕ, List, Bool, true, false, Option, Some, None}
+use Rattle.std.specs.Prelude.{◌≡◌, ℕ, List, map, Bool, true, false, Option, Some, None, string_bytes}
 use Rattle.serde_json.specs.Data.{Data}
 use Rattle.schema_definitions.specs.Bearers.{Documents}
 use Rattle.schema_definitions.specs.Lookup.{Target}
@@ -10,6 +10,7 @@ use Rattle.schema_patterns.specs.Read.{reads}
 use Rattle.schema_patterns.specs.Tables.{AreMadeBy, texts_of_table}
 use Rattle.schema_patterns.specs.declared.matches.Matches.{Matches}
 use Rattle.schema_patterns.specs.declared.table.PatternTable.{PatternTable}
+use Rattle.schema_patterns.specs.Texts.{texts_in}
 use Rattle.json_values.specs.Patterns.{matched, known}
 use Rattle.reading_laws.specs.Asked.{IsAsked, AreAmong}
 use Rattle.schema_registries.specs.Roots.{Root, Patterns, Finds, IsSound, site_of_root}
@@ -22,6 +23,9 @@ use Rattle.certificate_laws.specs.Spelled.{AreSpelled}
 use Rattle.fault_checks.specs.Scenes.{Scene, reading_of, IsRight, IsStraight}
 use Rattle.fault_checks.specs.Verdicts.{IsDecided}
 use Rattle.fault_checks.specs.Passed.{IsPlaced, Resolved, documents_in, target_in}
+use Rattle.fault_checks.specs.Circles.{RootComesBack}
+use Rattle.fault_checks.specs.Finished.{leave_none}
+use Rattle.fault_checks.specs.declared.reading.ReadMatches.{ReadMatches}
 use Rattle.fault_checks.specs.declared.checking.FaultPath.{FaultPath}
 use Rattle.fault_checks.specs.declared.checking.CheckAnswer.{CheckAnswer}
 use Rattle.fault_checks.specs.declared.checking.CheckAnswer.TheVariants.{Accepted, Refused, Circular, Unfinished}
@@ -60,14 +64,30 @@ pub record IsChecked (p : Patterns) (r : Root) (d : Data) (instance evaluation :
   pub unfinished : answer ≡ Unfinished → (matches : List ℕ → List ℕ → Bool) (target : Target) → Finds r target → AgreeWithKnown p r matches target d
       → StaysUnfinished p r matches target d
 
+-- the answer of a walk from a root, or that references come back there and every match finished
+abbrev pub SaysRoot : Target → Documents → ReadMatches → Data → List ℕ → List ℕ → CheckAnswer → Type 0
+SaysRoot t docs m d instance evaluation Accepted = DecidesRoot t docs m.matches d instance evaluation true
+SaysRoot t docs m d instance evaluation Refused = DecidesRoot t docs m.matches d instance evaluation false
+SaysRoot t docs m d instance evaluation Circular = RootComesBack t docs m.matches d × (leave_none m.matches (map string_bytes m.patterns.items) (texts_in d) ≡ true)
+SaysRoot t docs m d instance evaluation Unfinished = ⊥
+
+-- the same from what a reference leads to
+abbrev pub SaysAt : Resolved → ReadMatches → Data → List ℕ → List ℕ → CheckAnswer → Type 0
+SaysAt root m d instance evaluation answer = SaysRoot (target_in root) (documents_in root.resolver) m d instance evaluation answer
+
 -- of the two paths of a fault, where a build takes the root
 abbrev pub AnswersPath : Patterns → Root → Data → FaultPath → CheckAnswer → Type 0
 AnswersPath p r d path answer = IsSound p r → IsChecked p r d path.instance_path.now path.evaluation_path.now answer
 
+-- the matches of these patterns in a value, which hold those reached from a root
+pub record AreReadFrom (p : Patterns) (r : Root) (d : Data) (m : ReadMatches) : Type 0 where
+  pub read : AreReadOf p r d m.matches
+  pub hold : HoldsPatterns p r (map string_bytes m.patterns.items)
+
 -- what a check of the faults of a value goes by: the matches of the patterns reached from a root, and none where no build takes the root
-abbrev pub AreReadIn : Patterns → Root → Data → Option Matches → Type 0
+abbrev pub AreReadIn : Patterns → Root → Data → Option ReadMatches → Type 0
 AreReadIn p r d None = IsSound p r → ⊥
-AreReadIn p r d (Some m) = AreReadOf p r d m
+AreReadIn p r d (Some m) = AreReadFrom p r d m
 
 -- patterns that are made hold those reached from a root
 pub record HoldsMade {M : Type 0} (finds : M → List ℕ → Option Bool) (p : Patterns) (r : Root) (table : PatternTable M) : Type 0 where
@@ -80,7 +100,7 @@ AreReached finds p r None = IsSound p r → ⊥
 AreReached finds p r (Some table) = HoldsMade finds p r table
 
 -- the answer for the two paths of a fault by matches that were read of the value
-abbrev pub AnswersBy : Option Matches → Root → Data → FaultPath → CheckAnswer → Type 0
+abbrev pub AnswersBy : Option ReadMatches → Root → Data → FaultPath → CheckAnswer → Type 0
 AnswersBy matches r d path answer = (p : Patterns) → AreReadIn p r d matches → AnswersPath p r d path answer
 
 -- whether a refusal names a cause at the schemas, and not want of memory or too many compile keys

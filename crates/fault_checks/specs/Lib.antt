@@ -7,4 +7,6 @@ pub mod PassedRefusals
 pub mod Names
 pub mod Steps
 pub mod NamedSteps
+pub mod Circles
+pub mod Finished
 pub mod Checked

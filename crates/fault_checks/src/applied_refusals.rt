@@ -1,5 +1,5 @@
 //! What keywords that apply subschemas ask of a value, by those subschemas.
-ghost use Rattle.std.specs.Prelude.{◌<◌, ◌≡◌, length, IfOk, true};
+ghost use Rattle.std.specs.Prelude.{◌<◌, ◌≡◌, length, IfOk, IfErr, true};
 ghost use Rattle.serde_json.specs.Data.{depth};
 ghost use Rattle.serde_json.specs.View.{view};
 ghost use Rattle.applicators.specs.Combined.{is_by_answers};
@@ -8,6 +8,8 @@ ghost use Rattle.plain_reader.specs.Passed as code;
 ghost use Rattle.fault_checks.specs.Verdicts.{AppliesIn};
 ghost use Rattle.fault_checks.specs.Trials.{IsOtherRefused, IsAskedRefused, IsQuestionRefused};
 ghost use Rattle.fault_checks.specs.Trials.{AreItsQuestions, IsSomeRefused, CountsAccepted, KeywordRefuses};
+ghost use Rattle.plain_reader.specs.Returns.{Stops};
+ghost use Rattle.fault_checks.specs.Circles.{OtherComesBack, AskedComesBack, QuestionComesBack, AppliedComesBack};
 
 use crate::refusing::is_refused;
 use crate::trial::Trial;
@@ -15,12 +17,13 @@ use applicators::applicator::Applicator;
 use applicators::question::{Asked, Question};
 use applicators::questions::questions;
 use plain_reader::notes::is_noted;
+use plain_reader::stop::Stop;
 use serde_json::Value;
-use std::alloc::AllocError;
 
 // Whether the schema refuses another value.
-fn is_other_refused(trial: &Trial<'_, '_, '_>, value: &Value) -> Result<bool, AllocError>
-    ensures { IfOk result (λ b. IsOtherRefused trial.now (view value.now) b) }
+fn is_other_refused(trial: &Trial<'_, '_, '_>, value: &Value) -> Result<bool, Stop>
+    ensures refused { IfOk result (λ b. IsOtherRefused trial.now (view value.now) b) }
+    ensures stops { IfErr result (Stops (OtherComesBack trial.now (view value.now))) }
 {
     let other = Trial {
         alloc: trial.alloc,
@@ -31,8 +34,9 @@ fn is_other_refused(trial: &Trial<'_, '_, '_>, value: &Value) -> Result<bool, Al
 }
 
 // Whether what a question asks of is refused.
-fn is_asked_refused(trial: &Trial<'_, '_, '_>, asked: Asked<'_>) -> Result<bool, AllocError>
-    ensures { IfOk result (λ b. IsAskedRefused trial.now asked.entry b) }
+fn is_asked_refused(trial: &Trial<'_, '_, '_>, asked: Asked<'_>) -> Result<bool, Stop>
+    ensures refused { IfOk result (λ b. IsAskedRefused trial.now asked.entry b) }
+    ensures stops { IfErr result (Stops (AskedComesBack trial.now asked.entry)) }
 {
     match asked {
         Asked::Value => is_refused(trial),
@@ -49,9 +53,10 @@ fn is_asked_refused(trial: &Trial<'_, '_, '_>, asked: Asked<'_>) -> Result<bool,
 fn is_question_refused<'r>(
     trial: &Trial<'_, 'r, '_>,
     question: Question<'r, '_>,
-) -> Result<bool, AllocError>
+) -> Result<bool, Stop>
     requires inside { depth (view question.subschema.schema.now) < depth (view trial.now.site.now.contents.now) }
-    ensures { IfOk result (λ b. IsQuestionRefused trial.now question.entry b) }
+    ensures refused { IfOk result (λ b. IsQuestionRefused trial.now question.entry b) }
+    ensures stops { IfErr result (Stops (QuestionComesBack trial.now question.entry)) }
 {
     let inner = trial.site.below(trial.alloc, question.subschema.schema)?;
     let below = Trial {
@@ -67,11 +72,12 @@ fn some_of_refused<'r>(
     trial: &Trial<'_, 'r, '_>,
     applicator: &Applicator<'r>,
     asked: &[Question<'r, '_>],
-) -> Result<bool, AllocError>
+) -> Result<bool, Stop>
     requires by_answers { is_by_answers applicator.now ≡ true }
     requires inside { EachInside trial.now.site.now applicator.now }
     requires asked { AreItsQuestions trial.now applicator.now asked.now }
-    ensures { IfOk result (λ b. IsSomeRefused trial.now applicator.now b) }
+    ensures refused { IfOk result (λ b. IsSomeRefused trial.now applicator.now b) }
+    ensures stops { IfErr result (Stops (AppliedComesBack trial.now applicator.now)) }
 {
     for question in asked {
         if is_question_refused(trial, *question)? {
@@ -86,11 +92,12 @@ fn accepted_of<'r>(
     trial: &Trial<'_, 'r, '_>,
     applicator: &Applicator<'r>,
     asked: &[Question<'r, '_>],
-) -> Result<usize, AllocError>
+) -> Result<usize, Stop>
     requires by_answers { is_by_answers applicator.now ≡ true }
     requires inside { EachInside trial.now.site.now applicator.now }
     requires asked { AreItsQuestions trial.now applicator.now asked.now }
-    ensures { IfOk result (λ n. CountsAccepted trial.now applicator.now (length asked.now) n) }
+    ensures counts { IfOk result (λ n. CountsAccepted trial.now applicator.now (length asked.now) n) }
+    ensures stops { IfErr result (Stops (AppliedComesBack trial.now applicator.now)) }
 {
     let mut accepted = 0;
     for question in asked {
@@ -108,9 +115,10 @@ pub fn applicator_refuses<'r>(
     trial: &Trial<'_, 'r, '_>,
     applicator: &Applicator<'r>,
     name: &str,
-) -> Result<bool, AllocError>
+) -> Result<bool, Stop>
     requires applies { AppliesIn trial.now.site.now applicator.now }
-    ensures { IfOk result (λ b. KeywordRefuses trial.now (code.Applicator applicator.now) name.now b) }
+    ensures refuses { IfOk result (λ b. KeywordRefuses trial.now (code.Applicator applicator.now) name.now b) }
+    ensures stops { IfErr result (Stops (AppliedComesBack trial.now applicator.now)) }
 {
     let value = trial.value;
     let asked = questions(trial.alloc, trial.site.matches, applicator, value)?;

@@ -1,8 +1,10 @@
 //! Steps by `if`.
-ghost use Rattle.std.specs.Prelude.{IfOk};
+ghost use Rattle.std.specs.Prelude.{IfOk, IfErr};
 ghost use Rattle.fault_checks.specs.Verdicts.{ChoosesIn};
 ghost use Rattle.fault_checks.specs.Passed as code;
 ghost use Rattle.fault_checks.specs.Steps.{PassesBy, IsMore, IsNotLonger};
+ghost use Rattle.plain_reader.specs.Returns.{Stops};
+ghost use Rattle.fault_checks.specs.Circles.{StepComesBack};
 
 use crate::applied_steps::to_question;
 use crate::choice_refusals::{chosen, is_inner_refused};
@@ -11,8 +13,9 @@ use crate::walk::{Step, Walk};
 use applicators::question::{Asked, Question};
 use applicators::subschema::{Entry, Subschema};
 use fault_paths::ahead::Ahead;
+use plain_reader::stop::Stop;
 use serde_json::Value;
-use std::alloc::{AllocError, Global};
+use std::alloc::Global;
 
 /// The step of a walk by `if` under a name: into the schema of `then` where its own accepts, into that of `else` where it refuses, and
 /// never into its own.
@@ -24,11 +27,12 @@ pub fn through_condition<'r, 'i, 'p>(
     else_schema: Option<&'r Value>,
     name: &str,
     after: Option<&'p str>,
-) -> Result<Step<'r, 'i, 'p>, AllocError>
+) -> Result<Step<'r, 'i, 'p>, Stop>
     requires lies { ChoosesIn walk.site condition then_schema else_schema }
     requires more { IsMore walk.instance after }
     ensures passes { IfOk result (PassesBy walk.entry (code.If condition.entry then_schema.entry else_schema.entry) name.now after.entry) }
     ensures shorter { IfOk result (IsNotLonger after.entry) }
+    ensures stops { IfErr result (Stops (StepComesBack walk.entry (code.If condition.entry then_schema.entry else_schema.entry))) }
 {
     let trial = Trial {
         alloc,
@@ -56,5 +60,5 @@ pub fn through_condition<'r, 'i, 'p>(
         instance: walk.instance,
         evaluation: after,
     };
-    to_question(alloc, walk, ahead)
+    Ok(to_question(alloc, walk, ahead)?)
 }

@@ -6,6 +6,7 @@ mod applied_steps;
 pub mod checking;
 pub mod choice_refusals;
 mod choice_steps;
+mod finished;
 mod names;
 pub mod reading;
 pub mod refusing;

@@ -1,7 +1,8 @@
 //! Patterns and matches that checks of faults go by.
-ghost use Rattle.std.specs.Prelude.{◌≡◌, IfOk, option_copied};
+ghost use Rattle.std.specs.Prelude.{◌≡◌, IfOk, map, option_copied, string_bytes};
 ghost use Rattle.serde_json.specs.View.{view};
 ghost use Rattle.schema_registries.specs.Roots.{Patterns, Root, root_on};
+ghost use Rattle.schema_patterns.specs.Tables.{texts_of_table};
 ghost use Rattle.reached_sites.specs.Roots.{IsPlaced};
 ghost use Rattle.fault_checks.specs.Passed.{documents_in, target_in};
 ghost use Rattle.fault_checks.specs.Checked.{AreReadIn, AreReached, HoldsPlaced, is_of_schemas as is_cause_of_schemas};
@@ -14,6 +15,13 @@ use schema_patterns::{PatternMaker, PatternMatcher, PatternTable};
 use schema_registries::SchemaRegistry;
 use serde_json::Value;
 use std::alloc::{AllocError, Global};
+
+/// The matches that were read of a value, and the texts of their patterns.
+#[derive(Drop)]
+pub struct ReadMatches {
+    pub matches: Matches,
+    pub patterns: Vec<String>,
+}
 
 // Whether a refusal names a cause at the schemas, and not want of memory or too many of them.
 fn is_of_schemas(cause: &BuildCause) -> bool
@@ -77,6 +85,22 @@ pub fn read_patterns<P: PatternMaker>(
     }
 }
 
+// The texts of a table's patterns.
+fn texts_of<M: PatternMatcher>(
+    alloc: Global,
+    table: &PatternTable<M>,
+) -> Result<Vec<String>, AllocError>
+    ensures { IfOk result (λ v. map string_bytes v.items ≡ texts_of_table table.now) }
+{
+    let mut texts = Vec::new(alloc);
+    for number in 0..table.len() {
+        if let Some((text, _compiled)) = table.at(number) {
+            texts.push(String::from_str(alloc, text)?)?;
+        }
+    }
+    Ok(texts)
+}
+
 /// The matches of patterns that were read from a root, in the texts of a value and the names of its members: what checks of the value's
 /// faults go by. Without patterns there are none.
 ///
@@ -89,11 +113,15 @@ pub fn matches_by<M: PatternMatcher>(
     alloc: Global,
     patterns: Option<&PatternTable<M>>,
     value: &Value,
-) -> Result<Option<Matches>, AllocError>
+) -> Result<Option<ReadMatches>, AllocError>
     ensures { IfOk result (λ m. (p : Patterns) (r : Root) → AreReached M.finds p r (option_copied patterns.entry) → AreReadIn p r (view value.now) m) }
 {
     match patterns {
-        Some(table) => Ok(Some(Matches::read(alloc, table, value)?)),
+        Some(table) => {
+            let matches = Matches::read(alloc, table, value)?;
+            let patterns = texts_of(alloc, table)?;
+            Ok(Some(ReadMatches { matches, patterns }))
+        }
         None => Ok(None),
     }
 }
@@ -113,7 +141,7 @@ pub fn read_matches<P: PatternMaker>(
     root: &str,
     maker: &P,
     value: &Value,
-) -> Result<Option<Matches>, AllocError>
+) -> Result<Option<ReadMatches>, AllocError>
     ensures { IfOk result (AreReadIn (P.patterns maker.now) (root_on registry.now root.now) (view value.now)) }
 {
     let patterns = read_patterns(alloc, registry, root, maker)?;

@@ -1,20 +1,23 @@
 //! Whether a keyword refuses a value.
-ghost use Rattle.std.specs.Prelude.{IfOk};
+ghost use Rattle.std.specs.Prelude.{IfOk, IfErr};
 ghost use Rattle.plain_reader.specs.Passed.{FindsTarget};
 ghost use Rattle.fault_checks.specs.Verdicts.{LiesIn};
 ghost use Rattle.fault_checks.specs.Trials.{IsRefused, IsTargetRefused, KeywordRefuses};
+ghost use Rattle.plain_reader.specs.Returns.{Stops};
+ghost use Rattle.fault_checks.specs.Circles.{TrialComesBack, TargetComesBack, KeywordComesBack};
 
 use crate::applied_refusals::applicator_refuses;
 use crate::choice_refusals::condition_refuses;
 use crate::trial::Trial;
 use plain_reader::site::accepts_site;
+use plain_reader::stop::Stop;
 use plain_reader::{Keyword, ReferenceKeyword, Resolved, at_target};
 use schema_patterns::pattern::accepts_text;
-use std::alloc::AllocError;
 
 /// Whether a schema refuses a value.
-pub fn is_refused(trial: &Trial<'_, '_, '_>) -> Result<bool, AllocError>
-    ensures { IfOk result (λ b. IsRefused trial.now b) }
+pub fn is_refused(trial: &Trial<'_, '_, '_>) -> Result<bool, Stop>
+    ensures refused { IfOk result (λ b. IsRefused trial.now b) }
+    ensures stops { IfErr result (Stops (TrialComesBack trial.now)) }
 {
     Ok(!accepts_site(trial.alloc, trial.site, trial.value)?)
 }
@@ -25,9 +28,10 @@ fn is_target_refused<'r>(
     keyword: ReferenceKeyword,
     text: &str,
     target: Resolved<'r>,
-) -> Result<bool, AllocError>
+) -> Result<bool, Stop>
     requires found { FindsTarget trial.now.site.now keyword text.now target }
-    ensures { IfOk result (λ b. IsTargetRefused trial.now keyword text.now target.entry b) }
+    ensures refused { IfOk result (λ b. IsTargetRefused trial.now keyword text.now target.entry b) }
+    ensures stops { IfErr result (Stops (TargetComesBack trial.now keyword text.now target.entry)) }
 {
     let inner = at_target(&target, trial.site.matches)?;
     let followed = Trial {
@@ -43,9 +47,10 @@ pub fn keyword_refuses<'r>(
     trial: &Trial<'_, 'r, '_>,
     keyword: Keyword<'r>,
     name: &str,
-) -> Result<bool, AllocError>
+) -> Result<bool, Stop>
     requires lies { LiesIn trial.now.site.now keyword }
-    ensures { IfOk result (λ b. KeywordRefuses trial.now keyword.entry name.now b) }
+    ensures refuses { IfOk result (λ b. KeywordRefuses trial.now keyword.entry name.now b) }
+    ensures stops { IfErr result (Stops (KeywordComesBack trial.now keyword.entry)) }
 {
     let alloc = trial.alloc;
     let value = trial.value;

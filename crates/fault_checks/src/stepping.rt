@@ -1,5 +1,5 @@
 //! One step of a walk.
-ghost use Rattle.std.specs.Prelude.{◌≡◌, ◌<◌, ◌∷◌, ◌||◌, IfOk, is_some};
+ghost use Rattle.std.specs.Prelude.{◌≡◌, ◌<◌, ◌∷◌, ◌||◌, IfOk, IfErr, is_some};
 ghost use Rattle.serde_json.specs.View.{view};
 ghost use Rattle.fault_checks.specs.Passed.{target_in};
 ghost use Rattle.fault_checks.specs.Passed.{FindsTarget};
@@ -7,6 +7,8 @@ ghost use Rattle.fault_checks.specs.Rows.{reference_row};
 ghost use Rattle.fault_paths.specs.Texts.{text_left};
 ghost use Rattle.fault_checks.specs.Verdicts.{LiesIn};
 ghost use Rattle.fault_checks.specs.Steps.{Passes, PassesAs, PassesBy, PassesThrough, IsMore, Ends, IsNotLonger, IsShorter};
+ghost use Rattle.plain_reader.specs.Returns.{Stops};
+ghost use Rattle.fault_checks.specs.Circles.{StepComesBack, MemberComesBack, WalkComesBack};
 
 use crate::applied_steps::through_applicator;
 use crate::choice_steps::through_condition;
@@ -17,6 +19,7 @@ use crate::walk::{Step, Walk};
 use crate::{Keyword, ReferenceKeyword, Refusal, Resolved, at_target, keyword as read_keyword};
 use fault_paths::members::member_named;
 use fault_paths::parts::first_part;
+use plain_reader::stop::Stop;
 use serde_json::Value;
 use std::alloc::{AllocError, Global};
 use value_checks::rising::entries_rise;
@@ -51,11 +54,12 @@ fn through<'r, 'i, 'p>(
     keyword: Keyword<'r>,
     name: &str,
     after: Option<&'p str>,
-) -> Result<Step<'r, 'i, 'p>, AllocError>
+) -> Result<Step<'r, 'i, 'p>, Stop>
     requires lies { LiesIn walk.site keyword }
     requires more { IsMore walk.instance after }
     ensures passes { IfOk result (PassesBy walk.entry keyword.entry name.now after.entry) }
     ensures shorter { IfOk result (IsNotLonger after.entry) }
+    ensures stops { IfErr result (Stops (StepComesBack walk.entry keyword.entry)) }
 {
     match keyword {
         Keyword::If {
@@ -73,12 +77,14 @@ fn through<'r, 'i, 'p>(
                 after,
             )
         }
-        Keyword::Applicator(applicator) => through_applicator(alloc, walk, &applicator, after),
+        Keyword::Applicator(applicator) => {
+            Ok(through_applicator(alloc, walk, &applicator, after)?)
+        }
         Keyword::Reference {
             keyword: by,
             text,
             target,
-        } => { through_reference(alloc, walk, by, text, target, after) }
+        } => { Ok(through_reference(alloc, walk, by, text, target, after)?) }
         Keyword::Nothing => Ok(Step::Answered(false)),
         Keyword::Consequent { .. } => Ok(Step::Answered(false)),
         Keyword::Pattern(_) => Ok(Step::Answered(false)),
@@ -100,10 +106,11 @@ fn by_keyword<'r, 'i, 'p>(
     keyword: Keyword<'r>,
     name: &str,
     after: Option<&'p str>,
-) -> Result<Step<'r, 'i, 'p>, AllocError>
+) -> Result<Step<'r, 'i, 'p>, Stop>
     requires lies { LiesIn walk.site keyword }
     ensures passes { IfOk result (PassesBy walk.entry keyword.entry name.now after.entry) }
     ensures shorter { IfOk result (IsNotLonger after.entry) }
+    ensures stops { IfErr result (Stops (StepComesBack walk.entry keyword.entry)) }
 {
     if is_more(walk.instance, after) {
         return through(alloc, walk, keyword, name, after);
@@ -125,10 +132,11 @@ fn by_member<'r, 'i, 'p>(
     member: &str,
     keyword: Keyword<'r>,
     after: Option<&'p str>,
-) -> Result<Step<'r, 'i, 'p>, AllocError>
+) -> Result<Step<'r, 'i, 'p>, Stop>
     requires lies { LiesIn walk.site keyword }
     ensures passes { IfOk result (PassesAs walk.entry keyword.entry name.now member.now after.entry) }
     ensures shorter { IfOk result (IsNotLonger after.entry) }
+    ensures stops { IfErr result (Stops (MemberComesBack walk.entry keyword.entry name.now member.now)) }
 {
     if !bears(&keyword, member, name) {
         return Ok(Step::Answered(false));
@@ -151,10 +159,11 @@ fn by_name<'r, 'i, 'p>(
     alloc: Global,
     walk: Walk<'r, 'i, 'p>,
     text: &'p str,
-) -> Result<Step<'r, 'i, 'p>, AllocError>
+) -> Result<Step<'r, 'i, 'p>, Stop>
     requires text { text_left walk.evaluation ≡ 47 ∷ text.now }
     ensures passes { IfOk result (Passes walk.entry) }
     ensures shorter { IfOk result (IsShorter (47 ∷ text.now)) }
+    ensures stops { IfErr result (Stops (WalkComesBack walk.entry)) }
 {
     let (name, after) = first_part(text);
     let Value::Object(members) = walk.site.contents else {
@@ -168,19 +177,17 @@ fn by_name<'r, 'i, 'p>(
     match read_keyword(alloc, &walk.site, members, member, part) {
         Ok(keyword) => by_member(alloc, walk, name, member, keyword, after),
         Err(refusal) => match refusal {
-            Refusal::Memory => Err(AllocError),
+            Refusal::Memory => Err(Stop::Memory),
             _ => Ok(Step::Answered(false)),
         },
     }
 }
 
 /// One step of a walk.
-pub fn step<'r, 'i, 'p>(
-    alloc: Global,
-    walk: Walk<'r, 'i, 'p>,
-) -> Result<Step<'r, 'i, 'p>, AllocError>
+pub fn step<'r, 'i, 'p>(alloc: Global, walk: Walk<'r, 'i, 'p>) -> Result<Step<'r, 'i, 'p>, Stop>
     ensures passes { IfOk result (Passes walk.entry) }
     ensures shorter { IfOk result (IsShorter (text_left walk.entry.evaluation)) }
+    ensures stops { IfErr result (Stops (WalkComesBack walk.entry)) }
 {
     match walk.evaluation {
         None => Ok(Step::Answered(ends_here(walk.site.contents, walk.instance))),

@@ -1,11 +1,14 @@
 //! Walks to their end.
-ghost use Rattle.std.specs.Prelude.{IfOk};
+ghost use Rattle.std.specs.Prelude.{IfOk, IfErr};
 ghost use Rattle.serde_json.specs.View.{view};
 ghost use Rattle.fault_checks.specs.Steps.{Passes};
 ghost use Rattle.fault_checks.specs.NamedSteps.{IsAtName, IsLeftAtName, IsLeftAtSome};
+ghost use Rattle.plain_reader.specs.Returns.{Stops};
+ghost use Rattle.fault_checks.specs.Circles.{NameComesBack, SomeComesBack, WalkComesBack};
 
 use crate::stepping::step;
 use crate::walk::{AtNames, Step, Walk};
+use plain_reader::stop::Stop;
 use serde_json::Value;
 use std::alloc::{AllocError, Global};
 
@@ -28,8 +31,9 @@ fn at_text<'a, 'r>(
 
 // The walk at a name to its end.
 #[cycle(walks)]
-fn at_name(alloc: Global, names: &AtNames<'_, '_, '_>, name: &str) -> Result<bool, AllocError>
-    ensures { IfOk result (IsLeftAtName names.now name.now) }
+fn at_name(alloc: Global, names: &AtNames<'_, '_, '_>, name: &str) -> Result<bool, Stop>
+    ensures left { IfOk result (IsLeftAtName names.now name.now) }
+    ensures stops { IfErr result (Stops (NameComesBack names.now name.now)) }
 {
     let text = Value::String(String::from_str(alloc, name)?);
     let walk = at_text(alloc, names, &text)?;
@@ -38,8 +42,9 @@ fn at_name(alloc: Global, names: &AtNames<'_, '_, '_>, name: &str) -> Result<boo
 
 // The walks at the names, until one of them is accepted.
 #[cycle(walks)]
-fn through_names(alloc: Global, names: &AtNames<'_, '_, '_>) -> Result<bool, AllocError>
-    ensures { IfOk result (IsLeftAtSome names.now) }
+fn through_names(alloc: Global, names: &AtNames<'_, '_, '_>) -> Result<bool, Stop>
+    ensures left { IfOk result (IsLeftAtSome names.now) }
+    ensures stops { IfErr result (Stops (SomeComesBack names.now)) }
 {
     let Value::Object(members) = names.walk.value else {
         return Ok(false);
@@ -58,10 +63,11 @@ fn through_names(alloc: Global, names: &AtNames<'_, '_, '_>) -> Result<bool, All
 ///
 /// # Errors
 ///
-/// Where memory was refused or a count of owners is full.
+/// Where memory was refused or a count of owners is full, and where a reference came back in a reading on the way.
 #[cycle(walks)]
-pub fn walked<'r, 'i, 'p>(alloc: Global, walk: Walk<'r, 'i, 'p>) -> Result<bool, AllocError>
-    ensures { IfOk result (λ b. Passes walk.entry (Step.Answered b)) }
+pub fn walked<'r, 'i, 'p>(alloc: Global, walk: Walk<'r, 'i, 'p>) -> Result<bool, Stop>
+    ensures passes { IfOk result (λ b. Passes walk.entry (Step.Answered b)) }
+    ensures stops { IfErr result (Stops (WalkComesBack walk.entry)) }
 {
     let mut now = walk;
     loop {

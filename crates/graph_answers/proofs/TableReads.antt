@@ -19,7 +19,8 @@ use Rattle.schema_patterns.specs.declared.compiled.CompiledPattern.{CompiledPatt
 use Rattle.schema_patterns.specs.declared.table.PatternTable.{PatternTable}
 use Rattle.reading_laws.specs.Asked.{AreAmong, IsAsked, AreFinished}
 use Rattle.reading_laws.proofs.Matched.{asked_matches_are_known}
-use Rattle.graph_answers.specs.Tables.{table_texts, table_reads, AreForms}
+use Rattle.schema_engine.specs.Matches.{Answers, completed}
+use Rattle.graph_answers.specs.Tables.{table_texts, table_reads, matches_of, AreForms}
 
 module _ {X : Type 0} where
   abbrev entry : String Global × X → List ℕ × X
@@ -46,6 +47,14 @@ pub text_at : {M : Type 0} (table : PatternTable M) (number : ℕ) → table_tex
 text_at table number = ap (or []) (slice_get-map (λ e. e.0) (entries_of table) number)
 
 module _ {M : Type 0} (finds : M → List ℕ → Option Bool) (table : PatternTable M) where
+  -- every match is known, so that there is one completion
+  pub reads_in_each : (rest : Answers) → completed (matches_of finds table) rest ≡ table_reads finds table
+  unfolding completed
+  reads_in_each rest = refl
+
+  pub read_in_each : (rest : Answers) (pattern text : List ℕ) (b : Bool) → b ≡ matched (table_reads finds table) pattern text → b ≡ matched (completed (matches_of finds table) rest) pattern text
+  read_in_each rest pattern text b read = read ∙ ap (λ a. matched a pattern text) (sym (reads_in_each rest))
+
   -- what a pattern of the table finds is what is read of its text
   pub reads_found : AreForms finds table → (pattern text : List ℕ) (c : CompiledPattern M) → pattern_for table pattern ≡ Some c
       → is_yes (found_by finds c text) ≡ matched (table_reads finds table) pattern text

@@ -14,8 +14,7 @@ ghost use Rattle.schema_validators.specs.Made.{IsMadeBy};
 ghost use Rattle.json_schema_validator.specs.Joined.{IsFaultChecked, WhereStraight, AreAccepted, each_accepted};
 
 use fault_checks::checking::{CheckAnswer, FaultPath, check_by, check_fault};
-use fault_checks::reading::read_matches;
-use schema_patterns::matches::Matches;
+use fault_checks::reading::{ReadMatches, read_matches};
 use schema_patterns::{PatternMaker, PatternMatcher};
 use schema_registries::SchemaRegistry;
 use schema_reports::{ErrorIterator, ValidationError};
@@ -50,7 +49,7 @@ fn check_error_by(
     alloc: Global,
     registry: &SchemaRegistry,
     root: &str,
-    matches: Option<&Matches>,
+    matches: Option<&ReadMatches>,
     value: &Value,
     error: &ValidationError<'_>,
 ) -> Result<CheckAnswer, AllocError>
@@ -70,7 +69,7 @@ fn check_each(
     alloc: Global,
     registry: &SchemaRegistry,
     root: &str,
-    matches: Option<&Matches>,
+    matches: Option<&ReadMatches>,
     value: &Value,
     errors: ErrorIterator<'_>,
 ) -> Result<Vec<CheckAnswer>, AllocError>

@@ -18,3 +18,6 @@ pub mod Order
 pub mod Once
 pub mod Law
 pub mod Computed
+pub mod Borne
+pub mod Settled
+pub mod Apart

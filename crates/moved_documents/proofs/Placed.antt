@@ -1,6 +1,7 @@
 -- Each schema place of the two documents has one in the document with the other inside, and the other way round.
 use Rattle.std.proofs.Common.{◌≡◌, ◌⊎◌, inl, inr, ℕ, suc, List, [], ◌∷◌, Bool, true, false, if◌then◌else◌, Option, is_some, refl, sym, subst}
 use Rattle.serde_json.specs.Data.{Data, depth}
+use Rattle.json_values.specs.Parts.{Part}
 use Rattle.schema_drafts.specs.declared.draft.Draft.{Draft}
 use Rattle.schema_meaning.specs.Members.{In}
 use Rattle.schema_definitions.specs.Places.{Dialect, SchemaPlace, root_place, children_in, children, places}
@@ -10,9 +11,9 @@ use Rattle.document_laws.proofs.Listed.{of_in, each_in}
 use Rattle.document_laws.proofs.Levels.{root_among, places_closed}
 use Rattle.moved_documents.specs.Forms.{Pair}
 use Rattle.moved_documents.specs.Premises.{CanMove}
-use Rattle.moved_documents.proofs.Twins.{Twin, Below, in_zip, zip_in, children_below}
+use Rattle.moved_documents.proofs.Twins.{Twin, Paths, Below, same_paths, IsUnder, paths_under, in_zip, zip_in, children_below}
 use Rattle.moved_documents.proofs.Grown.{IsMoved, Grown}
-use Rattle.moved_documents.proofs.Roots.{the_root, the_whole, the_moved, root_is, whole_is, moved_is, root_grown}
+use Rattle.moved_documents.proofs.Roots.{the_root, the_whole, the_moved, root_is, whole_is, moved_is, moved_path, root_grown}
 
 -- ---- the list of places has those below each of them, and no others
 
@@ -45,13 +46,19 @@ module _ (p : Pair) (draft : Draft) (whole : Data) (can : CanMove p draft whole)
   -- a place of the root document, and one of the document with the other inside
   pub data OfRoot : SchemaPlace → SchemaPlace → Type 0 where
     both_roots : OfRoot (the_root p draft whole can told) (the_whole p draft whole can told)
-    both_below : {x y : SchemaPlace} → Below x y → OfRoot x y
+    both_below : {x y : SchemaPlace} → Below same_paths x y → OfRoot x y
 
   pub data OfMoved : SchemaPlace → SchemaPlace → Type 0 where
-    moved_root : {y : SchemaPlace} → IsMoved (the_moved p draft whole can told) y → OfMoved (the_moved p draft whole can told) y
-    moved_below : {x y : SchemaPlace} → Below x y → OfMoved x y
+    moved_root : {y : SchemaPlace} → IsMoved (moved_path p draft whole can told) (the_moved p draft whole can told) y → OfMoved (the_moved p draft whole can told) y
+    moved_below : {x y : SchemaPlace} → Below (paths_under (moved_path p draft whole can told)) x y → OfMoved x y
 
-  abbrev grown : Grown moved (children told root) (children told root_inside)
+  abbrev at : List Part
+  at = moved_path p draft whole can told
+
+  abbrev under : Paths
+  under = paths_under at
+
+  abbrev grown : Grown at moved (children told root) (children told root_inside)
   grown = root_grown p draft whole can told
 
   -- ---- one step
@@ -59,14 +66,14 @@ module _ (p : Pair) (draft : Draft) (whole : Data) (can : CanMove p draft whole)
   root_step : (x y : SchemaPlace) → OfRoot x y → (c : SchemaPlace) → In c (children told x) → (e : SchemaPlace) × In e (children told y) × OfRoot c e
   root_step _ _ both_roots c i = (let h = grown.forth c i in (h.0, h.1, both_below h.2))
   root_step _ _ (both_below {x = x} {y = y} b) c i =
-      (let h = in_zip Below c (children told x) (children told y) (children_below told x y b.twin) i in (h.0, h.1, both_below h.2))
+      (let h = in_zip (Below same_paths) c (children told x) (children told y) (children_below same_paths told x y b.twin b.paths) i in (h.0, h.1, both_below h.2))
 
-  by_twins : (x y : SchemaPlace) → Twin x y → (c : SchemaPlace) → In c (children told x) → (e : SchemaPlace) × In e (children told y) × OfMoved c e
-  by_twins x y t c i = (let h = in_zip Below c (children told x) (children told y) (children_below told x y t) i in (h.0, h.1, moved_below h.2))
+  by_twins : (x y : SchemaPlace) → Twin x y → IsUnder at y.path → (c : SchemaPlace) → In c (children told x) → (e : SchemaPlace) × In e (children told y) × OfMoved c e
+  by_twins x y t u c i = (let h = in_zip (Below under) c (children told x) (children told y) (children_below under told x y t u) i in (h.0, h.1, moved_below h.2))
 
   moved_step : (x y : SchemaPlace) → OfMoved x y → (c : SchemaPlace) → In c (children told x) → (e : SchemaPlace) × In e (children told y) × OfMoved c e
-  moved_step _ _ (moved_root {y = y} h) c i = by_twins moved y h.twin c i
-  moved_step _ _ (moved_below {x = x} {y = y} b) c i = by_twins x y b.twin c i
+  moved_step _ _ (moved_root {y = y} h) c i = by_twins moved y h.twin (record { parts = []; is = h.path }) c i
+  moved_step _ _ (moved_below {x = x} {y = y} b) c i = by_twins x y b.twin b.paths c i
 
   -- ---- all places
 
@@ -116,24 +123,24 @@ module _ (p : Pair) (draft : Draft) (whole : Data) (can : CanMove p draft whole)
   moved_among : In moved moved_places
   moved_among = subst (λ (x : SchemaPlace). In x moved_places) (moved_is p draft whole can told) (root_among told p.moved_uri (by_default p.layer) p.moved)
 
-  grown_back : (c : SchemaPlace) → ((x : SchemaPlace) × In x (children told root) × Below x c) ⊎ IsMoved moved c → Comes c
+  grown_back : (c : SchemaPlace) → ((x : SchemaPlace) × In x (children told root) × Below same_paths x c) ⊎ IsMoved at moved c → Comes c
   grown_back c (inl h) = from_root h.0 (closed told p.root_uri (by_default p.layer) p.root root root_among_root h.0 h.1) (both_below h.2)
   grown_back c (inr h) = from_moved moved moved_among (moved_root h)
 
   back_of_root : (x y : SchemaPlace) → OfRoot x y → In x root_places → (c : SchemaPlace) → In c (children told y) → Comes c
   back_of_root _ _ both_roots i c j = grown_back c (grown.back c j)
   back_of_root _ _ (both_below {x = x} {y = y} b) i c j =
-      let h = zip_in Below c (children told x) (children told y) (children_below told x y b.twin) j in
+      let h = zip_in (Below same_paths) c (children told x) (children told y) (children_below same_paths told x y b.twin b.paths) j in
       from_root h.0 (closed told p.root_uri (by_default p.layer) p.root x i h.0 h.1) (both_below h.2)
 
-  back_of_twins : (x y : SchemaPlace) → Twin x y → In x moved_places → (c : SchemaPlace) → In c (children told y) → Comes c
-  back_of_twins x y t i c j =
-      let h = zip_in Below c (children told x) (children told y) (children_below told x y t) j in
+  back_of_twins : (x y : SchemaPlace) → Twin x y → IsUnder at y.path → In x moved_places → (c : SchemaPlace) → In c (children told y) → Comes c
+  back_of_twins x y t u i c j =
+      let h = zip_in (Below under) c (children told x) (children told y) (children_below under told x y t u) j in
       from_moved h.0 (closed told p.moved_uri (by_default p.layer) p.moved x i h.0 h.1) (moved_below h.2)
 
   back_of_moved : (x y : SchemaPlace) → OfMoved x y → In x moved_places → (c : SchemaPlace) → In c (children told y) → Comes c
-  back_of_moved _ _ (moved_root {y = y} h) i c j = back_of_twins moved y h.twin i c j
-  back_of_moved _ _ (moved_below {x = x} {y = y} b) i c j = back_of_twins x y b.twin i c j
+  back_of_moved _ _ (moved_root {y = y} h) i c j = back_of_twins moved y h.twin (record { parts = []; is = h.path }) i c j
+  back_of_moved _ _ (moved_below {x = x} {y = y} b) i c j = back_of_twins x y b.twin b.paths i c j
 
   back_step : (y : SchemaPlace) → Comes y → (c : SchemaPlace) → In c (children told y) → Comes c
   back_step y (from_root x i h) c j = back_of_root x y h i c j

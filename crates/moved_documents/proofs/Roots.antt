@@ -1,8 +1,9 @@
 -- The roots of the two documents, and of the one with the other inside.
-use Rattle.std.proofs.Common.{◌≡◌, ◌∙◌, ◌||◌, ◌+◌, ℕ, List, [], Bool, true, false, if◌then◌else◌, codes, Option, Some, None, is_some, option_and_then, refl, sym, ap, subst}
+use Rattle.std.proofs.Common.{◌≡◌, ◌∙◌, ◌||◌, ◌+◌, ℕ, List, [], ◌∷◌, Bool, true, false, if◌then◌else◌, codes, Option, Some, None, is_some, option_and_then, refl, sym, ap, subst}
 use Rattle.serde_json.specs.Data.{Data, null, boolean, number, string, array, object, Members}
 use Rattle.serde_json.specs.Find.{as_object}
-use Rattle.json_values.specs.Parts.{Part}
+use Rattle.json_values.specs.Parts.{Part, name}
+use Rattle.json_values.specs.Pointers.{value_at}
 use Rattle.json_values.specs.Rising.{rises}
 use Rattle.schema_drafts.specs.Drafts.{draft_named}
 use Rattle.schema_drafts.specs.Subschemas.{by_name, held_by}
@@ -14,7 +15,7 @@ use Rattle.schema_definitions.specs.Places.{Dialect, SchemaPlace, standard, draf
 use Rattle.schema_definitions.specs.Bearers.{by_default, is_root, schemas_named}
 use Rattle.moved_documents.specs.Forms.{Pair, moved_into}
 use Rattle.moved_documents.specs.Premises.{embeds, States, CanMove}
-use Rattle.moved_documents.proofs.Near.{Near, at_root, Inside, root_inside}
+use Rattle.moved_documents.proofs.Near.{Extended, made, grown, Near, at_root, Inside, root_inside}
 use Rattle.moved_documents.proofs.Counted.{named_at_root}
 use Rattle.moved_documents.proofs.NearTexts.{text_near, base_near}
 use Rattle.moved_documents.proofs.Twins.{another}
@@ -93,6 +94,17 @@ module _ (p : Pair) (draft : Draft) (whole : Data) (can : CanMove p draft whole)
   pub near_root : Near p.fresh p.moved p.root whole
   near_root = subst (λ (d : Data). Near p.fresh p.moved d whole) parts.is (subst (λ (d : Data). Near p.fresh p.moved (object parts.members) d) within.value (at_root within.is within.extended within.changed))
 
+  -- ---- the root has nothing where the moved document comes to stand
+
+  by_extended : {o : Option Data} {es : Members} → Extended p.fresh p.moved o es → (rest : List Part) → option_and_then (value_at (name p.fresh ∷ rest)) o ≡ None
+  by_extended made rest = refl
+  by_extended (grown none change) rest = ap (λ (o : Option Data). option_and_then (value_at rest) o) none
+
+  pub nothing_there : (rest : List Part) → value_at (name (codes "$defs") ∷ name p.fresh ∷ rest) p.root ≡ None
+  nothing_there rest =
+      subst (λ (d : Data). value_at (name (codes "$defs") ∷ name p.fresh ∷ rest) d ≡ None) parts.is
+      (ap (λ (o : Option Data). option_and_then (value_at (name p.fresh ∷ rest)) o) within.is ∙ by_extended within.extended rest)
+
   pub named_whole : schemas_named whole ≡ schemas_named p.root + schemas_named p.moved
   named_whole =
       sym (ap (λ (d : Data). schemas_named d) within.value) ∙ named_at_root p.fresh p.moved can.fresh within.extended within.changed
@@ -134,23 +146,27 @@ module _ (p : Pair) (draft : Draft) (whole : Data) (can : CanMove p draft whole)
       ap (placed outer own path p.moved) (inside_settled told p.layer.siblings draft p.moved (ap is_some can.identified) can.moved)
       ∙ ap (λ (b : List ℕ). record { path = path; contents = p.moved; base = b; dialect = own; awaits = None }) (moved_base outer)
 
-  stands : (path : List Part) → is_root path ≡ false → IsMoved the_moved (entered told the_root.base own path p.moved)
+  stands : (path : List Part) → is_root path ≡ false → IsMoved path the_moved (entered told the_root.base own path p.moved)
   stands path below =
-      subst (λ (q : SchemaPlace). IsMoved the_moved q) (sym (entered_is the_root.base path))
-      (record { twin = record { contents = refl; base = refl; dialect = refl; awaits = refl }; below = below })
+      subst (λ (q : SchemaPlace). IsMoved path the_moved q) (sym (entered_is the_root.base path))
+      (record { twin = record { contents = refl; base = refl; dialect = refl; awaits = refl }; below = below; path = refl })
 
   -- ---- the places below the root, without and with the moved document
 
-  pub root_grown : Grown the_moved (children told the_root) (children told the_whole)
+  -- where the moved document stands inside
+  abbrev pub moved_path : List Part
+  moved_path = name p.fresh ∷ name (codes "$defs") ∷ []
+
+  pub root_grown : Grown moved_path the_moved (children told the_root) (children told the_whole)
   root_grown =
       let ms = parts.members in
       let ns = within.members in
       let none : (d : Data) → is_hidden own d ≡ false = λ d. none_hidden p.layer.siblings draft d can.embeds in
-      let grown : Grown the_moved (children_of told the_root false ms) (children_of told the_whole false ns) =
+      let grown : Grown moved_path the_moved (children_of told the_root false ms) (children_of told the_whole false ns) =
       below_root told the_root whole p.fresh p.moved the_moved (states_schema draft p.moved can.moved) stands false (holds_definitions draft can.embeds) within.extended within.changed in
-      let first : Grown the_moved (children_in told the_root (object ms)) (children_of told the_whole false ns) =
-      subst (λ (b : Bool). Grown the_moved (children_of told the_root b ms) (children_of told the_whole false ns)) (sym (none (object ms))) grown in
-      let second : Grown the_moved (children_in told the_root (object ms)) (children_in told the_whole (object ns)) =
-      subst (λ (b : Bool). Grown the_moved (children_in told the_root (object ms)) (children_of told the_whole b ns)) (sym (none (object ns))) first in
-      subst (λ (d : Data). Grown the_moved (children_in told the_root d) (children_in told the_whole whole)) parts.is
-      (subst (λ (d : Data). Grown the_moved (children_in told the_root (object ms)) (children_in told the_whole d)) within.value second)
+      let first : Grown moved_path the_moved (children_in told the_root (object ms)) (children_of told the_whole false ns) =
+      subst (λ (b : Bool). Grown moved_path the_moved (children_of told the_root b ms) (children_of told the_whole false ns)) (sym (none (object ms))) grown in
+      let second : Grown moved_path the_moved (children_in told the_root (object ms)) (children_in told the_whole (object ns)) =
+      subst (λ (b : Bool). Grown moved_path the_moved (children_in told the_root (object ms)) (children_of told the_whole b ns)) (sym (none (object ns))) first in
+      subst (λ (d : Data). Grown moved_path the_moved (children_in told the_root d) (children_in told the_whole whole)) parts.is
+      (subst (λ (d : Data). Grown moved_path the_moved (children_in told the_root (object ms)) (children_in told the_whole d)) within.value second)

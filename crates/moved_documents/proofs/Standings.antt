@@ -12,17 +12,17 @@ use Rattle.moved_documents.specs.Forms.{Pair, added, inside}
 use Rattle.moved_documents.specs.Premises.{CanMove}
 use Rattle.moved_documents.proofs.Near.{Near, unmoved}
 use Rattle.moved_documents.proofs.NearTexts.{identifier_near}
-use Rattle.moved_documents.proofs.Twins.{Below}
+use Rattle.moved_documents.proofs.Twins.{Paths, Below}
 use Rattle.moved_documents.proofs.Grown.{IsMoved}
-use Rattle.moved_documents.proofs.Roots.{near_root, own}
+use Rattle.moved_documents.proofs.Roots.{near_root, own, moved_path}
 use Rattle.moved_documents.proofs.Placed.{OfRoot, both_roots, both_below, OfMoved, moved_root, moved_below, Comes, from_root, from_moved, root_has, moved_has, comes}
 
-abbrev standing : List ℕ → SchemaPlace → Standing
+abbrev pub standing : List ℕ → SchemaPlace → Standing
 standing document p = record { document = document; place = p }
 
 -- ---- lists
 
-in_mapped : {A B : Type 0} (f : A → B) (y : B) (xs : List A) → In y (map f xs) → (x : A) × In x xs × (y ≡ f x)
+pub in_mapped : {A B : Type 0} (f : A → B) (y : B) (xs : List A) → In y (map f xs) → (x : A) × In x xs × (y ≡ f x)
 in_mapped f y [] i = elim i [ ]
 in_mapped f _ (x ∷ xs) first = (x, first, refl)
 in_mapped f y (x ∷ xs) (later i) = (let h = in_mapped f y xs i in (h.0, later h.1, h.2))
@@ -67,8 +67,8 @@ pub record Alike (fresh : List ℕ) (moved : Data) (s t : Standing) : Type 0 whe
   pub near : Near fresh moved s.place.contents t.place.contents
   pub bears_alike : (uri : List ℕ) → bears uri s ≡ bears uri t
 
-below_alike : (fresh : List ℕ) (moved : Data) (n n' : List ℕ) (x y : SchemaPlace) → Below x y → Alike fresh moved (standing n x) (standing n' y)
-below_alike fresh moved n n' x y b = record {
+below_alike : (r : Paths) (fresh : List ℕ) (moved : Data) (n n' : List ℕ) (x y : SchemaPlace) → Below r x y → Alike fresh moved (standing n x) (standing n' y)
+below_alike r fresh moved n n' x y b = record {
   base = b.twin.base;
   dialect = b.twin.dialect;
   awaits = b.twin.awaits;
@@ -84,13 +84,13 @@ module _ (p : Pair) (draft : Draft) (whole : Data) (can : CanMove p draft whole)
   abbrev AlikeHere : Standing → Standing → Type 0
   AlikeHere s t = Alike p.fresh p.moved s t
 
-  abbrev root_name : List ℕ
+  abbrev pub root_name : List ℕ
   root_name = p.layer.number ∷ p.root_uri
 
-  abbrev moved_name : List ℕ
+  abbrev pub moved_name : List ℕ
   moved_name = p.layer.number ∷ p.moved_uri
 
-  root_alike : (x y : SchemaPlace) → OfRoot p draft whole can told x y → AlikeHere (standing root_name x) (standing root_name y)
+  pub root_alike : (x y : SchemaPlace) → OfRoot p draft whole can told x y → AlikeHere (standing root_name x) (standing root_name y)
   root_alike _ _ both_roots = record {
     base = refl;
     dialect = refl;
@@ -98,9 +98,9 @@ module _ (p : Pair) (draft : Draft) (whole : Data) (can : CanMove p draft whole)
     near = near_root p draft whole can told;
     bears_alike = λ uri. rw (identifier_near p.fresh p.moved can.fresh p.root whole (near_root p draft whole can told) (own p draft whole can told)) refl;
   }
-  root_alike _ _ (both_below {x = x} {y = y} b) = below_alike p.fresh p.moved root_name root_name x y b
+  root_alike _ _ (both_below {x = x} {y = y} b) = below_alike _ p.fresh p.moved root_name root_name x y b
 
-  moved_bears : (y : SchemaPlace) (h : IsMoved (record { path = []; contents = p.moved; base = p.moved_uri; dialect = own p draft whole can told; awaits = None }) y) (uri : List ℕ)
+  moved_bears : (y : SchemaPlace) (h : IsMoved (moved_path p draft whole can told) (record { path = []; contents = p.moved; base = p.moved_uri; dialect = own p draft whole can told; awaits = None }) y) (uri : List ℕ)
       → (bytes_eq p.moved_uri uri || (is_some (identifier (own p draft whole can told) p.moved) && bytes_eq p.moved_uri uri)) ≡ bears uri (standing root_name y)
   moved_bears y h uri =
       let left : (bytes_eq p.moved_uri uri || (is_some (identifier (own p draft whole can told) p.moved) && bytes_eq p.moved_uri uri)) ≡ bytes_eq p.moved_uri uri =
@@ -109,7 +109,7 @@ module _ (p : Pair) (draft : Draft) (whole : Data) (can : CanMove p draft whole)
       rw (h.below, sym h.twin.contents, sym h.twin.base, sym h.twin.dialect, sym h.twin.awaits, can.identified) refl in
       left ∙ sym right
 
-  moved_alike : (x y : SchemaPlace) → OfMoved p draft whole can told x y → AlikeHere (standing moved_name x) (standing root_name y)
+  pub moved_alike : (x y : SchemaPlace) → OfMoved p draft whole can told x y → AlikeHere (standing moved_name x) (standing root_name y)
   moved_alike _ _ (moved_root {y = y} h) = record {
     base = h.twin.base;
     dialect = h.twin.dialect;
@@ -117,7 +117,7 @@ module _ (p : Pair) (draft : Draft) (whole : Data) (can : CanMove p draft whole)
     near = subst (λ (d : Data). Near p.fresh p.moved p.moved d) h.twin.contents unmoved;
     bears_alike = moved_bears y h;
   }
-  moved_alike _ _ (moved_below {x = x} {y = y} b) = below_alike p.fresh p.moved moved_name root_name x y b
+  moved_alike _ _ (moved_below {x = x} {y = y} b) = below_alike _ p.fresh p.moved moved_name root_name x y b
 
   -- ---- each has one
 
@@ -133,7 +133,7 @@ module _ (p : Pair) (draft : Draft) (whole : Data) (can : CanMove p draft whole)
   abbrev HasBefore : Standing → Type 0
   HasBefore t = (s : Standing) × In s before × AlikeHere s t
 
-  inside_listed : (y : SchemaPlace) → In y (places told p.root_uri (by_default p.layer) whole) → In (standing root_name y) after
+  pub inside_listed : (y : SchemaPlace) → In y (places told p.root_uri (by_default p.layer) whole) → In (standing root_name y) after
   unfolding standings
   inside_listed y i = in_first (standing root_name y) _ [] (in_map (standing root_name) y (places told p.root_uri (by_default p.layer) whole) i)
 

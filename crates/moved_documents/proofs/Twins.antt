@@ -1,5 +1,5 @@
 -- Schema places that differ in their paths alone, or in what else stands inside a value at their place: the places below them are such too.
-use Rattle.std.proofs.Common.{◌≡◌, ℕ, suc, List, [], ◌∷◌, Bool, true, false, if◌then◌else◌, Option, is_some, refl, subst}
+use Rattle.std.proofs.Common.{◌≡◌, ℕ, suc, List, [], ◌∷◌, ◌++◌, Bool, true, false, if◌then◌else◌, Option, is_some, refl, ap, subst}
 use Rattle.std.specs.List.{AllZip}
 use Rattle.serde_json.specs.Data.{Data, null, boolean, number, string, array, object, Items, no_items, item, Members, no_members, member}
 use Rattle.json_values.specs.Parts.{Part, name, index}
@@ -17,11 +17,31 @@ pub record Twin (p q : SchemaPlace) : Type 0 where
   pub dialect : p.dialect ≡ q.dialect
   pub awaits : p.awaits ≡ q.awaits
 
--- and neither is a root
-pub record Below (p q : SchemaPlace) : Type 0 where
+-- how the paths of two places go together, and stay so with one part more
+pub record Paths : Type 1 where
+  pub along : List Part → List Part → Type 0
+  pub next : (part : Part) (path path' : List Part) → along path path' → along (part ∷ path) (part ∷ path')
+
+-- neither is a root, and their paths go together
+pub record Below (r : Paths) (p q : SchemaPlace) : Type 0 where
   pub twin : Twin p q
   pub here : is_root p.path ≡ false
   pub there : is_root q.path ≡ false
+  pub paths : r.along p.path q.path
+
+abbrev pub same_paths : Paths
+same_paths = record { along = λ path path'. path ≡ path'; next = λ part path path' e. ap (λ (q : List Part). part ∷ q) e }
+
+-- a path that begins, from the root, with another
+pub record IsUnder (above path : List Part) : Type 0 where
+  pub parts : List Part
+  pub is : path ≡ parts ++ above
+
+abbrev pub paths_under : List Part → Paths
+paths_under above = record {
+  along = λ path path'. IsUnder above path';
+  next = λ part path path' u. record { parts = part ∷ u.parts; is = ap (λ (q : List Part). part ∷ q) u.is };
+}
 
 -- ---- lists one by one
 
@@ -39,77 +59,83 @@ zip_in R y (x ∷ xs) (w ∷ ys) z (later i) = (let h = zip_in R y xs ys z.1 i i
 
 -- ---- a place and another of the same base and dialect
 
-placed_twin : (outer : List ℕ) (around : Dialect) (path path' : List Part) (d : Data) (n : Named) → is_root path ≡ false → is_root path' ≡ false
-    → Below (placed outer around path d n) (placed outer around path' d n)
-placed_twin outer around path path' d (settled dialect) h t =
-    record { twin = record { contents = refl; base = refl; dialect = refl; awaits = refl }; here = h; there = t }
-placed_twin outer around path path' d (awaited uri) h t =
-    record { twin = record { contents = refl; base = refl; dialect = refl; awaits = refl }; here = h; there = t }
+placed_twin : (r : Paths) (outer : List ℕ) (around : Dialect) (path path' : List Part) (d : Data) (n : Named) → is_root path ≡ false → is_root path' ≡ false → r.along path path'
+    → Below r (placed outer around path d n) (placed outer around path' d n)
+placed_twin r outer around path path' d (settled dialect) h t a =
+    record { twin = record { contents = refl; base = refl; dialect = refl; awaits = refl }; here = h; there = t; paths = a }
+placed_twin r outer around path path' d (awaited uri) h t a =
+    record { twin = record { contents = refl; base = refl; dialect = refl; awaits = refl }; here = h; there = t; paths = a }
 
 module _ (meta : List ℕ → Option Dialect) (p : SchemaPlace) (elsewhere : List Part) (contents : Data) where
   abbrev pub another : SchemaPlace
   another = record { path = elsewhere; contents = contents; base = p.base; dialect = p.dialect; awaits = p.awaits }
 
-  abbrev AllBelow : List SchemaPlace → List SchemaPlace → Type 0
-  AllBelow ps qs = AllZip Below ps qs
+  module _ (r : Paths) where
+    abbrev AllBelow : List SchemaPlace → List SchemaPlace → Type 0
+    AllBelow ps qs = AllZip (Below r) ps qs
 
-  schemas : (path path' : List Part) (d : Data) → is_root path ≡ false → is_root path' ≡ false → AllBelow (if_schema meta p path d) (if_schema meta another path' d)
-  schemas path path' null h t = tt
-  schemas path path' (boolean b) h t =
-      (placed_twin p.base p.dialect path path' (boolean b) (by_schema meta p.dialect (schema_in_force p.dialect.siblings false (boolean b))) h t, tt)
-  schemas path path' (number n) h t = tt
-  schemas path path' (string s) h t = tt
-  schemas path path' (array ds) h t = tt
-  schemas path path' (object ms) h t =
-      (placed_twin p.base p.dialect path path' (object ms) (by_schema meta p.dialect (schema_in_force p.dialect.siblings false (object ms))) h t, tt)
+    schemas : (path path' : List Part) (d : Data) → is_root path ≡ false → is_root path' ≡ false → r.along path path'
+        → AllBelow (if_schema meta p path d) (if_schema meta another path' d)
+    schemas path path' null h t a = tt
+    schemas path path' (boolean b) h t a =
+        (placed_twin r p.base p.dialect path path' (boolean b) (by_schema meta p.dialect (schema_in_force p.dialect.siblings false (boolean b))) h t a, tt)
+    schemas path path' (number n) h t a = tt
+    schemas path path' (string s) h t a = tt
+    schemas path path' (array ds) h t a = tt
+    schemas path path' (object ms) h t a =
+        (placed_twin r p.base p.dialect path path' (object ms) (by_schema meta p.dialect (schema_in_force p.dialect.siblings false (object ms))) h t a, tt)
 
-  items_below : (path path' : List Part) (i : ℕ) (ds : Items) → AllBelow (each_item meta p path i ds) (each_item meta another path' i ds)
-  items_below path path' i no_items = tt
-  items_below path path' i (item d ds) =
-      zip_append Below (if_schema meta p (index i ∷ path) d) (if_schema meta another (index i ∷ path') d) (each_item meta p path (suc i) ds) (each_item meta another path' (suc i) ds)
-      (schemas (index i ∷ path) (index i ∷ path') d refl refl) (items_below path path' (suc i) ds)
+    items_below : (path path' : List Part) → r.along path path' → (i : ℕ) (ds : Items) → AllBelow (each_item meta p path i ds) (each_item meta another path' i ds)
+    items_below path path' a i no_items = tt
+    items_below path path' a i (item d ds) =
+        zip_append (Below r) (if_schema meta p (index i ∷ path) d) (if_schema meta another (index i ∷ path') d) (each_item meta p path (suc i) ds) (each_item meta another path' (suc i) ds)
+        (schemas (index i ∷ path) (index i ∷ path') d refl refl (r.next (index i) path path' a)) (items_below path path' a (suc i) ds)
 
-  pub members_below : (path path' : List Part) (ms : Members) → AllBelow (each_member meta p path ms) (each_member meta another path' ms)
-  members_below path path' no_members = tt
-  members_below path path' (member k d ms) =
-      zip_append Below (if_schema meta p (name k ∷ path) d) (if_schema meta another (name k ∷ path') d) (each_member meta p path ms) (each_member meta another path' ms)
-      (schemas (name k ∷ path) (name k ∷ path') d refl refl) (members_below path path' ms)
+    pub members_below : (path path' : List Part) → r.along path path' → (ms : Members) → AllBelow (each_member meta p path ms) (each_member meta another path' ms)
+    members_below path path' a no_members = tt
+    members_below path path' a (member k d ms) =
+        zip_append (Below r) (if_schema meta p (name k ∷ path) d) (if_schema meta another (name k ∷ path') d) (each_member meta p path ms) (each_member meta another path' ms)
+        (schemas (name k ∷ path) (name k ∷ path') d refl refl (r.next (name k) path path' a)) (members_below path path' a ms)
 
-  list_below : (path path' : List Part) (d : Data) → AllBelow (in_list meta p path d) (in_list meta another path' d)
-  list_below path path' (array ds) = items_below path path' 0 ds
-  list_below path path' d = tt
+    list_below : (path path' : List Part) → r.along path path' → (d : Data) → AllBelow (in_list meta p path d) (in_list meta another path' d)
+    list_below path path' a (array ds) = items_below path path' a 0 ds
+    list_below path path' a d = tt
 
-  map_below : (path path' : List Part) (d : Data) → AllBelow (in_map meta p path d) (in_map meta another path' d)
-  map_below path path' (object ms) = members_below path path' ms
-  map_below path path' d = tt
+    map_below : (path path' : List Part) → r.along path path' → (d : Data) → AllBelow (in_map meta p path d) (in_map meta another path' d)
+    map_below path path' a (object ms) = members_below path path' a ms
+    map_below path path' a d = tt
 
-  pub held_below : (path path' : List Part) (h : Holds) (d : Data) → is_root path ≡ false → is_root path' ≡ false → AllBelow (held meta p path h d) (held meta another path' h d)
-  held_below path path' nothing d h t = tt
-  held_below path path' one d h t = schemas path path' d h t
-  held_below path path' several d h t = list_below path path' d
-  held_below path path' one_or_several d h t =
-      zip_append Below (if_schema meta p path d) (if_schema meta another path' d) (in_list meta p path d) (in_list meta another path' d) (schemas path path' d h t) (list_below path path' d)
-  held_below path path' by_name d h t = map_below path path' d
+    pub held_below : (path path' : List Part) (h : Holds) (d : Data) → is_root path ≡ false → is_root path' ≡ false → r.along path path'
+        → AllBelow (held meta p path h d) (held meta another path' h d)
+    held_below path path' nothing d h t a = tt
+    held_below path path' one d h t a = schemas path path' d h t a
+    held_below path path' several d h t a = list_below path path' a d
+    held_below path path' one_or_several d h t a =
+        zip_append (Below r) (if_schema meta p path d) (if_schema meta another path' d) (in_list meta p path d) (in_list meta another path' d) (schemas path path' d h t a)
+        (list_below path path' a d)
+    held_below path path' by_name d h t a = map_below path path' a d
 
-  pub all_below : (hidden : Bool) (ms : Members) → AllBelow (children_of meta p hidden ms) (children_of meta another hidden ms)
-  all_below hidden no_members = tt
-  all_below hidden (member k d ms) =
-      zip_append Below (held meta p (name k ∷ p.path) (held_by p.dialect.draft hidden k) d) (held meta another (name k ∷ elsewhere) (held_by p.dialect.draft hidden k) d)
-      (children_of meta p hidden ms) (children_of meta another hidden ms)
-      (held_below (name k ∷ p.path) (name k ∷ elsewhere) (held_by p.dialect.draft hidden k) d refl refl) (all_below hidden ms)
+    module _ (along : r.along p.path elsewhere) where
+      pub all_below : (hidden : Bool) (ms : Members) → AllBelow (children_of meta p hidden ms) (children_of meta another hidden ms)
+      all_below hidden no_members = tt
+      all_below hidden (member k d ms) =
+          zip_append (Below r) (held meta p (name k ∷ p.path) (held_by p.dialect.draft hidden k) d) (held meta another (name k ∷ elsewhere) (held_by p.dialect.draft hidden k) d)
+          (children_of meta p hidden ms) (children_of meta another hidden ms)
+          (held_below (name k ∷ p.path) (name k ∷ elsewhere) (held_by p.dialect.draft hidden k) d refl refl (r.next (name k) p.path elsewhere along)) (all_below hidden ms)
 
-  inside_below : (d : Data) → AllBelow (children_in meta p d) (children_in meta another d)
-  inside_below (object ms) = all_below (is_hidden p.dialect (object ms)) ms
-  inside_below d = tt
+      inside_below : (d : Data) → AllBelow (children_in meta p d) (children_in meta another d)
+      inside_below (object ms) = all_below (is_hidden p.dialect (object ms)) ms
+      inside_below d = tt
 
 -- the places below twins are twins
-unless_awaits : (b : Bool) (ps qs : List SchemaPlace) → AllZip Below ps qs → AllZip Below (if b then [] else ps) (if b then [] else qs)
-unless_awaits true ps qs z = tt
-unless_awaits false ps qs z = z
+unless_awaits : (r : Paths) (b : Bool) (ps qs : List SchemaPlace) → AllZip (Below r) ps qs → AllZip (Below r) (if b then [] else ps) (if b then [] else qs)
+unless_awaits r true ps qs z = tt
+unless_awaits r false ps qs z = z
 
-pub children_below : (meta : List ℕ → Option Dialect) (p q : SchemaPlace) → Twin p q → AllZip Below (children meta p) (children meta q)
-children_below meta p q t =
+pub children_below : (r : Paths) (meta : List ℕ → Option Dialect) (p q : SchemaPlace) → Twin p q → r.along p.path q.path → AllZip (Below r) (children meta p) (children meta q)
+children_below r meta p q t along =
     let same : another meta p q.path p.contents ≡ q =
     rw (t.contents, t.base, t.dialect, t.awaits) refl in
-    subst (λ (r : SchemaPlace). AllZip Below (children meta p) (children meta r)) same
-    (unless_awaits (is_some p.awaits) (children_in meta p p.contents) (children_in meta (another meta p q.path p.contents) p.contents) (inside_below meta p q.path p.contents p.contents))
+    subst (λ (x : SchemaPlace). AllZip (Below r) (children meta p) (children meta x)) same
+    (unless_awaits r (is_some p.awaits) (children_in meta p p.contents) (children_in meta (another meta p q.path p.contents) p.contents)
+    (inside_below meta p q.path p.contents r along p.contents))

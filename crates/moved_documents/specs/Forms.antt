@@ -21,6 +21,9 @@ document_at l uri d = record { layer = l.number; uri = uri; contents = d; defaul
 abbrev pub root_alone : Pair → Documents
 root_alone p = document_at p.layer p.root_uri p.root ∷ []
 
+abbrev pub moved_alone : Pair → Documents
+moved_alone p = document_at p.layer p.moved_uri p.moved ∷ []
+
 -- ---- added
 
 abbrev pub added : Pair → Documents

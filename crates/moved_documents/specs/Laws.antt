@@ -8,15 +8,16 @@ use Rattle.schema_meaning.specs.Readings.{Reading, verdicts, bags, unfolded, IsT
 use Rattle.schema_meaning.specs.Order.{SameFaults, SameOrOut}
 use Rattle.schema_definitions.specs.Places.{Dialect}
 use Rattle.schema_definitions.specs.Bearers.{Documents, meta}
+use Rattle.schema_definitions.specs.DocumentCauses.{document_causes}
 use Rattle.schema_definitions.specs.Lines.{faults_text}
 use Rattle.schema_definitions.specs.Lookup.{Target}
 use Rattle.schema_definitions.specs.Rounds.{AreRounds, gathered, wants}
 use Rattle.schema_definitions.specs.Sites.{Site, root_site}
 use Rattle.schema_definitions.specs.Plain.{plain}
 use Rattle.added_documents.specs.Added.{EachNamedBy, NamesDraft}
-use Rattle.added_documents.specs.ReadingLaws.{Builds}
-use Rattle.moved_documents.specs.Forms.{Pair, root_alone, added, by_map, inside}
-use Rattle.moved_documents.specs.Premises.{BornOnce, CanMove}
+use Rattle.added_documents.specs.ReadingLaws.{Builds, StandsAlone}
+use Rattle.moved_documents.specs.Forms.{Pair, root_alone, moved_alone, added, by_map, inside}
+use Rattle.moved_documents.specs.Premises.{BornOnce, CanMove, LeavesOut}
 
 -- the documents that rounds of retrieval give are the root alone, or those of the form in which the other is added
 abbrev pub RetrievedIsAdded : Type 0
@@ -53,3 +54,9 @@ abbrev pub InsideIsAdded : Type 0
 InsideIsAdded = (p : Pair) (draft : Draft) (whole : Data) → CanMove p draft whole → (makes : List ℕ → Bool) (base reference : List ℕ) (root other : Target)
     → Builds (added p) makes base reference root → Builds (inside p whole) makes base reference other
     → (matches : List ℕ → List ℕ → Bool) (d : Data) → AnswersAlike (plain (added p) makes matches) (plain (inside p whole) makes matches) (root_site root) (root_site other) d
+
+-- a root that builds in its own document, with which nothing is wrong, and leaves the moved one out, stands alone once that is added
+abbrev pub RootStandsAlone : Type 0
+RootStandsAlone = (p : Pair) (draft : Draft) (whole : Data) → CanMove p draft whole → document_causes (root_alone p) ≡ []
+    → (makes : List ℕ → Bool) (base reference : List ℕ) (root : Target) → Builds (root_alone p) makes base reference root → LeavesOut p makes root
+    → StandsAlone (root_alone p) (moved_alone p) (added p) makes base reference root

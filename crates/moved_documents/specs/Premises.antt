@@ -1,5 +1,5 @@
 -- When moving a document is to change nothing.
-use Rattle.std.specs.Prelude.{ℕ, ◌≡◌, List, Bool, true, false, codes, Option, Some, option_and_then}
+use Rattle.std.specs.Prelude.{ℕ, ◌≡◌, ◌⊎◌, List, Bool, true, false, codes, Option, Some, None, is_some, option_and_then}
 use Rattle.serde_json.specs.Data.{Data}
 use Rattle.json_values.specs.Rising.{rises}
 use Rattle.schema_meaning.specs.Members.{In}
@@ -10,8 +10,12 @@ use Rattle.schema_drafts.specs.declared.draft.Draft.TheVariants.{Draft4, Draft6,
 use Rattle.schema_definitions.specs.Words.{text_at}
 use Rattle.schema_definitions.specs.Identifiers.{resolved, identifier, anchors}
 use Rattle.schema_definitions.specs.Places.{Dialect, standard}
-use Rattle.schema_definitions.specs.Bearers.{Documents, Standing, standings, bears, bears_anchor, dialects}
-use Rattle.moved_documents.specs.Forms.{Pair, joined, inside}
+use Rattle.schema_definitions.specs.Bearers.{Documents, Standing, standings, bears, bears_anchor, dialects, meta, bearer}
+use Rattle.schema_definitions.specs.Lookup.{Target}
+use Rattle.schema_definitions.specs.Sites.{Site, root_site}
+use Rattle.schema_definitions.specs.BuildCauses.{Reached}
+use Rattle.added_documents.specs.Added.{EachNamedBy, IsToldAlike, IsFree}
+use Rattle.moved_documents.specs.Forms.{Pair, root_alone, moved_alone, added, joined, inside}
 
 -- a name that is a keyword of no draft, nor another name that one knows
 abbrev pub IsFresh : List ℕ → Type 0
@@ -54,3 +58,18 @@ pub record CanMove (p : Pair) (draft : Draft) (whole : Data) : Type 0 where
   pub rises : rises p.root ≡ true
   -- at each stage at which the dialects of meta-schemas are told
   pub once : (n : ℕ) → BornOnce (dialects (inside p whole) n) (inside p whole)
+
+-- ---- where the root by itself wants no document, the moved one is not retrieved
+
+-- A schema has no identifier, or its base is the URI of a schema place of the root, or one that the moved document does not bear. Schema places
+-- bear their own; so this is asked of what stands inside a value that is no schema place, and that a pointer makes a schema.
+abbrev pub KeepsApart : Pair → Site → Type 0
+KeepsApart p s =
+    (identifier s.dialect s.contents ≡ None)
+    ⊎ ((is_some (bearer (root_alone p) s.base) ≡ true) ⊎ IsFree (moved_alone p) (added p) s.base)
+
+-- The moved document is left out by the root: of each meta-schema that is named inside that, the same dialect is told with the moved document
+-- added, and each schema that is reached keeps apart from that.
+pub record LeavesOut (p : Pair) (makes : List ℕ → Bool) (root : Target) : Type 0 where
+  pub told : EachNamedBy (IsToldAlike (meta (root_alone p)) (meta (added p))) (root_alone p)
+  pub reached : (s : Site) → Reached (root_alone p) makes (root_site root) s → KeepsApart p s

@@ -1,7 +1,7 @@
 //! Whether a document is added beside another, retrieved for it, or moved under a name of its `$defs`.
 
 ghost use Rattle.moved_documents.specs.Example.{TextsCanMove};
-ghost use Rattle.moved_documents.specs.Laws.{InsideIsAdded, OnceIsAlways, RetrievedIsAdded, WantedIsAdded};
+ghost use Rattle.moved_documents.specs.Laws.{InsideIsAdded, OnceIsAlways, RetrievedIsAdded, RootStandsAlone, WantedIsAdded};
 
 /// Where the moved document alone is answered, what is retrieved for the root is nothing or that document, once: then the documents are those of
 /// the form in which it is added.
@@ -12,6 +12,12 @@ pub fn retrieved_is_added()
 /// Where the root wants a document, and nothing is wanted at last, what is retrieved is the moved one.
 pub fn wanted_is_added()
     ensures { WantedIsAdded }
+{}
+
+/// Where one document can be moved into the other, and the root by itself leaves it out, as its identifiers and meta-schemas are its own: a root
+/// that builds by itself stands alone, so nothing changes where the other is added.
+pub fn root_stands_alone()
+    ensures { RootStandsAlone }
 {}
 
 /// Where one document can be moved into the other, a root that builds both with the document added and with it inside answers alike: verdicts

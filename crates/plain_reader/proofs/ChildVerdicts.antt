@@ -50,7 +50,7 @@ abbrev as_value : Spot → Spot
 as_value w = value_at w.value w.path w.road
 
 module _ (c b : code.Site) (d : Data) (whole : Spots) (value : Data) (path : List Part) (keys : List Key) (added : List Part) (step : Step) where
-  child_fits : (x : Setting) → Child c b d → Fits c value path keys x → AreRead x.documents x.makes (below x.documents x.site added d)
+  pub child_fits : (x : Setting) → Child c b d → Fits c value path keys x → AreRead x.documents x.makes (below x.documents x.site added d)
       → Fits b (value_after value step) (path_after path step) keys (uncalled (led_to x (asks d added step x) x.keys))
   child_fits x child fits read =
       let inner = below x.documents x.site added d in

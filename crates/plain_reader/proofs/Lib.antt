@@ -13,3 +13,5 @@ pub mod TargetVerdicts
 pub mod NameVerdicts
 pub mod Counting
 pub mod SiteVerdicts
+pub mod ReturnLemmas
+pub mod KeywordReturns

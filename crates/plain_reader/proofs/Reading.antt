@@ -51,7 +51,7 @@ pub keywords-of : (docs : Documents) (makes : List ℕ → Bool) (s : Site) (d :
     → keywords_at docs makes s ≡ flat_map (λ r. r.shapes) (rows_in s (λ ms. record { documents = docs; makes = makes; site = s; members = ms }) d)
 keywords-of docs makes s d e = ap (λ rs. flat_map (λ r. r.shapes) rs) (rows-of docs makes s d e)
 
-row_listed : (x : Context) (ms : Members) (k : List ℕ) (d : Data) → In (k, d) (listed_members ms) → In (row_at x k d) (rows_of x ms)
+pub row_listed : (x : Context) (ms : Members) (k : List ℕ) (d : Data) → In (k, d) (listed_members ms) → In (row_at x k d) (rows_of x ms)
 row_listed x no_members k d i = elim i [ ]
 row_listed x (member n c ms) k d first = first
 row_listed x (member n c ms) k d (later i) = later (row_listed x ms k d i)

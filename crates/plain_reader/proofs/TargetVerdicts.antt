@@ -30,7 +30,7 @@ use Rattle.plain_reader.specs.Keys.{key}
 use Rattle.plain_reader.specs.Settings.{Setting}
 use Rattle.plain_reader.specs.Targets.{reference_leads, reference_questions}
 use Rattle.plain_reader.specs.Verdicts.{Fits, room, Accepts, AreYes}
-use Rattle.plain_reader.proofs.VerdictLemmas.{all_yes-one, led_to, key_of, answer_back, answer_on}
+use Rattle.plain_reader.proofs.VerdictLemmas.{all_yes-one, led_to, key_of, answer_on}
 
 -- ---- how deep a target may go
 
@@ -67,15 +67,6 @@ module _ (c : code.Site) (whole : Spots) (d : Data) (path : List Part) (progress
   same_key : (x : Setting) → Fits c d path progress x → key_of x (asks x) ≡ key t.document t.path path
   unfolding asks
   same_key x fits = ap (λ (w : Spot). record { target = place_of t; path = w.path; called = w.called }) fits.spot
-
-  pub back_accepts : (b : Bool) → b ≡ is_in_progress (key t.document t.path path) progress → b ≡ true
-      → AreYes c whole d path progress (reference_leads text t) (reference_questions k text t) true
-  unfolding asks
-  back_accepts b is back = record {
-    is = λ x fits leads fit.
-        let again : is_in_progress (key_of x (asks x)) x.keys ≡ true = ap₂ is_in_progress (same_key x fits) fits.keys ∙ sym is ∙ back in
-        all_yes-one x (asks x) ∙ answer_back x (asks x) refl again;
-  }
 
   pub target_accepts : (b v : Bool) (inner : code.Site)
       → b ≡ is_in_progress (key t.document t.path path) progress → b ≡ false

@@ -94,9 +94,6 @@ answer_followed x q b follows back =
     ap (λ f. cut_by_kind f verdicts (reading_in x) (cut_within verdicts (reading_in x) x.depth) x.keys x.spot q) follows
     ∙ ap (λ p. cut_unless p true (accepts_in (led_to x q (key_of x q ∷ x.keys)))) back
 
-pub answer_back : (x : Setting) (q : Question Site) → q.follows ≡ true → is_in_progress (key_of x q) x.keys ≡ true → answer_in x q ≡ true
-answer_back x q follows back = answer_followed x q true follows back
-
 pub answer_on : (x : Setting) (q : Question Site) → q.follows ≡ true → is_in_progress (key_of x q) x.keys ≡ false → answer_in x q ≡ accepts_in (led_to x q (key_of x q ∷ x.keys))
 answer_on x q follows new = answer_followed x q false follows new
 

@@ -8,6 +8,8 @@ pub mod Applied
 pub mod Combined
 pub mod Targets
 pub mod Readings
+pub mod Returns
+pub mod Returning
 pub mod Sites
 pub mod Passed
 pub mod PassedRefusals

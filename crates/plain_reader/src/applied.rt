@@ -1,30 +1,33 @@
 //! The verdict of a keyword that applies subschemas.
-ghost use Rattle.std.specs.Prelude.{◌≡◌, ◌<◌, IfOk, length, true};
+ghost use Rattle.std.specs.Prelude.{◌≡◌, ◌<◌, IfOk, IfErr, length, true};
 ghost use Rattle.serde_json.specs.Data.{depth};
 ghost use Rattle.serde_json.specs.View.{view};
 ghost use Rattle.applicators.specs.Combined.{is_by_answers};
 ghost use Rattle.plain_reader.specs.Applied.{EachInside, IsPart};
 ghost use Rattle.plain_reader.specs.Readings.{ApplicatorAccepts, AreItsQuestions, EachAccepts, CountsAccepted, QuestionAccepts, PartAccepts};
+ghost use Rattle.plain_reader.specs.Returns.{Stops};
+ghost use Rattle.plain_reader.specs.Returning.{ApplicatorReturns, QuestionReturns, PartReturns};
 
 use crate::names::accepts_name;
 use crate::notes::is_noted;
 use crate::read::accepts_schema;
 use crate::settled::settles;
 use crate::standing::Reading;
+use crate::stop::Stop;
 use applicators::applicator::Applicator;
 use applicators::question::{Asked, Question};
 use applicators::questions::questions;
-use std::alloc::AllocError;
 
 // Whether an applicator accepts.
 #[cycle(read)]
 pub(crate) fn accepts_applicator<'r>(
     reading: &Reading<'_, 'r, '_>,
     applicator: &Applicator<'r>,
-) -> Result<bool, AllocError>
+) -> Result<bool, Stop>
     requires answers { is_by_answers applicator.now ≡ true }
     requires inside { EachInside reading.now.site.now applicator.now }
-    ensures { IfOk result (ApplicatorAccepts reading.now applicator.now) }
+    ensures accepts { IfOk result (ApplicatorAccepts reading.now applicator.now) }
+    ensures stops { IfErr result (Stops (ApplicatorReturns reading.now applicator.now)) }
 {
     let value = reading.value;
     let asked = questions(reading.alloc, reading.site.matches, applicator, value)?;
@@ -45,11 +48,12 @@ fn accepts_each<'r, 'i>(
     reading: &Reading<'_, 'r, 'i>,
     applicator: &Applicator<'r>,
     asked: &[Question<'r, 'i>],
-) -> Result<bool, AllocError>
+) -> Result<bool, Stop>
     requires answers { is_by_answers applicator.now ≡ true }
     requires inside { EachInside reading.now.site.now applicator.now }
     requires asked { AreItsQuestions reading.now applicator.now asked.now }
-    ensures { IfOk result (EachAccepts reading.now applicator.now) }
+    ensures accepts { IfOk result (EachAccepts reading.now applicator.now) }
+    ensures stops { IfErr result (Stops (ApplicatorReturns reading.now applicator.now)) }
 {
     for question in asked {
         if !accepts_question(reading, *question)? {
@@ -65,11 +69,12 @@ fn count_accepted<'r, 'i>(
     reading: &Reading<'_, 'r, 'i>,
     applicator: &Applicator<'r>,
     asked: &[Question<'r, 'i>],
-) -> Result<usize, AllocError>
+) -> Result<usize, Stop>
     requires answers { is_by_answers applicator.now ≡ true }
     requires inside { EachInside reading.now.site.now applicator.now }
     requires asked { AreItsQuestions reading.now applicator.now asked.now }
-    ensures { IfOk result (CountsAccepted reading.now applicator.now (length asked.now)) }
+    ensures counts { IfOk result (CountsAccepted reading.now applicator.now (length asked.now)) }
+    ensures stops { IfErr result (Stops (ApplicatorReturns reading.now applicator.now)) }
 {
     let mut accepted = 0;
     for (answered, question) in asked.iter().enumerate() {
@@ -88,10 +93,11 @@ fn count_accepted<'r, 'i>(
 pub(crate) fn accepts_question<'r, 'i>(
     reading: &Reading<'_, 'r, 'i>,
     question: Question<'r, 'i>,
-) -> Result<bool, AllocError>
+) -> Result<bool, Stop>
     requires inside { depth (view question.subschema.schema.now) < depth (view reading.now.site.now.contents.now) }
     requires part { IsPart (view reading.now.value.now) question.asked }
-    ensures { IfOk result (QuestionAccepts reading.now question.entry) }
+    ensures accepts { IfOk result (QuestionAccepts reading.now question.entry) }
+    ensures stops { IfErr result (Stops (QuestionReturns reading.now question.entry)) }
 {
     let inner = reading
         .site
@@ -109,9 +115,10 @@ pub(crate) fn accepts_question<'r, 'i>(
 
 // Whether a schema accepts what is asked of.
 #[cycle(read)]
-fn accepts_part<'i>(reading: &Reading<'_, '_, 'i>, asked: Asked<'i>) -> Result<bool, AllocError>
+fn accepts_part<'i>(reading: &Reading<'_, '_, 'i>, asked: Asked<'i>) -> Result<bool, Stop>
     requires part { IsPart (view reading.now.value.now) asked }
-    ensures { IfOk result (PartAccepts reading.now asked.entry) }
+    ensures accepts { IfOk result (PartAccepts reading.now asked.entry) }
+    ensures stops { IfErr result (Stops (PartReturns reading.now asked.entry)) }
 {
     match asked {
         Asked::Value => accepts_schema(reading),

@@ -10,6 +10,7 @@ mod read;
 mod settled;
 pub mod site;
 mod standing;
+pub mod stop;
 mod whole;
 
 pub use schema_sites::keyword::{Keyword, Refusal};

@@ -7,7 +7,7 @@ use Rattle.schema_meaning.specs.Places.{Key, Spot, whole}
 use Rattle.schema_meaning.specs.Questions.{Question, asked_at}
 use Rattle.schema_meaning.specs.Rules.{asks, accepts}
 use Rattle.schema_meaning.specs.Keywords.{Shape, rule}
-use Rattle.schema_meaning.specs.Readings.{Reading, Telling, verdicts, tell_one, told, unfolded, Asks, IsNested}
+use Rattle.schema_meaning.specs.Readings.{Reading, Telling, verdicts, tell_one, unfolded, Asks, IsNested}
 use Rattle.schema_meaning.specs.Cut.{cut_within, cut, left, AreAll}
 use Rattle.meaning_laws.proofs.Enough.{cut_is_enough}
 use Rattle.schema_engine.specs.declared.node.Node.{Node}

@@ -1,8 +1,6 @@
 -- What an observer hears, one after another.
-use Rattle.std.proofs.Common.{◌≡◌, ◌∙◌, refl, sym, ap, subst}
-use Rattle.schema_meaning.specs.Places.{Spot}
+use Rattle.std.proofs.Common.{◌≡◌, sym, subst}
 use Rattle.schema_meaning.specs.Faults.{Fault, Faults, none, also, joined}
-use Rattle.schema_meaning.specs.Rules.{each_of_object}
 use Rattle.schema_reports.specs.Observers.{Hears}
 use Rattle.schema_reports.specs.declared.observer.Observation.{Observation}
 use Rattle.schema_reports.specs.declared.observer.Observer.{Observer}

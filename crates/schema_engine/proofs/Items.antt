@@ -1,17 +1,16 @@
 -- The items of a list, asked one by one.
-use Rattle.std.proofs.Common.{◌≡◌, ◌<◌, ◌≤◌, ◌+◌, ℕ, suc, List, [], ◌∷◌, Bool, true, false, map, drop, length, get_or, refl, sym, ap, ◌∙◌, subst, arith}
+use Rattle.std.proofs.Common.{◌≡◌, ◌<◌, ◌≤◌, ◌+◌, ℕ, suc, List, ◌∷◌, true, false, map, drop, length, get_or, refl, sym, ap, ◌∙◌, subst, arith}
 use Rattle.std.proofs.lemmas.List.{drop_more, drop_all}
 use Rattle.serde_json.specs.Data.{Data, Items, no_items, item}
 use Rattle.serde_json.specs.View.{view, items_view}
 use Rattle.serde_json.specs.declared.value.Value.{Value}
-use Rattle.schema_meaning.specs.Keywords.{Shape}
 use Rattle.schema_meaning.specs.Members.{first, later}
 use Rattle.schema_meaning.specs.Questions.{each_item}
 use Rattle.schema_meaning.specs.Readings.{Reading}
 use Rattle.schema_engine.specs.declared.node.Node.{Node}
 use Rattle.schema_engine.specs.declared.place.Place.{Place}
 use Rattle.schema_engine.specs.Asking.{item_call, item_calls}
-use Rattle.schema_engine.specs.Questions.{Call, call}
+use Rattle.schema_engine.specs.Questions.{call}
 use Rattle.schema_engine.specs.Rules.{all_beside}
 use Rattle.schema_engine.specs.Verdicts.{Setting, Fits, Tells, asked_in, MayAsk, EachMayAsk}
 

@@ -1,11 +1,10 @@
 -- What a keyword tells, by what the functions for its rule tell.
-use Rattle.std.proofs.Common.{◌≡◌, ◌≤◌, ◌<◌, ◌+◌, ◌∙◌, ◌++◌, ℕ, List, [], ◌∷◌, Bool, true, false, map, drop, length, get_or, refl, sym, ap, ap₂, subst}
+use Rattle.std.proofs.Common.{◌≡◌, ◌≤◌, ◌<◌, ◌+◌, ◌∙◌, ◌++◌, ℕ, List, [], ◌∷◌, Bool, true, false, map, drop, length, get_or, refl, sym, ap, ap₂}
 use Rattle.std.proofs.lemmas.List.{drop_more, drop_all}
 use Rattle.json_values.specs.Parts.{Part}
-use Rattle.schema_meaning.specs.Members.{count_true}
 use Rattle.schema_meaning.specs.Places.{Spot}
-use Rattle.schema_meaning.specs.Faults.{Fault, fault, Faults, none, also, joined, is_none}
-use Rattle.schema_meaning.specs.Rules.{Rule, every, together, each_named, some_branch, one_branch, refusal, counted, conditional, Note, asks, one_fault, own_faults, verdicts_of}
+use Rattle.schema_meaning.specs.Faults.{Fault, fault, Faults, none, also, joined}
+use Rattle.schema_meaning.specs.Rules.{Rule, every, together, each_named, some_branch, one_branch, refusal, counted, conditional, Note, asks, one_fault, own_faults}
 use Rattle.schema_meaning.specs.Readings.{Reading}
 use Rattle.location_texts.specs.Locations.{location_of}
 use Rattle.schema_reports.specs.Observers.{Hears}
@@ -20,9 +19,9 @@ use Rattle.schema_engine.specs.Questions.{call_of}
 use Rattle.schema_engine.specs.Refusals.{own_notes, has_one_fault, refused_fault}
 use Rattle.schema_engine.specs.Rules.{combination_of}
 use Rattle.schema_engine.specs.Situations.{spot_in}
-use Rattle.schema_engine.specs.Verdicts.{Setting, Fits, Tells, asked_in, rule_in}
+use Rattle.schema_engine.specs.Verdicts.{Setting, Tells, asked_in, rule_in}
 use Rattle.schema_engine.specs.Faults.{Stand, IsAt, Hearing, AreAsked, asked_faults, rule_faults, one_told, question_faults, faults_beside, faults_by_first, faults_of_object}
-use Rattle.schema_engine.proofs.HearsLemmas.{hears_same, hears_nothing, hears_unwanted, hears_later}
+use Rattle.schema_engine.proofs.HearsLemmas.{hears_same, hears_unwanted, hears_later}
 use Rattle.schema_engine.proofs.RuleFaults.{every_faults, named_faults, conditional_faults, rule_faults-is, one_rule_faults, question_agrees}
 use Rattle.schema_engine.proofs.ToTell.{hearing_same, hearing_both, hearing_nothing}
 

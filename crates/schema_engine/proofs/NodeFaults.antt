@@ -1,20 +1,17 @@
 -- What a node tells, by its keywords.
-use Rattle.std.proofs.Common.{◌≡◌, ◌<◌, ◌≤◌, ◌+◌, ◌∙◌, ℕ, zero, suc, List, [], ◌∷◌, Bool, map, drop, length, get_or, refl, sym, ap, subst, arith}
+use Rattle.std.proofs.Common.{◌≡◌, ◌<◌, ◌≤◌, ◌+◌, ◌∙◌, ℕ, zero, suc, List, ◌∷◌, Bool, map, drop, length, get_or, refl, sym, ap, arith}
 use Rattle.std.proofs.lemmas.List.{drop_more, drop_all}
 use Rattle.std.proofs.lemmas.Option.{slice_get_read}
-use Rattle.json_values.specs.Parts.{Part}
-use Rattle.schema_meaning.specs.Faults.{Faults, none, joined, join}
+use Rattle.schema_meaning.specs.Faults.{Faults, join}
 use Rattle.schema_meaning.specs.Keywords.{Shape, rule}
 use Rattle.schema_meaning.specs.Rules.{asks, faults}
 use Rattle.schema_meaning.specs.Cut.{cut_within}
-use Rattle.schema_meaning.specs.Readings.{bags}
 use Rattle.schema_reports.specs.declared.observer.Observer.{Observer}
 use Rattle.schema_engine.specs.declared.node.Node.{Node}
-use Rattle.schema_engine.specs.declared.place.Place.{Place}
 use Rattle.schema_engine.specs.Hearing.{HearsMore}
 use Rattle.schema_engine.specs.Places.{value_at}
 use Rattle.schema_engine.specs.Graphs.{keywords_at, path_or_root, path_at, reading_of}
-use Rattle.schema_engine.specs.Verdicts.{Setting, Fits}
+use Rattle.schema_engine.specs.Verdicts.{Setting}
 use Rattle.schema_engine.specs.Faults.{Stand, IsAt, Hearing, node_faults, asked_faults, rule_faults}
 use Rattle.schema_engine.proofs.HearsLemmas.{hears_same}
 use Rattle.schema_engine.proofs.ToTell.{ToTell, told_one, none_to_tell}

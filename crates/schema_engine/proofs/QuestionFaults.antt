@@ -1,12 +1,12 @@
 -- What the questions of a keyword tell, one after another.
-use Rattle.std.proofs.Common.{◌≡◌, ◌<◌, ◌≤◌, ◌+◌, ◌++◌, ◌∙◌, ℕ, List, [], ◌∷◌, Bool, true, false, map, drop, length, get_or, refl, sym, ap, ap₂, subst}
+use Rattle.std.proofs.Common.{◌≡◌, ◌<◌, ◌≤◌, ◌+◌, ◌++◌, ◌∙◌, ℕ, List, [], ◌∷◌, Bool, true, false, map, drop, length, get_or, refl, sym, ap, ap₂}
 use Rattle.std.specs.declared.alloc.Global.{Global}
 use Rattle.std.specs.declared.vec.Vec.{Vec}
 use Rattle.std.proofs.lemmas.List.{drop_more, drop_all}
 use Rattle.serde_json.specs.Data.{Data}
 use Rattle.json_values.specs.Parts.{Part}
 use Rattle.schema_meaning.specs.Places.{Spot}
-use Rattle.schema_meaning.specs.Faults.{Fault, fault, Faults, none, also, joined, join, branch, branches_of}
+use Rattle.schema_meaning.specs.Faults.{fault, Faults, none, also, joined, join, branch, branches_of}
 use Rattle.schema_meaning.specs.Rules.{of_object, each_of_object}
 use Rattle.schema_reports.specs.Observers.{Hears}
 use Rattle.schema_reports.specs.Told.{faults_of, branches_in, context_is_proper, spot_of, AreAll}
@@ -16,7 +16,6 @@ use Rattle.schema_reports.specs.declared.observer.Observation.TheVariants as kep
 use Rattle.schema_reports.specs.declared.observer.Observer.{Observer}
 use Rattle.schema_reports.proofs.FaultLemmas.{context_longer, object-joined}
 use Rattle.schema_engine.specs.declared.place.Question as code
-use Rattle.schema_engine.specs.Hearing.{HearsMore}
 use Rattle.schema_engine.specs.Places.{value_at}
 use Rattle.schema_engine.specs.Verdicts.{Setting}
 use Rattle.schema_engine.specs.Faults.{Stand, IsAt, Hearing, AreErrorsOf, faults_if, faults_beside, faults_of_object}

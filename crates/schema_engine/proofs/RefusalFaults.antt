@@ -1,15 +1,14 @@
 -- The one fault of a keyword that has one for all of its questions.
-use Rattle.std.proofs.Common.{◌≡◌, ◌≤◌, ◌∙◌, ◌++◌, ℕ, List, Bool, true, false, Option, map, refl, sym, ap, ap₂, subst}
+use Rattle.std.proofs.Common.{◌≡◌, ◌≤◌, ◌∙◌, ◌++◌, ℕ, List, true, Option, map, refl, sym, ap, ap₂, subst}
 use Rattle.std.specs.declared.alloc.Global.{Global}
 use Rattle.std.specs.declared.vec.Vec.{Vec}
 use Rattle.serde_json.specs.Data.{Data}
 use Rattle.serde_json.specs.View.{view}
 use Rattle.json_values.specs.Parts.{Part}
 use Rattle.schema_meaning.specs.Members.{count_true}
-use Rattle.schema_meaning.specs.Places.{Spot}
 use Rattle.schema_meaning.specs.Faults as told
 use Rattle.schema_meaning.specs.Questions.{at}
-use Rattle.schema_meaning.specs.Rules.{Rule, every, together, each_named, some_branch, one_branch, refusal, counted, conditional, Note, asks, own_fault, verdicts_of, count_refused_at, one_of_kind}
+use Rattle.schema_meaning.specs.Rules.{Rule, every, together, each_named, some_branch, one_branch, refusal, counted, conditional, asks, own_fault, verdicts_of, count_refused_at, one_of_kind}
 use Rattle.schema_meaning.specs.Readings.{Reading}
 use Rattle.schema_reports.specs.Kinds.{StandsFor}
 use Rattle.location_texts.specs.Locations.{location_of}
@@ -23,7 +22,7 @@ use Rattle.schema_engine.specs.declared.place.Question as code
 use Rattle.schema_engine.specs.declared.reason.Reason.{Reason}
 use Rattle.schema_engine.specs.declared.situation.Situation.{Situation}
 use Rattle.schema_engine.specs.Hearing.{HearsMore}
-use Rattle.schema_engine.specs.Refusals.{has_one_fault, refused_at, refused, refused_fault, IsRefusedUnder, IsReason}
+use Rattle.schema_engine.specs.Refusals.{has_one_fault, refused_at, refused, IsRefusedUnder, IsReason}
 use Rattle.schema_engine.specs.Rules.{combination_of}
 use Rattle.schema_engine.specs.Situations.{spot_in, TellsOf}
 use Rattle.schema_engine.specs.Places.{value_at}

@@ -3,7 +3,7 @@ use Rattle.std.proofs.Common.{◌≡◌, ◌∙◌, ℕ, List, [], ◌∷◌, ma
 use Rattle.json_values.specs.Parts.{Part}
 use Rattle.schema_meaning.specs.Members.{count_true}
 use Rattle.schema_meaning.specs.Places.{Spot}
-use Rattle.schema_meaning.specs.Faults.{Fault, Faults, none, also, joined, join, is_none, branches_of}
+use Rattle.schema_meaning.specs.Faults.{Faults, none, joined, join, is_none}
 use Rattle.schema_meaning.specs.Questions as told
 use Rattle.schema_meaning.specs.Rules.{Rule, every, together, each_named, some_branch, one_branch, refusal, counted, conditional, asks, accepts, faults, consequents, chosen, if_same, each_of_object, one_fault, own_faults, verdicts_of}
 use Rattle.schema_meaning.specs.Readings.{Reading, bags, verdicts}
@@ -14,9 +14,9 @@ use Rattle.schema_engine.specs.declared.place.Question as code
 use Rattle.schema_engine.specs.declared.combination.Combination.TheVariants as combination
 use Rattle.schema_engine.specs.Questions.{Call, call, call_of, question_by}
 use Rattle.schema_engine.specs.Refusals.{own_notes, has_one_fault, refused_fault}
-use Rattle.schema_engine.specs.Rules.{combination_of, is_right, questions_of}
+use Rattle.schema_engine.specs.Rules.{combination_of, is_right}
 use Rattle.schema_engine.specs.Verdicts.{Setting, asked_in, rule_in}
-use Rattle.schema_engine.specs.Faults.{asked_faults, rule_faults, question_faults, faults_if, faults_beside, faults_by_first, faults_of_object, one_told, AreAsked}
+use Rattle.schema_engine.specs.Faults.{asked_faults, rule_faults, question_faults, faults_if, faults_beside, faults_by_first, AreAsked}
 use Rattle.schema_engine.proofs.RuleLemmas.{map_same, asked_call}
 
 pub map_map : {A B C : Type 0} (f : B → C) (g : A → B) (xs : List A) → map f (map g xs) ≡ map (λ x. f (g x)) xs

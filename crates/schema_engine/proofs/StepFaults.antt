@@ -1,28 +1,25 @@
 -- What a question tells, by what is told where it leads.
-use Rattle.std.proofs.Common.{Bor, ◌≡◌, ◌<◌, ◌≤◌, ◌++◌, ◌∙◌, ℕ, suc, List, [], ◌∷◌, Bool, true, false, refl, sym, ap, ap₂, subst, arith}
+use Rattle.std.proofs.Common.{Bor, ◌≡◌, ◌<◌, ◌++◌, ◌∙◌, ℕ, suc, List, [], ◌∷◌, Bool, true, false, refl, sym, ap, subst, arith}
 use Rattle.serde_json.specs.View.{view}
 use Rattle.serde_json.specs.declared.value.Value.{Value}
 use Rattle.json_values.specs.Parts.{Part, name, index}
-use Rattle.schema_meaning.specs.Places.{Step, stay, to_item, to_member, to_name, after, path_after}
-use Rattle.schema_meaning.specs.Faults.{Faults, none}
+use Rattle.schema_meaning.specs.Places.{Step, stay, to_item, to_member, to_name, after}
+use Rattle.schema_meaning.specs.Faults.{none}
 use Rattle.schema_meaning.specs.Keywords.{Shape}
 use Rattle.schema_meaning.specs.Readings.{Reading}
 use Rattle.schema_meaning.specs.Cut.{cut_unless, is_in_progress}
-use Rattle.location_texts.specs.Locations.{location_of}
 use Rattle.schema_reports.specs.declared.observer.Observer.{Observer}
 use Rattle.schema_engine.specs.declared.node.Node.{Node}
 use Rattle.schema_engine.specs.declared.there.There.{There}
 use Rattle.schema_engine.specs.declared.validate.Validate.{Ghosts}
-use Rattle.schema_engine.specs.declared.place.Asked.{Asked}
-use Rattle.schema_engine.specs.declared.place.Place.{Place}
 use Rattle.schema_engine.specs.declared.place.Place.TheVariants as place
 use Rattle.schema_engine.specs.Hearing.{HearsMore}
 use Rattle.schema_engine.specs.Places.{value_at}
 use Rattle.schema_engine.specs.Progress.{is_among}
 use Rattle.schema_engine.specs.Graphs.{reading_of}
-use Rattle.schema_engine.specs.Verdicts.{Setting, Fits, GoesDown, key_in}
+use Rattle.schema_engine.specs.Verdicts.{Setting, GoesDown, key_in}
 use Rattle.schema_engine.specs.Faults.{Stand, IsAt, Hearing, node_faults, asked_faults}
-use Rattle.schema_engine.specs.Standing.{stand_of, size_of, HearsAt, HearsOf}
+use Rattle.schema_engine.specs.Standing.{stand_of, size_of, HearsOf}
 use Rattle.schema_engine.proofs.Settings.{stay_fits, item_fits, member_fits, name_fits, target_fits}
 use Rattle.schema_engine.proofs.ToTell.{hearing_nothing}
 

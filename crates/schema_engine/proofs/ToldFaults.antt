@@ -1,25 +1,25 @@
 -- What the engine tells of a whole value.
-use Rattle.std.proofs.Common.{◌≡◌, ◌≤◌, ◌+◌, ◌*◌, ◌∙◌, ℕ, zero, suc, List, [], ◌∷◌, Bool, Option, None, Some, option_map, map, Bor, refl, sym, ap, ap₂, subst, arith}
+use Rattle.std.proofs.Common.{◌≡◌, ◌≤◌, ◌+◌, ◌*◌, ◌∙◌, ℕ, zero, suc, List, [], Bool, Option, option_map, map, Bor, refl, sym, ap, ap₂, subst, arith}
 use Rattle.serde_json.specs.View.{view}
 use Rattle.serde_json.specs.declared.value.Value.{Value}
 use Rattle.json_values.specs.Parts.{Part}
-use Rattle.schema_meaning.specs.Members.{In, all_true, all_known}
-use Rattle.schema_meaning.specs.Places.{Key, Spot, whole}
+use Rattle.schema_meaning.specs.Members.{all_true, all_known}
+use Rattle.schema_meaning.specs.Places.{Spot, whole}
 use Rattle.schema_meaning.specs.Faults.{Faults, join, is_none}
 use Rattle.schema_meaning.specs.Questions.{Question, asked_at}
 use Rattle.schema_meaning.specs.Rules.{Rule, asks, accepts, faults}
 use Rattle.schema_meaning.specs.Keywords.{Shape, rule}
 use Rattle.schema_meaning.specs.Readings.{Reading, rules, bags, verdicts, tell_one, tell, unfolded}
-use Rattle.schema_meaning.specs.Cut.{cut_within, cut, left, AreAll}
+use Rattle.schema_meaning.specs.Cut.{cut_within, left}
 use Rattle.meaning_laws.proofs.Known.{all_known-through, option_map-same, option_map-twice}
 use Rattle.meaning_laws.proofs.Verdicts.{is_none-join, rule_agrees}
 use Rattle.schema_reports.specs.declared.observer.Observer.{Observer}
 use Rattle.schema_engine.specs.declared.node.Node.{Node}
 use Rattle.schema_engine.specs.declared.place.Place.TheVariants as place
-use Rattle.schema_engine.specs.Graphs.{reading_of, IsReadingOf, HasPathsOf, highest, path_at, IsSound}
+use Rattle.schema_engine.specs.Graphs.{reading_of, highest, IsSound}
 use Rattle.schema_engine.specs.Hearing.{HearsMore}
-use Rattle.schema_engine.specs.Verdicts.{Setting, Fits}
-use Rattle.schema_engine.specs.Faults.{Stand, IsAt, Hearing, node_faults}
+use Rattle.schema_engine.specs.Verdicts.{Fits}
+use Rattle.schema_engine.specs.Faults.{Stand, Hearing, node_faults}
 use Rattle.schema_engine.specs.Told.{TellsCut, TellsDecided}
 use Rattle.schema_engine.proofs.Answered.{cut_enough}
 use Rattle.schema_engine.proofs.Decided.{cut_where_decided}

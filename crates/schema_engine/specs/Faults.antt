@@ -1,9 +1,8 @@
 -- What the engine tells: the faults of the cut reading of the graph.
-use Rattle.std.specs.Prelude.{◌≡◌, ◌≤◌, ◌++◌, ℕ, suc, List, [], ◌∷◌, map, Bool, true, false}
+use Rattle.std.specs.Prelude.{◌≡◌, ◌≤◌, ℕ, List, [], ◌∷◌, map, Bool, true, false}
 use Rattle.std.specs.declared.alloc.Global.{Global}
 use Rattle.std.specs.declared.vec.Vec.{Vec}
 use Rattle.json_values.specs.Parts.{Part}
-use Rattle.schema_meaning.specs.Places.{Step}
 use Rattle.schema_meaning.specs.Faults.{Faults, none, also, joined, join, is_none, branches_of}
 use Rattle.schema_meaning.specs.Questions as told
 use Rattle.schema_meaning.specs.Rules.{Rule, asks, faults, each_of_object}

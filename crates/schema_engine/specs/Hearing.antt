@@ -1,5 +1,4 @@
 -- What an observer hears after what it heard before.
-use Rattle.std.specs.Prelude.{List}
 use Rattle.schema_meaning.specs.Faults.{Faults, joined}
 use Rattle.schema_reports.specs.Observers.{Hears}
 use Rattle.schema_reports.specs.declared.observer.Observation.{Observation}

@@ -5,6 +5,7 @@ ghost use Rattle.schema_meaning.specs.Places.{Key, whole};
 ghost use Rattle.schema_meaning.specs.Readings.{Reading, verdicts, unfolded};
 ghost use Rattle.schema_meaning.specs.Cut.{cut, AreAll};
 ghost use Rattle.schema_engine.specs.Graphs.{reading_of, IsReadingOf, AreKnown};
+ghost use Rattle.schema_engine.specs.Matches.{InEach};
 
 use crate::graph::Graph;
 use crate::matching::Matching;
@@ -34,10 +35,11 @@ pub fn accepts<'q, 'i: 'q, K: Validate, T: Matching>(
     requires there { node < length graph.now.nodes.items }
     ensures matches { OnOk result (T.matches matching.new ≡ T.matches matching.old) }
     ensures questions { OnOk result (questions.new.items ≡ questions.old.items) }
-    ensures cut { let r = reading_of K.shape (T.matches matching.old).reads graph.now.nodes.items in
-        IfOk result (λ b. (all : List Key) → AreAll r node (whole (view value.now)) all → b ≡ cut verdicts r all [] node (whole (view value.now))) }
-    ensures decided { IfOk result (λ b. (r : Reading ℕ) (n : ℕ) (answer : Bool)
-        → IsReadingOf K.shape (T.matches matching.old).reads graph.now.nodes.items r → unfolded verdicts r n node (whole (view value.now)) ≡ Some answer → b ≡ answer) }
+    ensures cut { IfOk result (λ b. InEach (T.matches matching.old) (λ m.
+        let r = reading_of K.shape m graph.now.nodes.items in
+        (all : List Key) → AreAll r node (whole (view value.now)) all → b ≡ cut verdicts r all [] node (whole (view value.now)))) }
+    ensures decided { IfOk result (λ b. InEach (T.matches matching.old) (λ m.
+        (r : Reading ℕ) (n : ℕ) (answer : Bool) → IsReadingOf K.shape m graph.now.nodes.items r → unfolded verdicts r n node (whole (view value.now)) ≡ Some answer → b ≡ answer)) }
 {
     accepts_node(
         graph,

@@ -7,6 +7,7 @@ ghost use Rattle.schema_engine.specs.Questions.{call_of};
 ghost use Rattle.schema_engine.specs.Graphs.{rank_at, reading_of, AreKnown};
 ghost use Rattle.schema_engine.specs.Standing.{nodes_of, size_of};
 ghost use Rattle.schema_engine.specs.Verdicts.{asked_in, Counts, EachMayAsk};
+ghost use Rattle.schema_engine.specs.Matches.{InEach};
 
 use crate::here::Here;
 use crate::matching::Matching;
@@ -26,9 +27,9 @@ pub(crate) fn count_accepted<'q, 'i: 'q, K: Validate, T: Matching>(
     requires asked { EachMayAsk here.now.graph.now.nodes.items (rank_at here.now.graph.now.nodes.items here.now.node) (value_at here.now.place) (map call_of (drop start questions.old.items)) }
     ensures matches { OnOk result (T.matches matching.new ≡ T.matches matching.old) }
     ensures questions { OnOk result (questions.new.items ≡ questions.old.items) }
-    ensures counted { let r = reading_of K.shape (T.matches matching.old).reads here.now.graph.now.nodes.items in
-        IfOk result (Counts here.now.place (numbers_in here.now.progress.now) (size_of here.now)
-        (λ x. count_true (map (asked_in r x) (map call_of (drop start questions.old.items))))) }
+    ensures counted { IfOk result (λ b. InEach (T.matches matching.old) (λ m.
+        let r = reading_of K.shape m here.now.graph.now.nodes.items in
+        Counts here.now.place (numbers_in here.now.progress.now) (size_of here.now) (λ x. count_true (map (asked_in r x) (map call_of (drop start questions.old.items)))) b)) }
 {
     let mut count = 0;
     let end = questions.len();

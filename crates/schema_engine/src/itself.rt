@@ -4,6 +4,7 @@ ghost use Rattle.schema_meaning.specs.Members.{In, all_true};
 ghost use Rattle.schema_meaning.specs.Keywords.{rule};
 ghost use Rattle.schema_engine.specs.Places.{value_at};
 ghost use Rattle.schema_engine.specs.Rules.{is_right};
+ghost use Rattle.schema_engine.specs.Matches.{InEach};
 
 use crate::matching::Matching;
 use crate::place::Place;
@@ -18,8 +19,8 @@ pub(crate) fn accept_itself<K: Validate, T: Matching>(
 ) -> Result<bool, AllocError>
     requires known { (k : K) → In k keywords.now → K.knows k (T.matches matching.old).pattern }
     ensures matches { OnOk result (T.matches matching.new ≡ T.matches matching.old) }
-    ensures right { let m = (T.matches matching.old).reads in
-        IfOk result (λ b. b ≡ all_true (map (λ k. is_right (rule m (value_at place.entry) (K.shape k))) keywords.now)) }
+    ensures right { IfOk result (λ b. InEach (T.matches matching.old) (λ m.
+        b ≡ all_true (map (λ k. is_right (rule m (value_at place.entry) (K.shape k))) keywords.now))) }
 {
     for keyword in keywords {
         if !keyword.accepts_itself(place, matching)? {

@@ -3,6 +3,7 @@ ghost use Rattle.std.specs.Prelude.{◌≡◌, ◌<◌, ℕ, List, [], length, O
 ghost use Rattle.serde_json.specs.View.{view};
 ghost use Rattle.schema_engine.specs.Graphs.{AreKnown};
 ghost use Rattle.schema_engine.specs.Told.{TellsCut, TellsDecided};
+ghost use Rattle.schema_engine.specs.Matches.{InEach};
 
 use crate::graph::Graph;
 use crate::matching::Matching;
@@ -35,8 +36,10 @@ pub fn tell<'q, 'i: 'q, K: Validate, T: Matching>(
     requires there { node < length graph.now.nodes.items }
     ensures matches { OnOk result (T.matches matching.new ≡ T.matches matching.old) }
     ensures questions { OnOk result (questions.new.items ≡ questions.old.items) }
-    ensures cut { OnOk result (TellsCut K.shape (T.matches matching.old).reads graph.now.nodes.items node (view value.now) observer.old observer.new) }
-    ensures decided { OnOk result (TellsDecided K.shape (T.matches matching.old).reads graph.now.nodes.items node (view value.now) observer.old observer.new) }
+    ensures cut { OnOk result (InEach (T.matches matching.old) (λ m.
+        TellsCut K.shape m graph.now.nodes.items node (view value.now) observer.old observer.new)) }
+    ensures decided { OnOk result (InEach (T.matches matching.old) (λ m.
+        TellsDecided K.shape m graph.now.nodes.items node (view value.now) observer.old observer.new)) }
 {
     let start = LazyLocation::new();
     let situation = Situation {

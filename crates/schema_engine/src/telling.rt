@@ -13,6 +13,7 @@ ghost use Rattle.schema_engine.specs.Graphs.{keywords_at, path_at, rank_at, read
 ghost use Rattle.schema_engine.specs.Verdicts.{GoesDown, MayAsk, EachMayAsk};
 ghost use Rattle.schema_engine.specs.Faults.{node_faults, rule_faults, one_told, question_faults, faults_beside, faults_by_first, faults_of_object, AreAsked, AreErrorsOf, Hearing};
 ghost use Rattle.schema_engine.specs.Standing.{nodes_of, size_at, size_of, stand_in, stand_of, stand_of_name, HearsAt, HearsOf, IsThere};
+ghost use Rattle.schema_engine.specs.Matches.{InEach};
 
 use crate::combination::Combination;
 use crate::counting::count_accepted;
@@ -47,8 +48,9 @@ pub(crate) fn tell_value<'q, 'i: 'q, K: Validate, T: Matching>(
     requires path { situation.schema.now ≡ path_at graph.now.nodes.items node }
     ensures matches { OnOk result (T.matches matching.new ≡ T.matches matching.old) }
     ensures questions { OnOk result (questions.new.items ≡ questions.old.items) }
-    ensures heard { let nodes = graph.now.nodes.items in let r = reading_of K.shape (T.matches matching.old).reads nodes in
-        OnOk result (Hearing (stand_in situation.entry) (suc (size_at nodes (stand_in situation.entry) node)) (node_faults r node) observer.old observer.new) }
+    ensures heard { let nodes = graph.now.nodes.items in OnOk result (InEach (T.matches matching.old) (λ m.
+        let r = reading_of K.shape m nodes in
+        Hearing (stand_in situation.entry) (suc (size_at nodes (stand_in situation.entry) node)) (node_faults r node) observer.old observer.new)) }
 {
     let there = There {
         here: Here {
@@ -75,8 +77,9 @@ fn tell_node<'q, 'i: 'q, K: Validate, T: Matching>(
     requires there { there.now.here.node < length (nodes_of there.now.here) }
     ensures matches { OnOk result (T.matches matching.new ≡ T.matches matching.old) }
     ensures questions { OnOk result (questions.new.items ≡ questions.old.items) }
-    ensures heard { let r = reading_of K.shape (T.matches matching.old).reads (nodes_of there.now.here) in
-        OnOk result (Hearing (stand_of there.now) (suc (size_of there.now.here)) (node_faults r there.now.here.node) observer.old observer.new) }
+    ensures heard { OnOk result (InEach (T.matches matching.old) (λ m.
+        let r = reading_of K.shape m (nodes_of there.now.here) in
+        Hearing (stand_of there.now) (suc (size_of there.now.here)) (node_faults r there.now.here.node) observer.old observer.new)) }
 {
     for keyword in &there.here.graph.nodes[there.here.node].keywords {
         if observer.is_settled() {
@@ -101,8 +104,9 @@ fn tell_keyword<'q, 'i: 'q, K: Validate, T: Matching>(
     requires stands { In keyword.now (keywords_at (nodes_of there.now.here) there.now.here.node) }
     ensures matches { OnOk result (T.matches matching.new ≡ T.matches matching.old) }
     ensures questions { OnOk result (questions.new.items ≡ questions.old.items) }
-    ensures heard { let m = (T.matches matching.old).reads in let r = reading_of K.shape m (nodes_of there.now.here) in
-        OnOk result (HearsAt there.now (rule_faults r there.now.here.node (rule m (value_at there.now.here.place) (K.shape keyword.now))) observer.old observer.new) }
+    ensures heard { OnOk result (InEach (T.matches matching.old) (λ m.
+        let r = reading_of K.shape m (nodes_of there.now.here) in
+        HearsAt there.now (rule_faults r there.now.here.node (rule m (value_at there.now.here.place) (K.shape keyword.now))) observer.old observer.new)) }
 {
     let start = questions.len();
     keyword.questions(there.here.place, matching, questions)?;
@@ -124,11 +128,12 @@ fn tell_by_rule<'q, 'i: 'q, K: Validate, T: Matching>(
     requires known { AreKnown K.knows (T.matches matching.old).pattern (nodes_of there.now.here) }
     requires right { IsThere there.now }
     requires stands { In keyword.now (keywords_at (nodes_of there.now.here) there.now.here.node) }
-    requires asked { AreAsked (K.added keyword.now) (rule (T.matches matching.old).reads (value_at there.now.here.place) (K.shape keyword.now)) (drop start questions.old.items) }
+    requires asked { InEach (T.matches matching.old) (λ m. AreAsked (K.added keyword.now) (rule m (value_at there.now.here.place) (K.shape keyword.now)) (drop start questions.old.items)) }
     ensures matches { OnOk result (T.matches matching.new ≡ T.matches matching.old) }
     ensures questions { OnOk result (questions.new.items ≡ questions.old.items) }
-    ensures heard { let m = (T.matches matching.old).reads in let r = reading_of K.shape m (nodes_of there.now.here) in
-        OnOk result (HearsAt there.now (rule_faults r there.now.here.node (rule m (value_at there.now.here.place) (K.shape keyword.now))) observer.old observer.new) }
+    ensures heard { OnOk result (InEach (T.matches matching.old) (λ m.
+        let r = reading_of K.shape m (nodes_of there.now.here) in
+        HearsAt there.now (rule_faults r there.now.here.node (rule m (value_at there.now.here.place) (K.shape keyword.now))) observer.old observer.new)) }
 {
     let combination = keyword.combination(there.here.place);
     match combination {
@@ -170,8 +175,9 @@ fn tell_each<'q, 'i: 'q, K: Validate, T: Matching>(
     requires asked { EachMayAsk (nodes_of there.now.here) (rank_at (nodes_of there.now.here) there.now.here.node) (value_at there.now.here.place) (map call_of (drop start questions.old.items)) }
     ensures matches { OnOk result (T.matches matching.new ≡ T.matches matching.old) }
     ensures questions { OnOk result (questions.new.items ≡ questions.old.items) }
-    ensures heard { let r = reading_of K.shape (T.matches matching.old).reads (nodes_of there.now.here) in
-        OnOk result (HearsAt there.now (λ x. faults_beside (question_faults r (K.added keyword.now) x) beside (drop start questions.old.items)) observer.old observer.new) }
+    ensures heard { OnOk result (InEach (T.matches matching.old) (λ m.
+        let r = reading_of K.shape m (nodes_of there.now.here) in
+        HearsAt there.now (λ x. faults_beside (question_faults r (K.added keyword.now) x) beside (drop start questions.old.items)) observer.old observer.new)) }
 {
     let end = questions.len();
     for index in start..end {
@@ -202,8 +208,9 @@ fn tell_conditional<'q, 'i: 'q, K: Validate, T: Matching>(
     requires asked { EachMayAsk (nodes_of there.now.here) (rank_at (nodes_of there.now.here) there.now.here.node) (value_at there.now.here.place) (map call_of (drop start questions.old.items)) }
     ensures matches { OnOk result (T.matches matching.new ≡ T.matches matching.old) }
     ensures questions { OnOk result (questions.new.items ≡ questions.old.items) }
-    ensures heard { let r = reading_of K.shape (T.matches matching.old).reads (nodes_of there.now.here) in
-        OnOk result (HearsAt there.now (λ x. faults_by_first (question_faults r (K.added keyword.now) x) (drop start questions.old.items)) observer.old observer.new) }
+    ensures heard { OnOk result (InEach (T.matches matching.old) (λ m.
+        let r = reading_of K.shape m (nodes_of there.now.here) in
+        HearsAt there.now (λ x. faults_by_first (question_faults r (K.added keyword.now) x) (drop start questions.old.items)) observer.old observer.new)) }
 {
     if start >= questions.len() {
         return Ok(());
@@ -236,8 +243,9 @@ fn tell_named<'q, 'i: 'q, K: Validate, T: Matching>(
     requires asked { EachMayAsk (nodes_of there.now.here) (rank_at (nodes_of there.now.here) there.now.here.node) (value_at there.now.here.place) (map call_of (drop start questions.old.items)) }
     ensures matches { OnOk result (T.matches matching.new ≡ T.matches matching.old) }
     ensures questions { OnOk result (questions.new.items ≡ questions.old.items) }
-    ensures heard { let r = reading_of K.shape (T.matches matching.old).reads (nodes_of there.now.here) in
-        OnOk result (HearsAt there.now (λ x. faults_of_object (question_faults r (K.added keyword.now) x) x (drop start questions.old.items)) observer.old observer.new) }
+    ensures heard { OnOk result (InEach (T.matches matching.old) (λ m.
+        let r = reading_of K.shape m (nodes_of there.now.here) in
+        HearsAt there.now (λ x. faults_of_object (question_faults r (K.added keyword.now) x) x (drop start questions.old.items)) observer.old observer.new)) }
 {
     let situation = &there.situation;
     let end = questions.len();
@@ -267,13 +275,14 @@ fn tell_combined<'q, 'i: 'q, K: Validate, T: Matching>(
     requires known { AreKnown K.knows (T.matches matching.old).pattern (nodes_of there.now.here) }
     requires right { IsThere there.now }
     requires stands { In keyword.now (keywords_at (nodes_of there.now.here) there.now.here.node) }
-    requires combination { combination ≡ combination_of (rule (T.matches matching.old).reads (value_at there.now.here.place) (K.shape keyword.now)) }
+    requires combination { InEach (T.matches matching.old) (λ m. combination ≡ combination_of (rule m (value_at there.now.here.place) (K.shape keyword.now))) }
     requires once { has_one_fault combination ≡ true }
-    requires asked { AreAsked (K.added keyword.now) (rule (T.matches matching.old).reads (value_at there.now.here.place) (K.shape keyword.now)) (drop start questions.old.items) }
+    requires asked { InEach (T.matches matching.old) (λ m. AreAsked (K.added keyword.now) (rule m (value_at there.now.here.place) (K.shape keyword.now)) (drop start questions.old.items)) }
     ensures matches { OnOk result (T.matches matching.new ≡ T.matches matching.old) }
     ensures questions { OnOk result (questions.new.items ≡ questions.old.items) }
-    ensures heard { let m = (T.matches matching.old).reads in let r = reading_of K.shape m (nodes_of there.now.here) in
-        OnOk result (HearsAt there.now (rule_faults r there.now.here.node (rule m (value_at there.now.here.place) (K.shape keyword.now))) observer.old observer.new) }
+    ensures heard { OnOk result (InEach (T.matches matching.old) (λ m.
+        let r = reading_of K.shape m (nodes_of there.now.here) in
+        HearsAt there.now (rule_faults r there.now.here.node (rule m (value_at there.now.here.place) (K.shape keyword.now))) observer.old observer.new)) }
 {
     if accepts_combined(&there.here, combination, start, matching, questions)? {
         return Ok(());
@@ -306,13 +315,14 @@ fn tell_refusal<'q, 'i: 'q, K: Validate, T: Matching>(
     requires known { AreKnown K.knows (T.matches matching.old).pattern (nodes_of there.now.here) }
     requires right { IsThere there.now }
     requires stands { In keyword.now (keywords_at (nodes_of there.now.here) there.now.here.node) }
-    requires combination { combination ≡ combination_of (rule (T.matches matching.old).reads (value_at there.now.here.place) (K.shape keyword.now)) }
+    requires combination { InEach (T.matches matching.old) (λ m. combination ≡ combination_of (rule m (value_at there.now.here.place) (K.shape keyword.now))) }
     requires once { has_one_fault combination ≡ true }
-    requires asked { AreAsked (K.added keyword.now) (rule (T.matches matching.old).reads (value_at there.now.here.place) (K.shape keyword.now)) (drop start questions.old.items) }
+    requires asked { InEach (T.matches matching.old) (λ m. AreAsked (K.added keyword.now) (rule m (value_at there.now.here.place) (K.shape keyword.now)) (drop start questions.old.items)) }
     ensures matches { OnOk result (T.matches matching.new ≡ T.matches matching.old) }
     ensures questions { OnOk result (questions.new.items ≡ questions.old.items) }
-    ensures heard { let m = (T.matches matching.old).reads in let r = reading_of K.shape m (nodes_of there.now.here) in
-        OnOk result (HearsAt there.now (one_told r there.now.here.node (rule m (value_at there.now.here.place) (K.shape keyword.now))) observer.old observer.new) }
+    ensures heard { OnOk result (InEach (T.matches matching.old) (λ m.
+        let r = reading_of K.shape m (nodes_of there.now.here) in
+        HearsAt there.now (one_told r there.now.here.node (rule m (value_at there.now.here.place) (K.shape keyword.now))) observer.old observer.new)) }
 {
     let situation = &there.situation;
     match combination {
@@ -363,8 +373,9 @@ fn tell_branches<'q, 'i: 'q, K: Validate, T: Matching>(
     requires asked { EachMayAsk (nodes_of there.now.here) (rank_at (nodes_of there.now.here) there.now.here.node) (value_at there.now.here.place) (map call_of (drop start questions.old.items)) }
     ensures matches { OnOk result (T.matches matching.new ≡ T.matches matching.old) }
     ensures questions { OnOk result (questions.new.items ≡ questions.old.items) }
-    ensures branches { let r = reading_of K.shape (T.matches matching.old).reads (nodes_of there.now.here) in
-        IfOk result (λ context. AreErrorsOf (stand_of there.now) (size_of there.now.here) (question_faults r (K.added keyword.now)) (drop start questions.old.items) context.items) }
+    ensures branches { IfOk result (λ context. InEach (T.matches matching.old) (λ m.
+        let r = reading_of K.shape m (nodes_of there.now.here) in
+        AreErrorsOf (stand_of there.now) (size_of there.now.here) (question_faults r (K.added keyword.now)) (drop start questions.old.items) context.items)) }
 {
     let alloc = there.situation.alloc;
     let mut context = Vec::new(alloc);
@@ -393,8 +404,9 @@ fn tell_question<'q, 'i: 'q, K: Validate, T: Matching>(
     requires asked { MayAsk (nodes_of there.now.here) (rank_at (nodes_of there.now.here) there.now.here.node) (value_at there.now.here.place) (call_of question) }
     ensures matches { OnOk result (T.matches matching.new ≡ T.matches matching.old) }
     ensures questions { OnOk result (questions.new.items ≡ questions.old.items) }
-    ensures heard { let r = reading_of K.shape (T.matches matching.old).reads (nodes_of there.now.here) in
-        OnOk result (HearsAt there.now (λ x. question_faults r (K.added keyword.now) x question.entry) observer.old observer.new) }
+    ensures heard { OnOk result (InEach (T.matches matching.old) (λ m.
+        let r = reading_of K.shape m (nodes_of there.now.here) in
+        HearsAt there.now (λ x. question_faults r (K.added keyword.now) x question.entry) observer.old observer.new)) }
 {
     let road = there.situation.evaluation;
     match keyword.entry(question.entry) {
@@ -430,8 +442,9 @@ fn tell_step<'q, 'i: 'q, 'e, K: Validate, T: Matching>(
     requires asked { MayAsk (nodes_of there.now.here) (rank_at (nodes_of there.now.here) there.now.here.node) (value_at there.now.here.place) (call_of question) }
     ensures matches { OnOk result (T.matches matching.new ≡ T.matches matching.old) }
     ensures questions { OnOk result (questions.new.items ≡ questions.old.items) }
-    ensures heard { let r = reading_of K.shape (T.matches matching.old).reads (nodes_of there.now.here) in
-        OnOk result (HearsOf r there.now (location_of evaluation.now) question.entry.node (step_of question.entry.asked) question.entry.follows observer.old observer.new) }
+    ensures heard { OnOk result (InEach (T.matches matching.old) (λ m.
+        let r = reading_of K.shape m (nodes_of there.now.here) in
+        HearsOf r there.now (location_of evaluation.now) question.entry.node (step_of question.entry.asked) question.entry.follows observer.old observer.new)) }
 {
     let node = question.node;
     let graph = there.here.graph;
@@ -487,8 +500,9 @@ fn tell_inside<'q, 'i: 'q, 'e, K: Validate, T: Matching>(
     requires falls { rank_at (nodes_of there.now.here) node < rank_at (nodes_of there.now.here) there.now.here.node }
     ensures matches { OnOk result (T.matches matching.new ≡ T.matches matching.old) }
     ensures questions { OnOk result (questions.new.items ≡ questions.old.items) }
-    ensures heard { let r = reading_of K.shape (T.matches matching.old).reads (nodes_of there.now.here) in
-        OnOk result (HearsOf r there.now (location_of evaluation.now) node stay false observer.old observer.new) }
+    ensures heard { OnOk result (InEach (T.matches matching.old) (λ m.
+        let r = reading_of K.shape m (nodes_of there.now.here) in
+        HearsOf r there.now (location_of evaluation.now) node stay false observer.old observer.new)) }
 {
     let graph = there.here.graph;
     let inside = There {
@@ -523,8 +537,9 @@ fn tell_target<'q, 'i: 'q, 'e, K: Validate, T: Matching>(
     requires there { target < length (nodes_of there.now.here) }
     ensures matches { OnOk result (T.matches matching.new ≡ T.matches matching.old) }
     ensures questions { OnOk result (questions.new.items ≡ questions.old.items) }
-    ensures heard { let r = reading_of K.shape (T.matches matching.old).reads (nodes_of there.now.here) in
-        OnOk result (HearsOf r there.now (location_of evaluation.now) target stay true observer.old observer.new) }
+    ensures heard { OnOk result (InEach (T.matches matching.old) (λ m.
+        let r = reading_of K.shape m (nodes_of there.now.here) in
+        HearsOf r there.now (location_of evaluation.now) target stay true observer.old observer.new)) }
 {
     if is_in_progress(there.here.progress, target) {
         return Ok(());
@@ -562,8 +577,9 @@ fn tell_name<'q, 'i: 'q, K: Validate, T: Matching>(
     requires there { node < length graph.now.nodes.items }
     requires path { object.schema.now ≡ path_at graph.now.nodes.items node }
     ensures matches { OnOk result (T.matches matching.new ≡ T.matches matching.old) }
-    ensures heard { let nodes = graph.now.nodes.items in let r = reading_of K.shape (T.matches matching.old).reads nodes in
-        OnOk result (Hearing (stand_of_name name.entry object.entry) (suc (size_at nodes (stand_of_name name.entry object.entry) node)) (node_faults r node) observer.old observer.new) }
+    ensures heard { let nodes = graph.now.nodes.items in OnOk result (InEach (T.matches matching.old) (λ m.
+        let r = reading_of K.shape m nodes in
+        Hearing (stand_of_name name.entry object.entry) (suc (size_at nodes (stand_of_name name.entry object.entry) node)) (node_faults r node) observer.old observer.new)) }
 {
     let alloc = object.alloc;
     let text = Value::String(String::from_str(alloc, name)?);

@@ -12,6 +12,7 @@ ghost use Rattle.schema_engine.specs.Questions.{Pushes, PushesAsked};
 ghost use Rattle.schema_engine.specs.Refusals.{IsReason, IsRefusedUnder};
 ghost use Rattle.schema_engine.specs.Rules.{combination_of, is_right, questions_of};
 ghost use Rattle.schema_engine.specs.Situations.{TellsNotes};
+ghost use Rattle.schema_engine.specs.Matches.{InEach};
 
 use crate::asking::Asking;
 use crate::combination::Combination;
@@ -55,7 +56,8 @@ pub trait Validate: Drop {
     ) -> Result<bool, AllocError>
         requires { knows self.now (T.matches matching.old).pattern }
         ensures same { OnOk result (T.matches matching.new ≡ T.matches matching.old) }
-        ensures right { IfOk result (λ b. b ≡ is_right (rule (T.matches matching.old).reads (value_at place.entry) (shape self.now))) };
+        ensures right { IfOk result (λ b. InEach (T.matches matching.old) (λ m.
+            b ≡ is_right (rule m (value_at place.entry) (shape self.now)))) };
 
     /// Pushes its questions behind those that are there, in the rule's order.
     ///
@@ -70,8 +72,10 @@ pub trait Validate: Drop {
     ) -> Result<(), AllocError>
         requires { knows self.now (T.matches matching.old).pattern }
         ensures same { OnOk result (T.matches matching.new ≡ T.matches matching.old) }
-        ensures pushed { OnOk result (Pushes into.old.items into.new.items (questions_of (rule (T.matches matching.old).reads (value_at place.entry) (shape self.now)))) }
-        ensures asked { OnOk result (PushesAsked (added self.now) into.old.items into.new.items (asks (rule (T.matches matching.old).reads (value_at place.entry) (shape self.now)))) };
+        ensures pushed { OnOk result (InEach (T.matches matching.old) (λ m.
+            Pushes into.old.items into.new.items (questions_of (rule m (value_at place.entry) (shape self.now))))) }
+        ensures asked { OnOk result (InEach (T.matches matching.old) (λ m.
+            PushesAsked (added self.now) into.old.items into.new.items (asks (rule m (value_at place.entry) (shape self.now))))) };
 
     /// Where in it the schema of a question of this entry stands.
     fn entry(&self, entry: usize) -> Entry<'_>
@@ -94,7 +98,8 @@ pub trait Validate: Drop {
     ) -> Result<(), AllocError>
         requires { knows self.now (T.matches matching.old).pattern }
         ensures same { OnOk result (T.matches matching.new ≡ T.matches matching.old) }
-        ensures told { OnOk result (TellsNotes situation.now (rule (T.matches matching.old).reads (view situation.now.value.now) (shape self.now)) observer.old observer.new) };
+        ensures told { OnOk result (InEach (T.matches matching.old) (λ m.
+            TellsNotes situation.now (rule m (view situation.now.value.now) (shape self.now)) observer.old observer.new)) };
 
     /// Why it refuses the value, if one fault speaks for all of its questions and says nothing of their answers.
     ///
@@ -108,5 +113,6 @@ pub trait Validate: Drop {
     ) -> Result<Reason<'o>, AllocError>
         requires { knows self.now (T.matches matching.old).pattern }
         ensures same { OnOk result (T.matches matching.new ≡ T.matches matching.old) }
-        ensures stated { IfOk result (IsReason (rule (T.matches matching.old).reads (view situation.now.value.now) (shape self.now)) (view situation.now.value.now)) };
+        ensures stated { IfOk result (λ b. InEach (T.matches matching.old) (λ m.
+            IsReason (rule m (view situation.now.value.now) (shape self.now)) (view situation.now.value.now) b)) };
 }

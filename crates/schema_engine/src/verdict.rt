@@ -11,6 +11,7 @@ ghost use Rattle.schema_engine.specs.Asking.{item_calls};
 ghost use Rattle.schema_engine.specs.Rules.{is_counted, is_right, all_beside, chosen_by_first, combined};
 ghost use Rattle.schema_engine.specs.Graphs.{keywords_at, rank_at, reading_of, AreKnown};
 ghost use Rattle.schema_engine.specs.Verdicts.{node_in, asked_in, rule_in, size, Tells, TellsFrom, MayAsk, EachMayAsk};
+ghost use Rattle.schema_engine.specs.Matches.{InEach};
 
 use crate::asking::Asking;
 use crate::combination::{Combination, is_within, settled};
@@ -42,9 +43,9 @@ pub fn accepts_node<'q, 'i: 'q, K: Validate, T: Matching>(
     requires there { node < length graph.now.nodes.items }
     ensures matches { OnOk result (T.matches matching.new ≡ T.matches matching.old) }
     ensures questions { OnOk result (questions.new.items ≡ questions.old.items) }
-    ensures verdict { let nodes = graph.now.nodes.items in let r = reading_of K.shape (T.matches matching.old).reads nodes in
-        IfOk result (Tells place.entry (numbers_in progress.now)
-        (suc (size nodes (value_at place.entry) (numbers_in progress.now) (rank_at nodes node))) (node_in r node)) }
+    ensures verdict { let nodes = graph.now.nodes.items in IfOk result (λ b. InEach (T.matches matching.old) (λ m.
+        let r = reading_of K.shape m nodes in
+        Tells place.entry (numbers_in progress.now) (suc (size nodes (value_at place.entry) (numbers_in progress.now) (rank_at nodes node))) (node_in r node) b)) }
 {
     let here = Here {
         graph,
@@ -74,12 +75,11 @@ fn accepts_keyword<'q, 'i: 'q, K: Validate, T: Matching>(
 ) -> Result<bool, AllocError>
     requires known { AreKnown K.knows (T.matches matching.old).pattern here.now.graph.now.nodes.items }
     requires stands { In keyword.now (keywords_at here.now.graph.now.nodes.items here.now.node) }
-    requires right { is_right (rule (T.matches matching.old).reads (value_at here.now.place) (K.shape keyword.now)) ≡ true }
+    requires right { InEach (T.matches matching.old) (λ m. is_right (rule m (value_at here.now.place) (K.shape keyword.now)) ≡ true) }
     ensures matches { OnOk result (T.matches matching.new ≡ T.matches matching.old) }
     ensures questions { OnOk result (questions.new.items ≡ questions.old.items) }
-    ensures verdict { let nodes = here.now.graph.now.nodes.items in let m = (T.matches matching.old).reads in
-        IfOk result (TellsFrom nodes here.now.node here.now.place (numbers_in here.now.progress.now)
-        (rule_in (reading_of K.shape m nodes) (rule m (value_at here.now.place) (K.shape keyword.now)))) }
+    ensures verdict { let nodes = here.now.graph.now.nodes.items in IfOk result (λ b. InEach (T.matches matching.old) (λ m.
+        TellsFrom nodes here.now.node here.now.place (numbers_in here.now.progress.now) (rule_in (reading_of K.shape m nodes) (rule m (value_at here.now.place) (K.shape keyword.now))) b)) }
 {
     match keyword.asking(here.place) {
         Asking::Nothing => Ok(true),
@@ -101,12 +101,11 @@ fn accepts_listed<'q, 'i: 'q, K: Validate, T: Matching>(
 ) -> Result<bool, AllocError>
     requires known { AreKnown K.knows (T.matches matching.old).pattern here.now.graph.now.nodes.items }
     requires stands { In keyword.now (keywords_at here.now.graph.now.nodes.items here.now.node) }
-    requires right { is_right (rule (T.matches matching.old).reads (value_at here.now.place) (K.shape keyword.now)) ≡ true }
+    requires right { InEach (T.matches matching.old) (λ m. is_right (rule m (value_at here.now.place) (K.shape keyword.now)) ≡ true) }
     ensures matches { OnOk result (T.matches matching.new ≡ T.matches matching.old) }
     ensures questions { OnOk result (questions.new.items ≡ questions.old.items) }
-    ensures verdict { let nodes = here.now.graph.now.nodes.items in let m = (T.matches matching.old).reads in
-        IfOk result (TellsFrom nodes here.now.node here.now.place (numbers_in here.now.progress.now)
-        (rule_in (reading_of K.shape m nodes) (rule m (value_at here.now.place) (K.shape keyword.now)))) }
+    ensures verdict { let nodes = here.now.graph.now.nodes.items in IfOk result (λ b. InEach (T.matches matching.old) (λ m.
+        TellsFrom nodes here.now.node here.now.place (numbers_in here.now.progress.now) (rule_in (reading_of K.shape m nodes) (rule m (value_at here.now.place) (K.shape keyword.now))) b)) }
 {
     let start = questions.len();
     keyword.questions(here.place, matching, questions)?;
@@ -130,9 +129,9 @@ fn accepts_items<'q, 'i: 'q, K: Validate, T: Matching>(
     requires asked { EachMayAsk here.now.graph.now.nodes.items (rank_at here.now.graph.now.nodes.items here.now.node) (value_at here.now.place) (item_calls node start (items_view (drop start items.now))) }
     ensures matches { OnOk result (T.matches matching.new ≡ T.matches matching.old) }
     ensures questions { OnOk result (questions.new.items ≡ questions.old.items) }
-    ensures verdict { let nodes = here.now.graph.now.nodes.items in let r = reading_of K.shape (T.matches matching.old).reads nodes in
-        IfOk result (TellsFrom nodes here.now.node here.now.place (numbers_in here.now.progress.now)
-        (λ x. all_beside (asked_in r x) true (item_calls node start (items_view (drop start items.now))))) }
+    ensures verdict { let nodes = here.now.graph.now.nodes.items in IfOk result (λ b. InEach (T.matches matching.old) (λ m.
+        let r = reading_of K.shape m nodes in
+        TellsFrom nodes here.now.node here.now.place (numbers_in here.now.progress.now) (λ x. all_beside (asked_in r x) true (item_calls node start (items_view (drop start items.now)))) b)) }
 {
     for index in start..items.len() {
         let question = Question {
@@ -165,9 +164,9 @@ pub(crate) fn accepts_combined<'q, 'i: 'q, K: Validate, T: Matching>(
     requires asked { EachMayAsk here.now.graph.now.nodes.items (rank_at here.now.graph.now.nodes.items here.now.node) (value_at here.now.place) (map call_of (drop start questions.old.items)) }
     ensures matches { OnOk result (T.matches matching.new ≡ T.matches matching.old) }
     ensures questions { OnOk result (questions.new.items ≡ questions.old.items) }
-    ensures verdict { let nodes = here.now.graph.now.nodes.items in let r = reading_of K.shape (T.matches matching.old).reads nodes in
-        IfOk result (TellsFrom nodes here.now.node here.now.place (numbers_in here.now.progress.now)
-        (λ x. combined combination (asked_in r x) (map call_of (drop start questions.old.items)))) }
+    ensures verdict { let nodes = here.now.graph.now.nodes.items in IfOk result (λ b. InEach (T.matches matching.old) (λ m.
+        let r = reading_of K.shape m nodes in
+        TellsFrom nodes here.now.node here.now.place (numbers_in here.now.progress.now) (λ x. combined combination (asked_in r x) (map call_of (drop start questions.old.items))) b)) }
 {
     match combination {
         Combination::Every => accepts_each(here, true, start, matching, questions),
@@ -196,9 +195,9 @@ fn accepts_each<'q, 'i: 'q, K: Validate, T: Matching>(
     requires asked { EachMayAsk here.now.graph.now.nodes.items (rank_at here.now.graph.now.nodes.items here.now.node) (value_at here.now.place) (map call_of (drop start questions.old.items)) }
     ensures matches { OnOk result (T.matches matching.new ≡ T.matches matching.old) }
     ensures questions { OnOk result (questions.new.items ≡ questions.old.items) }
-    ensures verdict { let nodes = here.now.graph.now.nodes.items in let r = reading_of K.shape (T.matches matching.old).reads nodes in
-        IfOk result (TellsFrom nodes here.now.node here.now.place (numbers_in here.now.progress.now)
-        (λ x. all_beside (asked_in r x) beside (map call_of (drop start questions.old.items)))) }
+    ensures verdict { let nodes = here.now.graph.now.nodes.items in IfOk result (λ b. InEach (T.matches matching.old) (λ m.
+        let r = reading_of K.shape m nodes in
+        TellsFrom nodes here.now.node here.now.place (numbers_in here.now.progress.now) (λ x. all_beside (asked_in r x) beside (map call_of (drop start questions.old.items))) b)) }
 {
     let end = questions.len();
     for index in start..end {
@@ -226,9 +225,9 @@ fn accepts_counted<'q, 'i: 'q, K: Validate, T: Matching>(
     requires asked { EachMayAsk here.now.graph.now.nodes.items (rank_at here.now.graph.now.nodes.items here.now.node) (value_at here.now.place) (map call_of (drop start questions.old.items)) }
     ensures matches { OnOk result (T.matches matching.new ≡ T.matches matching.old) }
     ensures questions { OnOk result (questions.new.items ≡ questions.old.items) }
-    ensures verdict { let nodes = here.now.graph.now.nodes.items in let r = reading_of K.shape (T.matches matching.old).reads nodes in
-        IfOk result (TellsFrom nodes here.now.node here.now.place (numbers_in here.now.progress.now)
-        (λ x. is_counted least most (count_true (map (asked_in r x) (map call_of (drop start questions.old.items)))))) }
+    ensures verdict { let nodes = here.now.graph.now.nodes.items in IfOk result (λ b. InEach (T.matches matching.old) (λ m.
+        let r = reading_of K.shape m nodes in
+        TellsFrom nodes here.now.node here.now.place (numbers_in here.now.progress.now) (λ x. is_counted least most (count_true (map (asked_in r x) (map call_of (drop start questions.old.items))))) b)) }
 {
     let mut count = 0;
     let end = questions.len();
@@ -256,9 +255,9 @@ fn accepts_conditional<'q, 'i: 'q, K: Validate, T: Matching>(
     requires asked { EachMayAsk here.now.graph.now.nodes.items (rank_at here.now.graph.now.nodes.items here.now.node) (value_at here.now.place) (map call_of (drop start questions.old.items)) }
     ensures matches { OnOk result (T.matches matching.new ≡ T.matches matching.old) }
     ensures questions { OnOk result (questions.new.items ≡ questions.old.items) }
-    ensures verdict { let nodes = here.now.graph.now.nodes.items in let r = reading_of K.shape (T.matches matching.old).reads nodes in
-        IfOk result (TellsFrom nodes here.now.node here.now.place (numbers_in here.now.progress.now)
-        (λ x. chosen_by_first (asked_in r x) (map call_of (drop start questions.old.items)))) }
+    ensures verdict { let nodes = here.now.graph.now.nodes.items in IfOk result (λ b. InEach (T.matches matching.old) (λ m.
+        let r = reading_of K.shape m nodes in
+        TellsFrom nodes here.now.node here.now.place (numbers_in here.now.progress.now) (λ x. chosen_by_first (asked_in r x) (map call_of (drop start questions.old.items))) b)) }
 {
     if start >= questions.len() {
         return Ok(true);
@@ -280,9 +279,9 @@ pub(crate) fn accepts_question<'q, 'i: 'q, K: Validate, T: Matching>(
     requires asked { MayAsk here.now.graph.now.nodes.items (rank_at here.now.graph.now.nodes.items here.now.node) (value_at here.now.place) (call_of question) }
     ensures matches { OnOk result (T.matches matching.new ≡ T.matches matching.old) }
     ensures questions { OnOk result (questions.new.items ≡ questions.old.items) }
-    ensures verdict { let nodes = here.now.graph.now.nodes.items in let r = reading_of K.shape (T.matches matching.old).reads nodes in
-        IfOk result (TellsFrom nodes here.now.node here.now.place (numbers_in here.now.progress.now)
-        (λ x. asked_in r x (call_of question.entry))) }
+    ensures verdict { let nodes = here.now.graph.now.nodes.items in IfOk result (λ b. InEach (T.matches matching.old) (λ m.
+        let r = reading_of K.shape m nodes in
+        TellsFrom nodes here.now.node here.now.place (numbers_in here.now.progress.now) (λ x. asked_in r x (call_of question.entry)) b)) }
 {
     let below = Progress::Nothing;
     match question.asked {
@@ -339,9 +338,9 @@ fn accepts_target<'q, 'i: 'q, K: Validate, T: Matching>(
     requires there { target < length here.now.graph.now.nodes.items }
     ensures matches { OnOk result (T.matches matching.new ≡ T.matches matching.old) }
     ensures questions { OnOk result (questions.new.items ≡ questions.old.items) }
-    ensures verdict { let nodes = here.now.graph.now.nodes.items in let r = reading_of K.shape (T.matches matching.old).reads nodes in
-        IfOk result (TellsFrom nodes here.now.node here.now.place (numbers_in here.now.progress.now)
-        (λ x. asked_in r x (record { node = target; step = stay; follows = true; beside = true }))) }
+    ensures verdict { let nodes = here.now.graph.now.nodes.items in IfOk result (λ b. InEach (T.matches matching.old) (λ m.
+        let r = reading_of K.shape m nodes in
+        TellsFrom nodes here.now.node here.now.place (numbers_in here.now.progress.now) (λ x. asked_in r x (record { node = target; step = stay; follows = true; beside = true })) b)) }
 {
     if is_in_progress(here.progress, target) {
         return Ok(true);

@@ -17,7 +17,8 @@ use schema_places::document::places;
 use std::alloc::{AllocError, Global};
 use uri_references::uri::Uri;
 
-fn document_at<'d, 'a>(documents: &'d [Document<'a>], uri: &Uri) -> Option<&'d Document<'a>>
+/// The last of some documents with a URI.
+pub fn document_at<'d, 'a>(documents: &'d [Document<'a>], uri: &Uri) -> Option<&'d Document<'a>>
     ensures { option_map (λ d. document_of d.now) result ≡ spec.document_at (map document_of documents.now) uri.now }
 {
     documents

@@ -38,13 +38,23 @@ fn assert_said(rt: &impl Abort, alloc: Global, said: Result<String, BuildError>,
 }
 
 fn assert_row(rt: &impl Abort, alloc: Global, row: &Row) {
+    assert_under(
+        rt,
+        alloc,
+        "http://a.test/root.json",
+        "http://a.test/leaf.json",
+        row,
+    );
+}
+
+fn assert_under(rt: &impl Abort, alloc: Global, root_uri: &str, moved_uri: &str, row: &Row) {
     let root = json(rt, alloc, row.root);
     let moved = json(rt, alloc, row.moved);
     let instance = json(rt, alloc, row.instance);
     let moving = Moving {
-        root_uri: "http://a.test/root.json",
+        root_uri,
         root: &root,
-        moved_uri: "http://a.test/leaf.json",
+        moved_uri,
         moved: &moved,
         fresh: row.fresh,
     };
@@ -68,6 +78,17 @@ const DYNAMIC_ROOT: &str =
 
 const DYNAMIC_LEAF: &str =
     r##"{"$id":"http://a.test/leaf.json","$schema":"https://json-schema.org/draft/2020-12/schema","$defs":{"any":{"$dynamicAnchor":"node"}},"properties":{"next":{"$dynamicRef":"#node"}}}"##;
+
+const ENTERING_ROOT: &str =
+    r##"{"$id":"http://a.test/root.json","$schema":"https://json-schema.org/draft/2020-12/schema","$ref":"#/x","x":{"allOf":[{"$id":"leaf.json","$dynamicRef":"c#n"}]},"$defs":{"c":{"$id":"c","$dynamicAnchor":"n","type":"string"}}}"##;
+
+const STRINGS: &str =
+    r##"{"$id":"http://a.test/strings","$schema":"https://json-schema.org/draft/2020-12/schema","$ref":"list","$defs":{"s":{"$dynamicAnchor":"item","type":"string"}}}"##;
+
+const LIST: &str =
+    r##"{"$id":"http://a.test/list","$schema":"https://json-schema.org/draft/2020-12/schema","type":"array","items":{"$dynamicRef":"#item"},"$defs":{"d":{"$dynamicAnchor":"item"}}}"##;
+
+const STRINGS_FAULTS: &str = r##"[["/1","/$ref/items/$dynamicRef/type"]]"##;
 
 const DYNAMIC_FAULTS: &str = r##"[["/0/next","/items/$ref/properties/next/$dynamicRef/type"]]"##;
 
@@ -132,6 +153,54 @@ fn dynamic_references_go_out(rt: HostRuntime) {
             added: DYNAMIC_FAULTS,
             retrieved: DYNAMIC_FAULTS,
             inside: DYNAMIC_FAULTS,
+        },
+    );
+    assert_under(
+        &rt,
+        alloc,
+        "http://a.test/strings",
+        "http://a.test/list",
+        &Row {
+            root: STRINGS,
+            moved: LIST,
+            fresh: "l",
+            instance: r##"["a",1]"##,
+            added: STRINGS_FAULTS,
+            retrieved: STRINGS_FAULTS,
+            inside: STRINGS_FAULTS,
+        },
+    );
+}
+
+// A schema at no schema place, to which a pointer leads, wants no document: by itself it is read without the one that it names, as its own URI
+// or as its meta-schema.
+#[test]
+fn nothing_is_wanted_at_no_schema_place(rt: HostRuntime) {
+    let alloc = rt.alloc();
+    assert_row(
+        &rt,
+        alloc,
+        &Row {
+            root: ENTERING_ROOT,
+            moved: r##"{"$id":"http://a.test/leaf.json","$schema":"https://json-schema.org/draft/2020-12/schema","$dynamicAnchor":"n"}"##,
+            fresh: "leaf",
+            instance: "2",
+            added: "[]",
+            retrieved: r##"[["","/$ref/allOf/0/$dynamicRef/type"]]"##,
+            inside: "[]",
+        },
+    );
+    assert_row(
+        &rt,
+        alloc,
+        &Row {
+            root: r##"{"$id":"http://a.test/root.json","$schema":"https://json-schema.org/draft/2020-12/schema","$ref":"#/x","x":{"allOf":[{"$id":"q","$schema":"http://a.test/leaf.json","const":1}]}}"##,
+            moved: r##"{"$id":"http://a.test/leaf.json","$schema":"https://json-schema.org/draft/2020-12/schema","$vocabulary":{"https://json-schema.org/draft/2020-12/vocab/core":true}}"##,
+            fresh: "leaf",
+            instance: "2",
+            added: "[]",
+            retrieved: r##"[["","/$ref/allOf/0/const"]]"##,
+            inside: "[]",
         },
     );
 }

@@ -135,9 +135,22 @@ const NAMES: &str = r##"
 const COMING_BACK: &str = r##"
 - {"$ref":"#"} :: 1
     # # refused
-    # #/$ref refused
-    # #/$ref/$ref/$ref refused
+    # #/$ref circular
+    # #/$ref/$ref/$ref circular
     # #/$ref/type refused
+- {"allOf":[{"$ref":"#"}],"type":"integer"} :: 1
+    # #/type refused
+    # #/allOf circular
+    # #/allOf/0/$ref circular
+    # #/allOf/0/$ref/type refused
+- {"allOf":[{"$ref":"#"}],"type":"integer"} :: "a"
+    # #/type accepted
+    # #/allOf circular
+    # #/allOf/0/$ref/type accepted
+- {"if":{"$ref":"#"},"then":{"type":"string"}} :: 1
+    # #/then/type circular
+- {"$ref":"#","patternProperties":{"b.d":{}}} :: {"bcd":1}
+    # #/$ref circular
 "##;
 
 const BRANCHES: &str = r##"

@@ -1,7 +1,7 @@
 use Rattle.std.proofs.Common.{◌≡◌, ◌∙◌, ◌∷◌, [], ℕ, List, true, false, map, sym, ap, rules}
 use Rattle.serde_json.specs.View.{view, members_view}
 use Rattle.schema_meaning.specs.Questions.{listed_members, each_member, is_declared}
-use Rattle.schema_engine.specs.Matches.{Matches}
+use Rattle.schema_engine.specs.Matches.{Answers, Matches, completed}
 use Rattle.schema_engine.specs.declared.place.Asked.TheVariants as asked
 use Rattle.compiled_keywords.specs.Forms.{alone, whole_at}
 use Rattle.compiled_keywords.specs.Members.{others_among}
@@ -17,15 +17,15 @@ loop-name-preserved-in_ok-push g c =
     let name = c.as_str-name.result.now in
     let more = listed_members (members_view c.next.new.self) in
     let here = ap (λ es. listed_members (members_view es)) c.in-Some.ensures.steps ∙ ap (λ (n : List ℕ). (n, e) ∷ more) (sym c.as_str-name.ensures.value) in
-    let other = sym (c.in_ok-is_declared.ensures.read ∙ ap (λ (m : Matches). is_declared m.reads w name) c.loop-name.invariant.same) ∙ c.if-not-branch.true in
+    let other = λ (rest : Answers). sym (c.in_ok-is_declared.ensures.read rest ∙ ap (λ (m : Matches). is_declared (completed m rest) w name) c.loop-name.invariant.same) ∙ c.if-not-branch.true in
     record {
       same = c.in_ok-is_declared.ensures.same ∙ c.loop-name.invariant.same;
-      left = λ k. put_next (whole_at k) _ _ _ (record { node = c.args.node; asked = asked.Member c.as_str-name.result c.in-Some.member; follows = false; beside = true; entry = 0 }) _ _ _
-          (other_next entry.reads k w c.args.node name e _ more here other) (c.loop-name.invariant.left k) c.in_ok-push.ensures.items;
+      left = λ rest k. put_next (whole_at k) _ _ _ (record { node = c.args.node; asked = asked.Member c.as_str-name.result c.in-Some.member; follows = false; beside = true; entry = 0 }) _ _ _
+          (other_next (completed entry rest) k w c.args.node name e _ more here (other rest)) (c.loop-name.invariant.left rest k) c.in_ok-push.ensures.items;
     }
 
 pub returns-clause-put : goal.returns-clause-put
-returns-clause-put g c = λ k.
+returns-clause-put g c = λ rest k.
     let entry = g.T.Matching.matches c.args.matching.now in
     let none : listed_members (members_view c.loop-name.name-iterator) ≡ [] = search rules in
-    put_done (whole_at k) _ _ _ _ (ap (λ ms. map alone (each_member k c.args.node (others_among entry.reads (declared_by c.args.declared.now) ms))) none) (c.loop-name.invariant.left k)
+    put_done (whole_at k) _ _ _ _ (ap (λ ms. map alone (each_member k c.args.node (others_among (completed entry rest) (declared_by c.args.declared.now) ms))) none) (c.loop-name.invariant.left rest k)

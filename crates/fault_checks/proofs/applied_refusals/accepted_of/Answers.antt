@@ -7,6 +7,9 @@ use Rattle.applicators.specs.declared.question.Question.{Question}
 use Rattle.plain_reader.proofs.QuestionVerdicts.{question_inside}
 use Rattle.fault_checks.specs.Verdicts.{IsAnswered}
 use Rattle.fault_checks.proofs.Counted.{Tallied, tallied_first, tallied_yes, tallied_no, tallied}
+use Rattle.fault_checks.proofs.CircleLemmas.{one_back}
+use Rattle.plain_reader.proofs.ReturnLemmas.{stops_by}
+use Rattle.std.proofs.lemmas.Result.{err_from_is_err_and}
 use Rattle.fault_checks.proofs.applied_refusals.accepted_of.Goals as goal
 use Rattle.fault_checks.proofs.applied_refusals.accepted_of.Goals.{then-not-branch, else-not-branch}
 
@@ -42,7 +45,7 @@ loop-question-preserved c =
     let next : drop i qs ≡ q ∷ drop (i + 1) qs = drop_more qs i q c.loop-question-test.true ∙ ap (λ x. x ∷ drop (i + 1) qs) (sym c.question-item.is) in
     let d = view c.args.trial.now.value.now in
     let left = subst (λ (xs : List Question). Tallied site d qs xs n) next c.loop-question.invariant.tallied in
-    let answered = c.in_ok-is_question_refused.ensures in
+    let answered = c.in_ok-is_question_refused.ensures.refused in
     elim c.if-not-branch.branch [
       | then-not-branch w ↦
           let more = tallied_yes site d qs (drop (i + 1) qs) q n (subst (λ b. IsAnswered site d q (not b)) w.if-not-branch.true answered) left in
@@ -54,10 +57,21 @@ loop-question-preserved c =
           record { few = omega (arith, few, is); tallied = subst (λ m. Tallied site d qs (drop (i + 1) qs) m) (sym is) same }
     ]
 
-pub returns : goal.returns
-returns c =
+pub returns-clause-counts : goal.returns-clause-counts
+returns-clause-counts c =
     let qs = c.args.asked.now in
     let d = view c.args.trial.now.value.now in
     let nothing : drop c.loop-question.question-index qs ≡ [] = drop_all c.loop-question.question-index qs (omega (arith, c.loop-question-test.false)) in
     let left = subst (λ (xs : List Question). Tallied c.args.trial.now.site.now d qs xs c.loop-question.accepted) nothing c.loop-question.invariant.tallied in
     tallied c.args.trial.now.site.now d c.args.applicator.now qs c.requires.asked c.requires.by_answers c.loop-question.accepted c.args.trial.now.shallow left
+
+pub returns-in_err-is_question_refused-clause-stops : goal.returns-in_err-is_question_refused-clause-stops
+returns-in_err-is_question_refused-clause-stops c =
+    let qs = c.args.asked.now in
+    let i = c.loop-question.question-index in
+    let q = c.question-item.result in
+    let next : drop i qs ≡ q ∷ drop (i + 1) qs = drop_more qs i q c.loop-question-test.true ∙ ap (λ x. x ∷ drop (i + 1) qs) (sym c.question-item.is) in
+    let d = view c.args.trial.now.value.now in
+    let left = subst (λ (xs : List Question). Tallied c.args.trial.now.site.now d qs xs c.loop-question.accepted) next c.loop-question.invariant.tallied in
+    let e = err_from_is_err_and c.from_residual.result c.from_residual.ensures.1 in
+    rw (e.1, e.2) (stops_by _ _ (λ back. one_back c.args.trial.now c.args.applicator.now qs c.requires.asked c.requires.by_answers q (left.among q first) back) _ c.in_err-is_question_refused.ensures.stops)

@@ -11,4 +11,4 @@ keyword_refuses-requires c = record { lies = c.requires.lies }
 pub returns-clause-passes : goal.returns-clause-passes
 returns-clause-passes c =
     let left = done_by c.args.walk.instance c.args.after c.is_more.result c.is_more.ensures c.if-is_more.false in
-    last_passes c.args.walk c.args.keyword c.args.name.now c.args.after c.in_ok-refused.refused left.no_instance left.no_after c.in_ok-refused.ensures
+    last_passes c.args.walk c.args.keyword c.args.name.now c.args.after c.in_ok-refused.refused left.no_instance left.no_after c.in_ok-refused.ensures.refuses

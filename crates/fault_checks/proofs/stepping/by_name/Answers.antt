@@ -1,5 +1,5 @@
 use Rattle.std.proofs.Common.{◌∙◌, ap, sym, rules}
-use Rattle.std.proofs.lemmas.Result.{IfOk-weaker}
+use Rattle.std.proofs.lemmas.Result.{IfOk-weaker, IfErr-weaker}
 use Rattle.serde_json.specs.View.{view, members_view}
 use Rattle.serde_json.proofs.Views.{view-Object}
 use Rattle.serde_json.specs.declared.value.Value.{the_lemmas}
@@ -8,6 +8,7 @@ use Rattle.fault_checks.proofs.RefusedNames.{found_listed}
 use Rattle.fault_checks.proofs.Going.{shorter_by, lies_in}
 use Rattle.fault_checks.proofs.WalkSteps.{no_members, no_such_member, refused_member}
 use Rattle.fault_checks.proofs.WalkSteps as walking
+use Rattle.plain_reader.proofs.ReturnLemmas.{stops_by}
 use Rattle.fault_checks.proofs.stepping.by_name.Goals as goal
 
 pub returns-in_default-clause-passes : goal.returns-in_default-clause-passes
@@ -46,3 +47,9 @@ returns-clause-passes c =
     let contents = ap view c.in-Object.is ∙ view-Object c.in-Object.members in
     refused_member c.args.walk c.args.text.now c.requires.text (members_view c.in-Object.members.entries) c.first_part.result.0.now c.member_of-member.result.now c.first_part.result.1 contents c.entries_rise.ensures c.member_of-member.ensures c.first_part.ensures
     (view c.in-Some.part.now) c.in-Err.refusal (sym c.in-Some.ensures) c.in_default-refusal.not-Memory c.in-Err.ensures.refused
+
+pub returns-in-Ok-clause-stops : goal.returns-in-Ok-clause-stops
+returns-in-Ok-clause-stops c =
+    let contents = ap view c.in-Object.is ∙ view-Object c.in-Object.members in
+    IfErr-weaker c.by_member.result _ _ (λ e h. stops_by _ _ (λ back. walking.member_back c.args.walk c.args.text.now c.requires.text (members_view c.in-Object.members.entries) c.first_part.result.0.now c.member_of-member.result.now c.first_part.result.1 contents c.entries_rise.ensures c.member_of-member.ensures c.first_part.ensures
+    (view c.in-Some.part.now) c.in-Ok.keyword (sym c.in-Some.ensures) c.in-Ok.ensures.read back.0 back.1) e h) c.by_member.ensures.stops

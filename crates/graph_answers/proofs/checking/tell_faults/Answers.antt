@@ -1,4 +1,4 @@
-use Rattle.std.proofs.Common.{ℕ, List, Bool, Option, OnOk, sym, subst}
+use Rattle.std.proofs.Common.{◌∙◌, ℕ, List, Bool, Option, sym, ap, subst}
 use Rattle.std.proofs.lemmas.Result.{on_ok_weaker}
 use Rattle.serde_json.specs.Data.{Data}
 use Rattle.serde_json.specs.View.{view}
@@ -8,11 +8,12 @@ use Rattle.schema_reports.specs.declared.observer.Observer.{Observer}
 use Rattle.schema_patterns.specs.declared.table.PatternTable.{PatternTable}
 use Rattle.schema_engine.specs.declared.node.Node.{Node}
 use Rattle.schema_engine.specs.Graphs.{IsSound, AreKnown}
-use Rattle.schema_engine.specs.Matches.{Matches}
+use Rattle.schema_engine.specs.Matches.{Matches, completed, none_matched}
 use Rattle.schema_engine.specs.Hearing.{HearsMore}
 use Rattle.schema_engine.specs.Told.{TellsCut}
 use Rattle.graph_answers.specs.Answers.{HearsAnswer}
 use Rattle.graph_answers.specs.Tables.{table_reads}
+use Rattle.graph_answers.proofs.TableReads.{reads_in_each}
 use Rattle.graph_answers.proofs.Joined.{answered, agrees, are_faults, have_certificates}
 use Rattle.graph_answers.proofs.checking.tell_faults.Goals as goal
 
@@ -28,9 +29,11 @@ tell-requires g c = record {
 
 pub returns-clause-cut : goal.returns-clause-cut
 returns-clause-cut g c =
-    let told = subst (λ (m : Matches). OnOk c.tell.result (TellsCut g.K.Validate.shape m.reads c.args.graph.now.nodes.items c.args.start (view c.args.value.now) c.args.observer.now c.tell.new.observer)) c.requires.meant c.tell.ensures.cut in
+    let reads = ap (λ m. completed m none_matched) c.requires.meant ∙ reads_in_each g.M.PatternMatcher.finds c.args.table.now none_matched in
     on_ok_weaker c.tell.result
-    (λ told. hears g.K.Validate.shape g.M.PatternMatcher.finds c.args.graph.now.nodes.items c.args.table.now c.args.start (view c.args.value.now) c.args.graph.now.sound _ _ told) told
+    (λ told. hears g.K.Validate.shape g.M.PatternMatcher.finds c.args.graph.now.nodes.items c.args.table.now c.args.start (view c.args.value.now) c.args.graph.now.sound _ _
+    (subst (λ a. TellsCut g.K.Validate.shape a c.args.graph.now.nodes.items c.args.start (view c.args.value.now) c.args.observer.now c.tell.new.observer) reads (told none_matched)))
+    c.tell.ensures.cut
 
 pub returns-clause-agree : goal.returns-clause-agree
 returns-clause-agree g c = agrees g.K.Validate.shape g.M.PatternMatcher.finds c.args.graph.now.nodes.items c.args.table.now c.args.start (view c.args.value.now) c.args.graph.now.sound

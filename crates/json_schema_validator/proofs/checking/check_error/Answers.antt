@@ -1,7 +1,7 @@
 use Rattle.std.proofs.Common.{Option, sym, subst}
 use Rattle.std.proofs.lemmas.Result.{IfOk-weaker}
 use Rattle.serde_json.specs.View.{view}
-use Rattle.schema_patterns.specs.declared.matches.Matches.{Matches}
+use Rattle.fault_checks.specs.declared.reading.ReadMatches.{ReadMatches}
 use Rattle.schema_reports.specs.Told.{fault_of}
 use Rattle.schema_registries.specs.Roots.{root_on}
 use Rattle.fault_checks.specs.Checked.{AreReadIn}
@@ -13,5 +13,5 @@ returns-clause-accepted g c =
     let p = g.P.PatternMaker.patterns c.args.maker.now in
     let r = root_on c.args.registry.now c.args.root.now in
     let d = view c.args.value.now in
-    let read = subst (λ (o : Option Matches). AreReadIn p r d o) (sym c.as_ref.ensures.value) c.in_ok-matches.ensures in
+    let read = subst (λ (o : Option ReadMatches). AreReadIn p r d o) (sym c.as_ref.ensures.value) c.in_ok-matches.ensures in
     IfOk-weaker c.check_error_by.result _ _ (λ a h sound has. fault_accepted p r d (fault_of c.args.error.now) a (h p read sound) has) c.check_error_by.ensures

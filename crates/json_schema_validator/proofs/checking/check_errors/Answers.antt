@@ -1,7 +1,7 @@
 use Rattle.std.proofs.Common.{Option, sym, subst}
 use Rattle.std.proofs.lemmas.Result.{IfOk-weaker}
 use Rattle.serde_json.specs.View.{view}
-use Rattle.schema_patterns.specs.declared.matches.Matches.{Matches}
+use Rattle.fault_checks.specs.declared.reading.ReadMatches.{ReadMatches}
 use Rattle.schema_reports.specs.Left.{errors_left}
 use Rattle.schema_reports.specs.Told.{faults_of}
 use Rattle.schema_registries.specs.Roots.{root_on}
@@ -17,7 +17,7 @@ returns g c =
     let v = c.args.validator.now in
     let d = view c.args.value.now in
     let faults = faults_of (errors_left c.in_ok-errors.errors) in
-    let read = subst (λ (o : Option Matches). AreReadIn p r d o) (sym c.as_ref.ensures.value) c.in_ok-matches.ensures in
+    let read = subst (λ (o : Option ReadMatches). AreReadIn p r d o) (sym c.as_ref.ensures.value) c.in_ok-matches.ensures in
     record {
       accepted = IfOk-weaker c.check_each.result _ (λ answers. IsMadeBy p r v → AreAccepted p r d answers.items)
           (λ answers h made.

@@ -1,6 +1,7 @@
 use Rattle.std.proofs.Common.{◌≡◌, map, drop}
 use Rattle.schema_meaning.specs.Members.{all_true}
 use Rattle.schema_meaning.specs.Keywords.{rule}
+use Rattle.schema_engine.specs.Matches.{InEach}
 use Rattle.schema_engine.specs.Places.{value_at}
 use Rattle.schema_engine.specs.Rules.{is_right}
 use Rattle.schema_engine.proofs.itself.accept_itself.Given as goal
@@ -10,6 +11,6 @@ invariant-loop-keyword g l =
     let entry = g.T.Matching.matches l.fn.matching in
     record {
       matches : g.T.Matching.matches l.matching ≡ entry;
-      left : all_true (map (λ k. is_right (rule entry.reads (value_at l.place) (g.K.Validate.shape k))) l.keywords)
-          ≡ all_true (map (λ k. is_right (rule entry.reads (value_at l.place) (g.K.Validate.shape k))) (drop l.keyword-index l.keywords));
+      left : InEach entry (λ m. all_true (map (λ k. is_right (rule m (value_at l.place) (g.K.Validate.shape k))) l.keywords)
+          ≡ all_true (map (λ k. is_right (rule m (value_at l.place) (g.K.Validate.shape k))) (drop l.keyword-index l.keywords)));
     }

@@ -1,5 +1,5 @@
 use Rattle.std.proofs.Common.{◌≡◌, ◌<◌, ◌∙◌, ℕ, zero, suc, refl, sym, ap, arith}
-use Rattle.schema_meaning.specs.Faults.{Branches, Kind, OneOfMultipleValid, OneOfNotValid}
+use Rattle.schema_meaning.specs.Faults.{Branches, OneOfMultipleValid, OneOfNotValid}
 use Rattle.schema_meaning.specs.Rules.{one_of_kind}
 use Rattle.schema_reports.specs.Told.{branches_in, context_is_proper}
 use Rattle.schema_reports.proofs.KindLemmas.{kind-OneOfMultipleValid, proper-OneOfMultipleValid, kind-OneOfNotValid, proper-OneOfNotValid}

@@ -1,14 +1,13 @@
-use Rattle.std.proofs.Common.{rules, ◌≡◌, ◌<◌, ◌+◌, ◌∙◌, ◌++◌, ◌∷◌, ℕ, List, Bool, true, false, map, drop, length, get_or, [], refl, sym, ap, subst, arith, string_bytes, OnOk, suc}
-use Rattle.std.proofs.lemmas.Result.{IfOk-weaker, on_ok_weaker}
+use Rattle.std.proofs.Common.{rules, ◌≡◌, ◌<◌, ◌≤◌, ◌+◌, ◌∙◌, ◌++◌, ◌∷◌, List, true, false, map, drop, length, get_or, [], refl, sym, ap, subst, arith, string_bytes, suc}
+use Rattle.std.proofs.lemmas.Result.{on_ok_weaker}
 use Rattle.serde_json.specs.Data.{string}
 use Rattle.serde_json.specs.View.{view}
 use Rattle.serde_json.specs.declared.value.Value.{the_lemmas}
 use Rattle.serde_json.specs.declared.value.Value.TheVariants as json
-use Rattle.json_values.specs.Parts.{Part, name, index}
+use Rattle.json_values.specs.Parts.{name, index}
 use Rattle.schema_meaning.specs.Members.{In}
-use Rattle.schema_meaning.specs.Places.{Step, stay}
+use Rattle.schema_meaning.specs.Places.{stay}
 use Rattle.schema_meaning.specs.Keywords.{rule}
-use Rattle.schema_reports.specs.Kinds.{StandsFor}
 use Rattle.location_texts.specs.Locations.{location_of}
 use Rattle.schema_reports.specs.declared.kind.ValidationErrorKind.TheVariants as kind
 use Rattle.schema_reports.specs.declared.observer.Observer.TheVariants as observer
@@ -16,7 +15,7 @@ use Rattle.schema_engine.specs.declared.place.Asked.{Asked}
 use Rattle.schema_engine.specs.declared.place.Asked.TheVariants as asked
 use Rattle.schema_engine.specs.declared.place.Question.{Question}
 use Rattle.schema_engine.specs.declared.place.Place.TheVariants as place
-use Rattle.schema_engine.specs.Matches.{Matches}
+use Rattle.schema_engine.specs.Matches.{Answers, Matches, completed, none_matched}
 use Rattle.schema_engine.specs.Places.{value_at, step_of}
 use Rattle.schema_engine.specs.Progress.{numbers_in, is_among}
 use Rattle.schema_engine.specs.Entries.{parts_of}
@@ -26,19 +25,19 @@ use Rattle.schema_engine.specs.Refusals.{own_notes, has_one_fault, IsReason}
 use Rattle.schema_engine.specs.Situations.{spot_in}
 use Rattle.schema_engine.specs.Rules.{combination_of}
 use Rattle.schema_engine.specs.Graphs.{keywords_at, path_at, rank_at, reading_of, AreKnown}
-use Rattle.schema_engine.specs.Verdicts.{MayAsk, EachMayAsk, GoesDown, size}
-use Rattle.schema_engine.specs.Faults.{AreAsked, AreErrorsOf, Hearing, node_faults, rule_faults, one_told, question_faults, faults_beside, faults_by_first, faults_of_object}
-use Rattle.schema_engine.specs.Standing.{nodes_of, size_at, size_of, stand_in, stand_of, stand_of_name, HearsAt, HearsOf, IsThere}
+use Rattle.schema_engine.specs.Verdicts.{EachMayAsk, GoesDown, size}
+use Rattle.schema_engine.specs.Faults.{AreAsked, AreErrorsOf, Hearing, node_faults, rule_faults, one_told, question_faults, faults_beside}
+use Rattle.schema_engine.specs.Standing.{size_of, stand_of, HearsAt}
 use Rattle.schema_engine.proofs.KeywordFaults.{one_of_others, every_told, named_told, conditional_told, no_condition, condition_told, combined_accepted, combined_unwanted, combined_told}
 use Rattle.schema_engine.proofs.HearsLemmas.{hears_absorbed}
 use Rattle.schema_engine.proofs.NodeFaults.{path_here, keywords_faults, node_heard, keyword_next, keywords_done}
-use Rattle.schema_engine.proofs.QuestionFaults.{BranchesLeft, beside_next, beside_skipped, beside_done, named_next, named_done, branches_next, branches_done}
+use Rattle.schema_engine.proofs.QuestionFaults.{beside_next, beside_skipped, beside_done, named_next, named_done, branches_next, branches_done}
 use Rattle.schema_engine.proofs.RefusalFaults.{some_told, one_branch_told, counted_told, reason_told}
 use Rattle.schema_engine.proofs.RuleFaults.{one_is_right}
 use Rattle.schema_engine.proofs.Sizes.{size_inside, size_down, size_target}
 use Rattle.schema_engine.proofs.StepFaults.{leads_inside, leads_to_item, leads_to_member, leads_to_name, follows_none, hears_as, step_heard, back_heard, target_heard}
 use Rattle.schema_engine.proofs.Steps.{may_ask_one, may_ask_rest, each_may_ask, keywords_here, keyword_stands, keyword_told}
-use Rattle.schema_engine.proofs.ToTell.{ToTell, all_to_tell, settled_to_tell}
+use Rattle.schema_engine.proofs.ToTell.{all_to_tell, settled_to_tell}
 use Rattle.schema_engine.proofs.telling.+telling.Goals as goal
 
 -- ---- a value
@@ -50,7 +49,7 @@ tell_value-tell_node-requires g t c κs within =
 -- ---- a node
 
 pub tell_node-loop-keyword-init : goal.tell_node-loop-keyword-init
-tell_node-loop-keyword-init g t c = record { matches = refl; questions = refl; left = all_to_tell _ _ _ c.args.observer.now }
+tell_node-loop-keyword-init g t c = record { matches = refl; questions = refl; left = λ rest. all_to_tell _ _ _ c.args.observer.now }
 
 pub tell_node-tell_keyword-requires : goal.tell_node-tell_keyword-requires
 tell_node-tell_keyword-requires g t c κs within =
@@ -81,10 +80,10 @@ tell_node-returns-then-is_settled-clause-heard g t c =
     let nodes = h.graph.now.nodes.items in
     let l = c.loop-keyword in
     let s = stand_of c.args.there.now in
-    let told = keywords_faults g.K.Validate.shape (g.T.Matching.matches c.args.matching.now).reads nodes h.node s in
-    node_heard g.K.Validate.shape _ nodes h.node s (size_of h) c.args.observer.now l.observer
-    (settled_to_tell s (size_of h) (told (keywords_at nodes h.node)) (told (drop l.keyword-index (keywords_at nodes h.node))) c.args.observer.now l.observer
-    (λ kept fs gs. c.is_settled.ensures c.if-is_settled.true kept fs gs) l.invariant.left)
+    let told = λ (rest : Answers). keywords_faults g.K.Validate.shape (completed (g.T.Matching.matches c.args.matching.now) rest) nodes h.node s in
+    λ rest. node_heard g.K.Validate.shape _ nodes h.node s (size_of h) c.args.observer.now l.observer
+    (settled_to_tell s (size_of h) (told rest (keywords_at nodes h.node)) (told rest (drop l.keyword-index (keywords_at nodes h.node))) c.args.observer.now l.observer
+    (λ kept fs gs. c.is_settled.ensures c.if-is_settled.true kept fs gs) (l.invariant.left rest))
 
 pub tell_node-loop-keyword-preserved : goal.tell_node-loop-keyword-preserved
 tell_node-loop-keyword-preserved g t c =
@@ -97,13 +96,13 @@ tell_node-loop-keyword-preserved g t c =
     let items : c.deref-keyword-items.result.now ≡ c.index.result.now.keywords.items = c.deref-keyword-items.ensures.value in
     let here : keywords_at nodes h.node ≡ c.deref-keyword-items.result.now = keywords_here nodes h.node c.index.result.now c.requires.there c.index.ensures ∙ sym items in
     let high : i < length (keywords_at nodes h.node) = subst (λ ks. i < length ks) (sym here) c.loop-keyword-test.true in
-    let heard = subst (λ m. Hearing s (size_of h) (rule_faults (reading_of g.K.Validate.shape m.reads nodes) h.node (rule m.reads (value_at h.place) (g.K.Validate.shape k))) l.observer c.tell_keyword.new.observer)
-    l.invariant.matches c.in_ok-tell_keyword.ensures.heard in
+    let heard = λ (rest : Answers). subst (λ (m : Matches). Hearing s (size_of h) (rule_faults (reading_of g.K.Validate.shape (completed m rest) nodes) h.node (rule (completed m rest) (value_at h.place) (g.K.Validate.shape k))) l.observer c.tell_keyword.new.observer)
+    l.invariant.matches (c.in_ok-tell_keyword.ensures.heard rest) in
     record {
       matches = c.in_ok-tell_keyword.ensures.matches ∙ l.invariant.matches;
       questions = c.in_ok-tell_keyword.ensures.questions ∙ l.invariant.questions;
-      left = keyword_next g.K.Validate.shape _ nodes h.node s (size_of h) i (keywords_at nodes h.node) k c.args.observer.now l.observer c.tell_keyword.new.observer high
-          (subst (λ ks. k ≡ get_or ks i k) (sym here) c.keyword-item.is) heard l.invariant.left;
+      left = λ rest. keyword_next g.K.Validate.shape _ nodes h.node s (size_of h) i (keywords_at nodes h.node) k c.args.observer.now l.observer c.tell_keyword.new.observer high
+          (subst (λ ks. k ≡ get_or ks i k) (sym here) c.keyword-item.is) (heard rest) (l.invariant.left rest);
     }
 
 pub tell_node-returns-clause-heard : goal.tell_node-returns-clause-heard
@@ -113,8 +112,9 @@ tell_node-returns-clause-heard g t c =
     let l = c.loop-keyword in
     let items : c.deref-keyword-items.result.now ≡ c.index.result.now.keywords.items = c.deref-keyword-items.ensures.value in
     let here : keywords_at nodes h.node ≡ c.deref-keyword-items.result.now = keywords_here nodes h.node c.index.result.now c.requires.there c.index.ensures ∙ sym items in
-    keywords_done g.K.Validate.shape _ nodes h.node (stand_of c.args.there.now) (size_of h) l.keyword-index (keywords_at nodes h.node) c.args.observer.now l.observer
-    (let e = ap length here in omega arith) l.invariant.left
+    let past : length (keywords_at nodes h.node) ≤ l.keyword-index = (let e = ap length here in omega arith) in
+    λ rest. keywords_done g.K.Validate.shape _ nodes h.node (stand_of c.args.there.now) (size_of h) l.keyword-index (keywords_at nodes h.node) c.args.observer.now l.observer
+    past (l.invariant.left rest)
 
 -- ---- a keyword
 
@@ -126,9 +126,9 @@ tell_keyword-tell_by_rule-requires g t c κs within =
     let same = c.in_ok-questions.ensures.same in
     let start : c.len-start.result ≡ length c.args.questions.now.items = omega arith in
     let now = c.questions.new.into.items in
-    let asked : AreAsked (g.K.Validate.added k) (rule (g.T.Matching.matches c.args.matching.now).reads (value_at h.place) (g.K.Validate.shape k)) (drop c.len-start.result now) = record {
-      calls = ap (λ n. map call_of (drop n now)) start ∙ c.in_ok-questions.ensures.pushed.pushed;
-      asked = ap (λ n. map (question_by (g.K.Validate.added k)) (drop n now)) start ∙ c.in_ok-questions.ensures.asked.pushed;
+    let asked : (rest : Answers) → AreAsked (g.K.Validate.added k) (rule (completed (g.T.Matching.matches c.args.matching.now) rest) (value_at h.place) (g.K.Validate.shape k)) (drop c.len-start.result now) = λ rest. record {
+      calls = ap (λ n. map call_of (drop n now)) start ∙ (c.in_ok-questions.ensures.pushed rest).pushed;
+      asked = ap (λ n. map (question_by (g.K.Validate.added k)) (drop n now)) start ∙ (c.in_ok-questions.ensures.asked rest).pushed;
     } in (
       omega arith,
       (
@@ -141,7 +141,7 @@ tell_keyword-tell_by_rule-requires g t c κs within =
               c.requires.right,
               (
                 c.requires.stands,
-                subst (λ m. AreAsked (g.K.Validate.added k) (rule m.reads (value_at h.place) (g.K.Validate.shape k)) (drop c.len-start.result now)) (sym same) asked,
+                λ rest. subst (λ (m : Matches). AreAsked (g.K.Validate.added k) (rule (completed m rest) (value_at h.place) (g.K.Validate.shape k)) (drop c.len-start.result now)) (sym same) (asked rest),
               ),
             ),
           ),
@@ -154,9 +154,9 @@ tell_keyword-returns-clause-heard g t c =
     let h = c.args.there.now.here in
     let nodes = h.graph.now.nodes.items in
     let k = c.args.keyword.now in
-    subst
-    (λ m. HearsAt c.args.there.now (rule_faults (reading_of g.K.Validate.shape m.reads nodes) h.node (rule m.reads (value_at h.place) (g.K.Validate.shape k))) c.args.observer.now c.tell_by_rule.new.observer)
-    c.in_ok-questions.ensures.same c.in_ok-tell_by_rule.ensures.heard
+    λ rest. subst
+    (λ (m : Matches). HearsAt c.args.there.now (rule_faults (reading_of g.K.Validate.shape (completed m rest) nodes) h.node (rule (completed m rest) (value_at h.place) (g.K.Validate.shape k))) c.args.observer.now c.tell_by_rule.new.observer)
+    c.in_ok-questions.ensures.same (c.in_ok-tell_by_rule.ensures.heard rest)
 
 -- ---- by its rule
 
@@ -175,7 +175,7 @@ tell_by_rule-tell_each-requires g t c κs within =
             subst (λ m. AreKnown g.K.Validate.knows m.pattern nodes) (sym same) c.requires.known,
             (
               c.requires.right,
-              subst (EachMayAsk nodes (rank_at nodes h.node) (value_at h.place)) (sym c.requires.asked.calls)
+              subst (EachMayAsk nodes (rank_at nodes h.node) (value_at h.place)) (sym (c.requires.asked none_matched).calls)
                   (each_may_ask g.K.Validate.shape nodes h.node k _ (value_at h.place) h.graph.now.sound c.requires.stands),
             ),
           ),
@@ -197,7 +197,7 @@ tell_by_rule-tell_named-requires g t c κs within =
             c.requires.known,
             (
               c.requires.right,
-              subst (EachMayAsk nodes (rank_at nodes h.node) (value_at h.place)) (sym c.requires.asked.calls)
+              subst (EachMayAsk nodes (rank_at nodes h.node) (value_at h.place)) (sym (c.requires.asked none_matched).calls)
                   (each_may_ask g.K.Validate.shape nodes h.node k _ (value_at h.place) h.graph.now.sound c.requires.stands),
             ),
           ),
@@ -219,7 +219,7 @@ tell_by_rule-tell_conditional-requires g t c κs within =
             c.requires.known,
             (
               c.requires.right,
-              subst (EachMayAsk nodes (rank_at nodes h.node) (value_at h.place)) (sym c.requires.asked.calls)
+              subst (EachMayAsk nodes (rank_at nodes h.node) (value_at h.place)) (sym (c.requires.asked none_matched).calls)
                   (each_may_ask g.K.Validate.shape nodes h.node k _ (value_at h.place) h.graph.now.sound c.requires.stands),
             ),
           ),
@@ -241,7 +241,7 @@ tell_by_rule-tell_combined-requires g t c κs within = (
           (
             c.requires.stands,
             (
-              c.combination-combination.ensures _,
+              (λ rest. c.combination-combination.ensures _),
               (one_of_others c.combination-combination.result c.in_default.not-Every c.in_default.not-EachNamed c.in_default.not-Conditional, c.requires.asked),
             ),
           ),
@@ -260,12 +260,12 @@ tell_by_rule-returns-in_ok-tell_notes-in-Every-clause-heard g t c =
     let m = g.T.Matching.matches c.args.matching.now in
     let same = c.in_ok-tell_notes-in-Every.ensures.same in
     on_ok_weaker c.tell_each.result
-    (λ told. every_told (reading_of g.K.Validate.shape m.reads nodes) h.node (rule m.reads (value_at h.place) (g.K.Validate.shape k)) (stand_of t) (size_of h) (g.K.Validate.added k) (drop c.args.start c.args.questions.now.items)
-    c.requires.asked t.situation c.args.observer.now c.tell_notes.new.observer c.tell_each.new.observer (sym (c.combination-combination.ensures _) ∙ c.in-Every.is) refl refl c.requires.right.path
-    (subst (λ d. HearsMore (own_notes (rule m.reads d (g.K.Validate.shape k)) (spot_in t.situation) t.situation.schema.now) c.args.observer.now c.tell_notes.new.observer)
-    c.requires.right.value c.in_ok-tell_notes-in-Every.ensures.told)
-    (subst (λ (m : Matches). Hearing (stand_of t) (size_of h) (λ x. faults_beside (question_faults (reading_of g.K.Validate.shape m.reads nodes) (g.K.Validate.added k) x) true (drop c.args.start c.args.questions.now.items)) c.tell_notes.new.observer c.tell_each.new.observer)
-    same told))
+    (λ told rest. every_told (reading_of g.K.Validate.shape (completed m rest) nodes) h.node (rule (completed m rest) (value_at h.place) (g.K.Validate.shape k)) (stand_of t) (size_of h) (g.K.Validate.added k) (drop c.args.start c.args.questions.now.items)
+    (c.requires.asked rest) t.situation c.args.observer.now c.tell_notes.new.observer c.tell_each.new.observer (sym (c.combination-combination.ensures _) ∙ c.in-Every.is) refl refl c.requires.right.path
+    (subst (λ d. HearsMore (own_notes (rule (completed m rest) d (g.K.Validate.shape k)) (spot_in t.situation) t.situation.schema.now) c.args.observer.now c.tell_notes.new.observer)
+    c.requires.right.value (c.in_ok-tell_notes-in-Every.ensures.told rest))
+    (subst (λ (m : Matches). Hearing (stand_of t) (size_of h) (λ x. faults_beside (question_faults (reading_of g.K.Validate.shape (completed m rest) nodes) (g.K.Validate.added k) x) true (drop c.args.start c.args.questions.now.items)) c.tell_notes.new.observer c.tell_each.new.observer)
+    same (told rest)))
     c.tell_each.ensures.heard
 
 pub tell_by_rule-returns-in-EachNamed-clause-heard : goal.tell_by_rule-returns-in-EachNamed-clause-heard
@@ -276,8 +276,8 @@ tell_by_rule-returns-in-EachNamed-clause-heard g t c =
     let k = c.args.keyword.now in
     let m = g.T.Matching.matches c.args.matching.now in
     on_ok_weaker c.tell_named.result
-    (named_told (reading_of g.K.Validate.shape m.reads nodes) h.node (rule m.reads (value_at h.place) (g.K.Validate.shape k)) (stand_of t) (size_of h) (g.K.Validate.added k) (drop c.args.start c.args.questions.now.items)
-    c.requires.asked c.args.observer.now c.tell_named.new.observer (sym (c.combination-combination.ensures _) ∙ c.in-EachNamed.is))
+    (λ told rest. named_told (reading_of g.K.Validate.shape (completed m rest) nodes) h.node (rule (completed m rest) (value_at h.place) (g.K.Validate.shape k)) (stand_of t) (size_of h) (g.K.Validate.added k) (drop c.args.start c.args.questions.now.items)
+    (c.requires.asked rest) c.args.observer.now c.tell_named.new.observer (sym (c.combination-combination.ensures _) ∙ c.in-EachNamed.is) (told rest))
     c.tell_named.ensures.heard
 
 pub tell_by_rule-returns-in-Conditional-clause-heard : goal.tell_by_rule-returns-in-Conditional-clause-heard
@@ -288,19 +288,19 @@ tell_by_rule-returns-in-Conditional-clause-heard g t c =
     let k = c.args.keyword.now in
     let m = g.T.Matching.matches c.args.matching.now in
     on_ok_weaker c.tell_conditional.result
-    (conditional_told (reading_of g.K.Validate.shape m.reads nodes) h.node (rule m.reads (value_at h.place) (g.K.Validate.shape k)) (stand_of t) (size_of h) (g.K.Validate.added k) (drop c.args.start c.args.questions.now.items)
-    c.requires.asked c.args.observer.now c.tell_conditional.new.observer (sym (c.combination-combination.ensures _) ∙ c.in-Conditional.is))
+    (λ told rest. conditional_told (reading_of g.K.Validate.shape (completed m rest) nodes) h.node (rule (completed m rest) (value_at h.place) (g.K.Validate.shape k)) (stand_of t) (size_of h) (g.K.Validate.added k) (drop c.args.start c.args.questions.now.items)
+    (c.requires.asked rest) c.args.observer.now c.tell_conditional.new.observer (sym (c.combination-combination.ensures _) ∙ c.in-Conditional.is) (told rest))
     c.tell_conditional.ensures.heard
 
 -- ---- questions beside an answer
 
 pub tell_each-loop-index-init : goal.tell_each-loop-index-init
-tell_each-loop-index-init g t c = record { matches = refl; questions = refl; left = all_to_tell _ _ _ c.args.observer.now }
+tell_each-loop-index-init g t c = record { matches = refl; questions = refl; left = λ rest. all_to_tell _ _ _ c.args.observer.now }
 
 pub tell_each-returns-then-is_settled-clause-heard : goal.tell_each-returns-then-is_settled-clause-heard
 tell_each-returns-then-is_settled-clause-heard g t c =
     let l = c.loop-index in
-    settled_to_tell _ _ _ _ c.args.observer.now l.observer (λ kept fs gs. c.is_settled.ensures c.if-is_settled.true kept fs gs) l.invariant.left
+    λ rest. settled_to_tell _ _ _ _ c.args.observer.now l.observer (λ kept fs gs. c.is_settled.ensures c.if-is_settled.true kept fs gs) (l.invariant.left rest)
 
 pub tell_each-tell_question-requires : goal.tell_each-tell_question-requires
 tell_each-tell_question-requires g t c κs within =
@@ -327,14 +327,16 @@ tell_each-returns-clause-heard g t c =
     let h = c.args.there.now.here in
     let l = c.loop-index in
     let m = g.T.Matching.matches c.args.matching.now in
-    beside_done (stand_of c.args.there.now) (size_of h) (question_faults (reading_of g.K.Validate.shape m.reads h.graph.now.nodes.items) (g.K.Validate.added c.args.keyword.now))
-    (drop c.args.start c.args.questions.now.items) c.args.questions.now.items l.index c.args.beside c.args.observer.now l.observer (omega arith) l.invariant.left
+    let past : length c.args.questions.now.items ≤ l.index = omega arith in
+    λ rest. beside_done (stand_of c.args.there.now) (size_of h) (question_faults (reading_of g.K.Validate.shape (completed m rest) h.graph.now.nodes.items) (g.K.Validate.added c.args.keyword.now))
+    (drop c.args.start c.args.questions.now.items) c.args.questions.now.items l.index c.args.beside c.args.observer.now l.observer past (l.invariant.left rest)
 
 -- ---- a condition
 
 pub tell_conditional-returns-then-start-len-clause-heard : goal.tell_conditional-returns-then-start-len-clause-heard
 tell_conditional-returns-then-start-len-clause-heard g t c =
-    no_condition _ (stand_of c.args.there.now) (size_of c.args.there.now.here) _ c.args.questions.now.items c.args.start c.args.observer.now (omega arith)
+    let past : length c.args.questions.now.items ≤ c.args.start = omega arith in
+    λ rest. no_condition _ (stand_of c.args.there.now) (size_of c.args.there.now.here) _ c.args.questions.now.items c.args.start c.args.observer.now past
 
 pub tell_conditional-accepts_question-requires : goal.tell_conditional-accepts_question-requires
 tell_conditional-accepts_question-requires g t c =
@@ -374,24 +376,25 @@ tell_conditional-returns-clause-heard g t c =
     let added = g.K.Validate.added c.args.keyword.now in
     let m = g.T.Matching.matches c.args.matching.now in
     let b = c.in_ok-answer.answer in
+    let short : c.args.start < length c.args.questions.now.items = omega arith in
     on_ok_weaker c.tell_each.result
-    (λ told. condition_told (reading_of g.K.Validate.shape m.reads nodes) s (size_of h) added c.args.questions.now.items c.args.start c.index-condition.result.now b c.args.observer.now c.tell_each.new.observer
-    (omega arith) c.index-condition.ensures c.in_ok-answer.ensures.verdict
-    (subst (λ (n : Matches). Hearing s (size_of h) (λ x. faults_beside (question_faults (reading_of g.K.Validate.shape n.reads nodes) added x) b (drop (c.args.start + 1) c.args.questions.now.items)) c.args.observer.now c.tell_each.new.observer)
+    (λ told rest. condition_told (reading_of g.K.Validate.shape (completed m rest) nodes) s (size_of h) added c.args.questions.now.items c.args.start c.index-condition.result.now b c.args.observer.now c.tell_each.new.observer
+    short c.index-condition.ensures (c.in_ok-answer.ensures.verdict rest)
+    (subst (λ (n : Matches). Hearing s (size_of h) (λ x. faults_beside (question_faults (reading_of g.K.Validate.shape (completed n rest) nodes) added x) b (drop (c.args.start + 1) c.args.questions.now.items)) c.args.observer.now c.tell_each.new.observer)
     c.in_ok-answer.ensures.matches
-    (subst (λ qs. Hearing s (size_of h) (λ x. faults_beside (question_faults (reading_of g.K.Validate.shape (g.T.Matching.matches c.accepts_question.new.matching).reads nodes) added x) b (drop (c.args.start + 1) qs)) c.args.observer.now c.tell_each.new.observer)
-    c.in_ok-answer.ensures.questions told)))
+    (subst (λ qs. Hearing s (size_of h) (λ x. faults_beside (question_faults (reading_of g.K.Validate.shape (completed (g.T.Matching.matches c.accepts_question.new.matching) rest) nodes) added x) b (drop (c.args.start + 1) qs)) c.args.observer.now c.tell_each.new.observer)
+    c.in_ok-answer.ensures.questions (told rest))))
     c.tell_each.ensures.heard
 
 -- ---- names
 
 pub tell_named-loop-index-init : goal.tell_named-loop-index-init
-tell_named-loop-index-init g t c = record { matches = refl; questions = refl; left = all_to_tell _ _ _ c.args.observer.now }
+tell_named-loop-index-init g t c = record { matches = refl; questions = refl; left = λ rest. all_to_tell _ _ _ c.args.observer.now }
 
 pub tell_named-returns-then-is_settled-clause-heard : goal.tell_named-returns-then-is_settled-clause-heard
 tell_named-returns-then-is_settled-clause-heard g t c =
     let l = c.loop-index in
-    settled_to_tell _ _ _ _ c.args.observer.now l.observer (λ kept fs gs. c.is_settled.ensures c.if-is_settled.true kept fs gs) l.invariant.left
+    λ rest. settled_to_tell _ _ _ _ c.args.observer.now l.observer (λ kept fs gs. c.is_settled.ensures c.if-is_settled.true kept fs gs) (l.invariant.left rest)
 
 pub tell_named-tell_question-requires : goal.tell_named-tell_question-requires
 tell_named-tell_question-requires g t c κs within =
@@ -426,12 +429,12 @@ tell_named-loop-index-preserved g t c =
     let qs = c.args.questions.now.items in
     let short : l.index < length qs = (let e = ap length l.invariant.questions in omega arith) in
     let is : q ≡ get_or qs l.index q = subst (λ (xs : List Question). q ≡ get_or xs l.index q) l.invariant.questions c.index-question.ensures in
-    let heard = subst (λ (m : Matches). Hearing s (size_of h) (λ x. question_faults (reading_of g.K.Validate.shape m.reads nodes) added x q) c.fresh-heard.result c.tell_question.new.observer) l.invariant.matches c.in_ok-tell_question.ensures.heard in
+    let heard = λ (rest : Answers). subst (λ (m : Matches). Hearing s (size_of h) (λ x. question_faults (reading_of g.K.Validate.shape (completed m rest) nodes) added x q) c.fresh-heard.result c.tell_question.new.observer) l.invariant.matches (c.in_ok-tell_question.ensures.heard rest) in
     record {
       matches = c.in_ok-tell_question.ensures.matches ∙ l.invariant.matches;
       questions = c.in_ok-tell_question.ensures.questions ∙ l.invariant.questions;
-      left = named_next s (size_of h) (question_faults (reading_of g.K.Validate.shape m.reads nodes) added) (drop c.args.start qs) qs l.index q (view there.situation.value.now) (location_of there.situation.instance.now)
-          c.args.observer.now l.observer c.fresh-heard.result c.tell_question.new.observer c.absorb_names.new.self c.requires.right.value refl short is c.fresh-heard.ensures heard c.in_ok-absorb_names.ensures l.invariant.left;
+      left = λ rest. named_next s (size_of h) (question_faults (reading_of g.K.Validate.shape (completed m rest) nodes) added) (drop c.args.start qs) qs l.index q (view there.situation.value.now) (location_of there.situation.instance.now)
+          c.args.observer.now l.observer c.fresh-heard.result c.tell_question.new.observer c.absorb_names.new.self c.requires.right.value refl short is c.fresh-heard.ensures (heard rest) c.in_ok-absorb_names.ensures (l.invariant.left rest);
     }
 
 pub tell_named-returns-clause-heard : goal.tell_named-returns-clause-heard
@@ -439,8 +442,9 @@ tell_named-returns-clause-heard g t c =
     let h = c.args.there.now.here in
     let l = c.loop-index in
     let m = g.T.Matching.matches c.args.matching.now in
-    named_done (stand_of c.args.there.now) (size_of h) (question_faults (reading_of g.K.Validate.shape m.reads h.graph.now.nodes.items) (g.K.Validate.added c.args.keyword.now))
-    (drop c.args.start c.args.questions.now.items) c.args.questions.now.items l.index c.args.observer.now l.observer (omega arith) l.invariant.left
+    let past : length c.args.questions.now.items ≤ l.index = omega arith in
+    λ rest. named_done (stand_of c.args.there.now) (size_of h) (question_faults (reading_of g.K.Validate.shape (completed m rest) h.graph.now.nodes.items) (g.K.Validate.added c.args.keyword.now))
+    (drop c.args.start c.args.questions.now.items) c.args.questions.now.items l.index c.args.observer.now l.observer past (l.invariant.left rest)
 
 -- ---- one fault for all questions
 
@@ -451,7 +455,7 @@ tell_combined-accepts_combined-requires g t c =
     let k = c.args.keyword.now in
     record {
       known = c.requires.known;
-      asked = subst (EachMayAsk nodes (rank_at nodes h.node) (value_at h.place)) (sym c.requires.asked.calls)
+      asked = subst (EachMayAsk nodes (rank_at nodes h.node) (value_at h.place)) (sym (c.requires.asked none_matched).calls)
           (each_may_ask g.K.Validate.shape nodes h.node k _ (value_at h.place) h.graph.now.sound c.requires.stands);
     }
 
@@ -473,11 +477,11 @@ tell_combined-tell_refusal-requires g t c κs within =
               (
                 c.requires.stands,
                 (
-                  subst (λ m. c.args.combination ≡ combination_of (rule m.reads (value_at h.place) (g.K.Validate.shape k))) (sym same) c.requires.combination,
+                  (λ rest. subst (λ (m : Matches). c.args.combination ≡ combination_of (rule (completed m rest) (value_at h.place) (g.K.Validate.shape k))) (sym same) (c.requires.combination rest)),
                   (
                     c.requires.once,
-                    subst (λ qs. AreAsked (g.K.Validate.added k) (rule (g.T.Matching.matches c.accepts_combined.new.matching).reads (value_at h.place) (g.K.Validate.shape k)) (drop c.args.start qs)) (sym c.in_ok-accepts_combined.ensures.questions)
-                        (subst (λ m. AreAsked (g.K.Validate.added k) (rule m.reads (value_at h.place) (g.K.Validate.shape k)) (drop c.args.start c.args.questions.now.items)) (sym same) c.requires.asked),
+                    λ rest. subst (λ qs. AreAsked (g.K.Validate.added k) (rule (completed (g.T.Matching.matches c.accepts_combined.new.matching) rest) (value_at h.place) (g.K.Validate.shape k)) (drop c.args.start qs)) (sym c.in_ok-accepts_combined.ensures.questions)
+                        (subst (λ (m : Matches). AreAsked (g.K.Validate.added k) (rule (completed m rest) (value_at h.place) (g.K.Validate.shape k)) (drop c.args.start c.args.questions.now.items)) (sym same) (c.requires.asked rest)),
                   ),
                 ),
               ),
@@ -488,22 +492,22 @@ tell_combined-tell_refusal-requires g t c κs within =
     )
 
 pub tell_combined-returns-then-branch-clause-heard : goal.tell_combined-returns-then-branch-clause-heard
-tell_combined-returns-then-branch-clause-heard g t c =
+tell_combined-returns-then-branch-clause-heard g t c rest =
     let h = c.args.there.now.here in
-    let k = rule (g.T.Matching.matches c.args.matching.now).reads (value_at h.place) (g.K.Validate.shape c.args.keyword.now) in
-    let once = ap has_one_fault (sym c.requires.combination) ∙ c.requires.once in
-    combined_accepted (reading_of g.K.Validate.shape (g.T.Matching.matches c.args.matching.now).reads h.graph.now.nodes.items) h.node k (stand_of c.args.there.now) (size_of h) c.in_ok-accepts_combined.field-0 once
-    (keyword_told _ h.place _ _ k c.in_ok-accepts_combined.field-0 true c.args.combination (map call_of (drop c.args.start c.args.questions.now.items)) (one_is_right k once) refl c.requires.combination c.requires.asked.calls
-    c.in_ok-accepts_combined.ensures.verdict) c.args.observer.now (search rules)
+    let k = rule (completed (g.T.Matching.matches c.args.matching.now) rest) (value_at h.place) (g.K.Validate.shape c.args.keyword.now) in
+    let once = ap has_one_fault (sym (c.requires.combination rest)) ∙ c.requires.once in
+    combined_accepted (reading_of g.K.Validate.shape (completed (g.T.Matching.matches c.args.matching.now) rest) h.graph.now.nodes.items) h.node k (stand_of c.args.there.now) (size_of h) c.in_ok-accepts_combined.field-0 once
+    (keyword_told _ h.place _ _ k c.in_ok-accepts_combined.field-0 true c.args.combination (map call_of (drop c.args.start c.args.questions.now.items)) (one_is_right k once) refl (c.requires.combination rest) (c.requires.asked rest).calls
+    (c.in_ok-accepts_combined.ensures.verdict rest)) c.args.observer.now (search rules)
 
 pub tell_combined-returns-then-not-hear-clause-heard : goal.tell_combined-returns-then-not-hear-clause-heard
-tell_combined-returns-then-not-hear-clause-heard g t c =
+tell_combined-returns-then-not-hear-clause-heard g t c rest =
     let h = c.args.there.now.here in
-    let k = rule (g.T.Matching.matches c.args.matching.now).reads (value_at h.place) (g.K.Validate.shape c.args.keyword.now) in
-    let once = ap has_one_fault (sym c.requires.combination) ∙ c.requires.once in
-    combined_unwanted (reading_of g.K.Validate.shape (g.T.Matching.matches c.args.matching.now).reads h.graph.now.nodes.items) h.node k (stand_of c.args.there.now) (size_of h) c.in_ok-accepts_combined.field-0 once
-    (keyword_told _ h.place _ _ k c.in_ok-accepts_combined.field-0 true c.args.combination (map call_of (drop c.args.start c.args.questions.now.items)) (one_is_right k once) refl c.requires.combination c.requires.asked.calls
-    c.in_ok-accepts_combined.ensures.verdict) c.args.observer.now c.hear.new.self (search rules) (c.hear.ensures.heard (search rules))
+    let k = rule (completed (g.T.Matching.matches c.args.matching.now) rest) (value_at h.place) (g.K.Validate.shape c.args.keyword.now) in
+    let once = ap has_one_fault (sym (c.requires.combination rest)) ∙ c.requires.once in
+    combined_unwanted (reading_of g.K.Validate.shape (completed (g.T.Matching.matches c.args.matching.now) rest) h.graph.now.nodes.items) h.node k (stand_of c.args.there.now) (size_of h) c.in_ok-accepts_combined.field-0 once
+    (keyword_told _ h.place _ _ k c.in_ok-accepts_combined.field-0 true c.args.combination (map call_of (drop c.args.start c.args.questions.now.items)) (one_is_right k once) refl (c.requires.combination rest) (c.requires.asked rest).calls
+    (c.in_ok-accepts_combined.ensures.verdict rest)) c.args.observer.now c.hear.new.self (search rules) (c.hear.ensures.heard (search rules))
 
 pub tell_combined-returns-clause-heard : goal.tell_combined-returns-clause-heard
 tell_combined-returns-clause-heard g t c =
@@ -511,14 +515,16 @@ tell_combined-returns-clause-heard g t c =
     let h = there.here in
     let nodes = h.graph.now.nodes.items in
     let m = g.T.Matching.matches c.args.matching.now in
-    let k = rule m.reads (value_at h.place) (g.K.Validate.shape c.args.keyword.now) in
-    let once = ap has_one_fault (sym c.requires.combination) ∙ c.requires.once in
+    let k = λ (rest : Answers). rule (completed m rest) (value_at h.place) (g.K.Validate.shape c.args.keyword.now) in
+    let once = λ (rest : Answers). ap has_one_fault (sym (c.requires.combination rest)) ∙ c.requires.once in
+    let refused : c.in_ok-accepts_combined.field-0 ≡ false = search rules in
+    let unheard = c.hear.ensures.unheard (search rules) in
     on_ok_weaker c.tell_refusal.result
-    (λ told. combined_told (reading_of g.K.Validate.shape m.reads nodes) h.node k (stand_of there) (size_of h) c.in_ok-accepts_combined.field-0 once
-    (keyword_told _ h.place _ _ k c.in_ok-accepts_combined.field-0 true c.args.combination (map call_of (drop c.args.start c.args.questions.now.items)) (one_is_right k once) refl c.requires.combination c.requires.asked.calls
-    c.in_ok-accepts_combined.ensures.verdict) c.args.observer.now c.hear.new.self c.tell_refusal.new.observer (search rules) (c.hear.ensures.unheard (search rules))
-    (subst (λ (n : Matches). Hearing (stand_of there) (size_of h) (one_told (reading_of g.K.Validate.shape n.reads nodes) h.node (rule n.reads (value_at h.place) (g.K.Validate.shape c.args.keyword.now))) c.hear.new.self c.tell_refusal.new.observer)
-    c.in_ok-accepts_combined.ensures.matches told))
+    (λ told rest. combined_told (reading_of g.K.Validate.shape (completed m rest) nodes) h.node (k rest) (stand_of there) (size_of h) c.in_ok-accepts_combined.field-0 (once rest)
+    (keyword_told _ h.place _ _ (k rest) c.in_ok-accepts_combined.field-0 true c.args.combination (map call_of (drop c.args.start c.args.questions.now.items)) (one_is_right (k rest) (once rest)) refl (c.requires.combination rest) (c.requires.asked rest).calls
+    (c.in_ok-accepts_combined.ensures.verdict rest)) c.args.observer.now c.hear.new.self c.tell_refusal.new.observer refused unheard
+    (subst (λ (n : Matches). Hearing (stand_of there) (size_of h) (one_told (reading_of g.K.Validate.shape (completed n rest) nodes) h.node (rule (completed n rest) (value_at h.place) (g.K.Validate.shape c.args.keyword.now))) c.hear.new.self c.tell_refusal.new.observer)
+    c.in_ok-accepts_combined.ensures.matches (told rest)))
     c.tell_refusal.ensures.heard
 
 -- ---- the one fault
@@ -537,7 +543,7 @@ tell_refusal-tell_branches-requires g t c κs within =
             c.requires.known,
             (
               c.requires.right,
-              subst (EachMayAsk nodes (rank_at nodes h.node) (value_at h.place)) (sym c.requires.asked.calls)
+              subst (EachMayAsk nodes (rank_at nodes h.node) (value_at h.place)) (sym (c.requires.asked none_matched).calls)
                   (each_may_ask g.K.Validate.shape nodes h.node k _ (value_at h.place) h.graph.now.sound c.requires.stands),
             ),
           ),
@@ -560,7 +566,7 @@ tell_refusal-tell_branches-requires-in-OneBranch g t c κs within =
             (
               c.requires.right,
               subst (λ qs. EachMayAsk nodes (rank_at nodes h.node) (value_at h.place) (map call_of (drop c.args.start qs))) (sym c.in_ok-accepted-in-OneBranch.ensures.questions)
-                  (subst (EachMayAsk nodes (rank_at nodes h.node) (value_at h.place)) (sym c.requires.asked.calls)
+                  (subst (EachMayAsk nodes (rank_at nodes h.node) (value_at h.place)) (sym (c.requires.asked none_matched).calls)
                   (each_may_ask g.K.Validate.shape nodes h.node k _ (value_at h.place) h.graph.now.sound c.requires.stands)),
             ),
           ),
@@ -573,7 +579,7 @@ tell_refusal-count_accepted-requires-clause-asked g t c =
     let h = c.args.there.now.here in
     let nodes = h.graph.now.nodes.items in
     let k = c.args.keyword.now in
-    subst (EachMayAsk nodes (rank_at nodes h.node) (value_at h.place)) (sym c.requires.asked.calls)
+    subst (EachMayAsk nodes (rank_at nodes h.node) (value_at h.place)) (sym (c.requires.asked none_matched).calls)
     (each_may_ask g.K.Validate.shape nodes h.node k _ (value_at h.place) h.graph.now.sound c.requires.stands)
 
 pub tell_refusal-count_accepted-requires-in-Counted-clause-asked : goal.tell_refusal-count_accepted-requires-in-Counted-clause-asked
@@ -581,7 +587,7 @@ tell_refusal-count_accepted-requires-in-Counted-clause-asked g t c =
     let h = c.args.there.now.here in
     let nodes = h.graph.now.nodes.items in
     let k = c.args.keyword.now in
-    subst (EachMayAsk nodes (rank_at nodes h.node) (value_at h.place)) (sym c.requires.asked.calls)
+    subst (EachMayAsk nodes (rank_at nodes h.node) (value_at h.place)) (sym (c.requires.asked none_matched).calls)
     (each_may_ask g.K.Validate.shape nodes h.node k _ (value_at h.place) h.graph.now.sound c.requires.stands)
 
 pub tell_refusal-returns-in_ok-context-in-SomeBranch-clause-heard : goal.tell_refusal-returns-in_ok-context-in-SomeBranch-clause-heard
@@ -593,9 +599,9 @@ tell_refusal-returns-in_ok-context-in-SomeBranch-clause-heard g t c =
     let added = g.K.Validate.added c.args.keyword.now in
     let xs = drop c.args.start c.args.questions.now.items in
     on_ok_weaker c.tell.result
-    (some_told (reading_of g.K.Validate.shape m.reads nodes) h.node (rule m.reads (value_at h.place) (g.K.Validate.shape c.args.keyword.now)) there.situation (stand_of there) (size_of h) refl refl c.requires.right.path c.requires.right.value
-    added xs c.requires.asked c.refused_name.result.now c.args.observer.now c.tell.new.observer c.in_ok-context-in-SomeBranch.context.items c.any_of-kind.result
-    (sym c.requires.combination ∙ c.in-SomeBranch.is) (c.refused_name.ensures m.reads (value_at h.place)) c.any_of-kind.ensures c.in_ok-context-in-SomeBranch.ensures.branches)
+    (λ told rest. some_told (reading_of g.K.Validate.shape (completed m rest) nodes) h.node (rule (completed m rest) (value_at h.place) (g.K.Validate.shape c.args.keyword.now)) there.situation (stand_of there) (size_of h) refl refl c.requires.right.path c.requires.right.value
+    added xs (c.requires.asked rest) c.refused_name.result.now c.args.observer.now c.tell.new.observer c.in_ok-context-in-SomeBranch.context.items c.any_of-kind.result
+    (sym (c.requires.combination rest) ∙ c.in-SomeBranch.is) (c.refused_name.ensures (completed m rest) (value_at h.place)) c.any_of-kind.ensures (c.in_ok-context-in-SomeBranch.ensures.branches rest) told)
     c.tell.ensures
 
 pub tell_refusal-returns-in_ok-context-in-OneBranch-clause-heard : goal.tell_refusal-returns-in_ok-context-in-OneBranch-clause-heard
@@ -606,13 +612,13 @@ tell_refusal-returns-in_ok-context-in-OneBranch-clause-heard g t c =
     let m = g.T.Matching.matches c.args.matching.now in
     let added = g.K.Validate.added c.args.keyword.now in
     let xs = drop c.args.start c.args.questions.now.items in
-    let errors = subst (λ (n : Matches). AreErrorsOf (stand_of there) (size_of h) (question_faults (reading_of g.K.Validate.shape n.reads nodes) added) xs c.in_ok-context-in-OneBranch.context.items) c.in_ok-accepted-in-OneBranch.ensures.matches
-    (subst (λ qs. AreErrorsOf (stand_of there) (size_of h) (question_faults (reading_of g.K.Validate.shape (g.T.Matching.matches c.count_accepted.new.matching).reads nodes) added) (drop c.args.start qs) c.in_ok-context-in-OneBranch.context.items)
-    c.in_ok-accepted-in-OneBranch.ensures.questions c.in_ok-context-in-OneBranch.ensures.branches) in
+    let errors = λ (rest : Answers). subst (λ (n : Matches). AreErrorsOf (stand_of there) (size_of h) (question_faults (reading_of g.K.Validate.shape (completed n rest) nodes) added) xs c.in_ok-context-in-OneBranch.context.items) c.in_ok-accepted-in-OneBranch.ensures.matches
+    (subst (λ qs. AreErrorsOf (stand_of there) (size_of h) (question_faults (reading_of g.K.Validate.shape (completed (g.T.Matching.matches c.count_accepted.new.matching) rest) nodes) added) (drop c.args.start qs) c.in_ok-context-in-OneBranch.context.items)
+    c.in_ok-accepted-in-OneBranch.ensures.questions (c.in_ok-context-in-OneBranch.ensures.branches rest)) in
     on_ok_weaker c.tell-in-OneBranch.result
-    (one_branch_told (reading_of g.K.Validate.shape m.reads nodes) h.node (rule m.reads (value_at h.place) (g.K.Validate.shape c.args.keyword.now)) there.situation (stand_of there) (size_of h) refl refl c.requires.right.path c.requires.right.value
-    added xs c.requires.asked c.refused_name-in-OneBranch.result.now c.args.observer.now c.tell-in-OneBranch.new.observer c.in_ok-accepted-in-OneBranch.accepted c.in_ok-context-in-OneBranch.context.items c.one_of-kind.result
-    (sym c.requires.combination ∙ c.in-OneBranch.is) (c.refused_name-in-OneBranch.ensures m.reads (value_at h.place)) c.in_ok-accepted-in-OneBranch.ensures.counted c.one_of-kind.ensures errors)
+    (λ told rest. one_branch_told (reading_of g.K.Validate.shape (completed m rest) nodes) h.node (rule (completed m rest) (value_at h.place) (g.K.Validate.shape c.args.keyword.now)) there.situation (stand_of there) (size_of h) refl refl c.requires.right.path c.requires.right.value
+    added xs (c.requires.asked rest) c.refused_name-in-OneBranch.result.now c.args.observer.now c.tell-in-OneBranch.new.observer c.in_ok-accepted-in-OneBranch.accepted c.in_ok-context-in-OneBranch.context.items c.one_of-kind.result
+    (sym (c.requires.combination rest) ∙ c.in-OneBranch.is) (c.refused_name-in-OneBranch.ensures (completed m rest) (value_at h.place)) (c.in_ok-accepted-in-OneBranch.ensures.counted rest) c.one_of-kind.ensures (errors rest) told)
     c.tell-in-OneBranch.ensures
 
 pub tell_refusal-returns-in_ok-accepted-in-Counted-clause-heard : goal.tell_refusal-returns-in_ok-accepted-in-Counted-clause-heard
@@ -624,9 +630,9 @@ tell_refusal-returns-in_ok-accepted-in-Counted-clause-heard g t c =
     let added = g.K.Validate.added c.args.keyword.now in
     let xs = drop c.args.start c.args.questions.now.items in
     on_ok_weaker c.tell-in-Counted.result
-    (counted_told (reading_of g.K.Validate.shape m.reads nodes) h.node (rule m.reads (value_at h.place) (g.K.Validate.shape c.args.keyword.now)) there.situation (stand_of there) (size_of h) refl refl c.requires.right.path c.requires.right.value
-    added xs c.requires.asked c.refused_name-name.result.now c.args.observer.now c.tell-in-Counted.new.observer c.in_ok-accepted-in-Counted.accepted _ _ kind.Contains
-    (sym c.requires.combination ∙ c.in-Counted.is) (c.refused_name-name.ensures m.reads (value_at h.place)) c.in_ok-accepted-in-Counted.ensures.counted (record { kind = refl; proper = refl }))
+    (λ told rest. counted_told (reading_of g.K.Validate.shape (completed m rest) nodes) h.node (rule (completed m rest) (value_at h.place) (g.K.Validate.shape c.args.keyword.now)) there.situation (stand_of there) (size_of h) refl refl c.requires.right.path c.requires.right.value
+    added xs (c.requires.asked rest) c.refused_name-name.result.now c.args.observer.now c.tell-in-Counted.new.observer c.in_ok-accepted-in-Counted.accepted _ _ kind.Contains
+    (sym (c.requires.combination rest) ∙ c.in-Counted.is) (c.refused_name-name.ensures (completed m rest) (value_at h.place)) (c.in_ok-accepted-in-Counted.ensures.counted rest) (record { kind = refl; proper = refl }) told)
     c.tell-in-Counted.ensures
 
 pub tell_refusal-returns-in_ok-reason-in_default-clause-heard : goal.tell_refusal-returns-in_ok-reason-in_default-clause-heard
@@ -637,11 +643,11 @@ tell_refusal-returns-in_ok-reason-in_default-clause-heard g t c =
     let m = g.T.Matching.matches c.args.matching.now in
     let shape = g.K.Validate.shape c.args.keyword.now in
     let xs = drop c.args.start c.args.questions.now.items in
-    let says = subst (λ d. IsReason (rule m.reads d shape) (view there.situation.value.now) c.in_ok-reason-in_default.reason) c.requires.right.value c.in_ok-reason-in_default.ensures.stated in
+    let says = λ (rest : Answers). subst (λ d. IsReason (rule (completed m rest) d shape) (view there.situation.value.now) c.in_ok-reason-in_default.reason) c.requires.right.value (c.in_ok-reason-in_default.ensures.stated rest) in
     on_ok_weaker c.tell-in_default.result
-    (reason_told (reading_of g.K.Validate.shape m.reads nodes) h.node (rule m.reads (value_at h.place) shape) there.situation (stand_of there) (size_of h) refl refl c.requires.right.path c.requires.right.value
-    (g.K.Validate.added c.args.keyword.now) xs c.requires.asked c.refused_name-in_default.result.now c.args.observer.now c.tell-in_default.new.observer c.args.combination c.in_ok-reason-in_default.reason
-    c.requires.combination c.requires.once c.in_default.not-SomeBranch c.in_default.not-OneBranch c.in_default.not-Counted (c.refused_name-in_default.ensures m.reads (value_at h.place)) says)
+    (λ told rest. reason_told (reading_of g.K.Validate.shape (completed m rest) nodes) h.node (rule (completed m rest) (value_at h.place) shape) there.situation (stand_of there) (size_of h) refl refl c.requires.right.path c.requires.right.value
+    (g.K.Validate.added c.args.keyword.now) xs (c.requires.asked rest) c.refused_name-in_default.result.now c.args.observer.now c.tell-in_default.new.observer c.args.combination c.in_ok-reason-in_default.reason
+    (c.requires.combination rest) c.requires.once c.in_default.not-SomeBranch c.in_default.not-OneBranch c.in_default.not-Counted (c.refused_name-in_default.ensures (completed m rest) (value_at h.place)) (says rest) told)
     c.tell-in_default.ensures
 
 -- ---- the errors of branches
@@ -679,12 +685,12 @@ tell_branches-loop-index-preserved g t c =
     let qs = c.args.questions.now.items in
     let short : l.index < length qs = (let e = ap length l.invariant.questions in omega arith) in
     let is : q ≡ get_or qs l.index q = subst (λ (xs : List Question). q ≡ get_or xs l.index q) l.invariant.questions c.index-question.ensures in
-    let heard = subst (λ (m : Matches). Hearing s (size_of h) (λ x. question_faults (reading_of g.K.Validate.shape m.reads nodes) added x q) (observer.All c.new.result) c.tell_question.new.observer) l.invariant.matches c.in_ok-tell_question.ensures.heard in
+    let heard = λ (rest : Answers). subst (λ (m : Matches). Hearing s (size_of h) (λ x. question_faults (reading_of g.K.Validate.shape (completed m rest) nodes) added x q) (observer.All c.new.result) c.tell_question.new.observer) l.invariant.matches (c.in_ok-tell_question.ensures.heard rest) in
     record {
       matches = c.in_ok-tell_question.ensures.matches ∙ l.invariant.matches;
       questions = c.in_ok-tell_question.ensures.questions ∙ l.invariant.questions;
-      left = branches_next s (size_of h) (question_faults (reading_of g.K.Validate.shape m.reads nodes) added) (drop c.args.start qs) qs l.index q l.context.items c.push.new.self.items c.all_heard.result
-          (observer.All c.new.result) c.tell_question.new.observer short is c.new.ensures heard c.all_heard.ensures c.in_ok-push.ensures.items l.invariant.left;
+      left = λ rest. branches_next s (size_of h) (question_faults (reading_of g.K.Validate.shape (completed m rest) nodes) added) (drop c.args.start qs) qs l.index q l.context.items c.push.new.self.items c.all_heard.result
+          (observer.All c.new.result) c.tell_question.new.observer short is c.new.ensures (heard rest) c.all_heard.ensures c.in_ok-push.ensures.items (l.invariant.left rest);
     }
 
 pub tell_branches-returns-clause-branches : goal.tell_branches-returns-clause-branches
@@ -692,28 +698,29 @@ tell_branches-returns-clause-branches g t c =
     let h = c.args.there.now.here in
     let l = c.loop-index in
     let m = g.T.Matching.matches c.args.matching.now in
-    branches_done (stand_of c.args.there.now) (size_of h) (question_faults (reading_of g.K.Validate.shape m.reads h.graph.now.nodes.items) (g.K.Validate.added c.args.keyword.now))
-    (drop c.args.start c.args.questions.now.items) c.args.questions.now.items l.index l.context.items (omega arith) l.invariant.left
+    let past : length c.args.questions.now.items ≤ l.index = omega arith in
+    λ rest. branches_done (stand_of c.args.there.now) (size_of h) (question_faults (reading_of g.K.Validate.shape (completed m rest) h.graph.now.nodes.items) (g.K.Validate.added c.args.keyword.now))
+    (drop c.args.start c.args.questions.now.items) c.args.questions.now.items l.index l.context.items past (l.invariant.left rest)
 
 -- ---- a question
 
 pub tell_question-returns-in-Whole-clause-heard : goal.tell_question-returns-in-Whole-clause-heard
 tell_question-returns-in-Whole-clause-heard g t c =
     on_ok_weaker c.tell_step.result
-    (λ told. told.hears _ (c.push_name-evaluation.ensures ∙ ap (λ p. p ++ location_of c.args.there.now.situation.evaluation.now) (sym (ap parts_of c.in-Whole.is) ∙ c.entry.ensures)))
+    (λ told rest. (told rest).hears _ (c.push_name-evaluation.ensures ∙ ap (λ p. p ++ location_of c.args.there.now.situation.evaluation.now) (sym (ap parts_of c.in-Whole.is) ∙ c.entry.ensures)))
     c.tell_step.ensures.heard
 
 pub tell_question-returns-in-Name-clause-heard : goal.tell_question-returns-in-Name-clause-heard
 tell_question-returns-in-Name-clause-heard g t c =
     on_ok_weaker c.tell_step-in-Name.result
-    (λ told. told.hears _ (c.push_name-evaluation-in-Name.ensures ∙ ap (λ p. name c.in-Name.name.now ∷ p) c.push_name-whole.ensures
+    (λ told rest. (told rest).hears _ (c.push_name-evaluation-in-Name.ensures ∙ ap (λ p. name c.in-Name.name.now ∷ p) c.push_name-whole.ensures
     ∙ ap (λ p. p ++ location_of c.args.there.now.situation.evaluation.now) (sym (ap parts_of c.in-Name.is) ∙ c.entry.ensures)))
     c.tell_step-in-Name.ensures.heard
 
 pub tell_question-returns-in-Index-clause-heard : goal.tell_question-returns-in-Index-clause-heard
 tell_question-returns-in-Index-clause-heard g t c =
     on_ok_weaker c.tell_step-in-Index.result
-    (λ told. told.hears _ (c.push_index-evaluation.ensures ∙ ap (λ p. index c.in-Index.index ∷ p) c.push_name-whole-in-Index.ensures
+    (λ told rest. (told rest).hears _ (c.push_index-evaluation.ensures ∙ ap (λ p. index c.in-Index.index ∷ p) c.push_name-whole-in-Index.ensures
     ∙ ap (λ p. p ++ location_of c.args.there.now.situation.evaluation.now) (sym (ap parts_of c.in-Index.is) ∙ c.entry.ensures)))
     c.tell_step-in-Index.ensures.heard
 
@@ -746,13 +753,13 @@ tell_step-tell_name-requires g t c κs within =
 pub tell_step-returns-then-question-clause-heard : goal.tell_step-returns-then-question-clause-heard
 tell_step-returns-then-question-clause-heard g t c =
     on_ok_weaker c.tell_target.result
-    (hears_as _ c.args.there.now _ c.args.question.node stay (step_of c.args.question.asked) true c.args.question.follows _ _ (sym (ap step_of c.in-Here.is)) (sym c.if-question.true))
+    (λ told rest. hears_as _ c.args.there.now _ c.args.question.node stay (step_of c.args.question.asked) true c.args.question.follows _ _ (sym (ap step_of c.in-Here.is)) (sym c.if-question.true) (told rest))
     c.tell_target.ensures.heard
 
 pub tell_step-returns-else-question-clause-heard : goal.tell_step-returns-else-question-clause-heard
 tell_step-returns-else-question-clause-heard g t c =
     on_ok_weaker c.tell_inside.result
-    (hears_as _ c.args.there.now _ c.args.question.node stay (step_of c.args.question.asked) false c.args.question.follows _ _ (sym (ap step_of c.in-Here.is)) (sym c.if-question.false))
+    (λ told rest. hears_as _ c.args.there.now _ c.args.question.node stay (step_of c.args.question.asked) false c.args.question.follows _ _ (sym (ap step_of c.in-Here.is)) (sym c.if-question.false) (told rest))
     c.tell_inside.ensures.heard
 
 pub tell_step-returns-in-Item-clause-heard : goal.tell_step-returns-in-Item-clause-heard
@@ -765,8 +772,8 @@ tell_step-returns-in-Item-clause-heard g t c =
     let falls = size_down nodes (value_at h.place) (view c.in-Item.item.now) (numbers_in h.progress.now) [] (rank_at nodes h.node) q.node (subst P c.in-Item.is c.requires.asked.down) in
     let plain : q.follows ≡ false = follows_none (step_of q.asked) q.follows c.requires.asked.stays (λ e. (let f = sym (ap step_of c.in-Item.is) ∙ e in cc)) in
     on_ok_weaker c.tell_value.result
-    (λ told. hears_as _ there _ q.node (step_of (asked.Item c.in-Item.index c.in-Item.item)) (step_of q.asked) false q.follows _ _ (sym (ap step_of c.in-Item.is)) (sym plain)
-    (step_heard _ there (location_of c.args.evaluation.now) q.node (step_of (asked.Item c.in-Item.index c.in-Item.item)) _ _ _ _ (leads_to_item (stand_of there) (location_of c.args.evaluation.now) c.in-Item.index c.in-Item.item _ c.push_index-instance.ensures) falls told))
+    (λ told rest. hears_as _ there _ q.node (step_of (asked.Item c.in-Item.index c.in-Item.item)) (step_of q.asked) false q.follows _ _ (sym (ap step_of c.in-Item.is)) (sym plain)
+    (step_heard _ there (location_of c.args.evaluation.now) q.node (step_of (asked.Item c.in-Item.index c.in-Item.item)) _ _ _ _ (leads_to_item (stand_of there) (location_of c.args.evaluation.now) c.in-Item.index c.in-Item.item _ c.push_index-instance.ensures) falls (told rest)))
     c.tell_value.ensures.heard
 
 pub tell_step-returns-in-Member-clause-heard : goal.tell_step-returns-in-Member-clause-heard
@@ -779,8 +786,8 @@ tell_step-returns-in-Member-clause-heard g t c =
     let falls = size_down nodes (value_at h.place) (view c.in-Member.member.now) (numbers_in h.progress.now) [] (rank_at nodes h.node) q.node (subst P c.in-Member.is c.requires.asked.down) in
     let plain : q.follows ≡ false = follows_none (step_of q.asked) q.follows c.requires.asked.stays (λ e. (let f = sym (ap step_of c.in-Member.is) ∙ e in cc)) in
     on_ok_weaker c.tell_value-in-Member.result
-    (λ told. hears_as _ there _ q.node (step_of (asked.Member c.in-Member.name c.in-Member.member)) (step_of q.asked) false q.follows _ _ (sym (ap step_of c.in-Member.is)) (sym plain)
-    (step_heard _ there (location_of c.args.evaluation.now) q.node (step_of (asked.Member c.in-Member.name c.in-Member.member)) _ _ _ _ (leads_to_member (stand_of there) (location_of c.args.evaluation.now) c.in-Member.name.now c.in-Member.member _ c.push_name-instance.ensures) falls told))
+    (λ told rest. hears_as _ there _ q.node (step_of (asked.Member c.in-Member.name c.in-Member.member)) (step_of q.asked) false q.follows _ _ (sym (ap step_of c.in-Member.is)) (sym plain)
+    (step_heard _ there (location_of c.args.evaluation.now) q.node (step_of (asked.Member c.in-Member.name c.in-Member.member)) _ _ _ _ (leads_to_member (stand_of there) (location_of c.args.evaluation.now) c.in-Member.name.now c.in-Member.member _ c.push_name-instance.ensures) falls (told rest)))
     c.tell_value-in-Member.ensures.heard
 
 pub tell_step-returns-in-Name-clause-heard : goal.tell_step-returns-in-Name-clause-heard
@@ -794,8 +801,8 @@ tell_step-returns-in-Name-clause-heard g t c =
     let falls = size_down nodes (value_at h.place) (value_at (place.Name c.in-Name.name)) (numbers_in h.progress.now) [] (rank_at nodes h.node) q.node down in
     let plain : q.follows ≡ false = follows_none (step_of q.asked) q.follows c.requires.asked.stays (λ e. (let f = sym (ap step_of c.in-Name.is) ∙ e in cc)) in
     on_ok_weaker c.tell_name.result
-    (λ told. hears_as _ there _ q.node (step_of (asked.Name c.in-Name.name)) (step_of q.asked) false q.follows _ _ (sym (ap step_of c.in-Name.is)) (sym plain)
-    (step_heard _ there (location_of c.args.evaluation.now) q.node (step_of (asked.Name c.in-Name.name)) _ _ _ _ (leads_to_name (stand_of there) (location_of c.args.evaluation.now) c.in-Name.name down) falls told))
+    (λ told rest. hears_as _ there _ q.node (step_of (asked.Name c.in-Name.name)) (step_of q.asked) false q.follows _ _ (sym (ap step_of c.in-Name.is)) (sym plain)
+    (step_heard _ there (location_of c.args.evaluation.now) q.node (step_of (asked.Name c.in-Name.name)) _ _ _ _ (leads_to_name (stand_of there) (location_of c.args.evaluation.now) c.in-Name.name down) falls (told rest)))
     c.tell_name.ensures.heard
 
 -- ---- another schema of the keyword
@@ -814,14 +821,14 @@ tell_inside-returns-clause-heard g t c =
     let nodes = h.graph.now.nodes.items in
     let falls = size_inside nodes (value_at h.place) (numbers_in h.progress.now) (rank_at nodes h.node) (rank_at nodes c.args.node) c.requires.falls in
     on_ok_weaker c.tell_node.result
-    (step_heard _ there (location_of c.args.evaluation.now) c.args.node stay _ _ _ _ (leads_inside (stand_of there) (location_of c.args.evaluation.now)) falls)
+    (λ told rest. step_heard _ there (location_of c.args.evaluation.now) c.args.node stay _ _ _ _ (leads_inside (stand_of there) (location_of c.args.evaluation.now)) falls (told rest))
     c.tell_node.ensures.heard
 
 -- ---- the target of a reference
 
 pub tell_target-returns-then-is_in_progress-clause-heard : goal.tell_target-returns-then-is_in_progress-clause-heard
 tell_target-returns-then-is_in_progress-clause-heard g t c =
-    back_heard g.K.Validate.shape _ c.args.there.now.here.graph.now.nodes.items c.args.there.now _ c.args.target c.args.observer.now (sym c.is_in_progress.ensures ∙ c.if-is_in_progress.true)
+    λ rest. back_heard g.K.Validate.shape _ c.args.there.now.here.graph.now.nodes.items c.args.there.now _ c.args.target c.args.observer.now (sym c.is_in_progress.ensures ∙ c.if-is_in_progress.true)
 
 pub tell_target-tell_node-requires : goal.tell_target-tell_node-requires
 tell_target-tell_node-requires g t c κs within =
@@ -841,12 +848,13 @@ tell_target-returns-clause-heard g t c =
     let nodes = h.graph.now.nodes.items in
     let fresh : is_among c.args.target (numbers_in h.progress.now) ≡ false = sym c.is_in_progress.ensures ∙ c.if-is_in_progress.false in
     let falls = size_target nodes (value_at h.place) (numbers_in h.progress.now) (rank_at nodes h.node) c.args.target c.requires.there fresh in
-    let r = reading_of g.K.Validate.shape (g.T.Matching.matches c.args.matching.now).reads nodes in
     let road = location_of c.args.evaluation.now in
-    on_ok_weaker c.tell_node.result (target_heard g.K.Validate.shape _ nodes there road c.args.target _ _ _ fresh falls)
+    on_ok_weaker c.tell_node.result
+    (λ told rest. target_heard g.K.Validate.shape _ nodes there road c.args.target _ _ _ fresh falls
     (subst
-    (λ ms. OnOk c.tell_node.result (Hearing (record { place = h.place; progress = ms; path = (stand_of there).path; road = road }) (suc (size nodes (value_at h.place) ms (rank_at nodes c.args.target)))
-    (node_faults r c.args.target) c.args.observer.now c.tell_node.new.observer)) c.enter-entered.ensures c.tell_node.ensures.heard)
+    (λ ms. Hearing (record { place = h.place; progress = ms; path = (stand_of there).path; road = road }) (suc (size nodes (value_at h.place) ms (rank_at nodes c.args.target)))
+    (node_faults (reading_of g.K.Validate.shape (completed (g.T.Matching.matches c.args.matching.now) rest) nodes) c.args.target) c.args.observer.now c.tell_node.new.observer) c.enter-entered.ensures (told rest)))
+    c.tell_node.ensures.heard
 
 -- ---- a name
 
@@ -864,9 +872,9 @@ tell_name-tell_node-requires g t c κs within =
 pub tell_name-returns-clause-heard : goal.tell_name-returns-clause-heard
 tell_name-returns-clause-heard g t c =
     on_ok_weaker c.absorb.result
-    (λ absorbs. record {
+    (λ absorbs rest. record {
       hears = λ x at deep.
-          hears_absorbed (λ fs. fs) _ c.args.observer.now c.fresh-heard.result c.tell_node.new.observer c.absorb.new.self c.fresh-heard.ensures (c.in_ok-tell_node.ensures.heard.hears x at deep) absorbs;
+          hears_absorbed (λ fs. fs) _ c.args.observer.now c.fresh-heard.result c.tell_node.new.observer c.absorb.new.self c.fresh-heard.ensures ((c.in_ok-tell_node.ensures.heard rest).hears x at deep) absorbs;
     })
     c.absorb.ensures
 
@@ -884,12 +892,12 @@ tell_each-loop-index-preserved g t c =
     let short : l.index < length qs = (let e = ap length l.invariant.questions in omega arith) in
     let is : q ≡ get_or qs l.index q = subst (λ (xs : List Question). q ≡ get_or xs l.index q) l.invariant.questions c.index-question.ensures in
     let same : q.beside ≡ c.args.beside = search rules in
-    let heard = subst (λ (m : Matches). Hearing s (size_of h) (λ x. question_faults (reading_of g.K.Validate.shape m.reads nodes) added x q) l.observer c.tell_question.new.observer) l.invariant.matches c.in_ok-tell_question.ensures.heard in
+    let heard = λ (rest : Answers). subst (λ (m : Matches). Hearing s (size_of h) (λ x. question_faults (reading_of g.K.Validate.shape (completed m rest) nodes) added x q) l.observer c.tell_question.new.observer) l.invariant.matches (c.in_ok-tell_question.ensures.heard rest) in
     record {
       matches = c.in_ok-tell_question.ensures.matches ∙ l.invariant.matches;
       questions = c.in_ok-tell_question.ensures.questions ∙ l.invariant.questions;
-      left = beside_next s (size_of h) (question_faults (reading_of g.K.Validate.shape m.reads nodes) added) (drop c.args.start qs) qs l.index c.args.beside q c.args.observer.now l.observer c.tell_question.new.observer
-          short is same heard l.invariant.left;
+      left = λ rest. beside_next s (size_of h) (question_faults (reading_of g.K.Validate.shape (completed m rest) nodes) added) (drop c.args.start qs) qs l.index c.args.beside q c.args.observer.now l.observer c.tell_question.new.observer
+          short is same (heard rest) (l.invariant.left rest);
     }
 
 pub tell_each-loop-index-preserved-then-question-beside : goal.tell_each-loop-index-preserved-then-question-beside
@@ -909,5 +917,11 @@ tell_each-loop-index-preserved-then-question-beside g t c =
     record {
       matches = l.invariant.matches;
       questions = l.invariant.questions;
-      left = beside_skipped s (size_of h) (question_faults (reading_of g.K.Validate.shape m.reads nodes) added) (drop c.args.start qs) qs l.index c.args.beside q c.args.observer.now l.observer short is other l.invariant.left;
+      left = λ rest. beside_skipped s (size_of h) (question_faults (reading_of g.K.Validate.shape (completed m rest) nodes) added) (drop c.args.start qs) qs l.index c.args.beside q c.args.observer.now l.observer short is other (l.invariant.left rest);
     }
+
+pub tell_keyword-returns-clause-questions : goal.tell_keyword-returns-clause-questions
+tell_keyword-returns-clause-questions g t c =
+    let kept = (c.in_ok-questions.ensures.pushed none_matched).kept in
+    let same = c.in_ok-tell_by_rule.ensures.questions in
+    search rules

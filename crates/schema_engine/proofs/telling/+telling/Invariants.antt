@@ -1,4 +1,5 @@
 use Rattle.std.proofs.Common.{◌≡◌, ◌+◌, ◌*◌, drop}
+use Rattle.schema_engine.specs.Matches.{InEach}
 use Rattle.schema_engine.specs.Graphs.{keywords_at, reading_of}
 use Rattle.schema_engine.specs.Faults.{question_faults, faults_beside, faults_of_object}
 use Rattle.schema_engine.specs.Standing.{size_at, size_of, stand_in, stand_of, stand_of_name}
@@ -57,39 +58,35 @@ invariant-tell_node-loop-keyword g l =
     let entry = g.T.Matching.matches l.fn.matching in
     let nodes = l.there.here.graph.now.nodes.items in
     let all = keywords_at nodes l.there.here.node in
-    let told = keywords_faults g.K.Validate.shape entry.reads nodes l.there.here.node (stand_of l.there) in
     record {
       matches : g.T.Matching.matches l.matching ≡ entry;
       questions : l.questions.items ≡ l.fn.questions.items;
-      left : ToTell (stand_of l.there) (size_of l.there.here) (told all) (told (drop l.keyword-index all)) l.fn.observer l.observer;
+      left : InEach entry (λ m. let told = keywords_faults g.K.Validate.shape m nodes l.there.here.node (stand_of l.there) in ToTell (stand_of l.there) (size_of l.there.here) (told all) (told (drop l.keyword-index all)) l.fn.observer l.observer);
     }
 
 abbrev pub invariant-tell_each-loop-index : goal.invariant-tell_each-loop-index
 invariant-tell_each-loop-index g l =
     let entry = g.T.Matching.matches l.fn.matching in
-    let ask = question_faults (reading_of g.K.Validate.shape entry.reads l.there.here.graph.now.nodes.items) (g.K.Validate.added l.keyword) in
     record {
       matches : g.T.Matching.matches l.matching ≡ entry;
       questions : l.questions.items ≡ l.fn.questions.items;
-      left : ToTell (stand_of l.there) (size_of l.there.here) (λ x. faults_beside (ask x) l.beside (drop l.start l.fn.questions.items)) (λ x. faults_beside (ask x) l.beside (drop l.index l.fn.questions.items)) l.fn.observer l.observer;
+      left : InEach entry (λ m. let ask = question_faults (reading_of g.K.Validate.shape m l.there.here.graph.now.nodes.items) (g.K.Validate.added l.keyword) in ToTell (stand_of l.there) (size_of l.there.here) (λ x. faults_beside (ask x) l.beside (drop l.start l.fn.questions.items)) (λ x. faults_beside (ask x) l.beside (drop l.index l.fn.questions.items)) l.fn.observer l.observer);
     }
 
 abbrev pub invariant-tell_named-loop-index : goal.invariant-tell_named-loop-index
 invariant-tell_named-loop-index g l =
     let entry = g.T.Matching.matches l.fn.matching in
-    let ask = question_faults (reading_of g.K.Validate.shape entry.reads l.there.here.graph.now.nodes.items) (g.K.Validate.added l.keyword) in
     record {
       matches : g.T.Matching.matches l.matching ≡ entry;
       questions : l.questions.items ≡ l.fn.questions.items;
-      left : ToTell (stand_of l.there) (size_of l.there.here) (λ x. faults_of_object (ask x) x (drop l.start l.fn.questions.items)) (λ x. faults_of_object (ask x) x (drop l.index l.fn.questions.items)) l.fn.observer l.observer;
+      left : InEach entry (λ m. let ask = question_faults (reading_of g.K.Validate.shape m l.there.here.graph.now.nodes.items) (g.K.Validate.added l.keyword) in ToTell (stand_of l.there) (size_of l.there.here) (λ x. faults_of_object (ask x) x (drop l.start l.fn.questions.items)) (λ x. faults_of_object (ask x) x (drop l.index l.fn.questions.items)) l.fn.observer l.observer);
     }
 
 abbrev pub invariant-tell_branches-loop-index : goal.invariant-tell_branches-loop-index
 invariant-tell_branches-loop-index g l =
     let entry = g.T.Matching.matches l.fn.matching in
-    let ask = question_faults (reading_of g.K.Validate.shape entry.reads l.there.here.graph.now.nodes.items) (g.K.Validate.added l.keyword) in
     record {
       matches : g.T.Matching.matches l.matching ≡ entry;
       questions : l.questions.items ≡ l.fn.questions.items;
-      left : BranchesLeft (stand_of l.there) (size_of l.there.here) ask (drop l.start l.fn.questions.items) (drop l.index l.fn.questions.items) l.context.items;
+      left : InEach entry (λ m. let ask = question_faults (reading_of g.K.Validate.shape m l.there.here.graph.now.nodes.items) (g.K.Validate.added l.keyword) in BranchesLeft (stand_of l.there) (size_of l.there.here) ask (drop l.start l.fn.questions.items) (drop l.index l.fn.questions.items) l.context.items);
     }

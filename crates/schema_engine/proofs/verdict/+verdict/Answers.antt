@@ -1,25 +1,29 @@
-use Rattle.std.proofs.Common.{rules, ◌≡◌, ◌<◌, ◌+◌, ◌∙◌, suc, Bool, true, false, map, drop, length, [], ◌∷◌, IfOk, refl, sym, ap, subst, arith}
+use Rattle.std.proofs.Common.{rules, ◌≡◌, ◌<◌, ◌≤◌, ◌+◌, ◌∙◌, suc, List, get_or, Bool, true, false, map, drop, length, [], ◌∷◌, refl, sym, ap, subst, arith}
 use Rattle.std.proofs.lemmas.Result.{IfOk-weaker}
 use Rattle.serde_json.specs.View.{view}
 use Rattle.serde_json.specs.View.{items_view}
 use Rattle.schema_meaning.specs.Members.{In, first, all_true}
 use Rattle.schema_meaning.specs.Places.{Step, stay}
 use Rattle.schema_meaning.specs.Keywords.{rule}
+use Rattle.schema_engine.specs.declared.combination.Combination.TheVariants as combination
 use Rattle.schema_engine.specs.declared.place.Asked.{Asked}
+use Rattle.schema_engine.specs.declared.place.Question.{Question}
 use Rattle.schema_engine.specs.declared.place.Place.TheVariants as place
-use Rattle.schema_engine.specs.Matches.{Matches}
+use Rattle.schema_engine.specs.Matches.{Answers, Matches, completed, none_matched}
 use Rattle.schema_engine.specs.Places.{value_at, step_of}
 use Rattle.schema_engine.specs.Progress.{numbers_in, is_among}
 use Rattle.schema_engine.specs.Questions.{Call, call_of}
 use Rattle.schema_engine.specs.Asking.{AsksEach, AsksSo, target_call, item_call, item_calls}
-use Rattle.schema_engine.specs.Rules.{combined, is_right}
+use Rattle.schema_engine.specs.Rules.{all_beside, combined, is_right}
 use Rattle.schema_engine.specs.Graphs.{keywords_at, rank_at, reading_of, AreKnown}
 use Rattle.schema_engine.specs.Verdicts.{Setting, Fits, node_in, asked_in, rule_in, size, Tells, EachMayAsk, GoesDown}
 use Rattle.schema_engine.proofs.Items.{items_begin, items_yes, items_no, items_end, may_ask_item, may_ask_items}
-use Rattle.schema_engine.proofs.Left.{KeywordsLeft}
+use Rattle.schema_engine.proofs.Left.{KeywordsLeft, CountLeft}
+use Rattle.schema_engine.proofs.Loops.{each_yes, each_skipped, each_no, count_yes, count_no, chosen_by, combined_by}
 use Rattle.schema_engine.proofs.Sizes.{size_inside, size_down, size_target}
 use Rattle.schema_engine.proofs.Settings.{stepped, stay_fits, item_fits, member_fits, name_fits}
 use Rattle.schema_engine.proofs.Steps.{may_ask_one, may_ask_rest, each_may_ask, keywords_here, keyword_stands, keywords_yes, node_refuses, node_accepts, node_wrong, each_right, keyword_told, keyword_each, keyword_alone, keyword_targeted, question_told, follows_told, back_told, entered_told}
+use Rattle.schema_engine.proofs.verdict.+verdict.Goals.{accepts_each-then-question-beside+in_ok-accepts_question+else-not-branch, accepts_each-else-question-beside, accepts_counted-then-branch, accepts_counted-else-branch}
 use Rattle.schema_engine.proofs.verdict.+verdict.Goals as goal
 
 -- ---- the target of a reference
@@ -27,7 +31,7 @@ use Rattle.schema_engine.proofs.verdict.+verdict.Goals as goal
 pub accepts_target-returns-then-is_in_progress-clause-verdict :
     goal.accepts_target-returns-then-is_in_progress-clause-verdict
 accepts_target-returns-then-is_in_progress-clause-verdict g t c =
-    back_told g.K.Validate.shape _ c.args.here.now.graph.now.nodes.items c.args.target c.args.here.now.place _ _ (sym c.is_in_progress.ensures ∙ c.if-is_in_progress.true)
+    λ rest. back_told g.K.Validate.shape _ c.args.here.now.graph.now.nodes.items c.args.target c.args.here.now.place _ _ (sym c.is_in_progress.ensures ∙ c.if-is_in_progress.true)
 
 pub accepts_target-accepts_node-requires : goal.accepts_target-accepts_node-requires
 accepts_target-accepts_node-requires g t c κs within =
@@ -46,17 +50,17 @@ accepts_target-returns-clause-verdict g t c =
     let nodes = c.args.here.now.graph.now.nodes.items in
     let place = c.args.here.now.place in
     let falls = size_target nodes (value_at place) (numbers_in c.args.here.now.progress.now) (rank_at nodes c.args.here.now.node) c.args.target c.requires.there new in
-    let r = reading_of g.K.Validate.shape (g.T.Matching.matches c.args.matching.now).reads nodes in
-    IfOk-weaker c.accepts_node.result _ _ (λ b. entered_told g.K.Validate.shape _ nodes c.args.target place _ _ _ b falls new)
-    (subst (λ ms. IfOk c.accepts_node.result (Tells place ms (suc (size nodes (value_at place) ms (rank_at nodes c.args.target))) (node_in r c.args.target))) c.enter-entered.ensures
-    c.accepts_node.ensures.verdict)
+    IfOk-weaker c.accepts_node.result _ _
+    (λ b told rest. entered_told g.K.Validate.shape _ nodes c.args.target place _ _ _ b falls new
+    (subst (λ ms. Tells place ms (suc (size nodes (value_at place) ms (rank_at nodes c.args.target))) (node_in (reading_of g.K.Validate.shape (completed (g.T.Matching.matches c.args.matching.now) rest) nodes) c.args.target) b) c.enter-entered.ensures (told rest)))
+    c.accepts_node.ensures.verdict
 
 -- ---- a question
 
 pub accepts_question-returns-then-question-clause-verdict :
     goal.accepts_question-returns-then-question-clause-verdict
 accepts_question-returns-then-question-clause-verdict g t c =
-    IfOk-weaker c.accepts_target.result _ _ (λ b. follows_told _ c.args.here.now.place _ _ (call_of c.args.question) b c.if-question.true (ap step_of c.in-Here.is)) c.accepts_target.ensures.verdict
+    IfOk-weaker c.accepts_target.result _ _ (λ b told rest. follows_told _ c.args.here.now.place _ _ (call_of c.args.question) b c.if-question.true (ap step_of c.in-Here.is) (told rest)) c.accepts_target.ensures.verdict
 
 pub accepts_question-returns-else-question-clause-verdict :
     goal.accepts_question-returns-else-question-clause-verdict
@@ -65,10 +69,11 @@ accepts_question-returns-else-question-clause-verdict g t c =
     let here : step_of c.args.question.asked ≡ stay = ap step_of c.in-Here.is in
     let P : Step → Type 0 = λ s. (x : Setting) → Fits c.args.here.now.place (numbers_in c.args.here.now.progress.now) x → Fits c.args.here.now.place (numbers_in c.args.here.now.progress.now) (stepped x s) in
     IfOk-weaker c.accepts_node.result _ _
-    (λ b. question_told _ c.args.here.now.place c.args.here.now.place _ _ _ _ (call_of c.args.question) b
+    (λ b told rest. question_told _ c.args.here.now.place c.args.here.now.place _ _ _ _ (call_of c.args.question) b
     (size_inside nodes (value_at c.args.here.now.place) (numbers_in c.args.here.now.progress.now) (rank_at nodes c.args.here.now.node) (rank_at nodes c.args.question.node) (c.requires.asked.falls c.if-question.false))
     c.if-question.false
-    (subst P (sym here) (λ x fits. stay_fits c.args.here.now.place _ x fits)))
+    (subst P (sym here) (λ x fits. stay_fits c.args.here.now.place _ x fits))
+    (told rest))
     c.accepts_node.ensures.verdict
 
 pub accepts_question-accepts_node-requires-in-Item :
@@ -113,10 +118,11 @@ accepts_question-returns-in-Item-clause-verdict g t c =
     let down = subst P c.in-Item.is c.requires.asked.down in
     let Q : Asked → Type 0 = λ a. (x : Setting) → Fits c.args.here.now.place progress x → Fits to [] (stepped x (step_of a)) in
     IfOk-weaker c.accepts_node-in-Item.result _ _
-    (λ b. question_told _ c.args.here.now.place to _ _ _ _ (call_of c.args.question) b
+    (λ b told rest. question_told _ c.args.here.now.place to _ _ _ _ (call_of c.args.question) b
     (size_down nodes (value_at c.args.here.now.place) (value_at to) progress [] (rank_at nodes c.args.here.now.node) c.args.question.node down)
     (no_reference (call_of c.args.question) c.requires.asked.stays (λ e. (let f = sym (ap step_of c.in-Item.is) ∙ e in cc)))
-    (subst Q (sym c.in-Item.is) (λ x fits. item_fits c.args.here.now.place progress x fits c.in-Item.item c.in-Item.index)))
+    (subst Q (sym c.in-Item.is) (λ x fits. item_fits c.args.here.now.place progress x fits c.in-Item.item c.in-Item.index))
+    (told rest))
     c.accepts_node-in-Item.ensures.verdict
 
 pub accepts_question-returns-in-Member-clause-verdict :
@@ -129,10 +135,11 @@ accepts_question-returns-in-Member-clause-verdict g t c =
     let down = subst P c.in-Member.is c.requires.asked.down in
     let Q : Asked → Type 0 = λ a. (x : Setting) → Fits c.args.here.now.place progress x → Fits to [] (stepped x (step_of a)) in
     IfOk-weaker c.accepts_node-in-Member.result _ _
-    (λ b. question_told _ c.args.here.now.place to _ _ _ _ (call_of c.args.question) b
+    (λ b told rest. question_told _ c.args.here.now.place to _ _ _ _ (call_of c.args.question) b
     (size_down nodes (value_at c.args.here.now.place) (value_at to) progress [] (rank_at nodes c.args.here.now.node) c.args.question.node down)
     (no_reference (call_of c.args.question) c.requires.asked.stays (λ e. (let f = sym (ap step_of c.in-Member.is) ∙ e in cc)))
-    (subst Q (sym c.in-Member.is) (λ x fits. member_fits c.args.here.now.place progress x fits c.in-Member.member c.in-Member.name.now)))
+    (subst Q (sym c.in-Member.is) (λ x fits. member_fits c.args.here.now.place progress x fits c.in-Member.member c.in-Member.name.now))
+    (told rest))
     c.accepts_node-in-Member.ensures.verdict
 
 pub accepts_question-returns-in-Name-clause-verdict :
@@ -145,10 +152,11 @@ accepts_question-returns-in-Name-clause-verdict g t c =
     let down = subst P c.in-Name.is c.requires.asked.down in
     let Q : Asked → Type 0 = λ a. (x : Setting) → Fits c.args.here.now.place progress x → Fits to [] (stepped x (step_of a)) in
     IfOk-weaker c.accepts_node-in-Name.result _ _
-    (λ b. question_told _ c.args.here.now.place to _ _ _ _ (call_of c.args.question) b
+    (λ b told rest. question_told _ c.args.here.now.place to _ _ _ _ (call_of c.args.question) b
     (size_down nodes (value_at c.args.here.now.place) (value_at to) progress [] (rank_at nodes c.args.here.now.node) c.args.question.node down)
     (no_reference (call_of c.args.question) c.requires.asked.stays (λ e. (let f = sym (ap step_of c.in-Name.is) ∙ e in cc)))
-    (subst Q (sym c.in-Name.is) (λ x fits. name_fits c.args.here.now.place progress x fits c.in-Name.name down)))
+    (subst Q (sym c.in-Name.is) (λ x fits. name_fits c.args.here.now.place progress x fits c.in-Name.name down))
+    (told rest))
     c.accepts_node-in-Name.ensures.verdict
 
 -- ---- a condition
@@ -234,7 +242,7 @@ pub accepts_keyword-accepts_target-requires : goal.accepts_keyword-accepts_targe
 accepts_keyword-accepts_target-requires g t c κs within =
     let nodes = c.args.here.now.graph.now.nodes.items in
     let d = value_at c.args.here.now.place in
-    let k = rule (g.T.Matching.matches c.args.matching.now).reads d (g.K.Validate.shape c.args.keyword.now) in
+    let k = rule (completed (g.T.Matching.matches c.args.matching.now) none_matched) d (g.K.Validate.shape c.args.keyword.now) in
     let asks : AsksEach k (target_call c.in-Target.node ∷ []) = subst (λ a. AsksSo a k) c.in-Target.is (c.asking.ensures _) in
     let may = each_may_ask g.K.Validate.shape nodes c.args.here.now.node c.args.keyword.now _ d c.args.here.now.graph.now.sound c.requires.stands in (
       omega arith,
@@ -254,7 +262,7 @@ pub accepts_keyword-accepts_items-requires : goal.accepts_keyword-accepts_items-
 accepts_keyword-accepts_items-requires g t c κs within =
     let nodes = c.args.here.now.graph.now.nodes.items in
     let d = value_at c.args.here.now.place in
-    let k = rule (g.T.Matching.matches c.args.matching.now).reads d (g.K.Validate.shape c.args.keyword.now) in
+    let k = rule (completed (g.T.Matching.matches c.args.matching.now) none_matched) d (g.K.Validate.shape c.args.keyword.now) in
     let asks : AsksEach k (item_calls c.in-Items.node c.in-Items.start (items_view (drop c.in-Items.start c.in-Items.items.now))) =
     subst (λ a. AsksSo a k) c.in-Items.is (c.asking.ensures _) in
     let may = each_may_ask g.K.Validate.shape nodes c.args.here.now.node c.args.keyword.now _ d c.args.here.now.graph.now.sound c.requires.stands in (
@@ -273,9 +281,9 @@ accepts_keyword-accepts_items-requires g t c κs within =
 
 pub accepts_keyword-returns-in-Nothing-clause-verdict :
     goal.accepts_keyword-returns-in-Nothing-clause-verdict
-accepts_keyword-returns-in-Nothing-clause-verdict g t c =
-    let k = rule (g.T.Matching.matches c.args.matching.now).reads (value_at c.args.here.now.place) (g.K.Validate.shape c.args.keyword.now) in
-    keyword_alone _ c.args.here.now.place _ _ k true (sym c.requires.right) refl
+accepts_keyword-returns-in-Nothing-clause-verdict g t c rest =
+    let k = rule (completed (g.T.Matching.matches c.args.matching.now) rest) (value_at c.args.here.now.place) (g.K.Validate.shape c.args.keyword.now) in
+    keyword_alone _ c.args.here.now.place _ _ k true (sym (c.requires.right rest)) refl
     (subst (λ a. AsksSo a k) c.in-Nothing.is (c.asking.ensures _))
 
 pub accepts_keyword-returns-in-Target-clause-verdict :
@@ -285,10 +293,10 @@ accepts_keyword-returns-in-Target-clause-verdict g t c =
     let place = c.args.here.now.place in
     let progress = numbers_in c.args.here.now.progress.now in
     let enough = size nodes (value_at place) progress (rank_at nodes c.args.here.now.node) in
-    let k = rule (g.T.Matching.matches c.args.matching.now).reads (value_at place) (g.K.Validate.shape c.args.keyword.now) in
-    let asks : AsksEach k (target_call c.in-Target.node ∷ []) = subst (λ a. AsksSo a k) c.in-Target.is (c.asking.ensures _) in
+    let k = λ (rest : Answers). rule (completed (g.T.Matching.matches c.args.matching.now) rest) (value_at place) (g.K.Validate.shape c.args.keyword.now) in
     IfOk-weaker c.accepts_target.result _ _
-    (λ b tells. keyword_targeted _ place progress enough k b true c.in-Target.node (sym c.requires.right) refl asks tells) c.accepts_target.ensures.verdict
+    (λ b tells rest. keyword_targeted _ place progress enough (k rest) b true c.in-Target.node (sym (c.requires.right rest)) refl
+    (subst (λ a. AsksSo a (k rest)) c.in-Target.is (c.asking.ensures _)) (tells rest)) c.accepts_target.ensures.verdict
 
 pub accepts_keyword-returns-in-Items-clause-verdict :
     goal.accepts_keyword-returns-in-Items-clause-verdict
@@ -297,11 +305,11 @@ accepts_keyword-returns-in-Items-clause-verdict g t c =
     let place = c.args.here.now.place in
     let progress = numbers_in c.args.here.now.progress.now in
     let enough = size nodes (value_at place) progress (rank_at nodes c.args.here.now.node) in
-    let k = rule (g.T.Matching.matches c.args.matching.now).reads (value_at place) (g.K.Validate.shape c.args.keyword.now) in
+    let k = λ (rest : Answers). rule (completed (g.T.Matching.matches c.args.matching.now) rest) (value_at place) (g.K.Validate.shape c.args.keyword.now) in
     let calls = item_calls c.in-Items.node c.in-Items.start (items_view (drop c.in-Items.start c.in-Items.items.now)) in
-    let asks : AsksEach k calls = subst (λ a. AsksSo a k) c.in-Items.is (c.asking.ensures _) in
     IfOk-weaker c.accepts_items.result _ _
-    (λ b tells. keyword_each _ place progress enough k b true calls (sym c.requires.right) refl asks tells) c.accepts_items.ensures.verdict
+    (λ b tells rest. keyword_each _ place progress enough (k rest) b true calls (sym (c.requires.right rest)) refl
+    (subst (λ a. AsksSo a (k rest)) c.in-Items.is (c.asking.ensures _)) (tells rest)) c.accepts_items.ensures.verdict
 
 -- ---- one whose questions are listed
 
@@ -309,7 +317,7 @@ pub accepts_listed-accepts_combined-requires : goal.accepts_listed-accepts_combi
 accepts_listed-accepts_combined-requires g t c κs within =
     let nodes = c.args.here.now.graph.now.nodes.items in
     let same = c.in_ok-questions.ensures.same in
-    let pushed = c.in_ok-questions.ensures.pushed in
+    let pushed = c.in_ok-questions.ensures.pushed none_matched in
     let start : c.len-start.result ≡ length c.args.questions.now.items = omega arith in
     let asked = ap (λ n. map call_of (drop n c.questions.new.into.items)) start ∙ pushed.pushed in (
       omega arith,
@@ -327,23 +335,23 @@ accepts_listed-accepts_combined-requires g t c κs within =
     )
 
 pub accepts_listed-returns-clause-verdict : goal.accepts_listed-returns-clause-verdict
-accepts_listed-returns-clause-verdict g t c =
+accepts_listed-returns-clause-verdict g t c rest =
     let nodes = c.args.here.now.graph.now.nodes.items in
     let place = c.args.here.now.place in
     let same = c.in_ok-questions.ensures.same in
     let start : c.len-start.result ≡ length c.args.questions.now.items = omega arith in
-    let asked = ap (λ n. map call_of (drop n c.questions.new.into.items)) start ∙ c.in_ok-questions.ensures.pushed.pushed in
+    let asked = ap (λ n. map call_of (drop n c.questions.new.into.items)) start ∙ (c.in_ok-questions.ensures.pushed rest).pushed in
     let told = subst (λ m. Tells place (numbers_in c.args.here.now.progress.now)
     (size nodes (value_at place) (numbers_in c.args.here.now.progress.now) (rank_at nodes c.args.here.now.node))
-    (λ x. combined c.combination-combination.result (asked_in (reading_of g.K.Validate.shape m.reads nodes) x) (map call_of (drop c.len-start.result c.questions.new.into.items)))
-    c.in_ok-accepts.accepts) same c.in_ok-accepts.ensures.verdict in
+    (λ x. combined c.combination-combination.result (asked_in (reading_of g.K.Validate.shape (completed m rest) nodes) x) (map call_of (drop c.len-start.result c.questions.new.into.items)))
+    c.in_ok-accepts.accepts) same (c.in_ok-accepts.ensures.verdict rest) in
     keyword_told _ place _ _ _ c.in_ok-accepts.accepts true c.combination-combination.result (map call_of (drop c.len-start.result c.questions.new.into.items))
-    (sym c.requires.right) refl (c.combination-combination.ensures _) asked told
+    (sym (c.requires.right rest)) refl (c.combination-combination.ensures _) asked told
 
 -- ---- the items of a list
 
 pub accepts_items-loop-index-init : goal.accepts_items-loop-index-init
-accepts_items-loop-index-init g t c = record { matches = refl; questions = refl; asked = c.requires.asked; left = items_begin _ _ _ _ _ _ _ }
+accepts_items-loop-index-init g t c = record { matches = refl; questions = refl; asked = c.requires.asked; left = λ rest. items_begin _ _ _ _ _ _ _ }
 
 pub accepts_items-accepts_question-requires : goal.accepts_items-accepts_question-requires
 accepts_items-accepts_question-requires g t c κs within =
@@ -371,13 +379,14 @@ accepts_items-loop-index-preserved g t c =
     let enough = size nodes (value_at place) progress (rank_at nodes c.args.here.now.node) in
     let v = c.index-items-index.result in
     let taken : c.in_ok-accepts_question.field-0 ≡ true = search rules in
-    let verdict = subst (λ (m : Matches). Tells place progress enough (λ x. asked_in (reading_of g.K.Validate.shape m.reads nodes) x (item_call c.args.node l.index (view v))) c.in_ok-accepts_question.field-0)
-    l.invariant.matches c.in_ok-accepts_question.ensures.verdict in
+    let short : l.index < length c.args.items.now = omega arith in
+    let verdict = λ (rest : Answers). subst (λ (m : Matches). Tells place progress enough (λ x. asked_in (reading_of g.K.Validate.shape (completed m rest) nodes) x (item_call c.args.node l.index (view v))) c.in_ok-accepts_question.field-0)
+    l.invariant.matches (c.in_ok-accepts_question.ensures.verdict rest) in
     record {
       matches = c.in_ok-accepts_question.ensures.matches ∙ l.invariant.matches;
       questions = c.in_ok-accepts_question.ensures.questions ∙ l.invariant.questions;
       asked = may_ask_items nodes _ _ c.args.node l.index c.args.items.now v (omega arith) c.index-items-index.is l.invariant.asked;
-      left = items_yes _ place progress enough c.args.node c.args.start c.args.items.now l.index v (omega arith) c.index-items-index.is l.invariant.left (subst (Tells place progress enough _) taken verdict);
+      left = λ rest. items_yes _ place progress enough c.args.node c.args.start c.args.items.now l.index v short c.index-items-index.is (l.invariant.left rest) (subst (Tells place progress enough _) taken (verdict rest));
     }
 
 pub accepts_items-returns-then-not-branch-clause-verdict :
@@ -390,14 +399,16 @@ accepts_items-returns-then-not-branch-clause-verdict g t c =
     let enough = size nodes (value_at place) progress (rank_at nodes c.args.here.now.node) in
     let v = c.index-items-index.result in
     let refused : c.in_ok-accepts_question.field-0 ≡ false = search rules in
-    let verdict = subst (λ (m : Matches). Tells place progress enough (λ x. asked_in (reading_of g.K.Validate.shape m.reads nodes) x (item_call c.args.node l.index (view v))) c.in_ok-accepts_question.field-0)
-    l.invariant.matches c.in_ok-accepts_question.ensures.verdict in
-    items_no _ place progress enough c.args.node c.args.start c.args.items.now l.index v (omega arith) c.index-items-index.is l.invariant.left (subst (Tells place progress enough _) refused verdict)
+    let short : l.index < length c.args.items.now = omega arith in
+    let verdict = λ (rest : Answers). subst (λ (m : Matches). Tells place progress enough (λ x. asked_in (reading_of g.K.Validate.shape (completed m rest) nodes) x (item_call c.args.node l.index (view v))) c.in_ok-accepts_question.field-0)
+    l.invariant.matches (c.in_ok-accepts_question.ensures.verdict rest) in
+    λ rest. items_no _ place progress enough c.args.node c.args.start c.args.items.now l.index v short c.index-items-index.is (l.invariant.left rest) (subst (Tells place progress enough _) refused (verdict rest))
 
 pub accepts_items-returns-clause-verdict : goal.accepts_items-returns-clause-verdict
 accepts_items-returns-clause-verdict g t c =
     let l = c.loop-index in
-    items_end _ c.args.here.now.place _ _ c.args.node c.args.start c.args.items.now l.index (omega arith) l.invariant.left
+    let past : length c.args.items.now ≤ l.index = omega arith in
+    λ rest. items_end _ c.args.here.now.place _ _ c.args.node c.args.start c.args.items.now l.index past (l.invariant.left rest)
 
 -- ---- a node
 
@@ -413,8 +424,8 @@ accepts_node-returns-then-not-branch-clause-verdict g t c =
     let nodes = c.args.graph.now.nodes.items in
     let here = keywords_here nodes c.args.node c.index.result.now c.requires.there c.index.ensures ∙ sym c.as_slice-keywords.ensures.value in
     let refused : c.in_ok-accept_itself.field-0 ≡ false = search rules in
-    node_wrong g.K.Validate.shape _ nodes c.args.node c.args.place (numbers_in c.args.progress.now) c.in_ok-accept_itself.field-0
-    (subst (λ ks. c.in_ok-accept_itself.field-0 ≡ all_true (map (λ k. is_right (rule (g.T.Matching.matches c.args.matching.now).reads (value_at c.args.place) (g.K.Validate.shape k))) ks)) (sym here) c.in_ok-accept_itself.ensures.right)
+    λ rest. node_wrong g.K.Validate.shape _ nodes c.args.node c.args.place (numbers_in c.args.progress.now) c.in_ok-accept_itself.field-0
+    (subst (λ ks. c.in_ok-accept_itself.field-0 ≡ all_true (map (λ k. is_right (rule (completed (g.T.Matching.matches c.args.matching.now) rest) (value_at c.args.place) (g.K.Validate.shape k))) ks)) (sym here) (c.in_ok-accept_itself.ensures.right rest))
     refused
 
 pub accepts_node-accepts_keyword-requires : goal.accepts_node-accepts_keyword-requires
@@ -425,7 +436,7 @@ accepts_node-accepts_keyword-requires g t c κs within =
     let here : keywords_at nodes c.args.node ≡ c.as_slice-keywords.result.now = keywords_here nodes c.args.node c.index.result.now c.requires.there c.index.ensures ∙ sym items in
     let stands = keyword_stands l.keyword-index c.as_slice-keywords.result.now c.keyword-item.result c.loop-keyword-test.true c.keyword-item.is in
     let accepted : c.in_ok-accept_itself.field-0 ≡ true = search rules in
-    let right = sym c.in_ok-accept_itself.ensures.right ∙ accepted in (
+    let right = λ (rest : Answers). sym (c.in_ok-accept_itself.ensures.right rest) ∙ accepted in (
       omega arith,
       (
         within.0,
@@ -435,8 +446,8 @@ accepts_node-accepts_keyword-requires g t c κs within =
             subst (λ m. AreKnown g.K.Validate.knows m.pattern nodes) (sym l.invariant.matches) c.requires.known,
             (
               subst (In c.keyword-item.result) (sym here) stands,
-              subst (λ (m : Matches). is_right (rule m.reads (value_at c.args.place) (g.K.Validate.shape c.keyword-item.result)) ≡ true) (sym l.invariant.matches)
-                  (each_right g.K.Validate.shape _ nodes c.args.node c.args.place (numbers_in c.args.progress.now) c.as_slice-keywords.result.now c.keyword-item.result stands right),
+              λ rest. subst (λ (m : Matches). is_right (rule (completed m rest) (value_at c.args.place) (g.K.Validate.shape c.keyword-item.result)) ≡ true) (sym l.invariant.matches)
+                  (each_right g.K.Validate.shape _ nodes c.args.node c.args.place (numbers_in c.args.progress.now) c.as_slice-keywords.result.now c.keyword-item.result stands (right rest)),
             ),
           ),
         ),
@@ -453,11 +464,11 @@ accepts_node-returns-then-not-branch-2-clause-verdict g t c =
     let refused : c.in_ok-accepts_keyword.field-0 ≡ false = search rules in
     let place = c.args.place in
     let progress = numbers_in c.args.progress.now in
-    let verdict = subst (λ m. Tells place progress (size nodes (value_at place) progress (rank_at nodes c.args.node))
-    (rule_in (reading_of g.K.Validate.shape m.reads nodes) (rule m.reads (value_at place) (g.K.Validate.shape c.keyword-item.result))) c.in_ok-accepts_keyword.field-0) l.invariant.matches c.in_ok-accepts_keyword.ensures.verdict in
-    node_refuses g.K.Validate.shape _ nodes c.args.node place progress l.keyword-index c.as_slice-keywords.result.now c.keyword-item.result c.loop-keyword-test.true c.keyword-item.is
-    (subst (λ ks. KeywordsLeft g.K.Validate.shape (g.T.Matching.matches c.args.matching.now).reads nodes c.args.node place progress (keywords_at nodes c.args.node) (drop l.keyword-index ks)) here l.invariant.left)
-    (subst (Tells place progress _ _) refused verdict)
+    let verdict = λ (rest : Answers). subst (λ m. Tells place progress (size nodes (value_at place) progress (rank_at nodes c.args.node))
+    (rule_in (reading_of g.K.Validate.shape (completed m rest) nodes) (rule (completed m rest) (value_at place) (g.K.Validate.shape c.keyword-item.result))) c.in_ok-accepts_keyword.field-0) l.invariant.matches (c.in_ok-accepts_keyword.ensures.verdict rest) in
+    λ rest. node_refuses g.K.Validate.shape _ nodes c.args.node place progress l.keyword-index c.as_slice-keywords.result.now c.keyword-item.result c.loop-keyword-test.true c.keyword-item.is
+    (subst (λ ks. KeywordsLeft g.K.Validate.shape (completed (g.T.Matching.matches c.args.matching.now) rest) nodes c.args.node place progress (keywords_at nodes c.args.node) (drop l.keyword-index ks)) here (l.invariant.left rest))
+    (subst (Tells place progress _ _) refused (verdict rest))
 
 pub accepts_node-loop-keyword-preserved : goal.accepts_node-loop-keyword-preserved
 accepts_node-loop-keyword-preserved g t c =
@@ -468,14 +479,14 @@ accepts_node-loop-keyword-preserved g t c =
     let taken : c.in_ok-accepts_keyword.field-0 ≡ true = search rules in
     let place = c.args.place in
     let progress = numbers_in c.args.progress.now in
-    let verdict = subst (λ m. Tells place progress (size nodes (value_at place) progress (rank_at nodes c.args.node))
-    (rule_in (reading_of g.K.Validate.shape m.reads nodes) (rule m.reads (value_at place) (g.K.Validate.shape c.keyword-item.result))) c.in_ok-accepts_keyword.field-0) l.invariant.matches c.in_ok-accepts_keyword.ensures.verdict in
-    let left = subst (λ ks. KeywordsLeft g.K.Validate.shape (g.T.Matching.matches c.args.matching.now).reads nodes c.args.node place progress (keywords_at nodes c.args.node) (drop l.keyword-index ks)) here l.invariant.left in
+    let verdict = λ (rest : Answers). subst (λ m. Tells place progress (size nodes (value_at place) progress (rank_at nodes c.args.node))
+    (rule_in (reading_of g.K.Validate.shape (completed m rest) nodes) (rule (completed m rest) (value_at place) (g.K.Validate.shape c.keyword-item.result))) c.in_ok-accepts_keyword.field-0) l.invariant.matches (c.in_ok-accepts_keyword.ensures.verdict rest) in
+    let left = λ (rest : Answers). subst (λ ks. KeywordsLeft g.K.Validate.shape (completed (g.T.Matching.matches c.args.matching.now) rest) nodes c.args.node place progress (keywords_at nodes c.args.node) (drop l.keyword-index ks)) here (l.invariant.left rest) in
     record {
       matches = c.in_ok-accepts_keyword.ensures.matches ∙ l.invariant.matches;
       questions = c.in_ok-accepts_keyword.ensures.questions ∙ l.invariant.questions;
-      left = subst (λ ks. KeywordsLeft g.K.Validate.shape (g.T.Matching.matches c.args.matching.now).reads nodes c.args.node place progress (keywords_at nodes c.args.node) (drop (l.keyword-index + 1) ks)) (sym here)
-          (keywords_yes g.K.Validate.shape _ nodes c.args.node place progress l.keyword-index _ c.as_slice-keywords.result.now c.keyword-item.result c.loop-keyword-test.true c.keyword-item.is left (subst (Tells place progress _ _) taken verdict));
+      left = λ rest. subst (λ ks. KeywordsLeft g.K.Validate.shape (completed (g.T.Matching.matches c.args.matching.now) rest) nodes c.args.node place progress (keywords_at nodes c.args.node) (drop (l.keyword-index + 1) ks)) (sym here)
+          (keywords_yes g.K.Validate.shape _ nodes c.args.node place progress l.keyword-index _ c.as_slice-keywords.result.now c.keyword-item.result c.loop-keyword-test.true c.keyword-item.is (left rest) (subst (Tells place progress _ _) taken (verdict rest)));
     }
 
 pub accepts_node-returns-clause-verdict : goal.accepts_node-returns-clause-verdict
@@ -486,5 +497,173 @@ accepts_node-returns-clause-verdict g t c =
     let here : keywords_at nodes c.args.node ≡ c.as_slice-keywords.result.now = keywords_here nodes c.args.node c.index.result.now c.requires.there c.index.ensures ∙ sym items in
     let place = c.args.place in
     let progress = numbers_in c.args.progress.now in
-    node_accepts g.K.Validate.shape _ nodes c.args.node place progress l.keyword-index c.as_slice-keywords.result.now (omega arith)
-    (subst (λ ks. KeywordsLeft g.K.Validate.shape (g.T.Matching.matches c.args.matching.now).reads nodes c.args.node place progress (keywords_at nodes c.args.node) (drop l.keyword-index ks)) here l.invariant.left)
+    let past : length c.as_slice-keywords.result.now ≤ l.keyword-index = omega arith in
+    λ rest. node_accepts g.K.Validate.shape _ nodes c.args.node place progress l.keyword-index c.as_slice-keywords.result.now past
+    (subst (λ ks. KeywordsLeft g.K.Validate.shape (completed (g.T.Matching.matches c.args.matching.now) rest) nodes c.args.node place progress (keywords_at nodes c.args.node) (drop l.keyword-index ks)) here (l.invariant.left rest))
+
+-- ---- what is left of the questions
+
+pub accepts_each-loop-index-preserved : goal.accepts_each-loop-index-preserved
+accepts_each-loop-index-preserved g t c =
+    let h = c.args.here.now in
+    let nodes = h.graph.now.nodes.items in
+    let l = c.loop-index in
+    let q = c.index-question.result.now in
+    let qs = c.args.questions.now.items in
+    let progress = numbers_in h.progress.now in
+    let enough = size nodes (value_at h.place) progress (rank_at nodes h.node) in
+    let short : l.index < length qs = (let e = ap length l.invariant.questions in omega arith) in
+    let is : q ≡ get_or qs l.index q = subst (λ (xs : List Question). q ≡ get_or xs l.index q) l.invariant.questions c.index-question.ensures in
+    elim c.if-question-beside.branch [
+      | accepts_each-then-question-beside+in_ok-accepts_question+else-not-branch w ↦
+          (let told = λ (rest : Answers). subst (λ (m : Matches). Tells h.place progress enough (λ x. asked_in (reading_of g.K.Validate.shape (completed m rest) nodes) x (call_of q)) w.in_ok-accepts_question.field-0)
+          l.invariant.matches (w.in_ok-accepts_question.ensures.verdict rest) in
+          let same : q.beside ≡ c.args.beside = (let e = w.if-question-beside.true in search rules) in
+          record {
+            matches = ap g.T.Matching.matches w.matching-is ∙ w.in_ok-accepts_question.ensures.matches ∙ l.invariant.matches;
+            questions = ap (λ v. v.items) w.questions-is ∙ w.in_ok-accepts_question.ensures.questions ∙ l.invariant.questions;
+            left = λ rest. each_yes g.K.Validate.shape _ nodes h.node h.place progress (drop c.args.start qs) qs l.index q short is c.args.beside (l.invariant.left rest) same (subst (Tells h.place progress enough _) w.if-not-branch.false (told rest));
+          })
+      | accepts_each-else-question-beside w ↦ record {
+        matches = ap g.T.Matching.matches w.matching-is ∙ l.invariant.matches;
+        questions = ap (λ v. v.items) w.questions-is ∙ l.invariant.questions;
+        left = λ rest. each_skipped g.K.Validate.shape _ nodes h.node h.place progress (drop c.args.start qs) qs l.index q short is c.args.beside (l.invariant.left rest) (let e = w.if-question-beside.false in search rules);
+      }
+    ]
+
+pub accepts_each-returns-then-not-branch-clause-verdict :
+    goal.accepts_each-returns-then-not-branch-clause-verdict
+accepts_each-returns-then-not-branch-clause-verdict g t c =
+    let h = c.args.here.now in
+    let nodes = h.graph.now.nodes.items in
+    let l = c.loop-index in
+    let q = c.index-question.result.now in
+    let qs = c.args.questions.now.items in
+    let progress = numbers_in h.progress.now in
+    let enough = size nodes (value_at h.place) progress (rank_at nodes h.node) in
+    let short : l.index < length qs = (let e = ap length l.invariant.questions in omega arith) in
+    let is : q ≡ get_or qs l.index q = subst (λ (xs : List Question). q ≡ get_or xs l.index q) l.invariant.questions c.index-question.ensures in
+    let told = λ (rest : Answers). subst (λ (m : Matches). Tells h.place progress enough (λ x. asked_in (reading_of g.K.Validate.shape (completed m rest) nodes) x (call_of q)) c.in_ok-accepts_question.field-0)
+    l.invariant.matches (c.in_ok-accepts_question.ensures.verdict rest) in
+    let same : q.beside ≡ c.args.beside = search rules in
+    λ rest. each_no g.K.Validate.shape _ nodes h.node h.place progress (drop c.args.start qs) qs l.index q short is c.args.beside (l.invariant.left rest) same (subst (Tells h.place progress enough _) c.if-not-branch.true (told rest))
+
+pub accepts_counted-loop-index-preserved : goal.accepts_counted-loop-index-preserved
+accepts_counted-loop-index-preserved g t c =
+    let h = c.args.here.now in
+    let nodes = h.graph.now.nodes.items in
+    let l = c.loop-index in
+    let q = c.index-question.result.now in
+    let qs = c.args.questions.now.items in
+    let progress = numbers_in h.progress.now in
+    let enough = size nodes (value_at h.place) progress (rank_at nodes h.node) in
+    let short : l.index < length qs = (let e = ap length l.invariant.questions in omega arith) in
+    let is : q ≡ get_or qs l.index q = subst (λ (xs : List Question). q ≡ get_or xs l.index q) l.invariant.questions c.index-question.ensures in
+    let told = λ (rest : Answers). subst (λ (m : Matches). Tells h.place progress enough (λ x. asked_in (reading_of g.K.Validate.shape (completed m rest) nodes) x (call_of q)) c.in_ok-accepts_question.field-0)
+    l.invariant.matches (c.in_ok-accepts_question.ensures.verdict rest) in
+    let matches = c.in_ok-accepts_question.ensures.matches ∙ l.invariant.matches in
+    let questions = c.in_ok-accepts_question.ensures.questions ∙ l.invariant.questions in
+    elim c.if-branch.branch [
+      | accepts_counted-then-branch w ↦ record {
+        matches = matches;
+        questions = questions;
+        few = (let e = w.count-is in let low = l.invariant.few in omega arith);
+        left = λ rest. subst (CountLeft g.K.Validate.shape (completed (g.T.Matching.matches c.args.matching.now) rest) nodes h.node h.place progress (drop c.args.start qs) (drop (l.index + 1) qs)) (sym w.count-is)
+            (count_yes g.K.Validate.shape _ nodes h.node h.place progress (drop c.args.start qs) qs l.index q short is l.count (l.invariant.left rest) (subst (Tells h.place progress enough _) w.if-branch.true (told rest)));
+      }
+      | accepts_counted-else-branch w ↦ record {
+        matches = matches;
+        questions = questions;
+        few = (let e = w.count-is in let low = l.invariant.few in omega arith);
+        left = λ rest. subst (CountLeft g.K.Validate.shape (completed (g.T.Matching.matches c.args.matching.now) rest) nodes h.node h.place progress (drop c.args.start qs) (drop (l.index + 1) qs)) (sym w.count-is)
+            (count_no g.K.Validate.shape _ nodes h.node h.place progress (drop c.args.start qs) qs l.index q short is l.count (l.invariant.left rest) (subst (Tells h.place progress enough _) w.if-branch.false (told rest)));
+      }
+    ]
+
+pub accepts_conditional-returns-clause-verdict : goal.accepts_conditional-returns-clause-verdict
+accepts_conditional-returns-clause-verdict g t c =
+    let h = c.args.here.now in
+    let nodes = h.graph.now.nodes.items in
+    let qs = c.args.questions.now.items in
+    let progress = numbers_in h.progress.now in
+    let enough = size nodes (value_at h.place) progress (rank_at nodes h.node) in
+    let a = c.in_ok-answer.answer in
+    let short : c.args.start < length qs = omega arith in
+    IfOk-weaker c.accepts_each.result _ _
+    (λ b told rest. chosen_by g.K.Validate.shape _ nodes h.node h.place progress qs qs c.args.start c.index-condition.result.now short c.index-condition.ensures b a (c.in_ok-answer.ensures.verdict rest)
+    (subst (λ (m : Matches). Tells h.place progress enough (λ x. all_beside (asked_in (reading_of g.K.Validate.shape (completed m rest) nodes) x) a (map call_of (drop (c.args.start + 1) qs))) b) c.in_ok-answer.ensures.matches
+    (subst (λ (xs : List Question). Tells h.place progress enough (λ x. all_beside (asked_in (reading_of g.K.Validate.shape (completed (g.T.Matching.matches c.accepts_question.new.matching) rest) nodes) x) a (map call_of (drop (c.args.start + 1) xs))) b)
+    c.in_ok-answer.ensures.questions (told rest))))
+    c.accepts_each.ensures.verdict
+
+pub accepts_listed-returns-clause-questions : goal.accepts_listed-returns-clause-questions
+accepts_listed-returns-clause-questions g t c =
+    let kept = (c.in_ok-questions.ensures.pushed none_matched).kept in
+    let same = c.in_ok-accepts.ensures.questions in
+    search rules
+
+-- ---- by the combination
+
+pub accepts_combined-returns-in-Every-clause-verdict :
+    goal.accepts_combined-returns-in-Every-clause-verdict
+accepts_combined-returns-in-Every-clause-verdict g t c =
+    let h = c.args.here.now in
+    IfOk-weaker c.accepts_each.result _ _
+    (λ b told rest. combined_by g.K.Validate.shape _ h.graph.now.nodes.items h.node h.place _ (map call_of (drop c.args.start c.args.questions.now.items)) c.args.combination combination.Every b c.in-Every.is (told rest))
+    c.accepts_each.ensures.verdict
+
+pub accepts_combined-returns-in-Together-clause-verdict :
+    goal.accepts_combined-returns-in-Together-clause-verdict
+accepts_combined-returns-in-Together-clause-verdict g t c =
+    let h = c.args.here.now in
+    IfOk-weaker c.accepts_each-in-Together.result _ _
+    (λ b told rest. combined_by g.K.Validate.shape _ h.graph.now.nodes.items h.node h.place _ (map call_of (drop c.args.start c.args.questions.now.items)) c.args.combination combination.Together b c.in-Together.is (told rest))
+    c.accepts_each-in-Together.ensures.verdict
+
+pub accepts_combined-returns-in-EachNamed-clause-verdict :
+    goal.accepts_combined-returns-in-EachNamed-clause-verdict
+accepts_combined-returns-in-EachNamed-clause-verdict g t c =
+    let h = c.args.here.now in
+    IfOk-weaker c.accepts_each-in-EachNamed.result _ _
+    (λ b told rest. combined_by g.K.Validate.shape _ h.graph.now.nodes.items h.node h.place _ (map call_of (drop c.args.start c.args.questions.now.items)) c.args.combination combination.EachNamed b c.in-EachNamed.is (told rest))
+    c.accepts_each-in-EachNamed.ensures.verdict
+
+pub accepts_combined-returns-in-SomeBranch-clause-verdict :
+    goal.accepts_combined-returns-in-SomeBranch-clause-verdict
+accepts_combined-returns-in-SomeBranch-clause-verdict g t c =
+    let h = c.args.here.now in
+    IfOk-weaker c.accepts_counted.result _ _
+    (λ b told rest. combined_by g.K.Validate.shape _ h.graph.now.nodes.items h.node h.place _ (map call_of (drop c.args.start c.args.questions.now.items)) c.args.combination combination.SomeBranch b c.in-SomeBranch.is (told rest))
+    c.accepts_counted.ensures.verdict
+
+pub accepts_combined-returns-in-OneBranch-clause-verdict :
+    goal.accepts_combined-returns-in-OneBranch-clause-verdict
+accepts_combined-returns-in-OneBranch-clause-verdict g t c =
+    let h = c.args.here.now in
+    IfOk-weaker c.accepts_counted-in-OneBranch.result _ _
+    (λ b told rest. combined_by g.K.Validate.shape _ h.graph.now.nodes.items h.node h.place _ (map call_of (drop c.args.start c.args.questions.now.items)) c.args.combination combination.OneBranch b c.in-OneBranch.is (told rest))
+    c.accepts_counted-in-OneBranch.ensures.verdict
+
+pub accepts_combined-returns-in-Refusal-clause-verdict :
+    goal.accepts_combined-returns-in-Refusal-clause-verdict
+accepts_combined-returns-in-Refusal-clause-verdict g t c =
+    let h = c.args.here.now in
+    IfOk-weaker c.accepts_counted-in-Refusal.result _ _
+    (λ b told rest. combined_by g.K.Validate.shape _ h.graph.now.nodes.items h.node h.place _ (map call_of (drop c.args.start c.args.questions.now.items)) c.args.combination combination.Refusal b c.in-Refusal.is (told rest))
+    c.accepts_counted-in-Refusal.ensures.verdict
+
+pub accepts_combined-returns-in-Counted-clause-verdict :
+    goal.accepts_combined-returns-in-Counted-clause-verdict
+accepts_combined-returns-in-Counted-clause-verdict g t c =
+    let h = c.args.here.now in
+    IfOk-weaker c.accepts_counted-in-Counted.result _ _
+    (λ b told rest. combined_by g.K.Validate.shape _ h.graph.now.nodes.items h.node h.place _ (map call_of (drop c.args.start c.args.questions.now.items)) c.args.combination (combination.Counted c.in-Counted.least c.in-Counted.most) b c.in-Counted.is (told rest))
+    c.accepts_counted-in-Counted.ensures.verdict
+
+pub accepts_combined-returns-in-Conditional-clause-verdict :
+    goal.accepts_combined-returns-in-Conditional-clause-verdict
+accepts_combined-returns-in-Conditional-clause-verdict g t c =
+    let h = c.args.here.now in
+    IfOk-weaker c.accepts_conditional.result _ _
+    (λ b told rest. combined_by g.K.Validate.shape _ h.graph.now.nodes.items h.node h.place _ (map call_of (drop c.args.start c.args.questions.now.items)) c.args.combination combination.Conditional b c.in-Conditional.is (told rest))
+    c.accepts_conditional.ensures.verdict

@@ -3,6 +3,7 @@ use Rattle.serde_json.specs.View.{items_view}
 use Rattle.schema_engine.specs.Places.{value_at}
 use Rattle.schema_engine.specs.Progress.{numbers_in}
 use Rattle.schema_engine.specs.Asking.{item_calls}
+use Rattle.schema_engine.specs.Matches.{InEach}
 use Rattle.schema_engine.specs.Graphs.{keywords_at, rank_at, reading_of}
 use Rattle.schema_engine.specs.Verdicts.{size, EachMayAsk}
 use Rattle.schema_engine.proofs.Items.{ItemsLeft}
@@ -45,7 +46,7 @@ invariant-accepts_node-loop-keyword g l =
     record {
       matches : g.T.Matching.matches l.matching ≡ entry;
       questions : l.questions.items ≡ l.fn.questions.items;
-      left : KeywordsLeft g.K.Validate.shape entry.reads l.graph.nodes.items l.node l.place (numbers_in l.progress) (keywords_at l.graph.nodes.items l.node) (drop l.keyword-index (keywords_at l.graph.nodes.items l.node));
+      left : InEach entry (λ m. KeywordsLeft g.K.Validate.shape m l.graph.nodes.items l.node l.place (numbers_in l.progress) (keywords_at l.graph.nodes.items l.node) (drop l.keyword-index (keywords_at l.graph.nodes.items l.node)));
     }
 
 abbrev pub invariant-accepts_each-loop-index : goal.invariant-accepts_each-loop-index
@@ -54,7 +55,7 @@ invariant-accepts_each-loop-index g l =
     record {
       matches : g.T.Matching.matches l.matching ≡ entry;
       questions : l.questions.items ≡ l.fn.questions.items;
-      left : EachLeft g.K.Validate.shape entry.reads l.here.graph.now.nodes.items l.here.node l.here.place (numbers_in l.here.progress.now) l.beside (drop l.start l.fn.questions.items) (drop l.index l.fn.questions.items);
+      left : InEach entry (λ m. EachLeft g.K.Validate.shape m l.here.graph.now.nodes.items l.here.node l.here.place (numbers_in l.here.progress.now) l.beside (drop l.start l.fn.questions.items) (drop l.index l.fn.questions.items));
     }
 
 abbrev pub invariant-accepts_counted-loop-index : goal.invariant-accepts_counted-loop-index
@@ -64,7 +65,7 @@ invariant-accepts_counted-loop-index g l =
       matches : g.T.Matching.matches l.matching ≡ entry;
       questions : l.questions.items ≡ l.fn.questions.items;
       few : l.count ≤ l.index;
-      left : CountLeft g.K.Validate.shape entry.reads l.here.graph.now.nodes.items l.here.node l.here.place (numbers_in l.here.progress.now) (drop l.start l.fn.questions.items) (drop l.index l.fn.questions.items) l.count;
+      left : InEach entry (λ m. CountLeft g.K.Validate.shape m l.here.graph.now.nodes.items l.here.node l.here.place (numbers_in l.here.progress.now) (drop l.start l.fn.questions.items) (drop l.index l.fn.questions.items) l.count);
     }
 
 abbrev pub invariant-accepts_items-loop-index : goal.invariant-accepts_items-loop-index
@@ -76,5 +77,5 @@ invariant-accepts_items-loop-index g l =
       matches : g.T.Matching.matches l.matching ≡ entry;
       questions : l.questions.items ≡ l.fn.questions.items;
       asked : EachMayAsk nodes (rank_at nodes l.here.node) (value_at l.here.place) (item_calls l.node l.index (items_view (drop l.index l.items)));
-      left : ItemsLeft (reading_of g.K.Validate.shape entry.reads nodes) l.here.place progress (size nodes (value_at l.here.place) progress (rank_at nodes l.here.node)) l.node l.start l.items l.index;
+      left : InEach entry (λ m. ItemsLeft (reading_of g.K.Validate.shape m nodes) l.here.place progress (size nodes (value_at l.here.place) progress (rank_at nodes l.here.node)) l.node l.start l.items l.index);
     }

@@ -2,6 +2,7 @@ use Rattle.std.proofs.Common.{sym, subst}
 use Rattle.std.proofs.lemmas.Result.{IfOk-weaker}
 use Rattle.serde_json.specs.View.{view}
 use Rattle.schema_meaning.specs.Keywords.{rule}
+use Rattle.schema_engine.specs.Matches.{completed}
 use Rattle.schema_engine.specs.Refusals.{IsReason}
 use Rattle.compiled_keywords.specs.Applied.{name_of, combining_of, asks_of}
 use Rattle.compiled_keywords.specs.Forms.{form_of}
@@ -12,9 +13,9 @@ use Rattle.compiled_keywords.proofs.keyword.KeywordValidate.reason.Goals as goal
 
 pub returns-in-Applicator-clause-stated : goal.returns-in-Applicator-clause-stated
 returns-in-Applicator-clause-stated g c =
-    let reads = (g.T.Matching.matches c.args.matching.now).reads in
+    let reads = completed (g.T.Matching.matches c.args.matching.now) in
     let d = view c.args.situation.now.value.now in
     let a = c.in-Applicator.applicator in
     IfOk-weaker c.reason_of.result _ _
-    (λ r noted. subst (λ (k : Keyword). IsReason (rule reads d (shape_of k)) d r) (sym c.in-Applicator.is) (reason_so reads d (name_of a) (combining_of a) (form_of (asks_of a)) r (is_keyword a) noted))
+    (λ r noted rest. subst (λ (k : Keyword). IsReason (rule (reads rest) d (shape_of k)) d r) (sym c.in-Applicator.is) (reason_so (reads rest) d (name_of a) (combining_of a) (form_of (asks_of a)) r (is_keyword a) (noted rest)))
     c.reason_of.ensures.noted

@@ -1,10 +1,11 @@
-use Rattle.std.proofs.Common.{◌≡◌, ◌∙◌, ℕ, List, Bool, Some, sym, ap}
+use Rattle.std.proofs.Common.{◌≡◌, ◌∙◌, ℕ, List, Bool, false, Some, sym, ap}
 use Rattle.std.proofs.lemmas.Result.{IfOk-weaker}
 use Rattle.json_values.specs.Patterns.{matched}
-use Rattle.graph_answers.specs.Tables.{AreForms, table_texts, table_reads}
-use Rattle.graph_answers.proofs.TableReads.{reads_found, reads_nothing}
+use Rattle.graph_answers.specs.Tables.{AreForms, table_texts, matches_of}
+use Rattle.graph_answers.proofs.TableReads.{reads_found, reads_nothing, read_in_each}
 use Rattle.regex_patterns.specs.Matchers.{finds_by_regex}
 use Rattle.regex_patterns.specs.declared.RegexMatcher.{RegexMatcher}
+use Rattle.schema_engine.specs.Matches.{InEach}
 use Rattle.schema_patterns.specs.Compiled.{found_by}
 use Rattle.schema_patterns.specs.Read.{is_yes}
 use Rattle.schema_patterns.specs.Tables.{texts_of_table}
@@ -17,14 +18,16 @@ use Rattle.kept_patterns.proofs.kept.KeptMatching.is_match.Goals as goal
 -- an answer that one kind of pattern gives is what is read of its number
 reads_answer : (table : PatternTable RegexMatcher) (number : ℕ) (text : List ℕ) (c k : CompiledPattern RegexMatcher) (b : Bool) → AreForms finds_by_regex table
     → compiled_at table number ≡ Some c → c ≡ k → Some b ≡ found_by finds_by_regex k text
-    → b ≡ matched (table_reads finds_by_regex table) (table_texts (texts_of_table table) number) text
-reads_answer table number text c k b forms at is told =
-    ap is_yes (told ∙ sym (ap (λ o. found_by finds_by_regex o text) is)) ∙ reads_found finds_by_regex table forms (table_texts (texts_of_table table) number) text c at
+    → InEach (matches_of finds_by_regex table) (λ m. b ≡ matched m (table_texts (texts_of_table table) number) text)
+reads_answer table number text c k b forms at is told rest =
+    read_in_each finds_by_regex table rest (table_texts (texts_of_table table) number) text b
+    (ap is_yes (told ∙ sym (ap (λ o. found_by finds_by_regex o text) is)) ∙ reads_found finds_by_regex table forms (table_texts (texts_of_table table) number) text c at)
 
 pub returns-in_default-clause-read : goal.returns-in_default-clause-read
-returns-in_default-clause-read c =
-    reads_nothing finds_by_regex c.args.self.now.table.now (table_texts (texts_of_table c.args.self.now.table.now) c.args.pattern) c.args.text.now
-    (sym c.in_default.ensures.found) c.in_default.ensures.absent
+returns-in_default-clause-read c rest =
+    read_in_each finds_by_regex c.args.self.now.table.now rest (table_texts (texts_of_table c.args.self.now.table.now) c.args.pattern) c.args.text.now false
+    (reads_nothing finds_by_regex c.args.self.now.table.now (table_texts (texts_of_table c.args.self.now.table.now) c.args.pattern) c.args.text.now
+    (sym c.in_default.ensures.found) c.in_default.ensures.absent)
 
 pub returns-in-Optimized-clause-read : goal.returns-in-Optimized-clause-read
 returns-in-Optimized-clause-read c =

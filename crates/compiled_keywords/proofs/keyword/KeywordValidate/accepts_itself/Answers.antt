@@ -1,0 +1,18 @@
+use Rattle.std.proofs.Common.{◌≡◌, ◌∙◌, sym, subst}
+use Rattle.std.proofs.lemmas.Result.{IfOk-weaker}
+use Rattle.schema_meaning.specs.Keywords.{rule}
+use Rattle.schema_engine.specs.Matches.{completed}
+use Rattle.schema_engine.specs.Places.{value_at}
+use Rattle.schema_engine.specs.Rules.{is_right}
+use Rattle.compiled_keywords.specs.Shapes.{shape_of}
+use Rattle.compiled_keywords.specs.declared.keyword.Keyword.{Keyword}
+use Rattle.compiled_keywords.proofs.AcceptLemmas.{empty_unless}
+use Rattle.compiled_keywords.proofs.keyword.KeywordValidate.accepts_itself.Goals as goal
+
+pub returns-in-Pattern-clause-right : goal.returns-in-Pattern-clause-right
+returns-in-Pattern-clause-right g c =
+    let reads = completed (g.T.Matching.matches c.args.matching.now) in
+    let d = value_at c.args.place in
+    IfOk-weaker c.is_matched.result _ _
+    (λ b read rest. subst (λ (k : Keyword). b ≡ is_right (rule (reads rest) d (shape_of k))) (sym c.in-Pattern.is) (read rest ∙ empty_unless _ _ d))
+    c.is_matched.ensures.read
