@@ -7,3 +7,4 @@ pub mod ToldLemmas
 pub mod Joined
 pub mod Completing
 pub mod RunLemmas
+pub mod RunVerdicts

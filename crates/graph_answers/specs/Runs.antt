@@ -1,5 +1,5 @@
 -- Runs by what is assumed of the matches that stay unfinished: each first as no, then as yes.
-use Rattle.std.specs.Prelude.{◌≡◌, ◌&&◌, ◌||◌, ℕ, List, [], ◌∷◌, length, Bool, true, false, string_bytes}
+use Rattle.std.specs.Prelude.{◌≡◌, ◌&&◌, ◌||◌, ℕ, List, [], ◌∷◌, length, Bool, true, false, Option, string_bytes}
 use Rattle.serde_json.specs.Data.{Data}
 use Rattle.schema_meaning.specs.Places.{whole}
 use Rattle.schema_meaning.specs.Keywords.{Shape}
@@ -8,7 +8,8 @@ use Rattle.schema_meaning.specs.Cut.{cut}
 use Rattle.schema_engine.specs.Graphs.{reading_of}
 use Rattle.schema_engine.specs.Matches.{Answers, Matches, InEach, completed}
 use Rattle.schema_engine.specs.declared.node.Node.{Node}
-use Rattle.graph_answers.specs.Answers.{keys_below}
+use Rattle.schema_patterns.specs.declared.table.PatternTable.{PatternTable}
+use Rattle.graph_answers.specs.Answers.{keys_below, IsVerdict}
 use Rattle.graph_answers.specs.declared.assumed.AssumedMatch.{AssumedMatch}
 use Rattle.graph_answers.specs.declared.runs.Decision.{Decision}
 use Rattle.graph_answers.specs.declared.runs.Decision.TheVariants as decision
@@ -59,3 +60,9 @@ module _ {K : Type 0} (shape : K → Shape ℕ) (nodes : List (Node K)) (start :
   IsDecision m decision.Accepted = InEach m (λ reads. verdict_in reads ≡ true)
   IsDecision m decision.Refused = (rest : Answers) × (verdict_in (completed m rest) ≡ false)
   IsDecision m decision.Undecided = Unit {0}
+
+-- it is the verdict of documents that the graph means, where each match that the value asks for is finished
+abbrev pub IsVerdictOf : {K M : Type 0} → (K → Shape ℕ) → (M → List ℕ → Option Bool) → List (Node K) → PatternTable M → ℕ → Data → Decision → Type 0
+IsVerdictOf shape finds nodes table start d decision.Accepted = IsVerdict shape finds nodes table start d true
+IsVerdictOf shape finds nodes table start d decision.Refused = IsVerdict shape finds nodes table start d false
+IsVerdictOf shape finds nodes table start d decision.Undecided = Unit {0}

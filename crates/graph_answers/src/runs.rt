@@ -4,7 +4,7 @@ ghost use Rattle.serde_json.specs.View.{view};
 ghost use Rattle.schema_engine.specs.Matches.{Answers};
 ghost use Rattle.graph_answers.specs.Completions.{matches_with};
 ghost use Rattle.graph_answers.specs.Linking.{KnowsTable};
-ghost use Rattle.graph_answers.specs.Runs.{is_behind, is_left, IsRun, IsDecision};
+ghost use Rattle.graph_answers.specs.Runs.{is_behind, is_left, IsRun, IsDecision, IsVerdictOf};
 ghost use Rattle.graph_answers.specs.Tables.{AreForms};
 
 use crate::assumed::{Assumed, AssumedMatch, UnfinishedMatch};
@@ -77,13 +77,9 @@ fn turn_last(assumed: &mut Vec<AssumedMatch>) -> Result<bool, AllocError>
     Ok(false)
 }
 
-/// What is decided of a value from a node of a graph on: a run stops at the first match that is neither finished nor assumed, and is begun
-/// again with that one assumed no, then yes.
-///
-/// # Errors
-///
-/// Where memory was refused.
-pub fn decide<K: Validate, M: PatternMatcher>(
+// What is decided of a value: a run stops at the first match that is neither finished nor assumed, and is begun again with that one
+// assumed no, then yes.
+fn assume_each<K: Validate, M: PatternMatcher>(
     alloc: Global,
     graph: &Graph<K>,
     start: usize,
@@ -112,4 +108,25 @@ pub fn decide<K: Validate, M: PatternMatcher>(
         }
     }
     Ok(Decision::Undecided)
+}
+
+/// What is decided of a value from a node of a graph on: whether it is accepted however its unfinished matches are answered.
+///
+/// # Errors
+///
+/// Where memory was refused.
+pub fn decide<K: Validate, M: PatternMatcher>(
+    alloc: Global,
+    graph: &Graph<K>,
+    start: usize,
+    table: &PatternTable<M>,
+    value: &Value,
+) -> Result<Decision, AllocError>
+    requires known { KnowsTable K.knows graph.now.nodes.items table.now }
+    requires forms { AreForms M.finds table.now }
+    requires there { start < length graph.now.nodes.items }
+    ensures cut { IfOk result (IsDecision K.shape graph.now.nodes.items start (view value.now) (matches_with M.finds table.now [])) }
+    ensures verdict { IfOk result (IsVerdictOf K.shape M.finds graph.now.nodes.items table.now start (view value.now)) }
+{
+    assume_each(alloc, graph, start, table, value)
 }

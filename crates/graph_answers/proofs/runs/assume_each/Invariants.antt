@@ -3,7 +3,7 @@ use Rattle.serde_json.specs.View.{view}
 use Rattle.schema_engine.specs.Matches.{Answers, completed}
 use Rattle.graph_answers.specs.Completions.{matches_with}
 use Rattle.graph_answers.specs.Runs.{is_left, verdict_in}
-use Rattle.graph_answers.proofs.runs.decide.Given as goal
+use Rattle.graph_answers.proofs.runs.assume_each.Given as goal
 
 abbrev pub invariant-loop : goal.invariant-loop
 invariant-loop g l =
