@@ -1,9 +1,11 @@
 //! Compiled schemas with the patterns that they ask for.
 
-ghost use Rattle.std.specs.Prelude.{◌≡◌, ◌<◌, length, IfOk, OnOk};
+ghost use Rattle.std.specs.Prelude.{◌≡◌, ◌<◌, [], length, IfOk, OnOk};
 ghost use Rattle.serde_json.specs.View.{view};
 ghost use Rattle.compiled_keywords.specs.Shapes.{shape_of};
 ghost use Rattle.graph_answers.specs.Answers.{IsAnswer, HearsAnswer, Agree, IsVerdict, IsCertified, AreFaults, HaveCertificates};
+ghost use Rattle.graph_answers.specs.Completions.{matches_with};
+ghost use Rattle.graph_answers.specs.Runs.{IsDecision};
 ghost use Rattle.graph_answers.specs.Tables.{AreForms, matches_of};
 ghost use Rattle.std.proofs.Props.{props};
 ghost use Rattle.compiled_graphs.specs.Known.{knows_prop};
@@ -12,6 +14,7 @@ ghost use Rattle.compiled_graphs.specs.Linking.{KnowsTable};
 use compiled_keywords::keyword::Keyword;
 use graph_answers::checking;
 use graph_answers::direct::Direct;
+use graph_answers::runs::{Decision, decide};
 use schema_engine::graph::Graph;
 use schema_engine::matching::Matching;
 use schema_patterns::{PatternMatcher, PatternTable};
@@ -82,6 +85,23 @@ impl<M: PatternMatcher> SchemaGraph<M> {
         ensures certified { IfOk result (IsCertified shape_of M.finds self.now.graph.nodes.items self.now.table start (view value.now)) }
     {
         checking::is_valid(alloc, &self.graph, start, &self.table, matching, value)
+    }
+
+    /// What is decided of a value from a node on, whatever its unfinished matches are answered.
+    ///
+    /// # Errors
+    ///
+    /// Where memory was refused.
+    pub fn decide(
+        &self,
+        alloc: Global,
+        start: usize,
+        value: &Value,
+    ) -> Result<Decision, AllocError>
+        requires there { start < length self.now.graph.nodes.items }
+        ensures { IfOk result (IsDecision shape_of self.now.graph.nodes.items start (view value.now) (matches_with M.finds self.now.table [])) }
+    {
+        decide(alloc, &self.graph, start, &self.table, value)
     }
 
     /// Tells an observer of the faults of a value from a node on. Where references come back to where they were, the return tells nothing.

@@ -13,6 +13,7 @@ use Rattle.schema_definitions.specs.Bearers.{Documents}
 use Rattle.schema_definitions.specs.Sites.{Site}
 use Rattle.schema_definitions.specs.Plain.{deepest, plain}
 use Rattle.schema_definitions.specs.AllKeys.{keys_of}
+use Rattle.meaning_laws.specs.MatchLaws.{SameOnTheWay}
 use Rattle.meaning_laws.proofs.Decided.{cut_is_decided}
 use Rattle.meaning_laws.proofs.Others.{told_by_other_matches}
 use Rattle.meaning_laws.proofs.Unfolded.{unfolded_is_told}
@@ -58,12 +59,28 @@ module _ {K M : Type 0} (shape : K → Shape ℕ) (finds : M → List ℕ → Op
     told_there : {A : Type 0} (t : Telling Site A) → IsTold t (plain docs makes matches) root (whole d) (theirs t docs makes matches root d)
     told_there t = record { unfoldings = length (keys_of docs d); is = decided_at t }
 
-    -- by the table's matches it is decided the same
+    module _ (other : List ℕ → List ℕ → Bool) (same : SameOnTheWay (plain docs makes matches) other root (whole d)) where
+      -- by other matches that are the same on the way it is decided the same
+      by_other : {A : Type 0} (t : Telling Site A) → (n : ℕ) × (unfolded t (plain docs makes other) n root (whole d) ≡ Some (theirs t docs makes matches root d))
+      by_other {A} t =
+          (unfolded_is_told Site A t (plain docs makes other) (length (keys_of docs d)) root (whole d) (theirs t docs makes matches root d)).0
+          (sym (told_by_other_matches Site A t (plain docs makes matches) other root (whole d) same (length (keys_of docs d))) ∙ decided_at t)
+
+      verdict_by_other : cut verdicts (reading_of shape other nodes) (keys_below (length nodes) d) [] start (whole d) ≡ theirs verdicts docs makes matches root d
+      verdict_by_other =
+          let there = by_other verdicts in
+          let related = h.compiled.means.related other in
+          let alike =
+          related_alike_but_for_paths (StandsFor docs h.compiled.sites) (plain docs makes other) (reading_of shape other nodes)
+          (record { matches = related.matches; keywords = related.keywords }) there.0 root start (whole d) h.compiled.begins in
+          verdict_decided shape other nodes sound start d there.0 (theirs verdicts docs makes matches root d) (sym alike.0 ∙ there.1)
+
+      pub told_by_other : IsTold verdicts (plain docs makes matches) root (whole d) (cut verdicts (reading_of shape other nodes) (keys_below (length nodes) d) [] start (whole d))
+      told_by_other = subst (λ b. IsTold verdicts (plain docs makes matches) root (whole d) b) (sym verdict_by_other) (told_there verdicts)
+
+    -- so it is by the table's
     by_table : {A : Type 0} (t : Telling Site A) → (n : ℕ) × (unfolded t (plain docs makes reads) n root (whole d) ≡ Some (theirs t docs makes matches root d))
-    by_table {A} t =
-        let same = same_by_table finds table docs makes matches root d h.finished h.made h.among h.finish in
-        (unfolded_is_told Site A t (plain docs makes reads) (length (keys_of docs d)) root (whole d) (theirs t docs makes matches root d)).0
-        (sym (told_by_other_matches Site A t (plain docs makes matches) reads root (whole d) same (length (keys_of docs d))) ∙ decided_at t)
+    by_table t = by_other reads (same_by_table finds table docs makes matches root d h.finished h.made h.among h.finish) t
 
     related : AreRelated (as_spelled docs makes reads) (reading_of shape reads nodes) (StandsFor docs h.compiled.sites)
     related = h.compiled.means.related reads
@@ -72,12 +89,7 @@ module _ {K M : Type 0} (shape : K → Shape ℕ) (finds : M → List ℕ → Op
 
     verdict_is : answer_by shape finds nodes table start d verdicts ≡ theirs verdicts docs makes matches root d
     unfolding answer_by
-    verdict_is =
-        let there = by_table verdicts in
-        let alike =
-        related_alike_but_for_paths (StandsFor docs h.compiled.sites) (plain docs makes reads) (reading_of shape reads nodes)
-        (record { matches = related.matches; keywords = related.keywords }) there.0 root start (whole d) h.compiled.begins in
-        verdict_decided shape reads nodes sound start d there.0 (theirs verdicts docs makes matches root d) (sym alike.0 ∙ there.1)
+    verdict_is = verdict_by_other reads (same_by_table finds table docs makes matches root d h.finished h.made h.among h.finish)
 
     verdict_told : IsTold verdicts (plain docs makes matches) root (whole d) (answer_by shape finds nodes table start d verdicts)
     verdict_told = subst (λ b. IsTold verdicts (plain docs makes matches) root (whole d) b) (sym verdict_is) (told_there verdicts)

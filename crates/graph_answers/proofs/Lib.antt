@@ -5,3 +5,6 @@ pub mod SpelledAnswers
 pub mod Decided
 pub mod ToldLemmas
 pub mod Joined
+pub mod Completing
+pub mod RunLemmas
+pub mod RunVerdicts

@@ -19,7 +19,9 @@ use Rattle.schema_patterns.specs.declared.compiled.CompiledPattern.{CompiledPatt
 use Rattle.schema_patterns.specs.declared.table.PatternTable.{PatternTable}
 use Rattle.reading_laws.specs.Asked.{AreAmong, IsAsked, AreFinished}
 use Rattle.reading_laws.proofs.Matched.{asked_matches_are_known}
-use Rattle.schema_engine.specs.Matches.{Answers, completed}
+use Rattle.schema_engine.specs.Matches.{Answers, InEach, completed}
+use Rattle.graph_answers.specs.Completions.{matches_with}
+use Rattle.graph_answers.proofs.Completing.{read_found}
 use Rattle.graph_answers.specs.Tables.{table_texts, table_reads, matches_of, AreForms}
 
 module _ {X : Type 0} where
@@ -81,6 +83,25 @@ module _ {M : Type 0} (finds : M → List ℕ → Option Bool) (table : PatternT
   reads_known finished made p t b among is =
       let at = held table.patterns.entries p among in
       sym (ap is_yes (made.each p at.0 at.1 t ∙ is)) ∙ reads_found (forms_of_made finished made) p t at.0 at.1
+
+  -- it is what such a pattern finds
+  found_known : (finished : List ℕ → List ℕ → Option Bool) → AreMadeBy finds finished table → (p t : List ℕ) (b : Bool) → is_listed p (texts_of_table table) ≡ true → known finished p t ≡ Some b
+      → (c : CompiledPattern M) × (pattern_for table p ≡ Some c) × (found_by finds c t ≡ Some b)
+  found_known finished made p t b among is = let at = held table.patterns.entries p among in (at.0, at.1, made.each p at.0 at.1 t ∙ is)
+
+  -- so is the plain reading by each completion
+  pub same_in_each : (docs : Documents) (makes : List ℕ → Bool) (matches : List ℕ → List ℕ → Bool) (root : Site) (d : Data) (finished : List ℕ → List ℕ → Option Bool)
+      → AreMadeBy finds finished table → AreAmong docs makes root (texts_of_table table) → AreFinished docs makes root finished matches d
+      → InEach (matches_with finds table []) (λ m. SameOnTheWay (plain docs makes matches) m root (whole d))
+  same_in_each docs makes matches root d finished made among done rest keys s w chain = record {
+    each = λ k i. record {
+      same = λ p t j.
+          let a : IsAsked docs makes root matches d p t = record { keys = keys; site = s; spot = w; chain = chain; keyword = k; stands = i; asked = j } in
+          let of = asked_matches_are_known docs makes root matches d p t a in
+          let found = found_known finished made p t (matched matches p t) (among.each s of.reached k i p of.pattern) (done.each p t a) in
+          read_found finds table [] (forms_of_made finished made) p t found.0 (matched matches p t) found.1 found.2 rest;
+    };
+  }
 
   -- the plain reading by the table's matches is the same on the way, where the matches that the value asks for are finished
   pub same_by_table : (docs : Documents) (makes : List ℕ → Bool) (matches : List ℕ → List ℕ → Bool) (root : Site) (d : Data) (finished : List ℕ → List ℕ → Option Bool)

@@ -1,3 +1,5 @@
 pub mod Tables
+pub mod Completions
 pub mod Linking
 pub mod Answers
+pub mod Runs

@@ -2,6 +2,8 @@
 #![tactic(auto)]
 
 mod answers;
+pub mod assumed;
 pub mod checking;
 pub mod direct;
 pub mod lookup;
+pub mod runs;

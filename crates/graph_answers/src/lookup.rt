@@ -18,3 +18,13 @@ pub fn pattern_at<'v, M: PatternMatcher>(
         None => table.get(""),
     }
 }
+
+/// The text of a number's pattern, an empty one where the table lacks the number. It is one look-up.
+pub fn text_at<'v, M: PatternMatcher>(table: &'v PatternTable<M>, number: usize) -> &'v str
+    ensures { result.now ≡ table_texts (texts_of_table table.now) number }
+{
+    match table.at(number) {
+        Some((text, _)) => text,
+        None => "",
+    }
+}

@@ -21,6 +21,7 @@ use crate::error::{BuildError, NumberError};
 use crate::options::ValidationOptions;
 use compiled_graphs::schemas::SchemaGraph;
 use graph_answers::direct::Direct;
+use graph_answers::runs::Decision;
 use regex_patterns::RegexMatcher;
 use schema_drafts::draft::Draft;
 use schema_engine::matching::Matching;
@@ -70,7 +71,7 @@ impl<M: PatternMatcher> Validator<M> {
     ghost use Rattle.schema_validators.specs.New.{IsNew, Refuses};
     ghost use Rattle.schema_validators.specs.Seen.{nodes_in, table_in};
     ghost use Rattle.schema_validators.specs.Told.{verdict_by, faults_by};
-    ghost use Rattle.schema_validators.specs.ByNodes.{HearsBy, AreFaultsBy, HaveCertificatesBy};
+    ghost use Rattle.schema_validators.specs.ByNodes.{HearsBy, AreFaultsBy, HaveCertificatesBy, Decides};
 
     /// A validator of a schema by a maker of patterns, and by the options that stand until it is said otherwise: the schema is the document
     /// at the base URI, and the root of validation.
@@ -125,6 +126,21 @@ impl<M: PatternMatcher> Validator<M> {
     {
         let mut matching = self.direct();
         self.is_valid_by(&mut matching, value)
+    }
+
+    /// What is decided of a value, some of whose matches may stay unfinished: whether it is accepted however they are answered.
+    ///
+    /// Its numbers are whole numbers of 64 bits. A run stops at the first match that is neither finished nor assumed, and is begun again
+    /// with that one assumed no, then yes. There are 64 runs at most, so that five such matches are decided. With none of them one run is all.
+    ///
+    /// # Errors
+    ///
+    /// Where memory was refused.
+    pub fn decide(&self, value: &Value) -> Result<Decision, AllocError>
+        requires whole { only_whole (view value.now) ≡ true }
+        ensures { IfOk result (Decides self.now (view value.now)) }
+    {
+        self.schemas.decide(self.alloc, self.start, value)
     }
 
     /// The patterns that its schemas ask for, by their numbers.

@@ -1,0 +1,68 @@
+-- Runs by what is assumed of the matches that stay unfinished: each first as no, then as yes.
+use Rattle.std.specs.Prelude.{◌≡◌, ◌&&◌, ◌||◌, ℕ, List, [], ◌∷◌, length, Bool, true, false, Option, string_bytes}
+use Rattle.serde_json.specs.Data.{Data}
+use Rattle.schema_meaning.specs.Places.{whole}
+use Rattle.schema_meaning.specs.Keywords.{Shape}
+use Rattle.schema_meaning.specs.Readings.{verdicts}
+use Rattle.schema_meaning.specs.Cut.{cut}
+use Rattle.schema_engine.specs.Graphs.{reading_of}
+use Rattle.schema_engine.specs.Matches.{Answers, Matches, InEach, completed}
+use Rattle.schema_engine.specs.declared.node.Node.{Node}
+use Rattle.schema_patterns.specs.declared.table.PatternTable.{PatternTable}
+use Rattle.graph_answers.specs.Answers.{keys_below, IsVerdict}
+use Rattle.graph_answers.specs.declared.assumed.AssumedMatch.{AssumedMatch}
+use Rattle.graph_answers.specs.declared.runs.Decision.{Decision}
+use Rattle.graph_answers.specs.declared.runs.Decision.TheVariants as decision
+use Rattle.graph_answers.specs.declared.runs.Run.{Run}
+use Rattle.graph_answers.specs.declared.runs.Run.TheVariants as run
+
+abbrev pub same_answer : Bool → Bool → Bool
+same_answer true b = b
+same_answer false true = false
+same_answer false false = true
+
+abbrev pub answer_of : AssumedMatch → Answers → Bool
+answer_of a rest = rest (string_bytes a.pattern) (string_bytes a.text)
+
+-- the answers are those that are assumed
+abbrev pub agrees : List AssumedMatch → Answers → Bool
+agrees [] rest = true
+agrees (a ∷ more) rest = same_answer a.is_match (answer_of a rest) && agrees more rest
+
+abbrev pub after_one : Bool → Bool → Bool → Bool
+after_one true true b = b
+after_one true false b = false
+after_one false true b = true
+after_one false false b = b
+
+-- they come behind what is assumed: up to some match they are those that are assumed, and that one is yes where no is assumed
+abbrev pub is_behind : List AssumedMatch → Answers → Bool
+is_behind [] rest = false
+is_behind (a ∷ more) rest = after_one a.is_match (answer_of a rest) (is_behind more rest)
+
+abbrev pub is_left : List AssumedMatch → Answers → Bool
+is_left assumed rest = agrees assumed rest || is_behind assumed rest
+
+-- ---- verdicts
+
+module _ {K : Type 0} (shape : K → Shape ℕ) (nodes : List (Node K)) (start : ℕ) (d : Data) where
+  -- the verdict from a node on by these matches, a return of references taken as accepted
+  unfoldable pub verdict_in : Answers → Bool
+  verdict_in reads = cut verdicts (reading_of shape reads nodes) (keys_below (length nodes) d) [] start (whole d)
+
+  -- a run that was not stopped has the verdict of each completion
+  abbrev pub IsRun : Matches → Run → Type 0
+  IsRun m (run.Answered b) = InEach m (λ reads. b ≡ verdict_in reads)
+  IsRun m (run.Stopped open_match) = Unit {0}
+
+  -- every completion accepts, or one refuses
+  abbrev pub IsDecision : Matches → Decision → Type 0
+  IsDecision m decision.Accepted = InEach m (λ reads. verdict_in reads ≡ true)
+  IsDecision m decision.Refused = (rest : Answers) × (verdict_in (completed m rest) ≡ false)
+  IsDecision m decision.Undecided = Unit {0}
+
+-- it is the verdict of documents that the graph means, where each match that the value asks for is finished
+abbrev pub IsVerdictOf : {K M : Type 0} → (K → Shape ℕ) → (M → List ℕ → Option Bool) → List (Node K) → PatternTable M → ℕ → Data → Decision → Type 0
+IsVerdictOf shape finds nodes table start d decision.Accepted = IsVerdict shape finds nodes table start d true
+IsVerdictOf shape finds nodes table start d decision.Refused = IsVerdict shape finds nodes table start d false
+IsVerdictOf shape finds nodes table start d decision.Undecided = Unit {0}
