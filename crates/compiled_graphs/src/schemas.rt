@@ -92,12 +92,7 @@ impl<M: PatternMatcher> SchemaGraph<M> {
     /// # Errors
     ///
     /// Where memory was refused.
-    pub fn decide(
-        &self,
-        alloc: Global,
-        start: usize,
-        value: &Value,
-    ) -> Result<Decision, AllocError>
+    pub fn decide(&self, alloc: Global, start: usize, value: &Value) -> Result<Decision, AllocError>
         requires there { start < length self.now.graph.nodes.items }
         ensures { IfOk result (IsDecision shape_of self.now.graph.nodes.items start (view value.now) (matches_with M.finds self.now.table [])) }
     {
