@@ -11,3 +11,4 @@ pub mod Preparing
 pub mod Placing
 pub mod Entries
 pub mod Rooting
+mod Causing

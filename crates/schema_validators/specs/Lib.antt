@@ -19,3 +19,5 @@ pub mod Maps
 pub mod Mapped
 pub mod Agreed
 pub mod Described
+pub mod Caused
+pub mod Unknown

@@ -6,6 +6,7 @@
 
 mod agreement;
 mod building;
+mod causes;
 mod checker;
 mod describing;
 mod error;
@@ -13,6 +14,7 @@ mod mapping;
 mod meta_schema;
 mod options;
 mod printing;
+mod unknown;
 mod validator;
 mod validator_map;
 
@@ -35,6 +37,7 @@ pub use schema_registries::{
     SharedRegistry, WholeNumbers, has_only_whole,
 };
 pub use schema_reports::{ErrorContext, ErrorIterator, ValidationError, ValidationErrorKind};
+pub use unknown::{UnknownKeyword, unknown_keywords};
 pub use uri_references::uri::Uri;
 pub use validator::Validator;
 pub use validator_map::ValidatorMap;

@@ -16,13 +16,16 @@ ghost use Rattle.schema_validators.specs.Prepared.{asking_by, layer_by, meta_sch
 ghost use Rattle.schema_validators.specs.Refused.{RefusesGiven, RefusesPreparing, RefusesRoot};
 ghost use Rattle.schema_validators.specs.Built.{IsBuilt, RefusesBuilding};
 ghost use Rattle.schema_validators.specs.Mapped.{IsMapBuilt, RefusesMapping};
+ghost use Rattle.schema_validators.specs.Caused.{ListsCauses, NoneWhereSound, RefusesListing};
 
+use crate::causes::causes_at;
 use crate::error::BuildError;
 use crate::mapping::map_at;
 use crate::meta_schema::ask_meta_schema;
 use crate::validator::Validator;
 use crate::validator_map::ValidatorMap;
 use reached_sites::Error;
+use reached_sites::cause::BuildCause;
 use regex_patterns::RegexMaker;
 use schema_drafts::draft::Draft;
 use schema_patterns::PatternMaker;
@@ -241,6 +244,25 @@ impl<P: PatternMaker + Drop, R: Drop> ValidationOptions<P, R> {
         )?;
         meet(alloc, registry, root, &self.maker, limit)?;
         Ok(validator)
+    }
+
+    /// All that is wrong with the schema that a reference leads to, against the registry's base: each cause that `build_on` may name,
+    /// in the order in which the schemas are met, of each the first of its identifier and of each member in turn. There is none exactly
+    /// where nothing is wrong there. No meta-schema is asked.
+    ///
+    /// # Errors
+    ///
+    /// Where the reference leads nowhere, where more compile keys are reached than the limit, or want of memory.
+    pub fn causes_on(
+        &self,
+        registry: &SchemaRegistry,
+        root: &str,
+    ) -> Result<Vec<BuildCause>, BuildError>
+        ensures listed { IfOk result (λ v. ListsCauses (P.patterns self.now.maker) (root_on registry.now root.now) v.items) }
+        ensures sound { IfOk result (λ v. NoneWhereSound (P.patterns self.now.maker) (root_on registry.now root.now) v.items) }
+        ensures refused { IfErr result (RefusesListing (P.patterns self.now.maker) self.now.node_limit (root_on registry.now root.now)) }
+    {
+        causes_at(self.alloc, registry, root, &self.maker, self.node_limit)
     }
 }
 

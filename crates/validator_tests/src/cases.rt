@@ -20,14 +20,16 @@
 //   stands VALUE            where the keywords of the faults stand, by URIs of documents with pointers
 //   build VALUE             whether the value is valid, or why there is no validator; with no value, whether there is one
 //   within NUMBER           the same with no value, by that limit of schema nodes
+//   causes                  all that is wrong with the root, or why that is not listed
+//   unknown URI             the names in a document that are no keywords
 //   alone VALUE             the same, of a document by itself, without options
 //   scripted VALUE          the faults by the script's patterns, or why there is no validator
 //   keys                    the pointers of the map of validators, or why there is none
 //   has <POINTER>           whether the map has it
 //   at <POINTER> VALUE      the faults by the map's validator there
-use crate::answers;
 use crate::maps::map_answer;
 use crate::patterns::scripted;
+use crate::{answers, listing};
 use std::alloc::Global;
 use std::process::Abort;
 
@@ -53,6 +55,8 @@ fn answer(rt: &impl Abort, alloc: Global, case: &str, word: &str, input: &str) -
         "stands" => answers::stands(rt, alloc, case, input),
         "build" => answers::build(rt, alloc, case, input),
         "within" => answers::within(rt, alloc, case, input),
+        "causes" => listing::causes(rt, alloc, case),
+        "unknown" => listing::unknown(rt, alloc, case, input),
         "alone" => answers::alone(rt, alloc, case, input),
         "scripted" => scripted(rt, alloc, case, input),
         _ => map_answer(rt, alloc, case, word, input),

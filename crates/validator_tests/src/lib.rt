@@ -32,6 +32,8 @@ mod layers;
 #[cfg(test)]
 mod limits;
 #[cfg(test)]
+mod listing;
+#[cfg(test)]
 mod maps;
 #[cfg(test)]
 mod moving;

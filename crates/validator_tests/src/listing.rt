@@ -1,0 +1,111 @@
+// All that is wrong with a root, and names that are no keywords.
+use crate::answers::why;
+use crate::cases::assert_cases;
+use crate::given::{documents_of, options_of, setting};
+use json_schema_validator::{UnknownKeyword, unknown_keywords};
+use std::alloc::Global;
+use std::process::Abort;
+use uri_references::uri::from_str;
+
+fn or_none(rt: &impl Abort, alloc: Global, text: String) -> String {
+    if text.is_empty() {
+        return String::from_str(alloc, "none").expect(rt, "memory");
+    }
+    text
+}
+
+// The causes of a root, or why they are not listed.
+pub(crate) fn causes(rt: &impl Abort, alloc: Global, case: &str) -> String {
+    let options = options_of(rt, alloc, case);
+    let documents = documents_of(rt, alloc, case, "document <");
+    let registry = options.prepare(&documents).expect(rt, "a registry");
+    let causes = match options.causes_on(&registry, setting(case, "root ").unwrap_or("")) {
+        Ok(causes) => causes,
+        Err(error) => return why(rt, alloc, error),
+    };
+    let mut text = String::new(alloc);
+    for cause in causes.as_slice() {
+        let between = if text.is_empty() { "" } else { "; " };
+        write!(text, "{between}{cause}").expect(rt, "memory");
+    }
+    or_none(rt, alloc, text)
+}
+
+fn write_unknown(rt: &impl Abort, text: &mut String, keyword: &UnknownKeyword) {
+    let between = if text.is_empty() { "" } else { "; " };
+    let (name, place, draft) = (keyword.name.as_str(), &keyword.place, keyword.draft);
+    write!(text, "{between}{name} at {place} by {draft:?}").expect(rt, "memory");
+}
+
+// The names that are no keywords in a document.
+pub(crate) fn unknown(rt: &impl Abort, alloc: Global, case: &str, uri: &str) -> String {
+    let documents = documents_of(rt, alloc, case, "document <");
+    let registry = options_of(rt, alloc, case)
+        .prepare(&documents)
+        .expect(rt, "a registry");
+    let uri = from_str(alloc, uri).expect(rt, "a URI");
+    let keywords = unknown_keywords(alloc, &registry, &uri).expect(rt, "memory");
+    let mut text = String::new(alloc);
+    for keyword in keywords.as_slice() {
+        write_unknown(rt, &mut text, keyword);
+    }
+    or_none(rt, alloc, text)
+}
+
+const AT_R: &str = "base http://a.test/r\n";
+
+// The root's own first, in the order of its members, and then those of what it leads to; nothing of what is not reached.
+const CAUSES: &str = r##"
+document <http://a.test/r> {"type":"object","$defs":{"u":{"type":5}}}
+causes => none
+
+document <http://a.test/r> {"minItems":"1","items":{"$ref":"#/$defs/u"},"pattern":"(","$defs":{"u":{"type":5,"not":7},"v":{"type":5}}}
+causes => Keyword value at 'http://a.test/r#/minItems': expected count; Pattern at 'http://a.test/r#/pattern' is refused; Keyword value at 'http://a.test/r#/$defs/u/not': expected schema; Keyword value at 'http://a.test/r#/$defs/u/type': expected type name
+
+document <http://a.test/r> {"properties":{"a":{"$ref":"#"},"b":{"$ref":"#none"}},"unevaluatedItems":false}
+causes => Keyword at 'http://a.test/r#/unevaluatedItems' is left out; Anchor 'none' does not exist
+
+document <http://a.test/r> 5
+causes => Keyword value at 'http://a.test/r#': expected schema
+
+root #/$defs/u
+document <http://a.test/r> {"minItems":"1","$defs":{"u":{"type":5}}}
+causes => Keyword value at 'http://a.test/r#/$defs/u/type': expected type name
+
+root #/none
+document <http://a.test/r> true
+causes => Pointer '/none' does not exist
+
+limit 1
+document <http://a.test/r> {"minItems":"1","items":true}
+causes => More than 1 schema nodes
+"##;
+
+// By the draft of each schema, whatever a name begins with; nothing of what is no schema, nor of names that only tell something.
+const UNKNOWN: &str = r##"
+document <http://a.test/r> {"nmae":1,"x-a":1,"title":"t","default":{"nmae":1},"enum":[{"nmae":1}],"properties":{"nmae":{"additionalItems":false}}}
+unknown http://a.test/r => nmae at http://a.test/r#/nmae by Draft202012; x-a at http://a.test/r#/x-a by Draft202012; additionalItems at http://a.test/r#/properties/nmae/additionalItems by Draft202012
+unknown http://a.test/s => none
+
+document <http://a.test/r> {"$schema":"http://json-schema.org/draft-04/schema#","const":1,"description":"d","examples":[1],"format":"f"}
+unknown http://a.test/r => const at http://a.test/r#/const by Draft4; examples at http://a.test/r#/examples by Draft4
+
+document <http://a.test/r> {"$schema":"http://json-schema.org/draft-06/schema#","const":1,"examples":[1],"readOnly":true}
+unknown http://a.test/r => readOnly at http://a.test/r#/readOnly by Draft6
+
+document <http://a.test/r> {"$schema":"http://json-schema.org/draft-07/schema#","readOnly":true,"contentMediaType":"m","deprecated":true}
+unknown http://a.test/r => deprecated at http://a.test/r#/deprecated by Draft7
+
+document <http://a.test/r> {"$schema":"https://json-schema.org/draft/2019-09/schema","deprecated":true,"contentSchema":{},"$comment":"c","prefixItems":[]}
+unknown http://a.test/r => prefixItems at http://a.test/r#/prefixItems by Draft201909
+"##;
+
+#[test]
+fn all_causes(rt: HostRuntime) {
+    assert_cases(&rt, rt.alloc(), AT_R, CAUSES);
+}
+
+#[test]
+fn unknown_names(rt: HostRuntime) {
+    assert_cases(&rt, rt.alloc(), AT_R, UNKNOWN);
+}
