@@ -5,7 +5,7 @@ ghost use Rattle.serde_json.specs.View.{view};
 ghost use Rattle.compiled_keywords.specs.Shapes.{shape_of};
 ghost use Rattle.graph_answers.specs.Answers.{IsAnswer, HearsAnswer, Agree, IsVerdict, IsCertified, AreFaults, HaveCertificates};
 ghost use Rattle.graph_answers.specs.Completions.{matches_with};
-ghost use Rattle.graph_answers.specs.Runs.{IsDecision};
+ghost use Rattle.graph_answers.specs.Runs.{IsDecision, IsVerdictOf};
 ghost use Rattle.graph_answers.specs.Tables.{AreForms, matches_of};
 ghost use Rattle.std.proofs.Props.{props};
 ghost use Rattle.compiled_graphs.specs.Known.{knows_prop};
@@ -87,14 +87,15 @@ impl<M: PatternMatcher> SchemaGraph<M> {
         checking::is_valid(alloc, &self.graph, start, &self.table, matching, value)
     }
 
-    /// What is decided of a value from a node on, whatever its unfinished matches are answered.
+    /// What is decided of a value from a node on: whether it is accepted however its unfinished matches are answered.
     ///
     /// # Errors
     ///
     /// Where memory was refused.
     pub fn decide(&self, alloc: Global, start: usize, value: &Value) -> Result<Decision, AllocError>
         requires there { start < length self.now.graph.nodes.items }
-        ensures { IfOk result (IsDecision shape_of self.now.graph.nodes.items start (view value.now) (matches_with M.finds self.now.table [])) }
+        ensures cut { IfOk result (IsDecision shape_of self.now.graph.nodes.items start (view value.now) (matches_with M.finds self.now.table [])) }
+        ensures verdict { IfOk result (IsVerdictOf shape_of M.finds self.now.graph.nodes.items self.now.table start (view value.now)) }
     {
         decide(alloc, &self.graph, start, &self.table, value)
     }

@@ -1,5 +1,5 @@
 -- What is answered by nodes is what the documents tell that they mean.
-use Rattle.std.proofs.Common.{◌≡◌, ◌∙◌, ℕ, List, Bool, Option, Some, option_map, Result, Ok, Err, IfErr, refl, sym, ap, subst}
+use Rattle.std.proofs.Common.{◌≡◌, ◌∙◌, ℕ, List, Bool, true, false, Option, Some, option_map, Result, Ok, Err, IfErr, refl, sym, ap, subst}
 use Rattle.serde_json.specs.Data.{Data}
 use Rattle.schema_meaning.specs.Faults.{Fault, Faults, none, also, is_none, instance_path, evaluation_path, Told}
 use Rattle.schema_meaning.specs.Places.{whole}
@@ -16,6 +16,9 @@ use Rattle.compiled_keywords.specs.declared.keyword.Keyword.{Keyword}
 use Rattle.compiled_keywords.specs.Shapes.{shape_of}
 use Rattle.graph_answers.specs.Answers as graph
 use Rattle.graph_answers.specs.Answers.{answer_by, IsDecided, IsVerdict}
+use Rattle.graph_answers.specs.Runs.{IsVerdictOf}
+use Rattle.graph_answers.specs.declared.runs.Decision.{Decision}
+use Rattle.graph_answers.specs.declared.runs.Decision.TheVariants as decision
 use Rattle.schema_patterns.specs.declared.table.PatternTable.{PatternTable}
 use Rattle.schema_reports.specs.Told.{fault_of}
 use Rattle.schema_reports.specs.declared.error.ValidationError.{ValidationError}
@@ -23,6 +26,7 @@ use Rattle.schema_registries.specs.Roots.{Root, Patterns, Finds, site_of_root}
 use Rattle.schema_registries.specs.Answers.{Finish, ComesBack, IsAnswer}
 use Rattle.schema_registries.specs.Certified.{HasCertificate, HaveCertificates}
 use Rattle.schema_validators.specs.Answered.{AreThose, AreFaults, IsFault}
+use Rattle.schema_validators.specs.Decided.{IsDecidedAs}
 use Rattle.schema_validators.specs.Made.{IsMadeAt}
 
 moved_none : (fs : Faults) → is_none (moved spelled fs) ≡ is_none fs
@@ -44,6 +48,11 @@ module _ {M : Type 0} (finds : M → List ℕ → Option Bool) (p : Patterns) (r
 
   pub verdict_answered : (b : Bool) → IsVerdict shape_of finds nodes table start d b → IsAnswer verdicts p r d b
   verdict_answered b h matches target found finish straight = h r.documents p.makes matches (site_of_root r target) (decided matches target found finish straight)
+
+  pub decided_as : (a : Decision) → IsVerdictOf shape_of finds nodes table start d a → IsDecidedAs p r d a
+  decided_as decision.Accepted h = verdict_answered true h
+  decided_as decision.Refused h = verdict_answered false h
+  decided_as decision.Undecided h = tt
 
   module _ (faults : graph.AreFaults shape_of finds nodes table start d) where
     those : (matches : List ℕ → List ℕ → Bool) (target : Target) → Finds r target → Finish p r matches target d → (ComesBack p r matches target d → ⊥)

@@ -2,6 +2,7 @@ pub mod Meant
 pub mod Heard
 pub mod Answered
 pub mod Seen
+pub mod Decided
 pub mod Made
 pub mod Told
 pub mod ByNodes

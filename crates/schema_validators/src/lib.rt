@@ -25,6 +25,7 @@ pub use agreement::{
 pub use checker::Checker;
 pub use document_sources::error::RetrieveError;
 pub use error::{BuildError, NumberError};
+pub use graph_answers::runs::Decision;
 pub use location_texts::Location;
 pub use options::ValidationOptions;
 pub use reached_sites::cause::BuildCause;

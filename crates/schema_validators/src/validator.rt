@@ -66,6 +66,7 @@ impl Validator {
 
 impl<M: PatternMatcher> Validator<M> {
     ghost use Rattle.schema_validators.specs.Answered.{AreFaults, IsFault};
+    ghost use Rattle.schema_validators.specs.Decided.{IsDecidedAs};
     ghost use Rattle.schema_validators.specs.Made.{IsMadeBy};
     ghost use Rattle.schema_validators.specs.Missing.{TellsEachMissing};
     ghost use Rattle.schema_validators.specs.New.{IsNew, Refuses};
@@ -138,7 +139,8 @@ impl<M: PatternMatcher> Validator<M> {
     /// Where memory was refused.
     pub fn decide(&self, value: &Value) -> Result<Decision, AllocError>
         requires whole { only_whole (view value.now) ≡ true }
-        ensures { IfOk result (Decides self.now (view value.now)) }
+        ensures cut { IfOk result (Decides self.now (view value.now)) }
+        ensures verdict { IfOk result (λ decision. (p : Patterns) (r : Root) → IsMadeBy p r self.now → IsDecidedAs p r (view value.now) decision) }
     {
         self.schemas.decide(self.alloc, self.start, value)
     }

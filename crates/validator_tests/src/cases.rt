@@ -11,6 +11,7 @@
 //   retrievals NUMBER       how many documents are retrieved at most
 //   match <PATTERN> TEXT    for the script: a pattern and a text in which it matches
 //   refuse PATTERN          for the script: a pattern that is refused
+//   unfinished PATTERN      for the script: a pattern whose matches stay unfinished
 //   # REMARK                nothing
 //
 // The questions:
@@ -24,16 +25,17 @@
 //   unknown URI             the names in a document that are no keywords
 //   alone VALUE             the same, of a document by itself, without options
 //   scripted VALUE          the faults by the script's patterns, or why there is no validator
+//   decided VALUE           what is decided by the script's patterns, or why there is no validator
 //   keys                    the pointers of the map of validators, or why there is none
 //   has <POINTER>           whether the map has it
 //   at <POINTER> VALUE      the faults by the map's validator there
 use crate::maps::map_answer;
-use crate::patterns::scripted;
+use crate::patterns::{decided, scripted};
 use crate::{answers, listing};
 use std::alloc::Global;
 use std::process::Abort;
 
-const GIVEN: [&str; 12] = [
+const GIVEN: [&str; 13] = [
     "document <",
     "meta <",
     "retrieved <",
@@ -45,6 +47,7 @@ const GIVEN: [&str; 12] = [
     "retrievals ",
     "match <",
     "refuse ",
+    "unfinished ",
     "# ",
 ];
 
@@ -58,6 +61,7 @@ fn answer(rt: &impl Abort, alloc: Global, case: &str, word: &str, input: &str) -
         "causes" => listing::causes(rt, alloc, case),
         "unknown" => listing::unknown(rt, alloc, case, input),
         "alone" => answers::alone(rt, alloc, case, input),
+        "decided" => decided(rt, alloc, case, input),
         "scripted" => scripted(rt, alloc, case, input),
         _ => map_answer(rt, alloc, case, word, input),
     }

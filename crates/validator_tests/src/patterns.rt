@@ -6,7 +6,7 @@ use crate::answers::{assert_agreed, faults, why};
 use crate::cases::assert_cases;
 use crate::given::{documents_of, json, named, setting};
 use json_schema_validator::{
-    PatternError, PatternMaker, RegexMaker, RegexMatcher, ValidationOptions, Validator,
+    Decision, PatternError, PatternMaker, RegexMaker, RegexMatcher, ValidationOptions, Validator,
 };
 use schema_patterns::PatternMatcher;
 use schema_patterns::bench::ScriptedMaker;
@@ -19,6 +19,9 @@ fn script_of(rt: &impl Abort, alloc: Global, case: &str) -> ScriptedMaker {
     let mut maker = ScriptedMaker::new(alloc);
     if let Some(pattern) = setting(case, "refuse ") {
         maker.refuse(alloc, pattern).expect(rt, "memory");
+    }
+    if let Some(pattern) = setting(case, "unfinished ") {
+        maker.leave_unfinished(alloc, pattern).expect(rt, "memory");
     }
     for line in case.lines() {
         if let Some((pattern, text)) = named(line, "match <") {
@@ -48,6 +51,27 @@ pub(crate) fn scripted(rt: &impl Abort, alloc: Global, case: &str, input: &str) 
     }
 }
 
+fn said(decision: Decision) -> &'static str {
+    match decision {
+        Decision::Accepted => "accepted",
+        Decision::Refused => "refused",
+        Decision::Undecided => "undecided",
+    }
+}
+
+pub(crate) fn decided(rt: &impl Abort, alloc: Global, case: &str, input: &str) -> String {
+    let text = setting(case, "document <> ").expect(rt, "a schema");
+    let schema = Value::from_str(alloc, text).expect(rt, "JSON");
+    match Validator::new(alloc, schema, script_of(rt, alloc, case)) {
+        Ok(validator) => {
+            let value = json(rt, alloc, input);
+            let decision = validator.decide(&value).expect(rt, "memory");
+            String::from_str(alloc, said(decision)).expect(rt, "memory")
+        }
+        Err(error) => why(rt, alloc, error),
+    }
+}
+
 const BY_A_SCRIPT: &str = r##"
 match <spam$> spam
 document <> {"additionalProperties":false,"properties":{"foo":{"type":"string"}},"patternProperties":{"^bar":{"minimum":5},"spam$":{"maximum":10}}}
@@ -67,6 +91,26 @@ scripted {"bar":4,"spam":11,"foo":3,"faz":1} => Pattern at 'json-schema:///#/pat
 refuse ^bar
 document <> {"patternProperties":{"^bar":true,"spam$":true}}
 scripted {"bar":4,"spam":11,"foo":3,"faz":1} => valid
+
+# Matches that stay unfinished, answered both ways.
+unfinished (?<=ab)c
+document <> {"anyOf":[{"pattern":"(?<=ab)c"},{"not":{"pattern":"(?<=ab)c"}}]}
+decided "abc" => accepted
+
+unfinished (?<=ab)c
+document <> {"pattern":"(?<=ab)c","maxLength":1}
+decided "abc" => refused
+decided 1 => accepted
+
+unfinished (?<=ab)c
+document <> {"not":{"pattern":"(?<=ab)c"}}
+decided "abc" => refused
+
+# Five of them take 63 runs, and a sixth more than are made.
+unfinished (?<=ab)c
+document <> {"$defs":{"s":{"anyOf":[{"pattern":"(?<=ab)c"},{"not":{"pattern":"(?<=ab)c"}}]}},"additionalProperties":{"$ref":"#/$defs/s"}}
+decided {"x1":"abc1","x2":"abc2","x3":"abc3","x4":"abc4","x5":"abc5"} => accepted
+decided {"x1":"abc1","x2":"abc2","x3":"abc3","x4":"abc4","x5":"abc5","x6":"abc6"} => undecided
 "##;
 
 #[test]
