@@ -35,14 +35,14 @@ const DOCUMENTS: [Row; 3] = [
         &["plain.json", "u:x=none", "--output", "text"],
         "1\n",
         r"2  build refused: Document 'u:x' is no JSON text
-  in the file 'none'
+  in the file 'none': The document 'u:x' is no JSON text, from line 1, column 1 on
 ",
     ),
     (
         &["half", "--output", "json"],
         "1\n",
         r"2  build refused: Number at 'json-schema:///#' is no whole number of 64 bits
-  in the file 'half'
+  in the file 'half': The number at 'json-schema:///#' is no whole number from -2^63 to 2^64-1
 ",
     ),
     (
@@ -54,17 +54,17 @@ const DOCUMENTS: [Row; 3] = [
         ],
         "1\n",
         r"2  build refused: Number at 'http://a.test/~x#/a/0' is no whole number of 64 bits
-  in the file 'deep.json' at '/a/0'
+  in the file 'deep.json' at '/a/0': The number at 'http://a.test/~x#/a/0' is no whole number from -2^63 to 2^64-1
 ",
     ),
 ];
 
-const BUILDS: [Row; 5] = [
+const BUILDS: [Row; 7] = [
     (
         &["wrong.json", "--output", "text"],
         "1\n",
         r"2  build refused: Keyword value at 'json-schema:///#/type': expected type name
-  in the file 'wrong.json' at '/type'
+  in the file 'wrong.json' at '/type': Expected type name, found 5
 ",
     ),
     (
@@ -100,9 +100,24 @@ const BUILDS: [Row; 5] = [
     (
         &["nowhere.json", "--output", "text"],
         "1\n",
-        r"2  build refused: Pointer '/$defs/none' does not exist
-  in the file 'nowhere.json' at '/$ref'
-",
+        r##"2  build refused: Pointer '/$defs/none' does not exist
+  in the file 'nowhere.json' at '/$ref': The reference "#/$defs/none" is refused: nothing stands at the pointer '/$defs/none'
+"##,
+    ),
+    (
+        &["several.json", "--output", "text"],
+        "1\n",
+        r#"2  build refused: Keyword value at 'json-schema:///#/minItems': expected count
+  in the file 'several.json' at '/minItems': Expected count, found "1"
+  in the file 'several.json' at '/type': Expected type name, found 5
+  in the file 'several.json' at '/properties/a/maxItems': Expected count, found -1
+  in the file 'several.json' at '/properties/a/pattern': The pattern "(" is refused
+"#,
+    ),
+    (
+        &["several.json"],
+        "1\n",
+        "2  build refused: Keyword value at 'json-schema:///#/minItems': expected count\n",
     ),
 ];
 

@@ -42,7 +42,7 @@ warning: document 'json-schema:///' in the file 'either.json' replaces the one i
         "1\n",
         r"2  warning: document 'u:x' in the file 'none' replaces the one in the file 'true.json'
 build refused: Document 'u:x' is no JSON text
-  in the file 'none'
+  in the file 'none': The document 'u:x' is no JSON text, from line 1, column 1 on
 ",
     ),
     (
@@ -63,7 +63,49 @@ build refused: Document 'u:x' is no JSON text
     ),
 ];
 
+const UNKNOWN: [Row; 4] = [
+    (
+        &["typos.json", "--output", "text"],
+        "1\n",
+        r#"0  warning: keyword "nmae" in the file 'typos.json' at '/nmae' is unknown to draft 2020-12
+warning: keyword "x-a" in the file 'typos.json' at '/x-a' is unknown to draft 2020-12
+warning: keyword "dependentRequired" in the file 'typos.json' at '/properties/nmae/dependentRequired' is unknown to draft 7
+lines: 1, valid: 1, not valid: 0, not read: 0
+"#,
+    ),
+    (&["typos.json"], "1\n", "0 []\n "),
+    (
+        &[
+            "plain.json",
+            "u:x=typos.json",
+            "U:x=beside.json",
+            "u:y=old.json",
+            "--draft",
+            "7",
+            "--output",
+            "json",
+        ],
+        "",
+        r#"0  warning: document 'U:x' in the file 'beside.json' replaces the one in the file 'typos.json'
+warning: keyword "$anchors" in the file 'old.json' at '/items/0/$anchors' is unknown to draft 7
+"#,
+    ),
+    (
+        &["wrong.json", "u:y=old.json", "--output", "text"],
+        "",
+        r#"2  warning: keyword "additionalItems" in the file 'old.json' at '/additionalItems' is unknown to draft 2020-12
+build refused: Keyword value at 'json-schema:///#/type': expected type name
+  in the file 'wrong.json' at '/type': Expected type name, found 5
+"#,
+    ),
+];
+
 #[test]
 fn documents_that_are_replaced(rt: HostRuntime) {
     assert_outcomes(&rt, rt.alloc(), &SOUND, &REPLACED);
+}
+
+#[test]
+fn keywords_that_are_unknown(rt: HostRuntime) {
+    assert_outcomes(&rt, rt.alloc(), &SOUND, &UNKNOWN);
 }

@@ -20,6 +20,14 @@ const META: &str =
 const EITHER: &str =
     "{\"properties\":{\"a\":{\"anyOf\":[{\"type\":\"string\"},{\"type\":\"null\"}]}}}";
 
+// Something is wrong at four members of two schemas.
+const SEVERAL: &str =
+    "{\"type\":5,\"minItems\":\"1\",\"properties\":{\"a\":{\"maxItems\":-1,\"pattern\":\"(\"}}}";
+
+// Names that no draft has, and one that a later draft has; members of what is no schema, and a name that only tells something.
+const TYPOS: &str =
+    "{\"nmae\":1,\"x-a\":2,\"title\":\"t\",\"default\":{\"nmae\":1},\"properties\":{\"nmae\":{\"$id\":\"http://a.test/old\",\"$schema\":\"http://json-schema.org/draft-07/schema#\",\"dependentRequired\":{}}}}";
+
 // Faults that are listed, a line for each instance: right ones of `root.json`, one of `plain.json`, some of which one is right, and texts
 // that are no lists of them.
 const RIGHT: &str = "[[\"\",\"/minItems\"],[\"/0\",\"/items/$ref/type\"]]\n[]\n";
@@ -30,7 +38,7 @@ const SOME: &str =
 const OTHERS: &str =
     "null\n[[\"\",\"/type\",\"\"]]\n[[\"\",\"/type\"]\n{}\n[[\"\",\"/type\"]]\n[[\"\",\"/type\"]]\n[]";
 
-const FILES: [(&str, &str); 23] = [
+const FILES: [(&str, &str); 26] = [
     ("root.json", ROOT),
     ("leaf.json", LEAF),
     ("plain.json", "{\"type\":\"string\"}"),
@@ -60,6 +68,12 @@ const FILES: [(&str, &str); 23] = [
     ("typed", "[[\"\",\"/type\"]]\n"),
     ("some", SOME),
     ("others", OTHERS),
+    ("several.json", SEVERAL),
+    ("typos.json", TYPOS),
+    (
+        "old.json",
+        "{\"items\":[{\"$anchors\":1}],\"additionalItems\":false}",
+    ),
 ];
 
 fn files(rt: &impl Abort, alloc: Global) -> MapFiles {

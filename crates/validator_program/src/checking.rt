@@ -23,13 +23,14 @@ use std::alloc::Global;
 ///
 /// A word for the output that names no form; what the documents are refused for; the file, or the first file of an instance, that is not
 /// read; another number of lines in the file than of instances; or where reading, writing or memory fails.
-pub(crate) fn check_words<'a, F: SchemaFiles, S: ByteSource, K: ByteSink>(
+pub(crate) fn check_words<'a, F: SchemaFiles, S: ByteSource, K: ByteSink, T: ByteSink>(
     alloc: Global,
     words: &ProgramWords<'a>,
     file: &'a str,
     files: &F,
     reader: &mut S,
     writer: &mut K,
+    faults: &mut T,
 ) -> Result<RunReport, ProgramFault<'a>>
     ensures ok { IfOk result (λ report. (rows : List Row) → HasWordsOf rows words.now → ChecksAll file.entry.now rows
         (F.held files.now) (S.remaining reader.old) (S.remaining reader.new)
@@ -40,7 +41,7 @@ pub(crate) fn check_words<'a, F: SchemaFiles, S: ByteSource, K: ByteSink>(
         (K.contents writer.old) (K.contents writer.new)))) }
 {
     let _form = read_form(words.output)?;
-    let documents = prepare_documents(alloc, words, files)?;
+    let documents = prepare_documents(alloc, words, files, faults)?;
     let checker = AnswerChecker::new(alloc, &documents.registry, "", &RegexMaker)?;
     let listed = read_bytes(alloc, files, file)?;
     let texts = read_instances(alloc, files, words.instances.as_slice())?;

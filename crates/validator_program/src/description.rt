@@ -35,8 +35,27 @@ pub(crate) fn description(
         ProgramFault::File { .. } => String::from_str(alloc, FILE),
         ProgramFault::Document(error) => of_document(alloc, words, error),
         ProgramFault::Build(error) => of_build(alloc, words, error),
+        ProgramFault::Schema { error, causes } => of_schema(alloc, words, error, causes),
         _ => Ok(String::new(alloc)),
     }
+}
+
+// All that is wrong with a schema. Where it is none of the schema's own, as where its meta-schema is not read, the error that is known.
+fn of_schema(
+    alloc: Global,
+    words: &ProgramWords<'_>,
+    error: &BuildError,
+    causes: &[BuildError],
+) -> Result<String, AllocError> {
+    if causes.is_empty() {
+        return of_build(alloc, words, error);
+    }
+    let mut text = String::new(alloc);
+    for cause in causes {
+        let lines = of_build(alloc, words, cause)?;
+        text.push_str(lines.as_str())?;
+    }
+    Ok(text)
 }
 
 fn of_document(
@@ -44,11 +63,13 @@ fn of_document(
     words: &ProgramWords<'_>,
     error: &DocumentError,
 ) -> Result<String, AllocError> {
+    let said = error.description(alloc)?;
+    let sentence = first_line(said.as_str());
     match error {
-        DocumentError::JsonText { uri, .. } => in_file(alloc, words, uri.as_str(), ""),
+        DocumentError::JsonText { uri, .. } => in_file(alloc, words, uri.as_str(), "", sentence),
         DocumentError::OtherNumber { document, path } => {
             let path = path.to_pointer(alloc)?;
-            in_file(alloc, words, document.as_str(), path.as_str())
+            in_file(alloc, words, document.as_str(), path.as_str(), sentence)
         }
         _ => Ok(String::new(alloc)),
     }
@@ -62,7 +83,10 @@ fn of_build(
     match error {
         BuildError::Document(error) => of_document(alloc, words, error),
         BuildError::Registry(error) | BuildError::Root(error) => of_reference(alloc, words, error),
-        BuildError::Schema(cause) => of_cause(alloc, words, cause),
+        BuildError::Schema(cause) => {
+            let said = error.description(alloc)?;
+            of_cause(alloc, words, cause, first_line(said.as_str()))
+        }
         BuildError::MetaSchema(error) => of_fault(alloc, words, error),
         BuildError::Memory => Ok(String::new(alloc)),
     }
@@ -72,13 +96,14 @@ fn of_cause(
     alloc: Global,
     words: &ProgramWords<'_>,
     cause: &BuildCause,
+    sentence: &str,
 ) -> Result<String, AllocError> {
     match cause {
         BuildCause::KeywordValue { place, .. }
         | BuildCause::BadPattern { place, .. }
-        | BuildCause::Unevaluated { place } => at_place(alloc, words, place),
+        | BuildCause::Unevaluated { place } => at_place(alloc, words, place, sentence),
         BuildCause::Reference { place, error, .. } => {
-            let mut text = at_place(alloc, words, place)?;
+            let mut text = at_place(alloc, words, place, sentence)?;
             let more = of_reference(alloc, words, error)?;
             text.push_str(more.as_str())?;
             Ok(text)
@@ -115,22 +140,40 @@ fn at_place(
     alloc: Global,
     words: &ProgramWords<'_>,
     place: &SchemaPlace,
+    sentence: &str,
 ) -> Result<String, AllocError> {
     let path = place.path.to_pointer(alloc)?;
-    in_file(alloc, words, place.document.uri.as_str(), path.as_str())
+    in_file(
+        alloc,
+        words,
+        place.document.uri.as_str(),
+        path.as_str(),
+        sentence,
+    )
 }
 
-// The file of a document, and the path in it; nothing where the document was given by no file.
+// The file of a document, the path in it, and what is said of the place; where the document was given by no file, its URI.
 fn in_file(
     alloc: Global,
     words: &ProgramWords<'_>,
     uri: &str,
     path: &str,
+    sentence: &str,
 ) -> Result<String, AllocError> {
     match file_of(alloc, words, uri)? {
-        Some(file) if path.is_empty() => format!(in alloc; "  in the file '{file}'\n"),
-        Some(file) => format!(in alloc; "  in the file '{file}' at '{path}'\n"),
-        None => Ok(String::new(alloc)),
+        Some(file) if path.is_empty() => {
+            format!(in alloc; "  in the file '{file}': {sentence}\n")
+        }
+        Some(file) => format!(in alloc; "  in the file '{file}' at '{path}': {sentence}\n"),
+        None => format!(in alloc; "  at '{uri}#{path}': {sentence}\n"),
+    }
+}
+
+// The first line of a description, which is a sentence. A place stands behind it.
+fn first_line(description: &str) -> &str {
+    match description.split_once('\n') {
+        Some((sentence, _)) => sentence,
+        None => description,
     }
 }
 

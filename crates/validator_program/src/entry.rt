@@ -41,7 +41,8 @@ const NO_MEMORY: &str = "No memory\n";
 /// Where it is 2 or 3 the fault is told to `faults`: the first that is met, of the words, the
 /// base, SCHEMA, the further files in their order, the build, the file to be checked, the files of instances, and the lines. A write to `faults` that fails changes nothing.
 ///
-/// Where sentences or objects are written, `faults` is told before all else of each document that replaces another under its URI.
+/// Where sentences or objects are written, `faults` is told before all else of each document that replaces another under its URI, and once
+/// the documents are read of each member of their schemas whose name is no keyword of the draft there.
 pub fn program<'a, F: SchemaFiles, S: ByteSource, K: ByteSink, T: ByteSink>(
     alloc: Global,
     words: &'a [&'a str],
@@ -128,19 +129,20 @@ fn answer<'a, F: SchemaFiles, S: ByteSource, K: ByteSink, T: ByteSink>(
     if let Ok(text) = warnings(alloc, &words) {
         write_text(faults, text.as_str());
     }
-    match follow(alloc, &words, files, reader, writer) {
+    match follow(alloc, &words, files, reader, writer, faults) {
         Ok(answered) => Ok(answered),
         Err(fault) => Err(Refusal::described(alloc, &words, fault)),
     }
 }
 
 // Does what the words ask for.
-fn follow<'a, F: SchemaFiles, S: ByteSource, K: ByteSink>(
+fn follow<'a, F: SchemaFiles, S: ByteSource, K: ByteSink, T: ByteSink>(
     alloc: Global,
     words: &ProgramWords<'a>,
     files: &F,
     reader: &mut S,
     writer: &mut K,
+    faults: &mut T,
 ) -> Result<Answered, ProgramFault<'a>>
     ensures ok { IfOk result (λ a. (rows : List Row) → HasWordsOf rows words.now → Does rows
         (F.held files.now) (S.remaining reader.old) (S.remaining reader.new)
@@ -151,19 +153,20 @@ fn follow<'a, F: SchemaFiles, S: ByteSource, K: ByteSink>(
         (K.contents writer.old) (K.contents writer.new)))) }
 {
     let Some(file) = words.check else {
-        return answer_words(alloc, words, files, reader, writer);
+        return answer_words(alloc, words, files, reader, writer, faults);
     };
-    let report = check_words(alloc, words, file, files, reader, writer)?;
+    let report = check_words(alloc, words, file, files, reader, writer, faults)?;
     Ok(Answered { report, sum: None })
 }
 
 // Answers the instances.
-fn answer_words<'a, F: SchemaFiles, S: ByteSource, K: ByteSink>(
+fn answer_words<'a, F: SchemaFiles, S: ByteSource, K: ByteSink, T: ByteSink>(
     alloc: Global,
     words: &ProgramWords<'a>,
     files: &F,
     reader: &mut S,
     writer: &mut K,
+    faults: &mut T,
 ) -> Result<Answered, ProgramFault<'a>>
     ensures ok { IfOk result (λ a. (rows : List Row) → HasWordsOf rows words.now → AnswersAll rows
         (F.held files.now) (S.remaining reader.old) (S.remaining reader.new)
@@ -174,7 +177,7 @@ fn answer_words<'a, F: SchemaFiles, S: ByteSource, K: ByteSink>(
         (K.contents writer.old) (K.contents writer.new)))) }
 {
     let form = read_form(words.output)?;
-    let validator = prepare(alloc, words, files)?;
+    let validator = prepare(alloc, words, files, faults)?;
     let names = words.instances.as_slice();
     let done = answer_instances(alloc, form, names, files, reader, writer, &validator)?;
     Ok(Answered {
@@ -212,8 +215,8 @@ fn told<T: ByteSink>(alloc: Global, refusal: &Refusal<'_>, faults: &mut T) -> u8
     }
 }
 
-// Writes a text, as far as it is taken.
-fn write_text<T: ByteSink>(sink: &mut T, text: &str) {
+/// Writes a text, as far as it is taken.
+pub(crate) fn write_text<T: ByteSink>(sink: &mut T, text: &str) {
     let mut rest = text.as_bytes();
     while !rest.is_empty() {
         match sink.write(rest) {

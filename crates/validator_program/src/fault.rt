@@ -48,6 +48,12 @@ pub(crate) enum ProgramFault<'a> {
     /// The documents together, or the schema.
     #[error("build refused: {0}")]
     Build(BuildError),
+    /// The schema, by the first of its causes, with all of them.
+    #[error("build refused: {error}")]
+    Schema {
+        error: BuildError,
+        causes: Vec<BuildError>,
+    },
     /// A file that lists the faults of another number of instances.
     #[error("answers refused: lines of {name}: {lines}, instances: {instances}")]
     Count {

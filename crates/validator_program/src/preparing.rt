@@ -13,8 +13,11 @@ ghost use Rattle.validator_program.specs.Prepared.{IsValidatorOf};
 use crate::documents::{cut_words, read_documents};
 use crate::fault::ProgramFault;
 use crate::meta_files::read_meta_schemas;
+use crate::refusal::says_more;
+use crate::warnings::warn_of_keywords;
 use document_sources::layer::Layer;
-use line_runs::{Documents, Draft, ValidationOptions, Validator};
+use line_cuts::ByteSink;
+use line_runs::{BuildError, Documents, Draft, ValidationOptions, Validator};
 use program_inputs::{ProgramWords, SchemaFiles};
 use schema_registries::SchemaRegistry;
 use std::alloc::{AllocError, Global};
@@ -27,6 +30,17 @@ fn read_base<'a>(alloc: Global, base: Option<&'a str>) -> Result<Uri, ProgramFau
     ensures { IfOk result (λ u. u ≡ base_of (option_map (λ s. s.now) base.entry)) }
 {
     Ok(from_str(alloc, base.unwrap_or(DEFAULT_BASE))?)
+}
+
+/// The word for a draft.
+pub(crate) fn word_for(draft: Draft) -> &'static str {
+    match draft {
+        Draft::Draft4 => "4",
+        Draft::Draft6 => "6",
+        Draft::Draft7 => "7",
+        Draft::Draft201909 => "2019-09",
+        Draft::Draft202012 | Draft::Unknown => "2020-12",
+    }
 }
 
 // The draft that a word names.
@@ -116,16 +130,17 @@ pub(crate) struct PreparedDocuments {
     pub(crate) registry: SchemaRegistry,
 }
 
-/// Prepares the documents that the words name.
+/// Prepares the documents that the words name, and tells of their members that are no keywords, where the words ask for that.
 ///
 /// # Errors
 ///
 /// The first that is met: a further word without `=`, the draft, the base, the files and documents in their order, the meta-schemas, what
 /// the documents together are refused for; or want of memory.
-pub(crate) fn prepare_documents<'a, F: SchemaFiles>(
+pub(crate) fn prepare_documents<'a, F: SchemaFiles, T: ByteSink>(
     alloc: Global,
     words: &ProgramWords<'a>,
     files: &F,
+    faults: &mut T,
 ) -> Result<PreparedDocuments, ProgramFault<'a>>
     ensures prepared { IfOk result (λ d. IsPreparedOf (F.held files.now) (words_of words.now)
         d.registry.parent (root_on d.registry [])) }
@@ -144,7 +159,34 @@ pub(crate) fn prepare_documents<'a, F: SchemaFiles>(
     let meta_schemas = read_meta(alloc, files, layer, words.meta)?;
     let options = options_of(alloc, layer, base, meta_schemas)?;
     let registry = options.prepare(&documents)?;
+    warn_of_keywords(alloc, words, &registry, faults);
     Ok(PreparedDocuments { options, registry })
+}
+
+// All that is wrong with the schema, each cause as an error of its own; nothing where memory is out.
+fn all_causes(alloc: Global, documents: &PreparedDocuments) -> Option<Vec<BuildError>> {
+    let causes = documents.options.causes_on(&documents.registry, "").ok()?;
+    let mut errors = Vec::new(alloc);
+    for cause in causes {
+        errors.push(BuildError::Schema(cause)).ok()?;
+    }
+    Some(errors)
+}
+
+// The fault of a build that was refused: where more is said than its text, and something is wrong at a schema, with all causes.
+fn refused<'a>(
+    alloc: Global,
+    words: &ProgramWords<'a>,
+    documents: &PreparedDocuments,
+    error: BuildError,
+) -> ProgramFault<'a> {
+    if !(says_more(words) && matches!(error, BuildError::Schema(_))) {
+        return ProgramFault::from(error);
+    }
+    match all_causes(alloc, documents) {
+        Some(causes) => ProgramFault::Schema { error, causes },
+        None => ProgramFault::from(error),
+    }
 }
 
 /// Builds the validator that the words name.
@@ -152,13 +194,17 @@ pub(crate) fn prepare_documents<'a, F: SchemaFiles>(
 /// # Errors
 ///
 /// Those of the documents, the build, or want of memory.
-pub(crate) fn prepare<'a, F: SchemaFiles>(
+pub(crate) fn prepare<'a, F: SchemaFiles, T: ByteSink>(
     alloc: Global,
     words: &ProgramWords<'a>,
     files: &F,
+    faults: &mut T,
 ) -> Result<Validator, ProgramFault<'a>>
     ensures { IfOk result (IsValidatorOf (F.held files.now) (words_of words.now)) }
 {
-    let documents = prepare_documents(alloc, words, files)?;
-    Ok(documents.options.build_on(&documents.registry, "")?)
+    let documents = prepare_documents(alloc, words, files, faults)?;
+    match documents.options.build_on(&documents.registry, "") {
+        Ok(validator) => Ok(validator),
+        Err(error) => Err(refused(alloc, words, &documents, error)),
+    }
 }

@@ -8,6 +8,11 @@ use crate::fault::ProgramFault;
 use program_inputs::ProgramWords;
 use std::alloc::{AllocError, Global};
 
+/// Whether the words ask for sentences or for objects, so that more is said of what is wrong.
+pub(crate) fn says_more(words: &ProgramWords<'_>) -> bool {
+    matches!(words.output, Some("text") | Some("json"))
+}
+
 /// A fault, and what is said of it behind its text, where the words ask for that.
 #[derive(Debug, Drop)]
 pub(crate) struct Refusal<'a> {
@@ -34,9 +39,10 @@ impl<'a> Refusal<'a> {
     ) -> Refusal<'a>
         ensures { result.fault ≡ fault.entry }
     {
-        let description = match words.output {
-            Some("text") | Some("json") => description(alloc, words, &fault).ok(),
-            _ => None,
+        let description = if says_more(words) {
+            description(alloc, words, &fault).ok()
+        } else {
+            None
         };
         Refusal { fault, description }
     }

@@ -3,11 +3,11 @@ use Rattle.schema_registries.specs.Roots.{root_on}
 use Rattle.validator_program.proofs.Alone.{builds_with}
 use Rattle.validator_program.proofs.preparing.prepare.Goals as goal
 
-pub returns : goal.returns
-returns g c =
+pub returns-in-Ok : goal.returns-in-Ok
+returns-in-Ok g c =
     let d = c.in_ok-documents.documents in
     let of_documents = c.in_ok-documents.ensures in
-    let build = c.in_ok-build_on.ensures in
+    let build = c.in-Ok.ensures in
     let root = root_on d.registry [] in
     record {
       root = root;
