@@ -20,7 +20,7 @@ use crate::warnings::warnings;
 use line_cuts::{ByteSink, ByteSource};
 use line_runs::RunError;
 use program_inputs::{ProgramWords, SchemaFiles};
-use std::alloc::Global;
+use std::alloc::{AllocError, Global};
 use std::env;
 use std::io::ErrorKind;
 use std::rt::Env;
@@ -80,18 +80,43 @@ pub fn run_program<R: Env + AllocGlobal, F: SchemaFiles, S: ByteSource, K: ByteS
     ensures { result ≤ 3 }
 {
     let alloc = rt.alloc();
-    let given = match given_words(rt) {
-        Ok(given) => given,
-        Err(fault) => return told(alloc, &Refusal::plain(fault), faults),
-    };
-    let mut words = Vec::new(alloc);
-    for word in given.iter() {
-        if words.push(word.as_str()).is_err() {
-            let fault = ProgramFault::Run(RunError::Memory);
-            return told(alloc, &Refusal::plain(fault), faults);
-        }
+    match given_words(rt) {
+        Ok(given) => by_words(alloc, given.as_slice(), files, reader, writer, faults),
+        Err(fault) => plainly_told(alloc, fault, faults),
     }
-    program(alloc, words.as_slice(), files, reader, writer, faults)
+}
+
+// The words as they are lent.
+fn lent_words(alloc: Global, given: &[String]) -> Result<Vec<&str>, AllocError> {
+    let mut words = Vec::new(alloc);
+    for word in given {
+        words.push(word.as_str())?;
+    }
+    Ok(words)
+}
+
+// Does what `program` does, by words that are owned.
+fn by_words<F: SchemaFiles, S: ByteSource, K: ByteSink, T: ByteSink>(
+    alloc: Global,
+    given: &[String],
+    files: &F,
+    reader: &mut S,
+    writer: &mut K,
+    faults: &mut T,
+) -> u8
+    ensures { result ≤ 3 }
+{
+    match lent_words(alloc, given) {
+        Ok(words) => program(alloc, words.as_slice(), files, reader, writer, faults),
+        Err(_) => plainly_told(alloc, ProgramFault::Run(RunError::Memory), faults),
+    }
+}
+
+// Tells a fault of which no more is said, and answers its status.
+fn plainly_told<T: ByteSink>(alloc: Global, fault: ProgramFault<'_>, faults: &mut T) -> u8
+    ensures { result ≤ 3 }
+{
+    told(alloc, &Refusal::plain(fault), faults)
 }
 
 // The words behind the program's name.
