@@ -99,7 +99,7 @@ const DOCUMENTS: [Row; 6] = [
     ),
 ];
 
-const BUILDS: [Row; 7] = [
+const BUILDS: [Row; 9] = [
     (
         &["wrong.json", "--output", "text"],
         "1\n",
@@ -135,6 +135,22 @@ const BUILDS: [Row; 7] = [
         "1\n",
         r#"2  build refused: Schema refused by its meta-schema at '/type', '/properties/type/type'
   in the file 'refused.json' at '/type': ["string"] is not of type string
+"#,
+    ),
+    (
+        &["loose.json", "--meta", "strict.json", "--output", "text"],
+        "1\n",
+        r#"2  build refused: Schema refused by its meta-schema at '/type', '/properties/type/type'
+  in the file 'loose.json' at '/type': ["string"] is not of type string
+  in the file 'loose.json': {"$schema":"http://a.test/m3","type":["string"]} has no member of the required name "description"
+"#,
+    ),
+    (
+        &["looser.json", "--meta", "strict.json", "--output", "json"],
+        "1\n",
+        r#"2  build refused: Keyword value at 'json-schema:///#/minItems': expected count
+  in the file 'looser.json' at '/minItems': Expected count, found "1"
+  in the file 'looser.json': {"$schema":"http://a.test/m3","minItems":"1"} has no member of the required name "description"
 "#,
     ),
     (

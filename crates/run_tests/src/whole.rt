@@ -38,11 +38,15 @@ const SOME: &str =
 const OTHERS: &str =
     "null\n[[\"\",\"/type\",\"\"]]\n[[\"\",\"/type\"]\n{}\n[[\"\",\"/type\"]]\n[[\"\",\"/type\"]]\n[]";
 
+// A meta-schema that asks for three things, and a schema that it refuses for two of them at once.
+const STRICT: &str =
+    "[{\"$id\":\"http://a.test/m3\",\"properties\":{\"description\":{\"type\":\"string\"},\"type\":{\"type\":\"string\"}},\"required\":[\"description\"]}]";
+
 // More lists in one another than a value may have.
 const NESTED: &str =
     "[[[[[[[[[[[[[[[[[[[[[[[[[[[[[[[[[[[[[[[[[[[[[[[[[[[[[[[[[[[[[[[[[[[[[[[[[[[[[[[[[[[[[[[[[[[[[[[[[[[[[[[[[[[[[[[[[[[[[[[[[[[[[[[[";
 
-const FILES: [(&str, &str); 29] = [
+const FILES: [(&str, &str); 32] = [
     ("root.json", ROOT),
     ("leaf.json", LEAF),
     ("plain.json", "{\"type\":\"string\"}"),
@@ -74,6 +78,15 @@ const FILES: [(&str, &str); 29] = [
     ("others", OTHERS),
     ("several.json", SEVERAL),
     ("nested", NESTED),
+    ("strict.json", STRICT),
+    (
+        "loose.json",
+        "{\"$schema\":\"http://a.test/m3\",\"type\":[\"string\"]}",
+    ),
+    (
+        "looser.json",
+        "{\"$schema\":\"http://a.test/m3\",\"minItems\":\"1\"}",
+    ),
     ("astray.json", "{\"$id\":\"%\"}"),
     (
         "circle.json",

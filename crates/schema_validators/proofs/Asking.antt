@@ -1,5 +1,5 @@
 -- What is said of a root by its meta-schema.
-use Rattle.std.proofs.Common.{◌≡◌, ◌∙◌, ◌⊎◌, inl, inr, ap, codes, ℕ, List, Bool, true, false, not, Option, Some, Result, Ok, Err, OnOk, IfErr, IsErrAnd, sym, subst}
+use Rattle.std.proofs.Common.{◌≡◌, ◌∙◌, ◌⊎◌, inl, inr, ap, codes, ℕ, List, Bool, true, false, not, Option, Some, None, Result, Ok, Err, OnOk, IfErr, IsErrAnd, sym, subst}
 use Rattle.serde_json.specs.Data.{Data}
 use Rattle.schema_definitions.specs.Words.{has_text}
 use Rattle.schema_definitions.specs.Bearers.{uri_in}
@@ -11,7 +11,7 @@ use Rattle.schema_registries.specs.Roots.{Root, Patterns, Finds, IsSound}
 use Rattle.schema_registries.proofs.Found.{finds_one}
 use Rattle.schema_meaning.specs.Readings.{verdicts}
 use Rattle.schema_registries.specs.Answers.{IsAnswer}
-use Rattle.schema_validators.specs.Asked.{meta_root, meta_schema_of, Accepts, IsHandedIn, IsMetIn, IsMet}
+use Rattle.schema_validators.specs.Asked.{meta_root, meta_schema_of, Accepts, IsAsked, IsHandedIn, IsMetIn, IsMet}
 use Rattle.schema_validators.specs.Counted.{IsWithin}
 use Rattle.schema_validators.specs.Refused.{RefusesAt, RefusesBuild, RefusesByMeta, RefusesRoot, RefusesValue}
 use Rattle.schema_validators.specs.Seen.{root_of}
@@ -59,6 +59,18 @@ module _ (p : Patterns) (limit : ℕ) (Made : Patterns → Root → Type 0) (r o
   pub refuses_by : {T : Type 0} (x : Result T BuildError) → IfErr x (λ e. (q : Patterns) (s : Root) → Made q s → (e ≡ error.Memory) ⊎ RefusesValue q s d e) → IfErr x (RefusesAt p limit other d)
   refuses_by (Ok y) h = tt
   refuses_by (Err e) h = by_reason e (h p r made)
+
+-- no meta-schema is asked
+module _ (parent : SharedRegistry) (t : Target) where
+  pub unnamed : (u : Option (List ℕ)) → u ≡ meta_schema_of t → u ≡ None → (uri : List ℕ) → IsAsked parent t uri → ⊥
+  unnamed u is none uri asked = cc (is, none, asked.named)
+
+  pub not_handed : (u : Option (List ℕ)) (uri text : List ℕ) → u ≡ meta_schema_of t → u ≡ Some uri → text ≡ uri → (IsHandedIn parent text → ⊥) → (other : List ℕ) → IsAsked parent t other → ⊥
+  not_handed u uri text is named same absent other asked =
+      absent (subst (IsHandedIn parent) (one_named (meta_schema_of t) other uri asked.named (sym is ∙ named) ∙ sym same) asked.handed_in)
+
+  pub met_unasked : (p : Patterns) (limit : ℕ) → ((uri : List ℕ) → IsAsked parent t uri → ⊥) → IsMetIn p limit parent t
+  met_unasked p limit none = λ uri asked. absurd (none uri asked)
 
 -- so it is for the meta-schema of a root
 module _ (p : Patterns) (limit : ℕ) (parent : SharedRegistry) (t : Target) (uri text : List ℕ) (d : Data) (named : meta_schema_of t ≡ Some uri) (is : text ≡ uri) (contents : d ≡ t.contents) where

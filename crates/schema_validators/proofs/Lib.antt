@@ -5,6 +5,7 @@ mod Certifying
 mod MissingLemmas
 mod Agreeing
 mod Asking
+mod Owning
 mod BuiltLemmas
 pub mod Accepting
 pub mod Preparing

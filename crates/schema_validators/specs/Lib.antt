@@ -21,4 +21,5 @@ pub mod Mapped
 pub mod Agreed
 pub mod Described
 pub mod Caused
+pub mod AllTold
 pub mod Unknown

@@ -11,6 +11,7 @@ mod checker;
 mod describing;
 mod error;
 mod mapping;
+mod meta_faults;
 mod meta_schema;
 mod options;
 mod printing;

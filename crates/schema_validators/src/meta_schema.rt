@@ -1,6 +1,6 @@
 //! Meta-schemas that are asked.
 
-ghost use Rattle.std.specs.Prelude.{◌≡◌, ◌⊎◌, IfOk, IfErr, OnOk, codes, option_map, false, true};
+ghost use Rattle.std.specs.Prelude.{◌≡◌, ◌⊎◌, IfOk, IfErr, IfSome, OnOk, ℕ, List, None, codes, option_map, false, true};
 ghost use Rattle.serde_json.specs.View.{view};
 ghost use Rattle.schema_meaning.specs.Readings.{verdicts};
 ghost use Rattle.schema_definitions.specs.Places as places;
@@ -9,7 +9,7 @@ ghost use Rattle.reached_sites.specs.Passed.{target_in};
 ghost use Rattle.schema_registries.specs.Passed.{retrieved_by};
 ghost use Rattle.schema_registries.specs.Answers.{IsAnswer};
 ghost use Rattle.schema_registries.specs.Roots.{Root, Patterns};
-ghost use Rattle.schema_validators.specs.Asked.{schema_of_draft, schema_text, meta_schema_of, meta_root, Accepts, IsHandedIn, IsMetIn};
+ghost use Rattle.schema_validators.specs.Asked.{schema_of_draft, schema_text, meta_schema_of, meta_root, Accepts, IsAsked, IsHandedIn, IsMetIn};
 ghost use Rattle.schema_validators.specs.Made.{IsMadeBy};
 ghost use Rattle.schema_validators.specs.Refused.{RefusesAt, RefusesByMeta, RefusesValue};
 ghost use Rattle.schema_validators.specs.declared.error.BuildError.TheVariants.{Memory};
@@ -56,7 +56,8 @@ fn text_of<'r>(root: &Resolved<'r>) -> Option<&'r str>
     }
 }
 
-fn base(alloc: Global) -> Result<Uri, AllocError>
+/// The base of references to meta-schemas.
+pub(crate) fn base(alloc: Global) -> Result<Uri, AllocError>
     ensures { IfOk result (λ u. u ≡ codes "json-schema:///") }
 {
     match Uri::parse(alloc, BASE) {
@@ -101,6 +102,26 @@ fn is_handed_in(parent: &SharedRegistry, base: &Uri, uri: &str) -> Result<bool, 
             _ => Ok(false),
         },
     }
+}
+
+/// The URI of the meta-schema of a root, where it was handed in.
+pub(crate) fn asked_uri(
+    alloc: Global,
+    parent: &SharedRegistry,
+    base: &Uri,
+    root: &Resolved<'_>,
+) -> Result<Option<Uri>, AllocError>
+    requires base { base.now ≡ codes "json-schema:///" }
+    ensures asked { IfOk result (λ u. IfSome u (IsAsked parent.now (target_in root.now))) }
+    ensures not_asked { IfOk result (λ u. u ≡ None → (uri : List ℕ) → IsAsked parent.now (target_in root.now) uri → ⊥) }
+{
+    let Some(uri) = uri_of(alloc, base, root)? else {
+        return Ok(None);
+    };
+    if !is_handed_in(parent, base, uri.as_str())? {
+        return Ok(None);
+    }
+    Ok(Some(uri))
 }
 
 // Asks a meta-schema whether it accepts a value.
@@ -154,12 +175,9 @@ pub(crate) fn ask_meta_schema<P: PatternMaker>(
     ensures refused { IfErr result (RefusesByMeta (P.patterns maker.now) node_limit parent.now (target_in root.now)) }
 {
     let base = base(alloc)?;
-    let Some(uri) = uri_of(alloc, &base, root)? else {
+    let Some(uri) = asked_uri(alloc, parent, &base, root)? else {
         return Ok(());
     };
-    if !is_handed_in(parent, &base, uri.as_str())? {
-        return Ok(());
-    }
     ask_at(
         alloc,
         parent,

@@ -16,11 +16,13 @@ ghost use Rattle.schema_validators.specs.Prepared.{asking_by, layer_by, meta_sch
 ghost use Rattle.schema_validators.specs.Refused.{RefusesGiven, RefusesPreparing, RefusesRoot};
 ghost use Rattle.schema_validators.specs.Built.{IsBuilt, RefusesBuilding};
 ghost use Rattle.schema_validators.specs.Mapped.{IsMapBuilt, RefusesMapping};
+ghost use Rattle.schema_validators.specs.AllTold.{TellsIn, RefusesTelling};
 ghost use Rattle.schema_validators.specs.Caused.{ListsCauses, NoneWhereSound, RefusesListing};
 
 use crate::causes::causes_at;
 use crate::error::BuildError;
 use crate::mapping::map_at;
+use crate::meta_faults::tell_by_meta_schema;
 use crate::meta_schema::ask_meta_schema;
 use crate::validator::Validator;
 use crate::validator_map::ValidatorMap;
@@ -32,6 +34,7 @@ use schema_patterns::PatternMaker;
 use schema_registries::{
     DefaultRetriever, Documents, Retrieve, SchemaRegistry, SharedRegistry, WholeNumbers,
 };
+use schema_reports::ValidationError;
 use std::alloc::{AllocError, Global};
 use uri_references::uri::Uri;
 
@@ -108,6 +111,28 @@ fn meet<P: PatternMaker>(
     match resolver.lookup(root) {
         Ok(found) => ask_meta_schema(alloc, parent, &found, maker, node_limit),
         Err(error) => Err(BuildError::of_root(error)),
+    }
+}
+
+// All faults that the meta-schema tells of the root that a reference leads to, where meta-schemas were handed in.
+fn tell_faults<P: PatternMaker>(
+    alloc: Global,
+    registry: &SchemaRegistry,
+    root: &str,
+    maker: &P,
+    node_limit: usize,
+) -> Result<Vec<ValidationError<'static>>, BuildError>
+    ensures told { IfOk result (λ v. (target : Target) → Finds (root_on registry.now root.now) target
+        → TellsIn (P.patterns maker.now) node_limit registry.now.parent target v.items) }
+    ensures refused { IfErr result (RefusesTelling (P.patterns maker.now) node_limit registry.now (root_on registry.now root.now)) }
+{
+    let Some(parent) = registry.parent() else {
+        return Ok(Vec::new(alloc));
+    };
+    let resolver = registry.registry().resolver(registry.base().clone()?)?;
+    match resolver.lookup(root) {
+        Ok(found) => tell_by_meta_schema(alloc, parent, &found, maker, node_limit),
+        Err(error) => Err(BuildError::of_reference(error)),
     }
 }
 
@@ -263,6 +288,25 @@ impl<P: PatternMaker + Drop, R: Drop> ValidationOptions<P, R> {
         ensures refused { IfErr result (RefusesListing (P.patterns self.now.maker) self.now.node_limit (root_on registry.now root.now)) }
     {
         causes_at(self.alloc, registry, root, &self.maker, self.node_limit)
+    }
+
+    /// All that the meta-schema of the schema finds wrong with it that a reference leads to, against the registry's base: the faults of the
+    /// root's value, in the order in which they are met, where that meta-schema was handed in. `build_on` names one of them. There is none
+    /// exactly where it accepts the value, or none is asked.
+    ///
+    /// # Errors
+    ///
+    /// Where the reference leads nowhere, why the meta-schema is not read, or want of memory.
+    pub fn meta_schema_faults_on(
+        &self,
+        registry: &SchemaRegistry,
+        root: &str,
+    ) -> Result<Vec<ValidationError<'static>>, BuildError>
+        ensures told { IfOk result (λ v. (target : Target) → Finds (root_on registry.now root.now) target
+            → TellsIn (P.patterns self.now.maker) self.now.node_limit registry.now.parent target v.items) }
+        ensures refused { IfErr result (RefusesTelling (P.patterns self.now.maker) self.now.node_limit registry.now (root_on registry.now root.now)) }
+    {
+        tell_faults(self.alloc, registry, root, &self.maker, self.node_limit)
     }
 }
 

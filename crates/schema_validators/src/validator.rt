@@ -316,6 +316,38 @@ impl<M: PatternMatcher> Validator<M> {
         ensures missing { IfOk result (λ errors. (p : Patterns) (r : Root) → IsMadeBy p r self.now
             → TellsEachMissing p r (view value.now) (faults_of (errors_left errors))) }
     {
+        self.all_faults_by(matching, value)
+    }
+
+    // All faults of any value that the JSON reader gives.
+    pub(crate) fn all_faults<'i>(&self, value: &'i Value) -> Result<ErrorIterator<'i>, AllocError>
+        ensures verdict { IfOk result (λ errors. (p : Patterns) (r : Root) → IsMadeBy p r self.now
+            → IsAnswer verdicts p r (view value.now) (is_none (faults_of (errors_left errors)))) }
+        ensures faults { IfOk result (λ errors. (p : Patterns) (r : Root) → IsMadeBy p r self.now → AreFaults p r (view value.now) (faults_of (errors_left errors))) }
+        ensures proper { IfOk result (λ errors. are_proper (errors_left errors) ≡ true) }
+    {
+        let mut matching = self.direct();
+        self.all_faults_by(&mut matching, value)
+    }
+
+    // The same by whoever answers the matches.
+    fn all_faults_by<'i, T: Matching>(
+        &self,
+        matching: &mut T,
+        value: &'i Value,
+    ) -> Result<ErrorIterator<'i>, AllocError>
+        requires meant { T.matches matching.old ≡ matches_of M.finds (table_in self.now) }
+        ensures matches { OnOk result (T.matches matching.new ≡ T.matches matching.old) }
+        ensures cut { IfOk result (λ errors. faults_of (errors_left errors) ≡ faults_by self.now (view value.now)) }
+        ensures agree { OnOk result (is_none (faults_by self.now (view value.now)) ≡ verdict_by self.now (view value.now)) }
+        ensures verdict { IfOk result (λ errors. (p : Patterns) (r : Root) → IsMadeBy p r self.now
+            → IsAnswer verdicts p r (view value.now) (is_none (faults_of (errors_left errors)))) }
+        ensures faults { IfOk result (λ errors. (p : Patterns) (r : Root) → IsMadeBy p r self.now → AreFaults p r (view value.now) (faults_of (errors_left errors))) }
+        ensures proper { IfOk result (λ errors. are_proper (errors_left errors) ≡ true) }
+        ensures certified { IfOk result (λ errors. (p : Patterns) (r : Root) → IsMadeBy p r self.now → HaveCertificates p r (view value.now) (faults_of (errors_left errors))) }
+        ensures missing { IfOk result (λ errors. (p : Patterns) (r : Root) → IsMadeBy p r self.now
+            → TellsEachMissing p r (view value.now) (faults_of (errors_left errors))) }
+    {
         let observer = self.told(matching, value, Observer::All(AllFaults::new(self.alloc)))?;
         match observer {
             Observer::All(all) => Ok(ErrorIterator::of(all.into_errors())),

@@ -163,24 +163,32 @@ pub(crate) fn prepare_documents<'a, F: SchemaFiles, T: ByteSink>(
     Ok(PreparedDocuments { options, registry })
 }
 
-// All that is wrong with the schema, each cause as an error of its own; nothing where memory is out.
+// All that is wrong with the schema, each cause as an error of its own, and then all that its meta-schema finds wrong, if that is read;
+// nothing where memory is out.
 fn all_causes(alloc: Global, documents: &PreparedDocuments) -> Option<Vec<BuildError>> {
-    let causes = documents.options.causes_on(&documents.registry, "").ok()?;
+    let (options, registry) = (&documents.options, &documents.registry);
     let mut errors = Vec::new(alloc);
-    for cause in causes {
+    for cause in options.causes_on(registry, "").ok()? {
         errors.push(BuildError::Schema(cause)).ok()?;
+    }
+    if let Ok(faults) = options.meta_schema_faults_on(registry, "") {
+        for fault in faults {
+            errors.push(BuildError::MetaSchema(fault)).ok()?;
+        }
     }
     Some(errors)
 }
 
-// The fault of a build that was refused: where more is said than its text, and something is wrong at a schema, with all causes.
+// The fault of a build that was refused: where more is said than its text, and something is wrong at a schema, or its meta-schema refuses
+// it, with all causes.
 fn refused<'a>(
     alloc: Global,
     words: &ProgramWords<'a>,
     documents: &PreparedDocuments,
     error: BuildError,
 ) -> ProgramFault<'a> {
-    if !(says_more(words) && matches!(error, BuildError::Schema(_))) {
+    let has_causes = matches!(error, BuildError::Schema(_) | BuildError::MetaSchema(_));
+    if !(says_more(words) && has_causes) {
         return ProgramFault::from(error);
     }
     match all_causes(alloc, documents) {

@@ -22,6 +22,7 @@
 //   build VALUE             whether the value is valid, or why there is no validator; with no value, whether there is one
 //   within NUMBER           the same with no value, by that limit of schema nodes
 //   causes                  all that is wrong with the root, or why that is not listed
+//   refusals                all that the meta-schema of the root finds wrong with it, or why that is not told
 //   unknown URI             the names in a document that are no keywords
 //   alone VALUE             the same, of a document by itself, without options
 //   scripted VALUE          the faults by the script's patterns, or why there is no validator
@@ -59,6 +60,7 @@ fn answer(rt: &impl Abort, alloc: Global, case: &str, word: &str, input: &str) -
         "build" => answers::build(rt, alloc, case, input),
         "within" => answers::within(rt, alloc, case, input),
         "causes" => listing::causes(rt, alloc, case),
+        "refusals" => listing::refusals(rt, alloc, case),
         "unknown" => listing::unknown(rt, alloc, case, input),
         "alone" => answers::alone(rt, alloc, case, input),
         "decided" => decided(rt, alloc, case, input),

@@ -31,6 +31,25 @@ pub(crate) fn causes(rt: &impl Abort, alloc: Global, case: &str) -> String {
     or_none(rt, alloc, text)
 }
 
+// Where each fault that the meta-schema of a root tells stands in the root, and the road to it.
+pub(crate) fn refusals(rt: &impl Abort, alloc: Global, case: &str) -> String {
+    let options = options_of(rt, alloc, case);
+    let documents = documents_of(rt, alloc, case, "document <");
+    let registry = options.prepare(&documents).expect(rt, "a registry");
+    let root = setting(case, "root ").unwrap_or("");
+    let faults = match options.meta_schema_faults_on(&registry, root) {
+        Ok(faults) => faults,
+        Err(error) => return why(rt, alloc, error),
+    };
+    let mut text = String::new(alloc);
+    for fault in faults.as_slice() {
+        let between = if text.is_empty() { "" } else { "; " };
+        let (place, road) = (fault.instance_path(), fault.evaluation_path());
+        write!(text, "{between}'{place}' by '{road}'").expect(rt, "memory");
+    }
+    or_none(rt, alloc, text)
+}
+
 fn write_unknown(rt: &impl Abort, text: &mut String, keyword: &UnknownKeyword) {
     let between = if text.is_empty() { "" } else { "; " };
     let (name, place, draft) = (keyword.name.as_str(), &keyword.place, keyword.draft);
@@ -81,6 +100,30 @@ document <http://a.test/r> {"minItems":"1","items":true}
 causes => More than 1 schema nodes
 "##;
 
+// By the meta-schema that counts at the root and was handed in; of it the value of the root alone.
+const REFUSALS: &str = r##"
+meta <http://a.test/m> {"properties":{"a":{"type":"string"},"minItems":{"maximum":1},"items":{"required":["title"]}},"required":["b"]}
+document <http://a.test/r> {"$schema":"http://a.test/m","a":1,"minItems":2,"items":{}}
+refusals => '/a' by '/properties/a/type'; '/items' by '/properties/items/required'; '/minItems' by '/properties/minItems/maximum'; '' by '/required'
+causes => none
+
+meta <http://a.test/m> {"required":["b"]}
+document <http://a.test/r> {"$schema":"http://a.test/m","b":1}
+refusals => none
+
+document <http://a.test/r> {"type":5}
+refusals => none
+
+meta <http://a.test/m> {"type":5}
+document <http://a.test/r> {"$schema":"http://a.test/m"}
+refusals => Keyword value at 'http://a.test/m#/type': expected type name
+
+root #/none
+meta <http://a.test/m> true
+document <http://a.test/r> true
+refusals => Pointer '/none' does not exist
+"##;
+
 // By the draft of each schema, whatever a name begins with; nothing of what is no schema, nor of names that only tell something.
 const UNKNOWN: &str = r##"
 document <http://a.test/r> {"nmae":1,"x-a":1,"title":"t","default":{"nmae":1},"enum":[{"nmae":1}],"properties":{"nmae":{"additionalItems":false}}}
@@ -103,6 +146,11 @@ unknown http://a.test/r => prefixItems at http://a.test/r#/prefixItems by Draft2
 #[test]
 fn all_causes(rt: HostRuntime) {
     assert_cases(&rt, rt.alloc(), AT_R, CAUSES);
+}
+
+#[test]
+fn all_refusals(rt: HostRuntime) {
+    assert_cases(&rt, rt.alloc(), AT_R, REFUSALS);
 }
 
 #[test]
