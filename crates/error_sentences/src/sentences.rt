@@ -1,14 +1,15 @@
 //! A line for each error.
-ghost use Rattle.std.specs.Prelude.{◌≡◌, ◌++◌, ℕ, List, OnOk, string_bytes};
+ghost use Rattle.std.specs.Prelude.{◌≡◌, ◌++◌, ℕ, List, IfOk, OnOk, string_bytes};
 ghost use Rattle.std.specs.List.{AllZip, concat};
 ghost use Rattle.schema_reports.specs.Left.{errors_left};
-ghost use Rattle.error_sentences.specs.Sentences.{IsSentence, joined, reason_line, sentence_line};
+ghost use Rattle.error_sentences.specs.Sentences.{IsSentence, joined, location_text, reason_line, sentence_line};
 
 use schema_reports::{ErrorIterator, ValidationError};
 use std::alloc::{AllocError, Global};
 
-/// Appends a line for each error: the label, `:`, the place in the instance, `: `, the description, and the road of evaluation in brackets.
-/// Both paths are pointers' texts. Where the description has further lines, they stand below.
+/// Appends a line for each error: the label, `:`, the place in the instance as a pointer's text, `: `, the description, and in brackets the
+/// absolute location of the keyword; of an error that no validator told the road of evaluation. Where the description has further lines,
+/// they stand below.
 ///
 /// It costs what the descriptions cost. Where memory is out, some first lines can stand behind the text.
 pub fn write_sentences(
@@ -44,35 +45,55 @@ fn write_sentence(
 {
     let description = error.description(alloc)?;
     let place = error.instance_path().to_pointer(alloc)?;
-    let road = error.evaluation_path().to_pointer(alloc)?;
+    let location = location_of(alloc, error)?;
     push_sentence(
         label,
         place.as_str(),
         description.as_str(),
-        road.as_str(),
+        location.as_str(),
         text,
     )
+}
+
+// Where the keyword of an error stands, and the road to it where no validator told the error.
+fn location_of(alloc: Global, error: &ValidationError<'_>) -> Result<String, AllocError>
+    ensures { IfOk result (λ t. string_bytes t ≡ location_text error.now) }
+{
+    match error.absolute_keyword_location(alloc)? {
+        Some(location) => Ok(location),
+        None => error.evaluation_path().to_pointer(alloc),
+    }
 }
 
 fn push_sentence(
     label: &str,
     place: &str,
     description: &str,
-    road: &str,
+    location: &str,
     text: &mut String,
 ) -> Result<(), AllocError>
-    ensures { OnOk result (string_bytes text.new ≡ string_bytes text.old ++ sentence_line label.now place.now description.now road.now) }
+    ensures { OnOk result (string_bytes text.new ≡ string_bytes text.old ++ sentence_line label.now place.now description.now location.now) }
 {
     match description.split_once('\n') {
         Some((first, more)) => push_parts(
             text,
             &[
-                label, ":", place, ": ", first, " (", road, ")", "\n", more, "\n",
+                label, ":", place, ": ", first, " (", location, ")", "\n", more, "\n",
             ],
         ),
         None => push_parts(
             text,
-            &[label, ":", place, ": ", description, " (", road, ")", "\n"],
+            &[
+                label,
+                ":",
+                place,
+                ": ",
+                description,
+                " (",
+                location,
+                ")",
+                "\n",
+            ],
         ),
     }
 }

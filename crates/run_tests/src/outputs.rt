@@ -55,7 +55,7 @@ const SENTENCES: [Row; 3] = [
     (
         &["plain.json", "--output", "text"],
         "\"a\"\n1\n\n{\n1.5",
-        r"1 2:: 1 is not of type string (/type)
+        r"1 2:: 1 is not of type string (json-schema:///#/type)
 3: EOF while parsing at line 1 column 0
 4: EOF while parsing at line 1 column 1
 5: a number is no whole number of 64 bits
@@ -74,7 +74,7 @@ const SENTENCES: [Row; 3] = [
     ),
 ];
 
-// Each fault has its line, with its place and its road; a sentence of several lines has its road behind the first.
+// Each fault has its line, with its place and where its keyword stands; a sentence of several lines has that behind the first.
 const LINKED_SENTENCES: [Row; 3] = [
     (
         &[
@@ -86,15 +86,15 @@ const LINKED_SENTENCES: [Row; 3] = [
             "text",
         ],
         "[\"a\",\"b\"]\n[1]\n",
-        r"1 2:/0: 1 is not of type string (/items/$ref/type)
-2:: [1] has fewer items than the minimum 2 (/minItems)
+        r"1 2:/0: 1 is not of type string (http://a.test/leaf.json#/type)
+2:: [1] has fewer items than the minimum 2 (http://a.test/root.json#/minItems)
  lines: 2, valid: 1, not valid: 1, not read: 0
 ",
     ),
     (
         &["either.json", "--output", "text"],
         "{\"a\":1}\n",
-        r"1 1:/a: 1 is to be accepted by a schema of anyOf, and is by 0 of 2 (/properties/a/anyOf)
+        r"1 1:/a: 1 is to be accepted by a schema of anyOf, and is by 0 of 2 (json-schema:///#/properties/a/anyOf)
   anyOf/0: /a: 1 is not of type string
   anyOf/1: /a: 1 is not of type null
  lines: 1, valid: 0, not valid: 1, not read: 0
@@ -111,7 +111,7 @@ const LINKED_SENTENCES: [Row; 3] = [
             "empty.json",
         ],
         "",
-        r"1 short.json:: [1] is not of type string (/type)
+        r"1 short.json:: [1] is not of type string (json-schema:///#/type)
 empty.json: EOF while parsing at line 1 column 0
  files: 2, valid: 0, not valid: 1, not read: 1
 ",
