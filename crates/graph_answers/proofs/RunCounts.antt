@@ -199,7 +199,7 @@ module _ {M : Type 0} (finds : M → List ℕ → Option Bool) (table : PatternT
 
   -- a run was stopped at a match of which no is assumed now
   pub once_stopped : (made : ℕ) (xs : List AssumedMatch) (a : AssumedMatch) → a.is_match ≡ false → (matches_with finds table xs).known (string_bytes a.pattern) (string_bytes a.text) ≡ None
-      → Counts (matches_with finds table []) made xs → Counts (matches_with finds table []) (suc made) (xs ++ a ∷ [])
+      → Counts (matches_with finds table []) made xs → Counts (matches_with finds table []) (made + 1) (xs ++ a ∷ [])
   once_stopped made xs a is_no none c = elim c.either [
     | inl six ↦ record { either = inl six }
     | inr few ↦ by_length few (below_five (length xs) few.few)
@@ -208,7 +208,7 @@ module _ {M : Type 0} (finds : M → List ℕ → Option Bool) (table : PatternT
       longer : length (xs ++ a ∷ []) ≡ suc (length xs)
       longer = (let l = length-append xs (a ∷ []) in omega (arith, l))
 
-      by_length : AreFew (matches_with finds table []) made xs → (length xs < 5) ⊎ (length xs ≡ 5) → Counts (matches_with finds table []) (suc made) (xs ++ a ∷ [])
+      by_length : AreFew (matches_with finds table []) made xs → (length xs < 5) ⊎ (length xs ≡ 5) → Counts (matches_with finds table []) (made + 1) (xs ++ a ∷ [])
       by_length few (inl below) = record {
         either = inr (record {
           few = (let l = longer in omega (arith, l, below));
@@ -253,7 +253,7 @@ turned_by old left rest new last is is_no so g = record {
 }
 
 -- a run answered, and yes is assumed in the place of the last no
-pub once_turned : (m : Matches) (made : ℕ) (old new : List AssumedMatch) → IsTurned old new → Counts m made old → Counts m (suc made) new
+pub once_turned : (m : Matches) (made : ℕ) (old new : List AssumedMatch) → IsTurned old new → Counts m made old → Counts m (made + 1) new
 once_turned m made old new t c = elim c.either [
   | inl six ↦ record { either = inl six }
   | inr few ↦ record { either = inr (turned few) }
@@ -271,7 +271,7 @@ once_turned m made old new t c = elim c.either [
         ∙ sym (append_assoc (met t.before) of_last (met t.behind))
         ∙ ap (λ xs. xs ++ met t.behind) (sym (map-append match_of t.before (turned_one ∷ [])) ∙ sym (ap met t.is))
 
-    turned : AreFew m made old → AreFew m (suc made) new
+    turned : AreFew m made old → AreFew m (made + 1) new
     turned few = record {
       few = (let was = ap length t.was in let is = ap length t.is in let l = length-append t.before (t.last ∷ t.behind) in let n = length-append t.before (turned_one ∷ []) in let h = few.few in omega (arith, was, is, l, n, h));
       runs = (let was = ap to_come t.was in let is = ap to_come t.is in let after = after_yes t.before t.behind t.last turned_one t.was_no refl t.all_yes in let runs = few.runs in omega (arith, was, is, after, runs));

@@ -43,7 +43,7 @@ loop-made-preserved g c =
     let before = c.loop-made.assumed.items in
     elim c.match-branch-2.branch [
       | in-Stopped+in_ok-push-in-Stopped w ↦
-          (let no = record { pattern = w.in-Stopped.stopped.pattern; text = w.in-Stopped.stopped.text; is_match = false } in
+          (let no : AssumedMatch = record { pattern = w.in-Stopped.stopped.pattern; text = w.in-Stopped.stopped.text; is_match = false } in
           let one = subst (IsRun shape nodes c.args.start d (matches_with finds table c.as_slice.result.now)) w.in-Stopped.is c.in_ok-stopped.ensures in
           let none = subst (λ (xs : List AssumedMatch). (matches_with finds table xs).known (string_bytes w.in-Stopped.stopped.pattern) (string_bytes w.in-Stopped.stopped.text) ≡ None) c.as_slice.ensures.value one in
           record {
@@ -69,7 +69,7 @@ loop-made-preserved g c =
     ]
 
 pub loop-made-init : goal.loop-made-init
-loop-made-init g c = record { left = λ rest e. search rules; counts = begun (matches_with g.M.PatternMatcher.finds c.args.table.now []) }
+loop-made-init g c = record { left = λ rest e. search rules; counts = subst (Counts (matches_with g.M.PatternMatcher.finds c.args.table.now []) 0) (sym c.new-assumed.ensures.items) (begun (matches_with g.M.PatternMatcher.finds c.args.table.now [])) }
 
 pub returns : goal.returns
 returns g c = at_the_end (matches_with g.M.PatternMatcher.finds c.args.table.now []) c.loop-made.made c.loop-made.assumed.items (omega arith) c.loop-made.invariant.counts

@@ -1,6 +1,6 @@
 use Rattle.std.proofs.Common.{◌∙◌, true, refl, sym, ap}
 use Rattle.graph_answers.specs.Runs.{is_behind, is_left}
-use Rattle.graph_answers.proofs.RunCounts.{none_gone, one_gone, turned_by}
+use Rattle.graph_answers.proofs.RunCounts.{one_gone, turned_by}
 use Rattle.graph_answers.proofs.RunLemmas.{said_not, not_denied, behind_yes, behind_no}
 use Rattle.graph_answers.proofs.runs.turn_last.Goals as goal
 
