@@ -60,7 +60,3 @@ pub record HasObjects (es : List ValidationError) (text : List ℕ) : Type 0 whe
   pub objects : List Data
   pub zipped : AllZip IsObject es objects
   pub is_text : IsJsonText (refused_data (items_of objects)) text
-
--- and of a text that is no value
-abbrev pub unread_data : List ℕ → Data
-unread_data reason = object (member (codes "reason") (string reason) (member (codes "valid") null no_members))

@@ -3,5 +3,7 @@
 
 mod fields;
 mod objects;
+mod unread;
 
-pub use objects::{is_accepted_line, write_accepted, write_refused, write_unread};
+pub use objects::{is_accepted_line, write_accepted, write_refused};
+pub use unread::{TextPlace, write_unread};

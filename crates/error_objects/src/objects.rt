@@ -3,10 +3,9 @@ ghost use Rattle.std.specs.Prelude.{◌≡◌, ◌++◌, ◌∷◌, [], ℕ, Lis
 ghost use Rattle.std.specs.List.{AllZip};
 ghost use Rattle.serde_json.specs.Data.{Data};
 ghost use Rattle.serde_json.specs.View.{view, items_of, members_view};
-ghost use Rattle.serde_json.specs.Written.{compact_text};
 ghost use Rattle.schema_reports.specs.Left.{errors_left};
 ghost use Rattle.error_objects.specs.Fields.{field_data, with_fields};
-ghost use Rattle.error_objects.specs.Objects.{HasObjects, IsObject, accepted_text, location_data, own_members, refused_data, unread_data};
+ghost use Rattle.error_objects.specs.Objects.{HasObjects, IsObject, accepted_text, location_data, own_members, refused_data};
 
 use crate::fields::{Field, fields_of};
 use schema_reports::{ErrorIterator, ValidationError};
@@ -48,20 +47,6 @@ pub fn write_refused(
 {
     let written = refused_value(alloc, errors)?.to_string(alloc)?;
     text.push_str(written.as_str())
-}
-
-/// Appends what is said of a text that is no value: `null`, and the reason. The text is as it was where memory is out.
-pub fn write_unread(alloc: Global, reason: &str, text: &mut String) -> Result<(), AllocError>
-    ensures { OnOk result (string_bytes text.new ≡ string_bytes text.old ++ compact_text (unread_data reason.now)) }
-{
-    let written = unread_value(alloc, reason)?.to_string(alloc)?;
-    text.push_str(written.as_str())
-}
-
-fn unread_value(alloc: Global, reason: &str) -> Result<Value, AllocError>
-    ensures { IfOk result (λ v. view v ≡ unread_data reason.now) }
-{
-    json!(in alloc; {"reason": reason, "valid": null})
 }
 
 fn refused_value(alloc: Global, errors: ErrorIterator<'_>) -> Result<Value, AllocError>

@@ -65,8 +65,14 @@ impl LineForm {
     {
         match self {
             LineForm::Pairs => text.push_str("null"),
-            LineForm::Objects => write_unread(alloc, reason_of(alloc, line)?.as_str(), text),
-            LineForm::Sentences => write_reason(label, reason_of(alloc, line)?.as_str(), text),
+            LineForm::Objects => {
+                let reason = reason_of(alloc, line)?;
+                write_unread(alloc, reason.text.as_str(), reason.place, text)
+            }
+            LineForm::Sentences => {
+                let reason = reason_of(alloc, line)?;
+                write_reason(label, reason.text.as_str(), text)
+            }
         }
     }
 

@@ -66,7 +66,7 @@ const OTHER_FORMS: [Row; 3] = [
             "short.json",
         ],
         "\"a\"\n",
-        r#"1 {"reason":"EOF while parsing at line 1 column 0","valid":null}
+        r#"1 {"column":0,"line":1,"reason":"EOF while parsing at line 1 column 0","valid":null}
 {"errors":[],"valid":true}
  "#,
     ),

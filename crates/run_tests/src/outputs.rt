@@ -12,12 +12,50 @@ const OBJECTS: [Row; 3] = [
         "\"a\"\n1\n\n{\n1.5",
         r#"1 {"errors":[],"valid":true}
 {"errors":[{"description":"1 is not of type string","evaluation_path":"/type","instance_path":"","keyword_location":"json-schema:///#/type","kind":"Types","names":["string"],"schema_path":"/type"}],"valid":false}
-{"reason":"EOF while parsing at line 1 column 0","valid":null}
-{"reason":"EOF while parsing at line 1 column 1","valid":null}
+{"column":0,"line":1,"reason":"EOF while parsing at line 1 column 0","valid":null}
+{"column":1,"line":1,"reason":"EOF while parsing at line 1 column 1","valid":null}
 {"reason":"a number is no whole number of 64 bits","valid":null}
  "#,
     ),
     (&["plain.json", "--output", "json"], "", "0  "),
+];
+
+// Each reason of a text that is no value has the place where the reader stopped, if it stopped there. A file has lines of its own.
+const REASONS: [Row; 2] = [
+    (
+        &["plain.json", "--output", "json"],
+        "[1,]\n{\"a\" 1}\n 1e999\n[\"a\nno JSON\n",
+        r#"1 {"column":4,"line":1,"reason":"invalid JSON at line 1 column 4","valid":null}
+{"column":6,"line":1,"reason":"invalid JSON at line 1 column 6","valid":null}
+{"column":6,"line":1,"reason":"number out of range at line 1 column 6","valid":null}
+{"column":2,"line":1,"reason":"EOF while parsing at line 1 column 2","valid":null}
+{"column":1,"line":1,"reason":"invalid JSON at line 1 column 1","valid":null}
+ "#,
+    ),
+    (
+        &[
+            "plain.json",
+            "--output",
+            "json",
+            "--instance",
+            "two.json",
+            "--instance",
+            "byte",
+            "--instance",
+            "none",
+            "--instance",
+            "nested",
+            "--instance",
+            "deep.json",
+        ],
+        "",
+        r#"1 {"column":1,"line":2,"reason":"invalid JSON at line 2 column 1","valid":null}
+{"column":2,"line":1,"reason":"invalid JSON at line 1 column 2","valid":null}
+{"column":1,"line":1,"reason":"EOF while parsing at line 1 column 1","valid":null}
+{"column":128,"line":1,"reason":"invalid JSON at line 1 column 128","valid":null}
+{"reason":"a number is no whole number of 64 bits","valid":null}
+ "#,
+    ),
 ];
 
 // Of several faults each has its object. The paths of a fault in another document begin there, and its evaluation path at the first.
@@ -48,6 +86,7 @@ const LINKED_OBJECTS: [Row; 2] = [
 #[test]
 fn objects(rt: HostRuntime) {
     assert_outcomes(&rt, rt.alloc(), &SOUND, &OBJECTS);
+    assert_outcomes(&rt, rt.alloc(), &SOUND, &REASONS);
     assert_outcomes(&rt, rt.alloc(), &SOUND, &LINKED_OBJECTS);
 }
 

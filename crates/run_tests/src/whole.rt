@@ -38,7 +38,11 @@ const SOME: &str =
 const OTHERS: &str =
     "null\n[[\"\",\"/type\",\"\"]]\n[[\"\",\"/type\"]\n{}\n[[\"\",\"/type\"]]\n[[\"\",\"/type\"]]\n[]";
 
-const FILES: [(&str, &str); 26] = [
+// More lists in one another than a value may have.
+const NESTED: &str =
+    "[[[[[[[[[[[[[[[[[[[[[[[[[[[[[[[[[[[[[[[[[[[[[[[[[[[[[[[[[[[[[[[[[[[[[[[[[[[[[[[[[[[[[[[[[[[[[[[[[[[[[[[[[[[[[[[[[[[[[[[[[[[[[[[[";
+
+const FILES: [(&str, &str); 27] = [
     ("root.json", ROOT),
     ("leaf.json", LEAF),
     ("plain.json", "{\"type\":\"string\"}"),
@@ -69,6 +73,7 @@ const FILES: [(&str, &str); 26] = [
     ("some", SOME),
     ("others", OTHERS),
     ("several.json", SEVERAL),
+    ("nested", NESTED),
     ("typos.json", TYPOS),
     (
         "old.json",

@@ -1,6 +1,4 @@
 use Rattle.std.proofs.Common.{codes, refl, string_bytes}
-use Rattle.serde_json.specs.Written.{compact_text}
-use Rattle.error_objects.specs.Objects.{unread_data}
 use Rattle.error_sentences.specs.Sentences.{reason_line}
 use Rattle.line_runs.specs.Forms.{TellsNone}
 use Rattle.line_runs.specs.declared.form.LineForm.TheVariants.{Pairs, Objects, Sentences}
@@ -16,7 +14,7 @@ pub returns-in_ok-reason_of-in-Objects : goal.returns-in_ok-reason_of-in-Objects
 returns-in_ok-reason_of-in-Objects c =
     let reason = c.as_str.result.now in
     in_form TellsNone _ Objects c.write_unread.result _ _ c.in-Objects.is
-    (told_on (TellsNone Objects) (string_bytes c.args.text.now) _ c.write_unread.result (compact_text (unread_data reason)) (reason, refl) c.write_unread.ensures)
+    (told_on (TellsNone Objects) (string_bytes c.args.text.now) _ c.write_unread.result _ (reason, _, refl) c.write_unread.ensures)
 
 pub returns-in_ok-reason_of-in-Sentences : goal.returns-in_ok-reason_of-in-Sentences
 returns-in_ok-reason_of-in-Sentences c =
