@@ -1,7 +1,7 @@
 // What is said of refusals where the output is for people.
 use crate::whole::{Row, SOUND, assert_outcomes};
 
-const WORDS: [Row; 4] = [
+const WORDS: [Row; 6] = [
     (
         &["plain.json", "u:x", "--output", "text"],
         "1\n",
@@ -24,13 +24,27 @@ const WORDS: [Row; 4] = [
 ",
     ),
     (
+        &["own.json", "--meta", "nameless.json", "--output", "json"],
+        "1\n",
+        r"2  file refused: nameless.json
+  it is not there, is not read, or is no JSON list of schemas with an identifier each
+",
+    ),
+    (
+        &["absent", "--base", "%", "--output", "text"],
+        "1\n",
+        r"2  build refused: Invalid URI '%'
+  the URI of the schema's own file is given by --base
+",
+    ),
+    (
         &["plain.json", "u:x", "--output", "none"],
         "1\n",
         "2  words refused: u:x\n",
     ),
 ];
 
-const DOCUMENTS: [Row; 3] = [
+const DOCUMENTS: [Row; 6] = [
     (
         &["plain.json", "u:x=none", "--output", "text"],
         "1\n",
@@ -55,6 +69,32 @@ const DOCUMENTS: [Row; 3] = [
         "1\n",
         r"2  build refused: Number at 'http://a.test/~x#/a/0' is no whole number of 64 bits
   in the file 'deep.json' at '/a/0': The number at 'http://a.test/~x#/a/0' is no whole number from -2^63 to 2^64-1
+",
+    ),
+    (
+        &["plain.json", "u:x#a=true.json", "--output", "text"],
+        "1\n",
+        r"2  build refused: Invalid URI 'u:x#a'
+  The text 'u:x#a' is no URI of a document
+",
+    ),
+    (
+        &["astray.json", "--output", "text"],
+        "1\n",
+        r"2  build refused: Invalid URI '%'
+  The documents are refused: '%' is no URI reference taken here
+",
+    ),
+    (
+        &[
+            "plain.json",
+            "http://a.test/c=circle.json",
+            "--output",
+            "json",
+        ],
+        "1\n",
+        r"2  build refused: Circular meta-schema 'http://a.test/c'
+  The documents are refused: the meta-schema 'http://a.test/c' waits for itself
 ",
     ),
 ];

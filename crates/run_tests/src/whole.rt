@@ -42,7 +42,7 @@ const OTHERS: &str =
 const NESTED: &str =
     "[[[[[[[[[[[[[[[[[[[[[[[[[[[[[[[[[[[[[[[[[[[[[[[[[[[[[[[[[[[[[[[[[[[[[[[[[[[[[[[[[[[[[[[[[[[[[[[[[[[[[[[[[[[[[[[[[[[[[[[[[[[[[[[[";
 
-const FILES: [(&str, &str); 27] = [
+const FILES: [(&str, &str); 29] = [
     ("root.json", ROOT),
     ("leaf.json", LEAF),
     ("plain.json", "{\"type\":\"string\"}"),
@@ -74,6 +74,11 @@ const FILES: [(&str, &str); 27] = [
     ("others", OTHERS),
     ("several.json", SEVERAL),
     ("nested", NESTED),
+    ("astray.json", "{\"$id\":\"%\"}"),
+    (
+        "circle.json",
+        "{\"$schema\":\"http://a.test/c\",\"$id\":\"http://a.test/c\"}",
+    ),
     ("typos.json", TYPOS),
     (
         "old.json",

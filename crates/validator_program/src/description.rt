@@ -20,6 +20,13 @@ const DRAFTS: &str = "  the drafts are 4, 6, 7, 2019-09 and 2020-12\n";
 /// What a file may lack.
 const FILE: &str = "  it is not there, is not read, or holds something else than is asked of it\n";
 
+/// What the file of meta-schemas may lack.
+const META_FILE: &str =
+    "  it is not there, is not read, or is no JSON list of schemas with an identifier each\n";
+
+/// What the base is.
+const BASE: &str = "  the URI of the schema's own file is given by --base\n";
+
 /// How meta-schemas are given.
 const META_SCHEMAS: &str = "  a file with a list of meta-schemas is given by --meta\n";
 
@@ -32,11 +39,20 @@ pub(crate) fn description(
     match fault {
         ProgramFault::Word { .. } => String::from_str(alloc, FURTHER),
         ProgramFault::Draft { .. } => String::from_str(alloc, DRAFTS),
-        ProgramFault::File { .. } => String::from_str(alloc, FILE),
+        ProgramFault::File { name } => String::from_str(alloc, of_file(words, name)),
+        ProgramFault::Base(_) => String::from_str(alloc, BASE),
         ProgramFault::Document(error) => of_document(alloc, words, error),
         ProgramFault::Build(error) => of_build(alloc, words, error),
         ProgramFault::Schema { error, causes } => of_schema(alloc, words, error, causes),
         _ => Ok(String::new(alloc)),
+    }
+}
+
+fn of_file(words: &ProgramWords<'_>, name: &str) -> &'static str {
+    if words.meta == Some(name) {
+        META_FILE
+    } else {
+        FILE
     }
 }
 
@@ -71,7 +87,8 @@ fn of_document(
             let path = path.to_pointer(alloc)?;
             in_file(alloc, words, document.as_str(), path.as_str(), sentence)
         }
-        _ => Ok(String::new(alloc)),
+        DocumentError::InvalidUri(_) => line_of(alloc, sentence),
+        DocumentError::Memory => Ok(String::new(alloc)),
     }
 }
 
@@ -82,7 +99,19 @@ fn of_build(
 ) -> Result<String, AllocError> {
     match error {
         BuildError::Document(error) => of_document(alloc, words, error),
-        BuildError::Registry(error) | BuildError::Root(error) => of_reference(alloc, words, error),
+        BuildError::Registry(reference) => {
+            let more = of_reference(alloc, words, reference)?;
+            if more.is_empty() {
+                return line_of(alloc, error.description(alloc)?.as_str());
+            }
+            Ok(more)
+        }
+        BuildError::Root(reference) => {
+            let mut text = line_of(alloc, error.description(alloc)?.as_str())?;
+            let more = of_reference(alloc, words, reference)?;
+            text.push_str(more.as_str())?;
+            Ok(text)
+        }
         BuildError::Schema(cause) => {
             let said = error.description(alloc)?;
             of_cause(alloc, words, cause, first_line(said.as_str()))
@@ -112,6 +141,12 @@ fn of_cause(
     }
 }
 
+// A line for a sentence.
+fn line_of(alloc: Global, sentence: &str) -> Result<String, AllocError> {
+    format!(in alloc; "  {sentence}\n")
+}
+
+// What may help where a reference leads nowhere. Its own text says the rest.
 fn of_reference(
     alloc: Global,
     words: &ProgramWords<'_>,
@@ -132,8 +167,7 @@ fn of_fault(
 ) -> Result<String, AllocError> {
     let place = error.instance_path().to_pointer(alloc)?;
     let sentence = error.description(alloc)?;
-    let file = words.schema;
-    format!(in alloc; "  in the file '{file}' at '{place}': {sentence}\n")
+    at_path(alloc, words.schema, place.as_str(), sentence.as_str())
 }
 
 fn at_place(
@@ -161,12 +195,17 @@ fn in_file(
     sentence: &str,
 ) -> Result<String, AllocError> {
     match file_of(alloc, words, uri)? {
-        Some(file) if path.is_empty() => {
-            format!(in alloc; "  in the file '{file}': {sentence}\n")
-        }
-        Some(file) => format!(in alloc; "  in the file '{file}' at '{path}': {sentence}\n"),
+        Some(file) => at_path(alloc, file, path, sentence),
         None => format!(in alloc; "  at '{uri}#{path}': {sentence}\n"),
     }
+}
+
+// The file and the path in it; the path is left out where it is empty.
+fn at_path(alloc: Global, file: &str, path: &str, sentence: &str) -> Result<String, AllocError> {
+    if path.is_empty() {
+        return format!(in alloc; "  in the file '{file}': {sentence}\n");
+    }
+    format!(in alloc; "  in the file '{file}' at '{path}': {sentence}\n")
 }
 
 // The first line of a description, which is a sentence. A place stands behind it.
