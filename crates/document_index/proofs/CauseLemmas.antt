@@ -8,14 +8,10 @@ use Rattle.schema_definitions.specs.Places.{Dialect, schema_in_force}
 use Rattle.schema_definitions.specs.Bearers.{Documents, Standing, standings, is_root, bears, bearer_under, meta}
 use Rattle.schema_definitions.specs.DocumentCauses as all
 use Rattle.schema_definitions.specs.DocumentCauses.{DocumentCause, unretrieved, unless_reference, awaited_cause, how_many_await, place_causes}
-use Rattle.schema_dialects.specs.Dialects.{dialects_in}
-use Rattle.schema_dialects.specs.declared.meta_schemas.MetaSchemas.{MetaSchemas}
-use Rattle.document_laws.proofs.Alike.{alike_tell}
 use Rattle.document_index.specs.Located.{Located, kept_of, located_standings, last_located}
 use Rattle.document_index.specs.Indexes.{Indexes}
 use Rattle.document_index.specs.declared.index.Index.{Index}
 use Rattle.document_index.proofs.AnswerLemmas.{last-of-located}
-use Rattle.document_index.specs.Told.{Tells}
 use Rattle.document_index.specs.Checked.{borne_in, borne_by, unknown_by, wanted_from, wanted_at, of_text, awaited_from, causes_at}
 use Rattle.document_index.proofs.CauseNames.{is_some-map}
 
@@ -91,14 +87,8 @@ borne-in told index docs i uri =
     ∙ sym (is_some-map (λ (l : Located). l.standing) (last_located (bears uri) (located_standings told docs)))
     ∙ sym (ap is_some (last-of-located told (bears uri) docs))
 
-module _ (known : MetaSchemas) (index : Index) (docs : Documents) (told : Tells known (meta docs)) (i : Indexes index (located_standings (dialects_in known) docs)) where
-  pub those_known : standings (dialects_in known) docs ≡ standings (meta docs) docs
-  those_known = (alike_tell (dialects_in known) (meta docs) told).standing docs
-
-  pub causes_by : flat_map (causes_at (borne_in index) (unknown_by docs)) (standings (dialects_in known) docs) ≡ flat_map (place_causes docs) (standings (meta docs) docs)
-  causes_by =
-      same_causes (borne_in index) (borne_by docs) (unknown_by docs)
-      (λ uri. borne-in (dialects_in known) index docs i uri ∙ ap is_some ((alike_tell (dialects_in known) (meta docs) told).bearers docs uri))
-      (standings (dialects_in known) docs)
-      ∙ ap (flat_map (causes_at (borne_by docs) (unknown_by docs))) those_known
-      ∙ sym (at_places docs (standings (meta docs) docs))
+pub causes_by : (index : Index) (docs : Documents) → Indexes index (located_standings (meta docs) docs)
+    → flat_map (causes_at (borne_in index) (unknown_by docs)) (standings (meta docs) docs) ≡ flat_map (place_causes docs) (standings (meta docs) docs)
+causes_by index docs i =
+    same_causes (borne_in index) (borne_by docs) (unknown_by docs) (borne-in (meta docs) index docs i) (standings (meta docs) docs)
+    ∙ sym (at_places docs (standings (meta docs) docs))

@@ -1,11 +1,17 @@
 -- The schema places of several documents, one more at a time.
-use Rattle.std.proofs.Common.{◌≡◌, ℕ, ◌+◌, suc, List, [], ◌∷◌, ◌++◌, map, length, refl, sym, ap, ◌∙◌, append-nil, Option, add-zero, zero-add, arith}
-use Rattle.std.specs.List.{flat_map, enumerate_from}
+use Rattle.std.proofs.Common.{◌≡◌, ℕ, ◌+◌, suc, List, [], ◌∷◌, ◌++◌, map, length, refl, sym, ap, ap₂, subst, ◌∙◌, append-nil, Option, add-zero, zero-add, arith}
+use Rattle.std.specs.List.{AllByRecursion, flat_map, enumerate_from}
 use Rattle.std.proofs.lemmas.Grind.{flat_map-append}
 use Rattle.std.proofs.lemmas.List.{map-append}
 use Rattle.schema_definitions.specs.Places.{Dialect, SchemaPlace, places}
 use Rattle.schema_definitions.specs.Bearers.{Document, Standing, document_name, standing_in, standings}
+use Rattle.document_laws.specs.Agreeing.{Agrees}
+use Rattle.document_laws.proofs.Lists.{first_part, second_part}
+use Rattle.document_laws.proofs.Agreeing.{agreeing_tell_places}
+use Rattle.document_laws.proofs.Alike.{all_stand}
 use Rattle.document_index.specs.Located.{Located, standings_at, located_standings}
+use Rattle.document_index.specs.Seen.{standing_of, located_of}
+use Rattle.document_index.specs.declared.standing.Standing as found_places
 
 abbrev pub located_at : ℕ → List ℕ → SchemaPlace → Located
 located_at position name p = record { document = position; standing = record { document = name; place = p } }
@@ -53,3 +59,34 @@ standings-from meta n (d ∷ ds) =
 pub standings-located : (meta : List ℕ → Option Dialect) (documents : List Document) → map (λ (l : Located). l.standing) (located_standings meta documents) ≡ standings meta documents
 unfolding located_standings standings
 standings-located meta documents = standings-from meta 0 documents
+
+-- those found, without the positions
+pub stand-located : (meta : List ℕ → Option Dialect) (documents : List Document) (found : List found_places.Standing) → map located_of found ≡ located_standings meta documents
+    → map standing_of found ≡ standings meta documents
+stand-located meta documents found e =
+    sym (map-through (λ (l : Located). l.standing) located_of found) ∙ ap (map (λ (l : Located). l.standing)) e ∙ standings-located meta documents
+
+-- ---- under two that tell the same of all meta-schemas that are named at the places
+
+module _ (told after : List ℕ → Option Dialect) where
+  standing-alike : (d : Document) → AllByRecursion (Agrees told after) (standing_in told d) → standing_in after d ≡ standing_in told d
+  unfolding standings
+  standing-alike d agree =
+      sym (append-nil (standing_in after d))
+      ∙ agreeing_tell_places told after (d ∷ []) (subst (AllByRecursion (Agrees told after)) (sym (append-nil (standing_in told d))) agree)
+      ∙ append-nil (standing_in told d)
+
+  alike-from : (n : ℕ) (ds : List Document) → AllByRecursion (Agrees told after) (flat_map (standing_in told) ds)
+      → flat_map (standings_at after) (enumerate_from n ds) ≡ flat_map (standings_at told) (enumerate_from n ds)
+  alike-from n [] agree = refl
+  alike-from n (d ∷ ds) agree =
+      let here = first_part (Agrees told after) (standing_in told d) (flat_map (standing_in told) ds) agree in
+      let further = second_part (Agrees told after) (standing_in told d) (flat_map (standing_in told) ds) agree in
+      ap₂ (λ ls ms. ls ++ ms) (ap (map (λ s. record { document = n; standing = s })) (standing-alike d here)) (alike-from (n + 1) ds further)
+
+  pub located-alike : (documents : List Document) → AllByRecursion (Agrees told after) (standings told documents) → located_standings after documents ≡ located_standings told documents
+  unfolding located_standings standings
+  located-alike documents agree = alike-from 0 documents agree
+
+  pub located-same : ((uri : List ℕ) → after uri ≡ told uri) → (documents : List Document) → located_standings after documents ≡ located_standings told documents
+  located-same same documents = located-alike documents (all_stand after told same (standings told documents))

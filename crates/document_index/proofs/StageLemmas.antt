@@ -1,12 +1,12 @@
 -- One stage, and one after another.
-use Rattle.std.proofs.Common.{◌≡◌, ◌∙◌, ◌≤◌, ◌++◌, ℕ, suc, List, [], ◌∷◌, Bool, true, false, not, ◌&&◌, ◌||◌, is_some, if◌then◌else◌, Option, Some, None, option_map, refl, sym, ap, ap₂, arith}
+use Rattle.std.proofs.Common.{◌≡◌, ◌∙◌, ◌≤◌, ◌++◌, ℕ, suc, List, [], ◌∷◌, Bool, true, false, not, ◌&&◌, ◌||◌, is_some, if◌then◌else◌, Option, Some, None, option_map, map, refl, sym, ap, ap₂, subst, arith}
 use Rattle.std.proofs.lemmas.Bool.{false≢true}
 use Rattle.std.specs.Prelude.{Decides, Result, Ok, Err, IfOk, slice_get}
-use Rattle.std.specs.List.{flat_map}
+use Rattle.std.specs.List.{AllByRecursion, flat_map}
 use Rattle.schema_definitions.specs.Words.{last_that, listed}
 use Rattle.schema_definitions.specs.Places.{named_meta_schema}
 use Rattle.schema_definitions.specs.Places as places
-use Rattle.schema_definitions.specs.Bearers.{Documents, Standing, standings, is_root, bears, dialect_by, dialects}
+use Rattle.schema_definitions.specs.Bearers.{Documents, Standing, standings, is_root, bears, dialect_by, dialects, meta}
 use Rattle.schema_definitions.specs.DocumentCauses.{circular_metaschema, is_told_alike}
 use Rattle.schema_dialects.specs.Dialects.{dialect_of, dialects_in}
 use Rattle.schema_dialects.specs.declared.dialect.Dialect.{Dialect}
@@ -17,8 +17,13 @@ use Rattle.document_laws.proofs.Alike.{alike_tell}
 use Rattle.document_laws.specs.Stages.{unless_alike, anew_at, anew_after, AtRest}
 use Rattle.document_laws.proofs.Same.{told_alike_is_same}
 use Rattle.document_laws.proofs.Resting.{rest_stays}
-use Rattle.document_laws.proofs.Told.{only_rest_tells_none_anew, rest_from}
+use Rattle.document_laws.specs.Agreeing.{Agrees}
+use Rattle.document_laws.proofs.Told.{agreeing_at, only_rest_tells_none_anew, rest_from}
 use Rattle.document_index.specs.Told.{Tells}
+use Rattle.document_index.specs.Standings.{AreUnder, AreTold}
+use Rattle.document_index.specs.Seen.{standing_of}
+use Rattle.document_index.specs.declared.standing.Standing as code
+use Rattle.document_index.proofs.LocatedLemmas.{stand-located, located-alike, located-same}
 
 -- ---- what places bear
 
@@ -90,6 +95,18 @@ module _ (docs : Documents) (n : ℕ) (told after : MetaSchemas) (ss : List Stan
       let after' = dialects docs (suc n) in
       anew-alike (dialects_in told) told' (dialects_in after) after' tells next ss
       ∙ ap (flat_map (anew_at told' after')) same
+
+-- where it tells none anew, the places are those under what it tells, too
+pub stays-under : (docs : Documents) (told after : MetaSchemas) (found : List code.Standing) → AreUnder told docs found
+    → flat_map (anew_at (dialects_in told) (dialects_in after)) (map standing_of found) ≡ [] → AreUnder after docs found
+stays-under docs told after found under none =
+    let agree = subst (AllByRecursion (Agrees (dialects_in told) (dialects_in after))) (stand-located (dialects_in told) docs found under)
+    (agreeing_at (dialects_in told) (dialects_in after) (map standing_of found) none) in
+    under ∙ sym (located-alike (dialects_in told) (dialects_in after) docs agree)
+
+-- and where all is told, those under all that is told
+pub under-all : (docs : Documents) (known : MetaSchemas) (found : List code.Standing) → Tells known (meta docs) → AreUnder known docs found → AreTold docs found
+under-all docs known found tells under = under ∙ located-same (meta docs) (dialects_in known) tells docs
 
 -- nothing is told by no stage
 pub none_told : (k : MetaSchemas) (docs : Documents) → ((uri : List ℕ) → dialects_in k uri ≡ None) → Tells k (dialects docs 0)

@@ -6,3 +6,4 @@ pub mod Told
 pub mod Awaited
 pub mod Named
 pub mod Checked
+pub mod Standings

@@ -7,11 +7,12 @@ ghost use Rattle.schema_dialects.specs.Dialects.{dialects_in};
 ghost use Rattle.document_index.specs.Seen.{document_of};
 ghost use Rattle.document_laws.specs.Stages as laws;
 ghost use Rattle.document_index.specs.Told.{Tells};
+ghost use Rattle.document_index.specs.Standings.{AreUnder, AreTold};
 
 use crate::counting::how_many;
 use crate::document::Document;
 use crate::stages::{borne_by, first_anew};
-use crate::standing::standings;
+use crate::standing::{Standing, standings};
 use schema_dialects::MetaSchemas;
 use std::alloc::{AllocError, Global};
 use uri_references::uri::Uri;
@@ -26,19 +27,64 @@ pub struct Told {
     pub anew: Option<Uri>,
 }
 
-// One stage more.
-fn one_more(
+/// What a stage tells of meta-schemas, and the schema places by which it tells it.
+#[derive(Drop)]
+pub(crate) struct Stage<'d> {
+    pub(crate) told: Told,
+    pub(crate) places: Vec<Standing<'d>>,
+}
+
+// One stage more. Where it is at rest, the places are those under what it tells, too.
+fn one_more<'d>(
     alloc: Global,
-    documents: &[Document<'_>],
+    documents: &'d [Document<'_>],
     told: &MetaSchemas,
-) -> Result<Told, AllocError>
-    ensures next { IfOk result (λ t. (n : ℕ) → Tells told.now (bearers.dialects (map document_of documents.now) n) → Tells t.meta_schemas (bearers.dialects (map document_of documents.now) (suc n))) }
-    ensures anew { IfOk result (λ t. (n : ℕ) → Tells told.now (bearers.dialects (map document_of documents.now) n) → option_map causes.circular_metaschema t.anew ≡ slice_get (laws.anew_after (map document_of documents.now) n) 0) }
+) -> Result<Stage<'d>, AllocError>
+    ensures next { IfOk result (λ s. (n : ℕ) → Tells told.now (bearers.dialects (map document_of documents.now) n) → Tells s.told.meta_schemas (bearers.dialects (map document_of documents.now) (suc n))) }
+    ensures anew { IfOk result (λ s. (n : ℕ) → Tells told.now (bearers.dialects (map document_of documents.now) n) → option_map causes.circular_metaschema s.told.anew ≡ slice_get (laws.anew_after (map document_of documents.now) n) 0) }
+    ensures rests { IfOk result (λ s. s.told.anew ≡ None → AreUnder s.told.meta_schemas (map document_of documents.now) s.places.items) }
 {
     let places = standings(alloc, told, documents)?;
     let meta_schemas = borne_by(alloc, &places)?;
     let anew = first_anew(alloc, &places, told, &meta_schemas)?;
-    Ok(Told { meta_schemas, anew })
+    Ok(Stage {
+        told: Told { meta_schemas, anew },
+        places,
+    })
+}
+
+// One stage more than that many, or the first at rest.
+fn stage_after<'d>(
+    alloc: Global,
+    documents: &'d [Document<'_>],
+    stages: usize,
+) -> Result<Stage<'d>, AllocError>
+    ensures told { IfOk result (λ s. Tells s.told.meta_schemas (bearers.dialects (map document_of documents.now) (suc stages))) }
+    ensures anew { IfOk result (λ s. option_map causes.circular_metaschema s.told.anew ≡ slice_get (laws.anew_after (map document_of documents.now) stages) 0) }
+    ensures rests { IfOk result (λ s. s.told.anew ≡ None → AreUnder s.told.meta_schemas (map document_of documents.now) s.places.items) }
+{
+    let mut next = one_more(alloc, documents, &MetaSchemas::none(alloc))?;
+    let mut stage: usize = 0;
+    while stage < stages && next.told.anew.is_some() {
+        next = one_more(alloc, documents, &next.told.meta_schemas)?;
+        stage += 1;
+    }
+    Ok(next)
+}
+
+// The last of the stages.
+pub(crate) fn last_stage<'d>(
+    alloc: Global,
+    documents: &'d [Document<'_>],
+) -> Result<Stage<'d>, AllocError>
+    ensures told { IfOk result (λ s. Tells s.told.meta_schemas (bearers.meta (map document_of documents.now))) }
+    ensures anew { IfOk result (λ s. option_map causes.circular_metaschema s.told.anew ≡ slice_get (causes.told_anew (map document_of documents.now)) 0) }
+    ensures rests { IfOk result (λ s. s.told.anew ≡ None → AreUnder s.told.meta_schemas (map document_of documents.now) s.places.items) }
+{
+    match how_many(documents) {
+        Some(stages) => stage_after(alloc, documents, stages),
+        None => Err(AllocError),
+    }
 }
 
 /// What one stage more than that many tells of meta-schemas, each stage by what the places of the documents bear under what the one before
@@ -58,13 +104,7 @@ pub fn told_after(
     ensures told { IfOk result (λ t. (uri : List ℕ) → dialects_in t.meta_schemas uri ≡ bearers.dialects (map document_of documents.now) (suc stages) uri) }
     ensures anew { IfOk result (λ t. option_map causes.circular_metaschema t.anew ≡ slice_get (laws.anew_after (map document_of documents.now) stages) 0) }
 {
-    let mut next = one_more(alloc, documents, &MetaSchemas::none(alloc))?;
-    let mut stage: usize = 0;
-    while stage < stages && next.anew.is_some() {
-        next = one_more(alloc, documents, &next.meta_schemas)?;
-        stage += 1;
-    }
-    Ok(next)
+    Ok(stage_after(alloc, documents, stages)?.told)
 }
 
 /// What documents tell of meta-schemas: the dialect of each, and one that is told anew where there are some.
@@ -79,8 +119,26 @@ pub fn meta_schemas(alloc: Global, documents: &[Document<'_>]) -> Result<Told, A
     ensures anew { IfOk result (λ t. option_map causes.circular_metaschema t.anew ≡ slice_get (causes.told_anew (map document_of documents.now)) 0) }
     ensures rests { IfOk result (λ t. t.anew ≡ None → causes.told_anew (map document_of documents.now) ≡ []) }
 {
-    match how_many(documents) {
-        Some(stages) => told_after(alloc, documents, stages),
-        None => Err(AllocError),
+    Ok(last_stage(alloc, documents)?.told)
+}
+
+/// The schema places of documents under all that they tell of meta-schemas, in the order of [`standings`].
+///
+/// They are those of the last stage where that is at rest, and cost what [`meta_schemas`] costs. Only where a meta-schema is told anew
+/// they are found once more.
+///
+/// # Errors
+///
+/// As [`meta_schemas`].
+pub fn told_standings<'d>(
+    alloc: Global,
+    documents: &'d [Document<'_>],
+) -> Result<Vec<Standing<'d>>, AllocError>
+    ensures { IfOk result (λ v. AreTold (map document_of documents.now) v.items) }
+{
+    let stage = last_stage(alloc, documents)?;
+    match stage.told.anew {
+        None => Ok(stage.places),
+        Some(_) => standings(alloc, &stage.told.meta_schemas, documents),
     }
 }

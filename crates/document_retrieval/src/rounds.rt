@@ -29,8 +29,8 @@ pub struct Retrieved<'a> {
 /// The documents with all that they want and is not at hand, and with what that wants in turn.
 ///
 /// All documents are walked, then what they want is asked for in the order met, each URI once; then their answers are walked with
-/// them, until nothing is wanted any more. An answer is of the layer, and is read by the layer's draft where it names none. It costs two
-/// walks of the documents for each round, and more where they name meta-schemas of their own.
+/// them, until nothing is wanted any more. An answer is of the layer, and is read by the layer's draft where it names none. It finds the
+/// schema places of the documents once for each round, and more often where they name meta-schemas of their own.
 ///
 /// # Errors
 ///

@@ -3,19 +3,15 @@
 ghost use Rattle.std.specs.Prelude.{◌≡◌, ◌++◌, [], ◌∷◌, ℕ, List, map, option_map, IfOk, OnOk, bytes_eq};
 ghost use Rattle.std.specs.List.{list_any};
 ghost use Rattle.schema_definitions.specs.Words.{listed};
-ghost use Rattle.schema_dialects.specs.Dialects.{dialects_in};
 ghost use Rattle.document_index.specs.Seen.{document_of, standing_of};
-ghost use Rattle.document_index.specs.Located.{located_standings};
-ghost use Rattle.document_index.specs.Indexes.{Indexes};
 ghost use Rattle.schema_definitions.specs.Rounds as rounds;
 ghost use Rattle.document_retrieval.specs.Known.{want_of, has_name, is_known_by};
 
 use crate::names::Names;
 use document_index::document::Document;
 use document_index::index::Index;
-use document_index::standing::{Standing, standings};
-use document_index::told::meta_schemas;
-use schema_dialects::MetaSchemas;
+use document_index::standing::Standing;
+use document_index::told::told_standings;
 use schema_dialects::bases::resolved;
 use schema_dialects::identifiers::text_at;
 use std::alloc::{AllocError, Global};
@@ -104,15 +100,17 @@ fn names_of(alloc: Global, documents: &[Document<'_>]) -> Result<Names, AllocErr
     Ok(names)
 }
 
-// What documents want and is not at hand under what is known of meta-schemas.
-fn wants_under(
-    alloc: Global,
-    known: &MetaSchemas,
-    documents: &[Document<'_>],
-) -> Result<Vec<Want>, AllocError>
-    ensures { IfOk result (λ v. map want_of v.items ≡ rounds.wants_under (dialects_in known.now) (map document_of documents.now)) }
+/// What documents want and is not at hand, each URI once, in the order met. They are read under all that they tell of meta-schemas.
+///
+/// It costs what [`told_standings`] costs, and takes a few look-ups in maps for each schema place.
+///
+/// # Errors
+///
+/// As [`told_standings`].
+pub fn wants_of(alloc: Global, documents: &[Document<'_>]) -> Result<Vec<Want>, AllocError>
+    ensures { IfOk result (λ v. map want_of v.items ≡ rounds.wants (map document_of documents.now)) }
 {
-    let places = standings(alloc, known, documents)?;
+    let places = told_standings(alloc, documents)?;
     let index = Index::of(alloc, &places)?;
     let mut names = names_of(alloc, documents)?;
     let mut wants = Vec::new(alloc);
@@ -120,18 +118,4 @@ fn wants_under(
         push_wanted(alloc, &index, &mut names, &mut wants, standing)?;
     }
     Ok(wants)
-}
-
-/// What documents want and is not at hand, each URI once, in the order met. They are read under all that they tell of meta-schemas.
-///
-/// It finds the schema places of each document once more than [`meta_schemas`] does, and takes a few look-ups in maps for each.
-///
-/// # Errors
-///
-/// As [`meta_schemas`].
-pub fn wants_of(alloc: Global, documents: &[Document<'_>]) -> Result<Vec<Want>, AllocError>
-    ensures { IfOk result (λ v. map want_of v.items ≡ rounds.wants (map document_of documents.now)) }
-{
-    let told = meta_schemas(alloc, documents)?;
-    wants_under(alloc, &told.meta_schemas, documents)
 }

@@ -10,9 +10,6 @@ use Rattle.graph_answers.specs.Tables.{AreForms}
 use Rattle.graph_answers.specs.Completions.{found_in, table_finds, assumed_in, matches_with}
 use Rattle.graph_answers.specs.declared.assumed.AssumedMatch.{AssumedMatch}
 
-same_answers : (f g : Answers) → ((p t : List ℕ) → f p t ≡ g p t) → f ≡ g
-same_answers f g h = λ i p t. h p t i
-
 same_some : (x y : Bool) → Some x ≡ Some y → x ≡ y
 same_some x y h = cc
 

@@ -7,4 +7,5 @@ pub mod ToldLemmas
 pub mod Joined
 pub mod Completing
 pub mod RunLemmas
+pub mod RunCounts
 pub mod RunVerdicts

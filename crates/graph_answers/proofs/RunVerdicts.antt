@@ -1,10 +1,7 @@
 -- What is decided is the verdict of the documents that a graph means.
-use Rattle.std.proofs.Common.{◌≡◌, ℕ, List, [], Bool, false, Option, subst}
+use Rattle.std.proofs.Common.{ℕ, List, [], Bool, Option, subst}
 use Rattle.serde_json.specs.Data.{Data}
 use Rattle.schema_meaning.specs.Keywords.{Shape}
-use Rattle.schema_meaning.specs.Places.{whole}
-use Rattle.schema_meaning.specs.Readings.{verdicts, IsTold}
-use Rattle.schema_definitions.specs.Plain.{plain}
 use Rattle.schema_patterns.specs.declared.table.PatternTable.{PatternTable}
 use Rattle.schema_engine.specs.Graphs.{IsSound}
 use Rattle.schema_engine.specs.Matches.{Answers, completed, none_matched}

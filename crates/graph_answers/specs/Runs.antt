@@ -1,6 +1,7 @@
 -- Runs by what is assumed of the matches that stay unfinished: each first as no, then as yes.
-use Rattle.std.specs.Prelude.{◌≡◌, ◌&&◌, ◌||◌, ℕ, List, [], ◌∷◌, length, Bool, true, false, Option, string_bytes}
+use Rattle.std.specs.Prelude.{◌≡◌, ◌&&◌, ◌||◌, ◌++◌, ℕ, List, [], ◌∷◌, length, Bool, true, false, Option, None, string_bytes}
 use Rattle.serde_json.specs.Data.{Data}
+use Rattle.schema_meaning.specs.Members.{In}
 use Rattle.schema_meaning.specs.Places.{whole}
 use Rattle.schema_meaning.specs.Keywords.{Shape}
 use Rattle.schema_meaning.specs.Readings.{verdicts}
@@ -9,6 +10,7 @@ use Rattle.schema_engine.specs.Graphs.{reading_of}
 use Rattle.schema_engine.specs.Matches.{Answers, Matches, InEach, completed}
 use Rattle.schema_engine.specs.declared.node.Node.{Node}
 use Rattle.schema_patterns.specs.declared.table.PatternTable.{PatternTable}
+use Rattle.reading_laws.specs.Keys.{Distinct}
 use Rattle.graph_answers.specs.Answers.{keys_below, IsVerdict}
 use Rattle.graph_answers.specs.declared.assumed.AssumedMatch.{AssumedMatch}
 use Rattle.graph_answers.specs.declared.runs.Decision.{Decision}
@@ -43,6 +45,28 @@ is_behind (a ∷ more) rest = after_one a.is_match (answer_of a rest) (is_behind
 abbrev pub is_left : List AssumedMatch → Answers → Bool
 is_left assumed rest = agrees assumed rest || is_behind assumed rest
 
+-- the last no is a yes, and the yeses behind it are gone
+pub record IsTurned (old new : List AssumedMatch) : Type 0 where
+  pub before : List AssumedMatch
+  pub last : AssumedMatch
+  pub behind : List AssumedMatch
+  pub was_no : last.is_match ≡ false
+  pub all_yes : (a : AssumedMatch) → In a behind → a.is_match ≡ true
+  pub was : old ≡ before ++ last ∷ behind
+  pub is : new ≡ before ++ record { pattern = last.pattern; text = last.text; is_match = true } ∷ []
+
+-- ---- matches that stay unfinished
+
+-- different matches, each of a pattern with a text, of which nothing is known
+pub record AreOpen (m : Matches) (found : List (List ℕ × List ℕ)) : Type 0 where
+  pub apart : Distinct found
+  pub each : (pattern text : List ℕ) → In (pattern, text) found → m.known pattern text ≡ None
+
+pub record AreSixOpen (m : Matches) : Type 0 where
+  pub found : List (List ℕ × List ℕ)
+  pub six : length found ≡ 6
+  pub are_open : AreOpen m found
+
 -- ---- verdicts
 
 module _ {K : Type 0} (shape : K → Shape ℕ) (nodes : List (Node K)) (start : ℕ) (d : Data) where
@@ -50,16 +74,16 @@ module _ {K : Type 0} (shape : K → Shape ℕ) (nodes : List (Node K)) (start :
   unfoldable pub verdict_in : Answers → Bool
   verdict_in reads = cut verdicts (reading_of shape reads nodes) (keys_below (length nodes) d) [] start (whole d)
 
-  -- a run that was not stopped has the verdict of each completion
+  -- a run that was not stopped has the verdict of each completion, and one that was is at a match of which nothing is known
   abbrev pub IsRun : Matches → Run → Type 0
   IsRun m (run.Answered b) = InEach m (λ reads. b ≡ verdict_in reads)
-  IsRun m (run.Stopped open_match) = Unit {0}
+  IsRun m (run.Stopped one) = m.known (string_bytes one.pattern) (string_bytes one.text) ≡ None
 
-  -- every completion accepts, or one refuses
+  -- every completion accepts, or one refuses, or there are six matches of which nothing is known
   abbrev pub IsDecision : Matches → Decision → Type 0
   IsDecision m decision.Accepted = InEach m (λ reads. verdict_in reads ≡ true)
   IsDecision m decision.Refused = (rest : Answers) × (verdict_in (completed m rest) ≡ false)
-  IsDecision m decision.Undecided = Unit {0}
+  IsDecision m decision.Undecided = AreSixOpen m
 
 -- it is the verdict of documents that the graph means, where each match that the value asks for is finished
 abbrev pub IsVerdictOf : {K M : Type 0} → (K → Shape ℕ) → (M → List ℕ → Option Bool) → List (Node K) → PatternTable M → ℕ → Data → Decision → Type 0

@@ -69,7 +69,7 @@ impl<'v, 'a, M: PatternMatcher> Assumed<'v, 'a, M> {
 }
 
 // What is assumed of a match, if anything is.
-fn answer_in(assumed: &[AssumedMatch], pattern: &str, text: &str) -> Option<bool>
+pub(crate) fn answer_in(assumed: &[AssumedMatch], pattern: &str, text: &str) -> Option<bool>
     ensures { result ≡ assumed_in assumed.now pattern.now text.now }
 {
     for one in assumed {

@@ -1,17 +1,17 @@
 //! Verdicts that hold however the matches that stay unfinished are answered.
-ghost use Rattle.std.specs.Prelude.{◌≡◌, ◌<◌, ◌&&◌, [], length, IfOk};
+ghost use Rattle.std.specs.Prelude.{◌≡◌, ◌<◌, ◌&&◌, [], length, IfOk, true, None, string_bytes};
 ghost use Rattle.serde_json.specs.View.{view};
 ghost use Rattle.schema_engine.specs.Matches.{Answers};
-ghost use Rattle.graph_answers.specs.Completions.{matches_with};
+ghost use Rattle.graph_answers.specs.Completions.{table_finds, assumed_in, matches_with};
 ghost use Rattle.graph_answers.specs.Linking.{KnowsTable};
-ghost use Rattle.graph_answers.specs.Runs.{is_behind, is_left, IsRun, IsDecision, IsVerdictOf};
+ghost use Rattle.graph_answers.specs.Runs.{is_behind, is_left, IsRun, IsTurned, IsDecision, IsVerdictOf};
 ghost use Rattle.graph_answers.specs.Tables.{AreForms};
 
-use crate::assumed::{Assumed, AssumedMatch, UnfinishedMatch};
+use crate::assumed::{Assumed, AssumedMatch, UnfinishedMatch, answer_in};
 use schema_engine::accepts::accepts;
 use schema_engine::graph::Graph;
 use schema_engine::validate::Validate;
-use schema_patterns::{PatternMatcher, PatternTable};
+use schema_patterns::{MatchAnswer, PatternMatcher, PatternTable};
 use serde_json::Value;
 use std::alloc::{AllocError, Global};
 
@@ -25,7 +25,7 @@ pub enum Decision {
     Accepted,
     /// It is refused, if they are answered in some way.
     Refused,
-    /// That took more runs than are made.
+    /// That took more runs than are made: at least six matches stay unfinished.
     Undecided,
 }
 
@@ -34,6 +34,25 @@ pub enum Decision {
 pub(crate) enum Run {
     Answered(bool),
     Stopped(UnfinishedMatch),
+}
+
+// Whether a match is neither finished nor assumed. It asks the table's pattern once more.
+fn is_open<M: PatternMatcher>(
+    table: &PatternTable<M>,
+    assumed: &[AssumedMatch],
+    stopped: &UnfinishedMatch,
+) -> bool
+    ensures found { result ≡ true → table_finds M.finds table.now (string_bytes stopped.now.pattern) (string_bytes stopped.now.text) ≡ None }
+    ensures assumed { result ≡ true → assumed_in assumed.now (string_bytes stopped.now.pattern) (string_bytes stopped.now.text) ≡ None }
+{
+    let text = stopped.text.as_str();
+    let Some(compiled) = table.get(stopped.pattern.as_str()) else {
+        return false;
+    };
+    match compiled.is_match(text) {
+        MatchAnswer::Unfinished => answer_in(assumed, stopped.pattern.as_str(), text).is_none(),
+        MatchAnswer::Yes | MatchAnswer::No | MatchAnswer::NoMemory => false,
+    }
 }
 
 fn run_once<K: Validate, M: PatternMatcher>(
@@ -54,15 +73,16 @@ fn run_once<K: Validate, M: PatternMatcher>(
     match accepts(graph, start, value, &mut matching, &mut questions) {
         Ok(verdict) => Ok(Run::Answered(verdict)),
         Err(error) => match matching.into_stopped() {
-            Some(stopped) => Ok(Run::Stopped(stopped)),
-            None => Err(error),
+            Some(stopped) if is_open(table, assumed, &stopped) => Ok(Run::Stopped(stopped)),
+            _ => Err(error),
         },
     }
 }
 
 // Assumes yes of the last match of which no is assumed, and nothing of those behind it; says whether there is one.
 fn turn_last(assumed: &mut Vec<AssumedMatch>) -> Result<bool, AllocError>
-    ensures { IfOk result (λ turned. (rest : Answers) → is_behind assumed.old.items rest ≡ (turned && is_left assumed.new.items rest)) }
+    ensures turned { IfOk result (λ turned. turned ≡ true → IsTurned assumed.old.items assumed.new.items) }
+    ensures left { IfOk result (λ turned. (rest : Answers) → is_behind assumed.old.items rest ≡ (turned && is_left assumed.new.items rest)) }
 {
     while let Some(last) = assumed.pop() {
         if !last.is_match {
@@ -92,7 +112,7 @@ fn assume_each<K: Validate, M: PatternMatcher>(
     ensures { IfOk result (IsDecision K.shape graph.now.nodes.items start (view value.now) (matches_with M.finds table.now [])) }
 {
     let mut assumed = Vec::new(alloc);
-    for _ in 0..RUNS {
+    for made in 0..RUNS {
         match run_once(alloc, graph, start, table, assumed.as_slice(), value)? {
             Run::Stopped(stopped) => assumed.push(AssumedMatch {
                 pattern: stopped.pattern,

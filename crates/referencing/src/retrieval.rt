@@ -67,8 +67,9 @@ impl<'a, R: Retrieve + Drop> RegistryBuilder<'a, R> {
     ///
     /// All documents are walked, and then what their `$ref`s and meta-schemas want and is not there is asked of the retriever, in the
     /// order met and each URI once; then their answers are walked with them, until nothing is wanted any more. An answer is read as the
-    /// documents added are, by the builder's draft where it names none. It costs two walks of the documents for each round, and then
-    /// what [`Registry::of`] costs. No document is copied: what is owned is moved and shared.
+    /// documents added are, by the builder's draft where it names none. It finds the schema places of the documents once for each round,
+    /// and more often where they name meta-schemas of their own, and then costs what [`Registry::of`] costs. No document is copied: what
+    /// is owned is moved and shared.
     ///
     /// # Errors
     ///

@@ -1,13 +1,37 @@
-use Rattle.std.proofs.Common.{◌∙◌, map}
-use Rattle.schema_definitions.specs.Bearers.{meta}
-use Rattle.schema_dialects.specs.Dialects.{dialects_in}
-use Rattle.document_index.specs.Seen.{document_of}
-use Rattle.document_index.proofs.StageLemmas.{if_ok_weaker}
-use Rattle.document_retrieval.proofs.ToldLemmas.{wants-alike}
+use Rattle.std.proofs.Common.{◌≡◌, ◌∙◌, ◌++◌, [], ℕ, List, ◌||◌, map, ap, sym, is_some, option_map, append-nil, drop, arith}
+use Rattle.std.proofs.lemmas.List.{drop_all}
+use Rattle.std.specs.List.{flat_map}
+use Rattle.schema_definitions.specs.Bearers.{bears, standings, bearer_under, meta}
+use Rattle.document_index.specs.Located.{Located, located_standings, last_located, kept_of}
+use Rattle.document_index.specs.Seen.{document_of, standing_of, located_of}
+use Rattle.document_index.proofs.AnswerLemmas.{last-of-located}
+use Rattle.document_index.proofs.LocatedLemmas.{stand-located}
+use Rattle.schema_definitions.specs.Rounds.{further, wanted_at, is_at_hand, wants_under}
+use Rattle.document_retrieval.specs.Known.{want_of, has_name, is_known_by}
+use Rattle.document_retrieval.proofs.KnownLemmas.{further-same, borne}
 use Rattle.document_retrieval.proofs.wants.wants_of.Goals as goal
 
 pub returns : goal.returns
+unfolding wants_under
 returns c =
     let docs = map document_of c.args.documents.now in
-    let known = dialects_in c.in_ok-told.told.meta_schemas in
-    if_ok_weaker c.wants_under.result (λ v e. e ∙ wants-alike known (meta docs) c.in_ok-told.ensures.told docs) c.wants_under.ensures
+    let told = meta docs in
+    let places = c.in_ok-places.places.items in
+    let index = c.in_ok-index.index in
+    let names = c.in_ok-names.names in
+    let stand : map standing_of places ≡ standings told docs = stand-located told docs places c.in_ok-places.ensures in
+    let last = λ (q : List ℕ). last_located (bears q) (located_standings told docs) in
+    let known : (q : List ℕ) → is_known_by index names q ≡ is_at_hand told docs q = λ q.
+    ap (λ o. is_some o || has_name names q) (c.in_ok-index.ensures.by_uri q ∙ ap (λ ls. option_map kept_of (last_located (bears q) ls)) (ap (map located_of) c.deref.ensures.value ∙ c.in_ok-places.ensures))
+    ∙ ap (λ b. b || has_name names q) (borne kept_of (λ (l : Located). l.standing) (last q))
+    ∙ ap (λ o. is_some o || has_name names q) (sym (last-of-located told (bears q) docs))
+    ∙ ap (λ b. is_some (bearer_under told docs q) || b) (c.in_ok-names.ensures q) in
+    let i = c.loop-standing.standing-index in
+    let found = map want_of c.loop-standing.wants.items in
+    let seen = c.deref-standing-items.result.now in
+    let none : drop i seen ≡ [] = drop_all i seen (omega arith) in
+    sym (append-nil found)
+    ∙ ap (λ l. found ++ further (is_known_by index c.loop-standing.names) (flat_map wanted_at (map standing_of l))) (sym none)
+    ∙ c.loop-standing.invariant
+    ∙ ap (λ l. further (is_known_by index names) (flat_map wanted_at l)) (ap (map standing_of) c.deref-standing-items.ensures.value ∙ stand)
+    ∙ further-same (is_known_by index names) (is_at_hand told docs) known (flat_map wanted_at (standings told docs))

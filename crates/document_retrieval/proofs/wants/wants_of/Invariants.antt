@@ -3,7 +3,7 @@ use Rattle.std.specs.List.{flat_map}
 use Rattle.document_index.specs.Seen.{standing_of}
 use Rattle.schema_definitions.specs.Rounds.{further, wanted_at}
 use Rattle.document_retrieval.specs.Known.{want_of, is_known_by}
-use Rattle.document_retrieval.proofs.wants.wants_under.Given as goal
+use Rattle.document_retrieval.proofs.wants.wants_of.Given as goal
 
 abbrev pub invariant-loop-standing : goal.invariant-loop-standing
 invariant-loop-standing l =
