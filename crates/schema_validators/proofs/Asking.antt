@@ -37,7 +37,7 @@ module _ (patterns : Patterns) (r : SchemaRegistry) (root : Root) (p : SharedReg
 pub meta_root_by : (p : SharedRegistry) (base text : List ℕ) → base ≡ codes "json-schema:///" → root_of (documents_shared p) base text ≡ meta_root p text
 meta_root_by p base text b = ap (λ (u : List ℕ). root_of (documents_shared p) u text) b
 
-one_named : (o : Option (List ℕ)) (u w : List ℕ) → o ≡ Some u → o ≡ Some w → u ≡ w
+pub one_named : (o : Option (List ℕ)) (u w : List ℕ) → o ≡ Some u → o ≡ Some w → u ≡ w
 one_named o u w e f = cc (e, f)
 
 -- want of memory says nothing of a meta-schema

@@ -6,6 +6,7 @@ mod MissingLemmas
 mod Agreeing
 mod Asking
 mod Owning
+mod Telling
 mod BuiltLemmas
 pub mod Accepting
 pub mod Preparing
