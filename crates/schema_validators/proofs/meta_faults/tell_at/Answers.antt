@@ -1,4 +1,7 @@
+use Rattle.std.proofs.Common.{codes}
 use Rattle.serde_json.specs.View.{view}
+use Rattle.schema_registries.specs.Seen.{documents_shared}
+use Rattle.schema_validators.specs.Seen.{root_of}
 use Rattle.schema_validators.proofs.Asking.{meta_root_by}
 use Rattle.schema_validators.proofs.Telling.{memory_refuses, tells_by}
 use Rattle.schema_validators.proofs.meta_faults.tell_at.Goals as goal
@@ -13,4 +16,4 @@ returns-clause-told g c =
 
 pub returns-in_err-told-clause-refused : goal.returns-in_err-told-clause-refused
 returns-in_err-told-clause-refused g c =
-    memory_refuses (g.P.PatternMaker.patterns c.args.maker.now) c.args.node_limit _ c.from_residual-in_err-told.result c.from_residual-in_err-told.ensures.1
+    memory_refuses (g.P.PatternMaker.patterns c.args.maker.now) c.args.node_limit (root_of (documents_shared c.args.parent.now) (codes "json-schema:///") c.args.uri.now) c.from_residual-in_err-told.result c.from_residual-in_err-told.ensures.1
