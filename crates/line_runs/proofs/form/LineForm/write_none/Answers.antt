@@ -10,14 +10,14 @@ returns-in-Pairs c =
     in_form TellsNone _ Pairs c.push_str.result _ _ c.in-Pairs.is
     (pushed_on (TellsNone Pairs) (string_bytes c.args.text.now) _ c.push_str.result (codes "null") refl c.push_str.ensures.bytes)
 
-pub returns-in_ok-reason_of-in-Objects : goal.returns-in_ok-reason_of-in-Objects
-returns-in_ok-reason_of-in-Objects c =
+pub returns-in_ok-reason-in-Objects : goal.returns-in_ok-reason-in-Objects
+returns-in_ok-reason-in-Objects c =
     let reason = c.as_str.result.now in
     in_form TellsNone _ Objects c.write_unread.result _ _ c.in-Objects.is
     (told_on (TellsNone Objects) (string_bytes c.args.text.now) _ c.write_unread.result _ (reason, _, refl) c.write_unread.ensures)
 
-pub returns-in_ok-reason_of-in-Sentences : goal.returns-in_ok-reason_of-in-Sentences
-returns-in_ok-reason_of-in-Sentences c =
+pub returns-in_ok-reason-in-Sentences : goal.returns-in_ok-reason-in-Sentences
+returns-in_ok-reason-in-Sentences c =
     let label = c.args.label.now in
     let reason = c.as_str-in-Sentences.result.now in
     in_form TellsNone _ Sentences c.write_reason.result _ _ c.in-Sentences.is
