@@ -20,7 +20,7 @@ use Rattle.applicators.specs.declared.question.Asked.{Asked}
 use Rattle.applicators.specs.declared.question.Asked.TheVariants as asked
 use Rattle.applicators.specs.declared.question.Question.{Question}
 use Rattle.applicators.proofs.CombinedLemmas.{every_rule}
-use Rattle.applied_laws.proofs.Sound.{questions_are_sound}
+use Rattle.plain_reader.proofs.Sound.{questions_are_sound}
 use Rattle.reading_laws.proofs.Elements as elements
 use Rattle.schema_patterns.specs.Read.{reads}
 use Rattle.plain_reader.specs.Applied.{AreAsked}

@@ -23,7 +23,7 @@ use Rattle.applicators.specs.declared.combining.Combining.{Combining}
 use Rattle.applicators.proofs.FormLemmas.{IsKeyword, counted_items, chosen_by}
 use Rattle.applicators.proofs.CombinedLemmas.{is_keyword}
 use Rattle.applicators.specs.declared.question.Question.{Question}
-use Rattle.applied_laws.proofs.Sound.{questions_are_sound}
+use Rattle.plain_reader.proofs.Sound.{questions_are_sound}
 use Rattle.certificate_laws.specs.Spelled.{AreSpelled}
 use Rattle.certificate_laws.proofs.Answers.{answers_there}
 use Rattle.certificate_laws.specs.Words.{IsOf, Bears, IsRest}

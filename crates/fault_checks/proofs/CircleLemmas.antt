@@ -21,7 +21,7 @@ use Rattle.applicators.specs.Applied.{Applicator}
 use Rattle.applicators.specs.declared.question.Asked.{Asked}
 use Rattle.applicators.specs.declared.question.Asked.TheVariants as asked
 use Rattle.applicators.specs.declared.question.Question as asking
-use Rattle.applied_laws.proofs.Sound.{questions_are_sound}
+use Rattle.plain_reader.proofs.Sound.{questions_are_sound}
 use Rattle.plain_reader.specs.Applied.{AreAsked}
 use Rattle.plain_reader.specs.Passed.{documents_at, Stands, ReferenceKeyword, Resolved, kind_of, name_of as keyword_name, scope_of, site_at, target_in}
 use Rattle.plain_reader.specs.Passed as code

@@ -1,1 +1,4 @@
 pub mod Joining
+pub mod Alone
+pub mod Agreeing
+pub mod Forming

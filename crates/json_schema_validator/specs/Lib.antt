@@ -1,2 +1,6 @@
 pub mod Joined
 pub mod Numbers
+pub mod Answers
+pub mod Rooms
+pub mod Roads
+pub mod Laws

@@ -7,10 +7,15 @@
 #![tactic(auto)]
 
 mod checking;
+mod forms;
+mod given;
+pub mod laws;
+mod places;
+pub mod roads;
 
 pub use checking::{check_error, check_errors, check_first, check_path};
-pub use document_roads::{Moving, Roads, same_on_three_roads};
 pub use fault_checks::checking::{CheckAnswer, FaultPath, check_fault};
+pub use roads::{Moving, Roads, same_on_three_roads};
 pub use schema_steps::Path;
 pub use schema_validators::{
     BothAnswers, BothValidators, BuildCause, BuildError, Checker, Decision, DefaultRetriever,

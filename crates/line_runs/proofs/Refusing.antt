@@ -4,7 +4,7 @@ use Rattle.std.proofs.lemmas.Bool.{true≢false}
 use Rattle.schema_meaning.specs.Faults.{Faults, none, also, is_none}
 use Rattle.schema_reports.specs.Told.{faults_of}
 use Rattle.schema_reports.specs.declared.error.ValidationError.{ValidationError}
-use Rattle.error_objects.specs.Objects.{HasObjects}
+use Rattle.error_texts.specs.Objects.{HasObjects}
 use Rattle.line_runs.specs.Objects.{IsObjectText}
 
 pub refused_text : (fs : Faults) (errors : List ValidationError) (text : List ℕ) → is_none fs ≡ false → faults_of errors ≡ fs → HasObjects errors text → IsObjectText fs text

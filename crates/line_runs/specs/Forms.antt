@@ -7,7 +7,7 @@ use Rattle.schema_definitions.specs.Lines.{line_value, faults_text}
 use Rattle.schema_patterns.specs.declared.matcher.PatternMatcher.{Ghosts}
 use Rattle.schema_reports.specs.Told.{faults_of}
 use Rattle.schema_reports.specs.declared.error.ValidationError.{ValidationError}
-use Rattle.error_sentences.specs.Sentences.{IsSentence, reason_line}
+use Rattle.error_texts.specs.Sentences.{IsSentence, reason_line}
 use Rattle.line_cuts.specs.Runs.{is_refused}
 use Rattle.schema_validators.specs.Passed.{Root, Patterns}
 use Rattle.schema_validators.specs.Answered.{AreFaults}

@@ -4,9 +4,9 @@ use Rattle.serde_json.specs.Written.{compact_text}
 use Rattle.schema_meaning.specs.Faults.{Faults, none, also}
 use Rattle.schema_reports.specs.Told.{faults_of}
 use Rattle.schema_reports.specs.declared.error.ValidationError.{ValidationError}
-use Rattle.error_objects.specs.Objects.{HasObjects, accepted_text}
-use Rattle.error_objects.specs.Unread.{unread_data}
-use Rattle.error_objects.specs.declared.unread.TextPlace.{TextPlace}
+use Rattle.error_texts.specs.Objects.{HasObjects, accepted_text}
+use Rattle.error_texts.specs.Unread.{unread_data}
+use Rattle.error_texts.specs.declared.unread.TextPlace.{TextPlace}
 
 -- it is not valid, and there is an object for each of these faults, in order
 pub record IsRefusedText (fs : Faults) (text : List ℕ) : Type 0 where

@@ -13,7 +13,7 @@ ghost use Rattle.line_runs.specs.Runs.{IsLineTextBy};
 use crate::counts::{LineCounts, LineVerdict};
 use crate::form::LineForm;
 use crate::line_value;
-use kept_patterns::kept::Kept;
+use regex_patterns::kept::Kept;
 use line_cuts::LineAnswers;
 use schema_engine::matching::Matching;
 use schema_patterns::PatternMatcher;

@@ -7,8 +7,8 @@ ghost use Rattle.line_runs.specs.Forms.{Tells, TellsNone, end_of, refuses_in};
 
 use crate::faults::write_faults;
 use crate::reading::reason_of;
-use error_objects::{is_accepted_line, write_accepted, write_refused, write_unread};
-use error_sentences::{write_reason, write_sentences};
+use error_texts::{is_accepted_line, write_accepted, write_refused, write_unread};
+use error_texts::{write_reason, write_sentences};
 use schema_reports::ErrorIterator;
 use std::alloc::{AllocError, Global};
 

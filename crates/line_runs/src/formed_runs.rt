@@ -11,7 +11,7 @@ ghost use Rattle.line_runs.specs.Objects.{is_refused_object};
 use crate::answers::{FormedLines, KeptLines};
 use crate::counts::LineCounts;
 use crate::form::LineForm;
-use kept_patterns::kept::Kept;
+use regex_patterns::kept::Kept;
 use line_cuts::{ByteSink, ByteSource, RunError, RunReport, answer_each, answer_lines};
 use schema_validators::Validator;
 use std::alloc::Global;

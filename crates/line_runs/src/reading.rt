@@ -4,7 +4,7 @@ ghost use Rattle.serde_json.specs.View.{view};
 ghost use Rattle.schema_definitions.specs.Lines as lines;
 ghost use Rattle.schema_registries.specs.Whole.{only_whole};
 
-use error_objects::TextPlace;
+use error_texts::TextPlace;
 use schema_registries::numbers::has_only_whole;
 use serde_json::error::Category;
 use serde_json::{Error, Value};

@@ -19,7 +19,7 @@ use Rattle.applicators.specs.declared.combining.Combining.{Combining}
 use Rattle.applicators.specs.declared.combining.Combining.TheVariants as combining
 use Rattle.applicators.specs.declared.question.Question.{Question}
 use Rattle.applicators.proofs.CombinedLemmas.{follows, decides}
-use Rattle.applied_laws.proofs.Plain.{once_plain}
+use Rattle.plain_reader.proofs.Plain.{once_plain}
 use Rattle.schema_patterns.specs.Read.{reads}
 use Rattle.schema_sites.specs.declared.site.Site as code
 use Rattle.plain_reader.specs.Spots.{Spots}

@@ -1,4 +1,6 @@
 pub mod VerdictLemmas
+pub mod Sound
+pub mod Plain
 pub mod Left
 pub mod LookedLemmas
 pub mod Reading

@@ -29,8 +29,8 @@ use Rattle.applicators.specs.Applied.{Applicator}
 use Rattle.applicators.specs.declared.question.Asked.{Asked}
 use Rattle.applicators.specs.declared.question.Asked.TheVariants as asked
 use Rattle.applicators.specs.declared.question.Question.{Question}
-use Rattle.applied_laws.specs.Laws.{IsSound}
-use Rattle.applied_laws.proofs.Sound.{questions_are_sound}
+use Rattle.plain_reader.specs.Sound.{IsSound}
+use Rattle.plain_reader.proofs.Sound.{questions_are_sound}
 use Rattle.schema_patterns.specs.Read.{reads}
 use Rattle.schema_sites.specs.Passed.{base_of, scope_of}
 use Rattle.schema_sites.specs.Read.{row_of, context_at, Finds, IsRowOf}

@@ -1,5 +1,6 @@
 pub mod Settings
 pub mod Spots
+pub mod Sound
 pub mod Keys
 pub mod Verdicts
 pub mod Choices

@@ -1,2 +1,3 @@
 pub mod Searches
 pub mod Matchers
+pub mod Kept

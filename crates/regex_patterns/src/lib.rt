@@ -1,5 +1,7 @@
-//! The patterns of schemas over `regex`.
+//! The patterns of schemas over `regex`, and matches whose searches are kept from text to text.
 #![tactic(auto)]
+
+pub mod kept;
 
 ghost use Rattle.regex_patterns.specs.Searches.{is_regex, searched, MeansItsText};
 

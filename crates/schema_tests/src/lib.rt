@@ -1,6 +1,16 @@
-//! Tests of what schemas are read by: values compared, drafts, vocabularies, retrievers, and what is told of faults.
+//! Tests of what schemas are read by: values compared, drafts, vocabularies, retrievers, keywords read and asked, and what is told of faults.
 #![tactic(auto)]
 
+#[cfg(test)]
+mod applicator_rows;
+#[cfg(test)]
+mod applying;
+#[cfg(test)]
+mod asking;
+#[cfg(test)]
+mod asserted;
+#[cfg(test)]
+mod asserted_rows;
 #[cfg(test)]
 mod described;
 #[cfg(test)]
@@ -14,7 +24,11 @@ mod makers;
 #[cfg(test)]
 mod objects;
 #[cfg(test)]
+mod orders;
+#[cfg(test)]
 mod read;
+#[cfg(test)]
+mod reading;
 #[cfg(test)]
 mod reports;
 #[cfg(test)]

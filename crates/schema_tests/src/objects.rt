@@ -1,7 +1,7 @@
 // What errors are as JSON objects: the fields of their kinds, and the order of the members.
 use crate::rows::assert_text;
 use crate::sentences::{at_root, branches, kind_of};
-use error_objects::write_refused;
+use error_texts::write_refused;
 use schema_reports::{ErrorContext, ErrorIterator, ValidationError, ValidationErrorKind as Kind};
 use serde_json::Value;
 use std::alloc::Global;

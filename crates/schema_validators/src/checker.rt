@@ -15,7 +15,7 @@ ghost use Rattle.schema_reports.specs.Told.{faults_of, are_proper};
 ghost use Rattle.schema_validators.specs.Seen.{table_in};
 
 use crate::validator::Validator;
-use kept_patterns::kept::Kept;
+use regex_patterns::kept::Kept;
 use schema_reports::ErrorIterator;
 use serde_json::Value;
 use std::alloc::{AllocError, Global};

@@ -7,7 +7,7 @@ use Rattle.plain_reader.specs.Passed as code
 use Rattle.fault_checks.proofs.NamedRefusals.{under_name}
 use Rattle.fault_checks.proofs.Counted.{by_count, by_other}
 use Rattle.fault_checks.proofs.Noted.{by_note, empty_is, some_noted}
-use Rattle.applied_laws.proofs.Plain.{once_plain}
+use Rattle.plain_reader.proofs.Plain.{once_plain}
 use Rattle.fault_paths.proofs.TextFacts.{apart_by, same_by}
 use Rattle.fault_checks.proofs.applied_refusals.applicator_refuses.Goals as goal
 

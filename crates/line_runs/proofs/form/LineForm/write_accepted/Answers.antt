@@ -1,6 +1,6 @@
 use Rattle.std.proofs.Common.{[], codes, append-nil, refl, sym, subst, string_bytes}
 use Rattle.schema_meaning.specs.Faults.{none}
-use Rattle.error_objects.specs.Objects.{accepted_text}
+use Rattle.error_texts.specs.Objects.{accepted_text}
 use Rattle.line_runs.specs.Forms.{AreSentences, Tells}
 use Rattle.line_runs.specs.declared.form.LineForm.{LineForm}
 use Rattle.line_runs.specs.declared.form.LineForm.TheVariants.{Pairs, Objects}

@@ -1,5 +1,5 @@
 use Rattle.std.proofs.Common.{codes, refl, string_bytes}
-use Rattle.error_sentences.specs.Sentences.{reason_line}
+use Rattle.error_texts.specs.Sentences.{reason_line}
 use Rattle.line_runs.specs.Forms.{TellsNone}
 use Rattle.line_runs.specs.declared.form.LineForm.TheVariants.{Pairs, Objects, Sentences}
 use Rattle.line_runs.proofs.Telling.{told_on, pushed_on, in_form}

@@ -3,8 +3,8 @@ use Rattle.std.specs.List.{AllZip, concat}
 use Rattle.schema_definitions.specs.Lines.{faults_text}
 use Rattle.schema_reports.specs.Left.{errors_left}
 use Rattle.schema_reports.specs.Told.{faults_of}
-use Rattle.error_objects.specs.Objects.{HasObjects}
-use Rattle.error_sentences.specs.Sentences.{IsSentence}
+use Rattle.error_texts.specs.Objects.{HasObjects}
+use Rattle.error_texts.specs.Sentences.{IsSentence}
 use Rattle.line_runs.specs.Forms.{Tells}
 use Rattle.line_runs.specs.declared.form.LineForm.TheVariants.{Pairs, Objects, Sentences}
 use Rattle.line_runs.proofs.Refusing.{refused_text}

@@ -1,2 +1,0 @@
-//! Laws of the questions that keywords with subschemas ask.
-#![tactic(auto)]

@@ -1,4 +1,0 @@
-pub mod Answers
-pub mod Rooms
-pub mod Roads
-pub mod Laws

@@ -1,0 +1,2 @@
+mod ObjectLemmas
+mod Lines

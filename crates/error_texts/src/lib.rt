@@ -1,0 +1,11 @@
+//! What is told of a value whether it is accepted, and of each error, in words: JSON objects, and lines for people.
+#![tactic(auto)]
+
+mod fields;
+mod objects;
+mod sentences;
+mod unread;
+
+pub use objects::{is_accepted_line, write_accepted, write_refused};
+pub use sentences::{write_reason, write_sentences};
+pub use unread::{TextPlace, write_unread};

@@ -1,5 +1,0 @@
-use Rattle.kept_patterns.specs.Kept.{AreKept}
-use Rattle.kept_patterns.proofs.kept.Kept.new.Given as goal
-
-abbrev pub invariant-loop : goal.invariant-loop
-invariant-loop l = AreKept l.table l.searches.items
