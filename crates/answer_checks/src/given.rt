@@ -123,9 +123,11 @@ fn check_source<S: ByteSource, K: ByteSink, M: PatternMatcher>(
     writer: &mut K,
 ) -> Result<RunReport, CheckError>
     ensures ok { IfOk result (λ report. (p : Patterns) (r : Root) → IsCheckerOf M.finds p r checker.now
-        → ChecksSource p r listed.now (S.remaining reader.old) (S.remaining reader.new) (K.contents writer.old) (K.contents writer.new) report) }
+        → ChecksSource p r listed.now (S.remaining reader.old) (S.remaining reader.new) (K.contents writer.old)
+        (K.contents writer.new) report) }
     ensures stops { IfErr result (λ e. (p : Patterns) (r : Root) → IsCheckerOf M.finds p r checker.now
-        → StopsSource e p r listed.now (S.remaining reader.old) (S.remaining reader.new) (K.contents writer.old) (K.contents writer.new)) }
+        → StopsSource e p r listed.now (S.remaining reader.old) (S.remaining reader.new) (K.contents writer.old)
+        (K.contents writer.new)) }
 {
     let input = read_all(alloc, reader)?;
     let texts = lines_in(alloc, input.as_slice())?;
@@ -150,9 +152,11 @@ pub fn check_given<S: ByteSource, K: ByteSink, M: PatternMatcher>(
     writer: &mut K,
 ) -> Result<RunReport, CheckError>
     ensures ok { IfOk result (λ report. (p : Patterns) (r : Root) → IsCheckerOf M.finds p r checker.now
-        → ChecksGiven p r listed.now (bytes_of texts.now) (S.remaining reader.old) (S.remaining reader.new) (K.contents writer.old) (K.contents writer.new) report) }
+        → ChecksGiven p r listed.now (bytes_of texts.now) (S.remaining reader.old) (S.remaining reader.new)
+        (K.contents writer.old) (K.contents writer.new) report) }
     ensures stops { IfErr result (λ e. (p : Patterns) (r : Root) → IsCheckerOf M.finds p r checker.now
-        → StopsGiven e p r listed.now (bytes_of texts.now) (S.remaining reader.old) (S.remaining reader.new) (K.contents writer.old) (K.contents writer.new)) }
+        → StopsGiven e p r listed.now (bytes_of texts.now) (S.remaining reader.old) (S.remaining reader.new)
+        (K.contents writer.old) (K.contents writer.new)) }
 {
     if texts.is_empty() {
         check_source(alloc, checker, listed, reader, writer)

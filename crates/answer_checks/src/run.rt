@@ -33,10 +33,13 @@ pub fn check_lines<K: ByteSink, M: PatternMatcher>(
     lines: &[LinePair<'_>],
     writer: &mut K,
 ) -> Result<RunReport, RunError>
-    ensures ok { IfOk result (WritesChecks (IsPairCheckedBy M.finds checker.now) (map pair_bytes lines.now) (K.contents writer.old) (K.contents writer.new)) }
+    ensures ok { IfOk result (WritesChecks (IsPairCheckedBy M.finds checker.now) (map pair_bytes lines.now)
+        (K.contents writer.old) (K.contents writer.new)) }
     ensures quiet { OnOk result (K.failures writer.new ≡ K.failures writer.old) }
-    ensures breaks { OnErr result (BreaksChecks (IsPairCheckedBy M.finds checker.now) (map pair_bytes lines.now) (K.contents writer.old) (K.contents writer.new)) }
-    ensures failed { IfErr result (λ e. ByError e ⊥ (IsRisen (K.failures writer.old) (K.failures writer.new)) (K.failures writer.new ≡ K.failures writer.old)) }
+    ensures breaks { OnErr result (BreaksChecks (IsPairCheckedBy M.finds checker.now) (map pair_bytes lines.now)
+        (K.contents writer.old) (K.contents writer.new)) }
+    ensures failed { IfErr result (λ e. ByError e ⊥ (IsRisen (K.failures writer.old) (K.failures writer.new))
+        (K.failures writer.new ≡ K.failures writer.old)) }
 {
     let mut report = RunReport {
         lines: 0,

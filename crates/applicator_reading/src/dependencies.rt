@@ -24,8 +24,12 @@ fn refused_names<'s>(
     name: &'s str,
     names: &[Value],
 ) -> Result<Option<Reading<'s>>, AllocError>
-    ensures right { IfOk result (λ o. IfNone o ((x : rows.Context) → rows.entry_names x (codes "dependencies") name.now (names_in (items_view names.now)) ≡ Ok (texts_of (items_view names.now)))) }
-    ensures wrong { IfOk result (λ o. IfSome o (λ r. (x : rows.Context) → IsWrong x r (rows.entry_names x (codes "dependencies") name.now (names_in (items_view names.now))))) }
+    ensures right { IfOk result (λ o. IfNone o
+        ((x : rows.Context) → rows.entry_names x (codes "dependencies") name.now (names_in (items_view names.now))
+        ≡ Ok (texts_of (items_view names.now)))) }
+    ensures wrong { IfOk result (λ o. IfSome o
+        (λ r. (x : rows.Context) → IsWrong x r
+        (rows.entry_names x (codes "dependencies") name.now (names_in (items_view names.now))))) }
     ensures answers { IfOk result (λ o. IfSome o (λ r. IsByAnswers r)) }
 {
     let expected = "unique names";
@@ -38,8 +42,11 @@ fn refused_names<'s>(
 
 // What is wrong with an entry that is no list.
 fn refused_schema<'s>(name: &'s str, entry: &Value) -> Option<Reading<'s>>
-    ensures right { IfNone result ((x : rows.Context) → rows.subschema x (named name.now ∷ named (codes "dependencies") ∷ []) (view entry.now) ≡ Ok (site_in x (named name.now ∷ named (codes "dependencies") ∷ []) (view entry.now))) }
-    ensures wrong { IfSome result (λ r. (x : rows.Context) → IsWrong x r (rows.subschema x (named name.now ∷ named (codes "dependencies") ∷ []) (view entry.now))) }
+    ensures right { IfNone result ((x : rows.Context)
+        → rows.subschema x (named name.now ∷ named (codes "dependencies") ∷ []) (view entry.now)
+        ≡ Ok (site_in x (named name.now ∷ named (codes "dependencies") ∷ []) (view entry.now))) }
+    ensures wrong { IfSome result (λ r. (x : rows.Context)
+        → IsWrong x r (rows.subschema x (named name.now ∷ named (codes "dependencies") ∷ []) (view entry.now))) }
     ensures answers { IfSome result (λ r. IsByAnswers r) }
 {
     if is_schema(entry) {
@@ -58,8 +65,12 @@ fn refused_entry<'s>(
     name: &'s str,
     entry: &Value,
 ) -> Result<Option<Reading<'s>>, AllocError>
-    ensures right { IfOk result (λ o. IfNone o ((x : rows.Context) → rows.dependency_entry x (codes "dependencies") name.now (view entry.now) ≡ Ok (name.now, dependency_at (site_in x) name.now (view entry.now)))) }
-    ensures wrong { IfOk result (λ o. IfSome o (λ r. (x : rows.Context) → IsWrong x r (rows.dependency_entry x (codes "dependencies") name.now (view entry.now)))) }
+    ensures right { IfOk result (λ o. IfNone o
+        ((x : rows.Context) → rows.dependency_entry x (codes "dependencies") name.now (view entry.now)
+        ≡ Ok (name.now, dependency_at (site_in x) name.now (view entry.now)))) }
+    ensures wrong { IfOk result (λ o. IfSome o
+        (λ r. (x : rows.Context) → IsWrong x r
+        (rows.dependency_entry x (codes "dependencies") name.now (view entry.now)))) }
     ensures answers { IfOk result (λ o. IfSome o (λ r. IsByAnswers r)) }
 {
     match entry.as_array() {
@@ -73,8 +84,12 @@ fn first_refused<'s>(
     alloc: Global,
     entries: &'s Map<String, Value>,
 ) -> Result<Option<Reading<'s>>, AllocError>
-    ensures right { IfOk result (λ o. IfNone o ((x : rows.Context) → rows.dependency_entries x (codes "dependencies") (members_view entries.now.entries) ≡ Ok (dependencies_in (site_in x) (members_view entries.now.entries)))) }
-    ensures wrong { IfOk result (λ o. IfSome o (λ r. (x : rows.Context) → IsWrong x r (rows.dependency_entries x (codes "dependencies") (members_view entries.now.entries)))) }
+    ensures right { IfOk result (λ o. IfNone o
+        ((x : rows.Context) → rows.dependency_entries x (codes "dependencies") (members_view entries.now.entries)
+        ≡ Ok (dependencies_in (site_in x) (members_view entries.now.entries)))) }
+    ensures wrong { IfOk result (λ o. IfSome o
+        (λ r. (x : rows.Context) → IsWrong x r
+        (rows.dependency_entries x (codes "dependencies") (members_view entries.now.entries)))) }
     ensures answers { IfOk result (λ o. IfSome o (λ r. IsByAnswers r)) }
 {
     for (name, entry) in entries.iter() {
@@ -93,7 +108,9 @@ fn first_refused<'s>(
 ///
 /// Where memory is refused, which it takes while it looks for names that are there twice.
 pub fn dependencies<'r>(alloc: Global, value: &'r Value) -> Result<Reading<'r>, AllocError>
-    ensures read { IfOk result (λ r. (x : rows.Context) → ReadsAs x (codes "dependencies") (rows.read_among rows.readers x (codes "dependencies") (view value.now)) r) }
+    ensures read { IfOk result (λ r. (x : rows.Context)
+        → ReadsAs x (codes "dependencies") (rows.read_among rows.readers x (codes "dependencies")
+        (view value.now)) r) }
     ensures answers { IfOk result (λ r. IsByAnswers r) }
 {
     let Some(entries) = value.as_object() else {

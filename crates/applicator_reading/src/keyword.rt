@@ -46,8 +46,11 @@ impl ListKeyword {
     }
 
     pub(crate) const fn applied(self, schemas: &[Value]) -> Applicator<'_>
-        ensures shape { (site : List Part → Data → Site) → shape_of site result ≡ list_shape self (sites_of_list site (list_name self) 0 (items_view schemas.now)) }
-        ensures leads { (site : List Part → Data → Site) → leads_of site result ≡ sites_of_list site (list_name self) 0 (items_view schemas.now) }
+        ensures shape { (site : List Part → Data → Site)
+            → shape_of site result ≡ list_shape self
+            (sites_of_list site (list_name self) 0 (items_view schemas.now)) }
+        ensures leads { (site : List Part → Data → Site)
+            → leads_of site result ≡ sites_of_list site (list_name self) 0 (items_view schemas.now) }
         ensures patterns { patterns_in result ≡ [] }
         ensures answers { is_by_answers result ≡ true }
     {
@@ -72,8 +75,12 @@ impl ListKeyword {
 
 impl MapKeyword {
     pub(crate) const fn applied(self, schemas: &Map<String, Value>) -> Applicator<'_>
-        ensures shape { (site : List Part → Data → Site) → shape_of site result ≡ map_shape self (sites_of_map site (map_name self) (members_view schemas.now.entries)) }
-        ensures leads { (site : List Part → Data → Site) → leads_of site result ≡ sites_named (sites_of_map site (map_name self) (members_view schemas.now.entries)) }
+        ensures shape { (site : List Part → Data → Site)
+            → shape_of site result ≡ map_shape self
+            (sites_of_map site (map_name self) (members_view schemas.now.entries)) }
+        ensures leads { (site : List Part → Data → Site)
+            → leads_of site result ≡ sites_named
+            (sites_of_map site (map_name self) (members_view schemas.now.entries)) }
         ensures patterns { patterns_in result ≡ map_patterns self (members_view schemas.now.entries) }
         ensures answers { is_by_answers result ≡ true }
     {

@@ -119,7 +119,8 @@ pub(crate) fn is_beside(neighbours: Neighbours<'_>, name: &str) -> bool
 
 // Whether `then` or `else` stands there.
 pub(crate) fn has_consequent(neighbours: Neighbours<'_>) -> bool
-    ensures { result ≡ (is_some (beside_in neighbours.entry (codes "then")) || is_some (beside_in neighbours.entry (codes "else"))) }
+    ensures { result ≡ (is_some (beside_in neighbours.entry (codes "then")) || is_some
+        (beside_in neighbours.entry (codes "else"))) }
 {
     is_beside(neighbours, "then") || is_beside(neighbours, "else")
 }
@@ -146,7 +147,8 @@ pub(crate) fn declared_beside<'r>(neighbours: Neighbours<'r>) -> Declared<'r>
 
 // Whether neither of them stands there.
 pub(crate) fn is_alone(neighbours: Neighbours<'_>) -> bool
-    ensures { result ≡ (not (is_some (beside_in neighbours.entry (codes "properties"))) && not (is_some (beside_in neighbours.entry (codes "patternProperties")))) }
+    ensures { result ≡ (not (is_some (beside_in neighbours.entry (codes "properties"))) && not
+        (is_some (beside_in neighbours.entry (codes "patternProperties")))) }
 {
     !is_beside(neighbours, "properties") && !is_beside(neighbours, "patternProperties")
 }

@@ -75,7 +75,8 @@ fn is_false(value: &Value) -> bool
 // The reading of a keyword whose value is one schema, where it is one.
 fn if_schema<'r>(schema: &Value, reading: Reading<'r>) -> Reading<'r>
     ensures read { (x : rows.Context) (k : List ℕ) (shapes : Site → List (Shape Site))
-        → ReadsAs x k (rows.reads (site_in x (rows.at k) (view schema.now) ∷ []) (shapes (site_in x (rows.at k) (view schema.now)))) reading.entry
+        → ReadsAs x k (rows.reads (site_in x (rows.at k) (view schema.now) ∷ [])
+        (shapes (site_in x (rows.at k) (view schema.now)))) reading.entry
         → ReadsAs x k (rows.one_schema x k shapes (view schema.now)) result }
     ensures answers { IsByAnswers reading.entry → IsByAnswers result }
     ensures condition { (v : Bor json.Value) → IsCondition v reading.entry → IsCondition v result }
@@ -124,7 +125,8 @@ fn map<'r>(keyword: MapKeyword, value: &'r Value) -> Reading<'r>
 }
 
 fn items<'r>(neighbours: Neighbours<'r>, value: &'r Value) -> Reading<'r>
-    ensures read { (x : rows.Context) → Surrounds neighbours.entry x → ReadsAs x (codes "items") (rows.items_row x (codes "items") (view value.now)) result }
+    ensures read { (x : rows.Context) → Surrounds neighbours.entry x
+        → ReadsAs x (codes "items") (rows.items_row x (codes "items") (view value.now)) result }
     ensures answers { IsByAnswers result }
 {
     if is_schema(value) {
@@ -145,7 +147,9 @@ fn items<'r>(neighbours: Neighbours<'r>, value: &'r Value) -> Reading<'r>
 }
 
 fn additional_items<'r>(neighbours: Neighbours<'r>, value: &'r Value) -> Reading<'r>
-    ensures read { (x : rows.Context) → Surrounds neighbours.entry x → ReadsAs x (codes "additionalItems") (rows.additional_items_row x (codes "additionalItems") (view value.now)) result }
+    ensures read { (x : rows.Context) → Surrounds neighbours.entry x
+        → ReadsAs x (codes "additionalItems")
+        (rows.additional_items_row x (codes "additionalItems") (view value.now)) result }
     ensures answers { IsByAnswers result }
 {
     let Some(start) = items_length(neighbours) else {
@@ -170,7 +174,8 @@ fn additional_items<'r>(neighbours: Neighbours<'r>, value: &'r Value) -> Reading
 }
 
 fn contains<'r>(neighbours: Neighbours<'r>, value: &'r Value) -> Reading<'r>
-    ensures read { (x : rows.Context) → Surrounds neighbours.entry x → ReadsAs x (codes "contains") (rows.contains_row x (codes "contains") (view value.now)) result }
+    ensures read { (x : rows.Context) → Surrounds neighbours.entry x
+        → ReadsAs x (codes "contains") (rows.contains_row x (codes "contains") (view value.now)) result }
     ensures answers { IsByAnswers result }
 {
     let least = count_beside(neighbours, "minContains");
@@ -188,7 +193,8 @@ fn contains<'r>(neighbours: Neighbours<'r>, value: &'r Value) -> Reading<'r>
 
 // `minContains` and `maxContains`, which the `contains` beside reads.
 fn bound<'r>(neighbours: Neighbours<'r>, value: &Value) -> Reading<'r>
-    ensures read { (x : rows.Context) (k : List ℕ) → Surrounds neighbours.entry x → ReadsAs x k (rows.bound_row x k (view value.now)) result }
+    ensures read { (x : rows.Context) (k : List ℕ) → Surrounds neighbours.entry x
+        → ReadsAs x k (rows.bound_row x k (view value.now)) result }
     ensures answers { IsByAnswers result }
 {
     if is_beside(neighbours, "contains") {
@@ -204,8 +210,10 @@ fn bound<'r>(neighbours: Neighbours<'r>, value: &Value) -> Reading<'r>
 // `additionalProperties` as `false`.
 fn refusing_others<'r>(neighbours: Neighbours<'r>, schema: &'r Value) -> Applicator<'r>
     ensures shape { (x : rows.Context) → Surrounds neighbours.entry x
-        → shape_of (site_in x) result ≡ rows.refuses_others x (site_in x (rows.at (codes "additionalProperties")) (view schema.now)) }
-    ensures leads { (x : rows.Context) → leads_of (site_in x) result ≡ site_in x (rows.at (codes "additionalProperties")) (view schema.now) ∷ [] }
+        → shape_of (site_in x) result ≡ rows.refuses_others x
+        (site_in x (rows.at (codes "additionalProperties")) (view schema.now)) }
+    ensures leads { (x : rows.Context) → leads_of (site_in x) result
+        ≡ site_in x (rows.at (codes "additionalProperties")) (view schema.now) ∷ [] }
     ensures patterns { patterns_in result ≡ [] }
     ensures answers { is_by_answers result ≡ true }
 {
@@ -227,7 +235,9 @@ fn refusing_others<'r>(neighbours: Neighbours<'r>, schema: &'r Value) -> Applica
 }
 
 fn additional_properties<'r>(neighbours: Neighbours<'r>, value: &'r Value) -> Reading<'r>
-    ensures read { (x : rows.Context) → Surrounds neighbours.entry x → ReadsAs x (codes "additionalProperties") (rows.additional_properties_row x (codes "additionalProperties") (view value.now)) result }
+    ensures read { (x : rows.Context) → Surrounds neighbours.entry x
+        → ReadsAs x (codes "additionalProperties")
+        (rows.additional_properties_row x (codes "additionalProperties") (view value.now)) result }
     ensures answers { IsByAnswers result }
 {
     match value.as_bool() {
@@ -248,7 +258,8 @@ fn additional_properties<'r>(neighbours: Neighbours<'r>, value: &'r Value) -> Re
 }
 
 fn property_names<'r>(value: &'r Value) -> Reading<'r>
-    ensures read { (x : rows.Context) → ReadsAs x (codes "propertyNames") (rows.property_names_row x (codes "propertyNames") (view value.now)) result }
+    ensures read { (x : rows.Context) → ReadsAs x (codes "propertyNames")
+        (rows.property_names_row x (codes "propertyNames") (view value.now)) result }
     ensures answers { IsByAnswers result }
 {
     match value.as_bool() {
@@ -273,7 +284,8 @@ fn property_names<'r>(value: &'r Value) -> Reading<'r>
 }
 
 fn negation<'r>(value: &'r Value) -> Reading<'r>
-    ensures read { (x : rows.Context) → ReadsAs x (codes "not") (rows.read_among rows.readers x (codes "not") (view value.now)) result }
+    ensures read { (x : rows.Context) → ReadsAs x (codes "not")
+        (rows.read_among rows.readers x (codes "not") (view value.now)) result }
     ensures answers { IsByAnswers result }
 {
     let negated = Applicator {
@@ -288,7 +300,8 @@ fn negation<'r>(value: &'r Value) -> Reading<'r>
 ///
 /// It reads these two, where they count.
 pub fn condition<'r>(neighbours: Neighbours<'r>, value: &'r Value) -> Reading<'r>
-    ensures read { (x : rows.Context) → Surrounds neighbours.entry x → ReadsAs x (codes "if") (rows.if_row x (codes "if") (view value.now)) result }
+    ensures read { (x : rows.Context) → Surrounds neighbours.entry x
+        → ReadsAs x (codes "if") (rows.if_row x (codes "if") (view value.now)) result }
     ensures condition { IsCondition value.entry result }
 {
     if has_consequent(neighbours) {
@@ -311,7 +324,8 @@ pub fn condition<'r>(neighbours: Neighbours<'r>, value: &'r Value) -> Reading<'r
 
 /// What `then` or `else` is: nothing without `if` beside, which counts.
 pub fn consequent<'r>(neighbours: Neighbours<'r>, value: &'r Value) -> Reading<'r>
-    ensures read { (x : rows.Context) (k : List ℕ) → Surrounds neighbours.entry x → ReadsAs x k (rows.consequent_row x k (view value.now)) result }
+    ensures read { (x : rows.Context) (k : List ℕ) → Surrounds neighbours.entry x
+        → ReadsAs x k (rows.consequent_row x k (view value.now)) result }
     ensures consequent { IsConsequent value.entry result }
 {
     if is_beside(neighbours, "if") {
@@ -327,7 +341,8 @@ pub fn consequent<'r>(neighbours: Neighbours<'r>, value: &'r Value) -> Reading<'
 /// It reads the neighbours that count, and of an entry that is no schema it names the first. The patterns of `patternProperties` are
 /// not made. What is read lends the schema; it takes no memory.
 pub fn read<'r>(neighbours: Neighbours<'r>, name: &str, value: &'r Value) -> Option<Reading<'r>>
-    ensures read { IfSome result (λ r. (x : rows.Context) → Surrounds neighbours.entry x → ReadsAs x name.now (rows.read_among rows.readers x name.now (view value.now)) r) }
+    ensures read { IfSome result (λ r. (x : rows.Context) → Surrounds neighbours.entry x
+        → ReadsAs x name.now (rows.read_among rows.readers x name.now (view value.now)) r) }
     ensures named { IfSome result (λ r. is_listed name.now applicator_names ≡ true) }
     ensures other { IfNone result (is_listed name.now applicator_names ≡ false) }
     ensures answers { IfSome result (λ r. IsByAnswers r) }

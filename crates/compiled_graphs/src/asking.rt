@@ -30,7 +30,8 @@ fn push_beside<'r>(
     schema: Option<&'r Value>,
     visits: &mut Vec<Visit<'r>>,
 ) -> Result<(), AllocError>
-    ensures { OnOk result (Adds (documents_in visit.now.site.resolver) visits.old.items visits.new.items (site_beside (documents_at visit.now.site) (site_of visit.now) name.now schema.entry)) }
+    ensures { OnOk result (Adds (documents_in visit.now.site.resolver) visits.old.items visits.new.items
+        (site_beside (documents_at visit.now.site) (site_of visit.now) name.now schema.entry)) }
 {
     if let Some(schema) = schema {
         let point = visit.point.member(alloc, name)?;
@@ -45,7 +46,8 @@ fn push_all_beside<'r>(
     keyword: &Keyword<'r>,
     visits: &mut Vec<Visit<'r>>,
 ) -> Result<(), AllocError>
-    ensures { OnOk result (Adds (documents_in visit.now.site.resolver) visits.old.items visits.new.items (beside_of (documents_at visit.now.site) (site_of visit.now) keyword.now)) }
+    ensures { OnOk result (Adds (documents_in visit.now.site.resolver) visits.old.items visits.new.items
+        (beside_of (documents_at visit.now.site) (site_of visit.now) keyword.now)) }
 {
     match keyword {
         Keyword::If {
@@ -73,7 +75,8 @@ pub(crate) fn push_asked<'r>(
     visits: &mut Vec<Visit<'r>>,
 ) -> Result<usize, AllocError>
     requires { (d : Data) × read.Finds visit.now.site d keyword.now }
-    ensures adds { OnOk result (Adds (documents_in visit.now.site.resolver) visits.old.items visits.new.items (asked_by (documents_at visit.now.site) (site_of visit.now) keyword.now)) }
+    ensures adds { OnOk result (Adds (documents_in visit.now.site.resolver) visits.old.items visits.new.items
+        (asked_by (documents_at visit.now.site) (site_of visit.now) keyword.now)) }
     ensures count { IfOk result (λ n. length visits.new.items ≡ length visits.old.items + n) }
 {
     let before = visits.len();

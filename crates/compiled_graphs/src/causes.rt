@@ -54,7 +54,11 @@ fn push_of_members<'r, P: PatternMaker>(
     causes: &mut Vec<BuildCause>,
 ) -> Result<(), AllocError>
     ensures filled { OnOk result (StaysFilled P.Matcher.finds (P.patterns maker.now) table.old table.new) }
-    ensures tells { OnOk result (IsFilled P.Matcher.finds (P.patterns maker.now).finished (P.patterns maker.now).makes table.old → TellsEach (map (λ r. r.causes) (rows.rows_of (context_in (documents_in visit.now.site.resolver) (P.patterns maker.now).makes (site_of visit.now) (members_view members.now.entries)) (members_view members.now.entries))) causes.old.items causes.new.items) }
+    ensures tells { OnOk result (IsFilled P.Matcher.finds (P.patterns maker.now).finished
+        (P.patterns maker.now).makes table.old
+        → TellsEach (map (λ r. r.causes) (rows.rows_of
+        (context_in (documents_in visit.now.site.resolver) (P.patterns maker.now).makes (site_of visit.now)
+        (members_view members.now.entries)) (members_view members.now.entries))) causes.old.items causes.new.items) }
 {
     let mut found = nothing_found(alloc);
     for (name, value) in members.iter() {
@@ -77,7 +81,9 @@ fn push_of_other(
     causes: &mut Vec<BuildCause>,
 ) -> Result<(), AllocError>
     requires { as_object (view visit.now.site.contents.now) ≡ None }
-    ensures { OnOk result ((makes : _) → TellsEach (map (λ r. r.causes) (rows.rows_at (documents_in visit.now.site.resolver) makes (site_of visit.now))) causes.old.items causes.new.items) }
+    ensures { OnOk result ((makes : _) → TellsEach
+        (map (λ r. r.causes) (rows.rows_at (documents_in visit.now.site.resolver) makes
+        (site_of visit.now))) causes.old.items causes.new.items) }
 {
     let mut found = nothing_found(alloc);
     let cause = read_other(alloc, visit, &mut found)?;
@@ -93,7 +99,9 @@ fn push_causes<'r, P: PatternMaker>(
     causes: &mut Vec<BuildCause>,
 ) -> Result<(), AllocError>
     ensures filled { OnOk result (StaysFilled P.Matcher.finds (P.patterns maker.now) table.old table.new) }
-    ensures tells { OnOk result (IsFilled P.Matcher.finds (P.patterns maker.now).finished (P.patterns maker.now).makes table.old → TellsEach (apart_at (P.patterns maker.now).makes visit.now) causes.old.items causes.new.items) }
+    ensures tells { OnOk result (IsFilled P.Matcher.finds (P.patterns maker.now).finished
+        (P.patterns maker.now).makes table.old
+        → TellsEach (apart_at (P.patterns maker.now).makes visit.now) causes.old.items causes.new.items) }
 {
     let named = misnamed(alloc, visit)?;
     push_some(causes, named)?;
@@ -112,7 +120,9 @@ fn causes_at<P: PatternMaker>(
     table: &mut PatternTable<P::Matcher>,
 ) -> Result<Vec<BuildCause>, AllocError>
     requires inside { All (λ i. i < length visits.now.list.items) wrong.now }
-    ensures { IfOk result (λ v. IsFilled P.Matcher.finds (P.patterns maker.now).finished (P.patterns maker.now).makes table.old → TellsVisits (P.patterns maker.now).makes visits.now.list.items wrong.now v.items) }
+    ensures { IfOk result (λ v. IsFilled P.Matcher.finds (P.patterns maker.now).finished
+        (P.patterns maker.now).makes table.old
+        → TellsVisits (P.patterns maker.now).makes visits.now.list.items wrong.now v.items) }
 {
     let mut causes = Vec::new(alloc);
     for position in wrong {
@@ -130,8 +140,10 @@ fn causes_by<'r, P: PatternMaker>(
     limit: usize,
 ) -> Result<Vec<BuildCause>, BuildCause>
     requires placed { IsPlaced (documents_in root.now.resolver) (target_in root.now) }
-    ensures told { IfOk result (λ v. AreCausesOf (documents_in root.now.resolver) (P.patterns maker.now).makes (root_site (target_in root.now)) v.items) }
-    ensures refused { IfErr result (RefusesTelling (documents_in root.now.resolver) (P.patterns maker.now).makes (root_site (target_in root.now)) limit) }
+    ensures told { IfOk result (λ v. AreCausesOf (documents_in root.now.resolver) (P.patterns maker.now).makes
+        (root_site (target_in root.now)) v.items) }
+    ensures refused { IfErr result (RefusesTelling (documents_in root.now.resolver) (P.patterns maker.now).makes
+        (root_site (target_in root.now)) limit) }
 {
     let visits = start_at(alloc, root, matches)?;
     let begun = Walk::new(alloc, visits);
@@ -161,8 +173,10 @@ pub fn causes<P: PatternMaker>(
     limit: usize,
 ) -> Result<Vec<BuildCause>, BuildCause>
     requires placed { IsPlaced (documents_in root.now.resolver) (target_in root.now) }
-    ensures told { IfOk result (λ v. AreCausesOf (documents_in root.now.resolver) (P.patterns maker.now).makes (root_site (target_in root.now)) v.items) }
-    ensures refused { IfErr result (RefusesTelling (documents_in root.now.resolver) (P.patterns maker.now).makes (root_site (target_in root.now)) limit) }
+    ensures told { IfOk result (λ v. AreCausesOf (documents_in root.now.resolver) (P.patterns maker.now).makes
+        (root_site (target_in root.now)) v.items) }
+    ensures refused { IfErr result (RefusesTelling (documents_in root.now.resolver) (P.patterns maker.now).makes
+        (root_site (target_in root.now)) limit) }
 {
     let matches = Matches::none(alloc);
     causes_by(alloc, &*root, &matches, maker, limit)

@@ -46,7 +46,9 @@ fn first_of(numbers: &[usize]) -> &[usize]
 
 // Those of what a keyword asks, apart: its leads, and behind an `if` what stands beside.
 fn nodes_of<'n>(keyword: &Met<'_>, numbers: &'n [usize]) -> Nodes<'n>
-    ensures { (docs : Documents) (s : Site) (pairs : List (Site × ℕ)) → IsAnswered keyword.now → AllZip (Linked pairs) (asked_by docs s keyword.now) numbers.now → AreNodesOf pairs docs s keyword.now result }
+    ensures { (docs : Documents) (s : Site) (pairs : List (Site × ℕ)) → IsAnswered keyword.now
+        → AllZip (Linked pairs) (asked_by docs s keyword.now) numbers.now
+        → AreNodesOf pairs docs s keyword.now result }
 {
     match keyword {
         Met::If {

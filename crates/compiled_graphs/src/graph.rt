@@ -40,13 +40,20 @@ fn build_from<'r, P: PatternMaker>(
     limit: usize,
 ) -> Result<Compiled<P::Matcher>, BuildCause>
     requires placed { IsPlaced (documents_in root.now.resolver) (target_in root.now) }
-    ensures accepted { IfOk result (λ g. (c : rows.BuildCause) → IsCauseOf (documents_in root.now.resolver) (P.patterns maker.now).makes (root_site (target_in root.now)) c → ⊥) }
-    ensures within { IfOk result (λ g. AreWithin (documents_in root.now.resolver) (P.patterns maker.now).makes (root_site (target_in root.now) ∷ []) limit) }
-    ensures patterns { IfOk result (λ g. AreAmong (documents_in root.now.resolver) (P.patterns maker.now).makes (root_site (target_in root.now)) (texts_of_table g.schemas.table)) }
+    ensures accepted { IfOk result (λ g. (c : rows.BuildCause)
+        → IsCauseOf (documents_in root.now.resolver) (P.patterns maker.now).makes
+        (root_site (target_in root.now)) c → ⊥) }
+    ensures within { IfOk result (λ g. AreWithin (documents_in root.now.resolver) (P.patterns maker.now).makes
+        (root_site (target_in root.now) ∷ []) limit) }
+    ensures patterns { IfOk result (λ g. AreAmong (documents_in root.now.resolver) (P.patterns maker.now).makes
+        (root_site (target_in root.now)) (texts_of_table g.schemas.table)) }
     ensures made { IfOk result (λ g. AreMadeBy P.Matcher.finds (P.patterns maker.now).finished g.schemas.table) }
-    ensures linked { IfOk result (λ g. IsCompiledAt (documents_in root.now.resolver) (P.patterns maker.now).makes g.schemas.graph.nodes.items (root_site (target_in root.now)) g.start) }
-    ensures refused { IfErr result (RefusesWithin (documents_in root.now.resolver) (P.patterns maker.now).makes (root_site (target_in root.now)) limit) }
-    ensures nearest { IfErr result (RefusesNearest (documents_in root.now.resolver) (P.patterns maker.now).makes (root_site (target_in root.now)) limit) }
+    ensures linked { IfOk result (λ g. IsCompiledAt (documents_in root.now.resolver)
+        (P.patterns maker.now).makes g.schemas.graph.nodes.items (root_site (target_in root.now)) g.start) }
+    ensures refused { IfErr result (RefusesWithin (documents_in root.now.resolver) (P.patterns maker.now).makes
+        (root_site (target_in root.now)) limit) }
+    ensures nearest { IfErr result (RefusesNearest (documents_in root.now.resolver) (P.patterns maker.now).makes
+        (root_site (target_in root.now)) limit) }
 {
     let visits = start_at(alloc, root, matches)?;
     let begun = Walk::new(alloc, visits);
@@ -77,13 +84,20 @@ pub fn build<P: PatternMaker>(
     limit: usize,
 ) -> Result<Compiled<P::Matcher>, BuildCause>
     requires placed { IsPlaced (documents_in root.now.resolver) (target_in root.now) }
-    ensures accepted { IfOk result (λ g. (c : rows.BuildCause) → IsCauseOf (documents_in root.now.resolver) (P.patterns maker.now).makes (root_site (target_in root.now)) c → ⊥) }
-    ensures within { IfOk result (λ g. AreWithin (documents_in root.now.resolver) (P.patterns maker.now).makes (root_site (target_in root.now) ∷ []) limit) }
-    ensures patterns { IfOk result (λ g. AreAmong (documents_in root.now.resolver) (P.patterns maker.now).makes (root_site (target_in root.now)) (texts_of_table g.schemas.table)) }
+    ensures accepted { IfOk result (λ g. (c : rows.BuildCause)
+        → IsCauseOf (documents_in root.now.resolver) (P.patterns maker.now).makes
+        (root_site (target_in root.now)) c → ⊥) }
+    ensures within { IfOk result (λ g. AreWithin (documents_in root.now.resolver) (P.patterns maker.now).makes
+        (root_site (target_in root.now) ∷ []) limit) }
+    ensures patterns { IfOk result (λ g. AreAmong (documents_in root.now.resolver) (P.patterns maker.now).makes
+        (root_site (target_in root.now)) (texts_of_table g.schemas.table)) }
     ensures made { IfOk result (λ g. AreMadeBy P.Matcher.finds (P.patterns maker.now).finished g.schemas.table) }
-    ensures linked { IfOk result (λ g. IsCompiledAt (documents_in root.now.resolver) (P.patterns maker.now).makes g.schemas.graph.nodes.items (root_site (target_in root.now)) g.start) }
-    ensures refused { IfErr result (RefusesWithin (documents_in root.now.resolver) (P.patterns maker.now).makes (root_site (target_in root.now)) limit) }
-    ensures nearest { IfErr result (RefusesNearest (documents_in root.now.resolver) (P.patterns maker.now).makes (root_site (target_in root.now)) limit) }
+    ensures linked { IfOk result (λ g. IsCompiledAt (documents_in root.now.resolver)
+        (P.patterns maker.now).makes g.schemas.graph.nodes.items (root_site (target_in root.now)) g.start) }
+    ensures refused { IfErr result (RefusesWithin (documents_in root.now.resolver) (P.patterns maker.now).makes
+        (root_site (target_in root.now)) limit) }
+    ensures nearest { IfErr result (RefusesNearest (documents_in root.now.resolver) (P.patterns maker.now).makes
+        (root_site (target_in root.now)) limit) }
 {
     let matches = Matches::none(alloc);
     build_from(alloc, &*root, &matches, maker, limit)

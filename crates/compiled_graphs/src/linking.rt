@@ -23,7 +23,8 @@ pub(crate) fn link<'r>(
     leads: Vec<Visit<'r>>,
 ) -> Result<Vec<usize>, AllocError>
     ensures links { OnOk result (Links from visits.old.list.items visits.new.list.items leads.entry.items edges.old.items edges.new.items) }
-    ensures stand { IfOk result (λ ns. AllZip (StandsFor from visits.new.list.items edges.new.items) leads.entry.items ns.items) }
+    ensures stand { IfOk result (λ ns. AllZip
+        (StandsFor from visits.new.list.items edges.new.items) leads.entry.items ns.items) }
 {
     let mut numbers = Vec::new(alloc);
     for lead in leads {

@@ -12,7 +12,8 @@ ghost use Rattle.schema_patterns.specs.Tables.{texts_of_table};
 ghost use Rattle.reached_sites.specs.Patterns.{text_of, texts_of, written, Holds, IsFront};
 ghost use Rattle.reached_sites.specs.Visits.{site_of, Met};
 ghost use Rattle.reached_sites.specs.declared.pattern.Pattern.{Pattern};
-ghost use Rattle.compiled_graphs.specs.Read.{StaysFilled, IsMisnamed, IsUnmade, IsCounted, MemberReads, MembersRead, OtherReads, VisitReads, HoldsMember, HoldsMembers};
+ghost use Rattle.compiled_graphs.specs.Read.{StaysFilled, IsMisnamed, IsUnmade, IsCounted, MemberReads};
+ghost use Rattle.compiled_graphs.specs.Read.{MembersRead, OtherReads, VisitReads, HoldsMember, HoldsMembers};
 
 use crate::asking::{Asking, push_asked};
 use reached_sites::cause::BuildCause;
@@ -83,7 +84,8 @@ pub(crate) fn push_member<'r, P: PatternMaker>(
     found: &mut Found<'r>,
     table: &mut PatternTable<P::Matcher>,
 ) -> Result<Option<BuildCause>, AllocError>
-    ensures read { IfOk result (λ o. MemberReads P.Matcher.finds (P.patterns maker.now) table.old visit.now member.entry found.old found.new o) }
+    ensures read { IfOk result (λ o. MemberReads P.Matcher.finds
+        (P.patterns maker.now) table.old visit.now member.entry found.old found.new o) }
     ensures filled { OnOk result (StaysFilled P.Matcher.finds (P.patterns maker.now) table.old table.new) }
     ensures kept { OnOk result (Holds table.new (texts_of_table table.old)) }
     ensures grows { OnOk result (IsFront (texts_of_table table.old) (texts_of_table table.new)) }
@@ -126,7 +128,8 @@ fn read_members<'r, P: PatternMaker>(
     found: &mut Found<'r>,
     table: &mut PatternTable<P::Matcher>,
 ) -> Result<Option<BuildCause>, AllocError>
-    ensures read { IfOk result (λ o. MembersRead P.Matcher.finds (P.patterns maker.now) table.old visit.now (members_view members.now.entries) found.old found.new o) }
+    ensures read { IfOk result (λ o. MembersRead P.Matcher.finds (P.patterns maker.now) table.old visit.now
+        (members_view members.now.entries) found.old found.new o) }
     ensures filled { OnOk result (StaysFilled P.Matcher.finds (P.patterns maker.now) table.old table.new) }
     ensures kept { OnOk result (Holds table.new (texts_of_table table.old)) }
     ensures grows { OnOk result (IsFront (texts_of_table table.old) (texts_of_table table.new)) }

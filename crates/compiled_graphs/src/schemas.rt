@@ -3,7 +3,8 @@
 ghost use Rattle.std.specs.Prelude.{◌≡◌, ◌<◌, [], length, IfOk, OnOk};
 ghost use Rattle.serde_json.specs.View.{view};
 ghost use Rattle.compiled_keywords.specs.Shapes.{shape_of};
-ghost use Rattle.graph_answers.specs.Answers.{IsAnswer, HearsAnswer, Agree, IsVerdict, IsCertified, AreFaults, HaveCertificates};
+ghost use Rattle.graph_answers.specs.Answers.{IsAnswer, HearsAnswer, Agree, IsVerdict, IsCertified};
+ghost use Rattle.graph_answers.specs.Answers.{AreFaults, HaveCertificates};
 ghost use Rattle.graph_answers.specs.Completions.{matches_with};
 ghost use Rattle.graph_answers.specs.Runs.{IsDecision, IsVerdictOf};
 ghost use Rattle.graph_answers.specs.Tables.{AreForms, matches_of};
@@ -57,8 +58,10 @@ impl<M: PatternMatcher> SchemaGraph<M> {
     /// Where memory was refused.
     pub fn is_valid(&self, alloc: Global, start: usize, value: &Value) -> Result<bool, AllocError>
         requires there { start < length self.now.graph.nodes.items }
-        ensures cut { IfOk result (IsAnswer shape_of M.finds self.now.graph.nodes.items self.now.table start (view value.now)) }
-        ensures verdict { IfOk result (IsVerdict shape_of M.finds self.now.graph.nodes.items self.now.table start (view value.now)) }
+        ensures cut { IfOk result (IsAnswer shape_of M.finds self.now.graph.nodes.items self.now.table start
+            (view value.now)) }
+        ensures verdict { IfOk result (IsVerdict shape_of M.finds self.now.graph.nodes.items self.now.table start
+            (view value.now)) }
         ensures certified { IfOk result (IsCertified shape_of M.finds self.now.graph.nodes.items self.now.table start (view value.now)) }
     {
         let mut matching = self.direct();
@@ -80,8 +83,10 @@ impl<M: PatternMatcher> SchemaGraph<M> {
         requires there { start < length self.now.graph.nodes.items }
         requires meant { T.matches matching.old ≡ matches_of M.finds self.now.table }
         ensures matches { OnOk result (T.matches matching.new ≡ T.matches matching.old) }
-        ensures cut { IfOk result (IsAnswer shape_of M.finds self.now.graph.nodes.items self.now.table start (view value.now)) }
-        ensures verdict { IfOk result (IsVerdict shape_of M.finds self.now.graph.nodes.items self.now.table start (view value.now)) }
+        ensures cut { IfOk result (IsAnswer shape_of M.finds self.now.graph.nodes.items self.now.table start
+            (view value.now)) }
+        ensures verdict { IfOk result (IsVerdict shape_of M.finds self.now.graph.nodes.items self.now.table start
+            (view value.now)) }
         ensures certified { IfOk result (IsCertified shape_of M.finds self.now.graph.nodes.items self.now.table start (view value.now)) }
     {
         checking::is_valid(alloc, &self.graph, start, &self.table, matching, value)
@@ -94,7 +99,8 @@ impl<M: PatternMatcher> SchemaGraph<M> {
     /// Where memory was refused.
     pub fn decide(&self, alloc: Global, start: usize, value: &Value) -> Result<Decision, AllocError>
         requires there { start < length self.now.graph.nodes.items }
-        ensures cut { IfOk result (IsDecision shape_of self.now.graph.nodes.items start (view value.now) (matches_with M.finds self.now.table [])) }
+        ensures cut { IfOk result (IsDecision shape_of self.now.graph.nodes.items start (view value.now)
+            (matches_with M.finds self.now.table [])) }
         ensures verdict { IfOk result (IsVerdictOf shape_of M.finds self.now.graph.nodes.items self.now.table start (view value.now)) }
     {
         decide(alloc, &self.graph, start, &self.table, value)
@@ -113,10 +119,12 @@ impl<M: PatternMatcher> SchemaGraph<M> {
         observer: &mut Observer<'o>,
     ) -> Result<(), AllocError>
         requires there { start < length self.now.graph.nodes.items }
-        ensures cut { OnOk result (HearsAnswer shape_of M.finds self.now.graph.nodes.items self.now.table start (view value.now) observer.old observer.new) }
+        ensures cut { OnOk result (HearsAnswer shape_of M.finds self.now.graph.nodes.items self.now.table start
+            (view value.now) observer.old observer.new) }
         ensures agree { Agree shape_of M.finds self.now.graph.nodes.items self.now.table start (view value.now) }
         ensures faults { AreFaults shape_of M.finds self.now.graph.nodes.items self.now.table start (view value.now) }
-        ensures certified { HaveCertificates shape_of M.finds self.now.graph.nodes.items self.now.table start (view value.now) }
+        ensures certified { HaveCertificates shape_of M.finds self.now.graph.nodes.items self.now.table start
+            (view value.now) }
     {
         let mut matching = self.direct();
         self.tell_faults_by(alloc, start, &mut matching, value, observer)
@@ -138,10 +146,12 @@ impl<M: PatternMatcher> SchemaGraph<M> {
         requires there { start < length self.now.graph.nodes.items }
         requires meant { T.matches matching.old ≡ matches_of M.finds self.now.table }
         ensures matches { OnOk result (T.matches matching.new ≡ T.matches matching.old) }
-        ensures cut { OnOk result (HearsAnswer shape_of M.finds self.now.graph.nodes.items self.now.table start (view value.now) observer.old observer.new) }
+        ensures cut { OnOk result (HearsAnswer shape_of M.finds self.now.graph.nodes.items self.now.table start
+            (view value.now) observer.old observer.new) }
         ensures agree { Agree shape_of M.finds self.now.graph.nodes.items self.now.table start (view value.now) }
         ensures faults { AreFaults shape_of M.finds self.now.graph.nodes.items self.now.table start (view value.now) }
-        ensures certified { HaveCertificates shape_of M.finds self.now.graph.nodes.items self.now.table start (view value.now) }
+        ensures certified { HaveCertificates shape_of M.finds self.now.graph.nodes.items self.now.table start
+            (view value.now) }
     {
         checking::tell_faults(
             alloc,

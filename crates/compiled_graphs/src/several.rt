@@ -36,7 +36,8 @@ impl<M: PatternMatcher> CompiledEach<M> {
         position: usize,
         value: &Value,
     ) -> Result<Option<bool>, AllocError>
-        ensures { IfOk result (AnswersAt M.finds self.now.schemas.graph.nodes.items self.now.schemas.table (view value.now) self.now.starts.items position) }
+        ensures { IfOk result (AnswersAt M.finds self.now.schemas.graph.nodes.items self.now.schemas.table
+            (view value.now) self.now.starts.items position) }
     {
         match self.starts.get(position) {
             Some(Some(start)) => Ok(Some(self.schemas.is_valid(alloc, *start, value)?)),
@@ -89,8 +90,10 @@ fn build_from<'r, P: PatternMaker>(
 ) -> Result<CompiledEach<P::Matcher>, BuildCause>
     requires apart { are_apart (documents_in resolver.now) ≡ true }
     requires rise { list_all contents_rise (documents_in resolver.now) ≡ true }
-    ensures built { IfOk result (λ g. AreBuilt P.Matcher.finds (P.patterns maker.now) (documents_in resolver.now) (base_of resolver.now) (map string_bytes references.now) limit g.schemas.graph.nodes.items g.schemas.table g.starts.items) }
-    ensures refused { IfErr result (RefusesFrom (P.patterns maker.now).makes (documents_in resolver.now) (base_of resolver.now) (map string_bytes references.now) limit) }
+    ensures built { IfOk result (λ g. AreBuilt P.Matcher.finds (P.patterns maker.now) (documents_in resolver.now)
+        (base_of resolver.now) (map string_bytes references.now) limit g.schemas.graph.nodes.items g.schemas.table g.starts.items) }
+    ensures refused { IfErr result (RefusesFrom (P.patterns maker.now).makes (documents_in resolver.now)
+        (base_of resolver.now) (map string_bytes references.now) limit) }
 {
     let started = start(alloc, resolver, references, matches)?;
     let begun = Walk::new(alloc, started.visits);
@@ -118,8 +121,10 @@ fn build_by<P: PatternMaker>(
 ) -> Result<CompiledEach<P::Matcher>, BuildCause>
     requires apart { are_apart (documents_in resolver.now) ≡ true }
     requires rise { list_all contents_rise (documents_in resolver.now) ≡ true }
-    ensures built { IfOk result (λ g. AreBuilt P.Matcher.finds (P.patterns maker.now) (documents_in resolver.now) (base_of resolver.now) (map string_bytes references.now) limit g.schemas.graph.nodes.items g.schemas.table g.starts.items) }
-    ensures refused { IfErr result (RefusesFrom (P.patterns maker.now).makes (documents_in resolver.now) (base_of resolver.now) (map string_bytes references.now) limit) }
+    ensures built { IfOk result (λ g. AreBuilt P.Matcher.finds (P.patterns maker.now) (documents_in resolver.now)
+        (base_of resolver.now) (map string_bytes references.now) limit g.schemas.graph.nodes.items g.schemas.table g.starts.items) }
+    ensures refused { IfErr result (RefusesFrom (P.patterns maker.now).makes (documents_in resolver.now)
+        (base_of resolver.now) (map string_bytes references.now) limit) }
 {
     let matches = Matches::none(alloc);
     build_from(alloc, &*resolver, references, &matches, maker, limit)
@@ -144,8 +149,10 @@ pub fn build_each<P: PatternMaker>(
     limit: usize,
 ) -> Result<CompiledEach<P::Matcher>, BuildCause>
     requires apart { are_apart (documents_of registry.now) ≡ true }
-    ensures built { IfOk result (λ g. AreBuilt P.Matcher.finds (P.patterns maker.now) (documents_of registry.now) base.now (map string_bytes references.now) limit g.schemas.graph.nodes.items g.schemas.table g.starts.items) }
-    ensures refused { IfErr result (RefusesFrom (P.patterns maker.now).makes (documents_of registry.now) base.now (map string_bytes references.now) limit) }
+    ensures built { IfOk result (λ g. AreBuilt P.Matcher.finds (P.patterns maker.now)
+        (documents_of registry.now) base.now (map string_bytes references.now) limit g.schemas.graph.nodes.items g.schemas.table g.starts.items) }
+    ensures refused { IfErr result (RefusesFrom (P.patterns maker.now).makes (documents_of registry.now) base.now
+        (map string_bytes references.now) limit) }
 {
     let resolver = registry.resolver(base.clone()?)?;
     registry.names_rise();

@@ -33,7 +33,9 @@ pub(crate) fn start_at<'r>(
 ) -> Result<Visits<'r>, AllocError>
     ensures visited { IfOk result (λ s. IsVisited s.list.items 0 (root_site (target_in root.now))) }
     ensures one { IfOk result (λ s. length s.list.items ≡ 1) }
-    ensures graph { IfOk result (λ s. (makes : List ℕ → Bool) → IsGraph (documents_in root.now.resolver) makes (root_site (target_in root.now) ∷ []) s.list.items [] [] 0) }
+    ensures graph { IfOk result (λ s. (makes : List ℕ → Bool)
+        → IsGraph (documents_in root.now.resolver) makes
+        (root_site (target_in root.now) ∷ []) s.list.items [] [] 0) }
 {
     let mut visits = Visits::new(alloc);
     visits.put(Visit::of_root(alloc, root, matches)?)?;
@@ -62,7 +64,8 @@ fn start_one<'r>(
     visits: &mut Visits<'r>,
 ) -> Result<Option<usize>, AllocError>
     requires { IsInside (documents_in resolver.now) (base_of resolver.now) outer.now }
-    ensures { IfOk result (StartsOne (documents_in resolver.now) (base_of resolver.now) reference.now visits.old.list.items visits.new.list.items) }
+    ensures { IfOk result (StartsOne (documents_in resolver.now)
+        (base_of resolver.now) reference.now visits.old.list.items visits.new.list.items) }
 {
     match resolver.lookup(reference) {
         Ok(found) => {
@@ -87,8 +90,12 @@ pub(crate) fn start<'r>(
 ) -> Result<Started<'r>, AllocError>
     requires apart { are_apart (documents_in resolver.now) ≡ true }
     requires rise { list_all contents_rise (documents_in resolver.now) ≡ true }
-    ensures starts { IfOk result (λ s. Start (documents_in resolver.now) (base_of resolver.now) s.visits.list.items (map string_bytes references.now) s.starts.items) }
-    ensures graph { IfOk result (λ s. (makes : List ℕ → Bool) → IsGraph (documents_in resolver.now) makes (sites_from (documents_in resolver.now) (base_of resolver.now) (map string_bytes references.now)) s.visits.list.items [] [] 0) }
+    ensures starts { IfOk result (λ s. Start (documents_in resolver.now)
+        (base_of resolver.now) s.visits.list.items (map string_bytes references.now) s.starts.items) }
+    ensures graph { IfOk result (λ s. (makes : List ℕ → Bool)
+        → IsGraph (documents_in resolver.now) makes
+        (sites_from (documents_in resolver.now) (base_of resolver.now)
+        (map string_bytes references.now)) s.visits.list.items [] [] 0) }
 {
     let outer = inside(resolver)?;
     let mut visits = Visits::new(alloc);

@@ -5,7 +5,8 @@ ghost use Rattle.schema_definitions.specs.Bearers.{Document};
 ghost use Rattle.schema_definitions.specs.Sites.{Site};
 ghost use Rattle.reached_sites.specs.Patterns.{IsFront};
 ghost use Rattle.compiled_graphs.specs.Nearest.{IsInOrder};
-ghost use Rattle.compiled_graphs.specs.Walked.{ArePlaced, Walks, IsWalked, Fills, IsBegun, MayGoOn, IsStopped, RefusesWalk, RefusesInOrder};
+ghost use Rattle.compiled_graphs.specs.Walked.{ArePlaced, Walks, IsWalked, Fills, IsBegun, MayGoOn};
+ghost use Rattle.compiled_graphs.specs.Walked.{IsStopped, RefusesWalk, RefusesInOrder};
 
 use crate::filling::{compile, node_of};
 use crate::linking::link;
@@ -73,7 +74,8 @@ impl<'r, M: PatternMatcher> Walk<'r, M> {
         requires there { length self.old.nodes.items < length self.old.visits.list.items }
         ensures further { OnOk result (IsFront self.old.visits.list.items self.new.visits.list.items) }
         ensures one { OnOk result (length self.new.nodes.items ≡ length self.old.nodes.items + 1) }
-        ensures fills { IfOk result (λ o. (own : List Document) (roots : List Site) → ArePlaced own roots → Fills M.finds (P.patterns maker.now) own roots self.old self.new o) }
+        ensures fills { IfOk result (λ o. (own : List Document) (roots : List Site) → ArePlaced own roots
+            → Fills M.finds (P.patterns maker.now) own roots self.old self.new o) }
     {
         let next = self.nodes.len();
         let visits = &self.visits;
@@ -106,9 +108,16 @@ impl<'r, M: PatternMatcher> Walk<'r, M> {
         requires begun { self.nodes.items ≡ [] }
         requires right { self.wrong.items ≡ [] }
         ensures further { IfOk result (λ w. IsFront self.entry.visits.list.items w.visits.list.items) }
-        ensures walked { IfOk result (λ w. (own : List Document) (roots : List Site) → ArePlaced own roots → Walks M.finds (P.patterns maker.now) own roots self.entry → IsWalked M.finds (P.patterns maker.now) own roots limit at_cause w) }
-        ensures nearest { IfErr result (λ e. (own : List Document) (roots : List Site) → ArePlaced own roots → Walks M.finds (P.patterns maker.now) own roots self.entry → IsInOrder own (P.patterns maker.now).makes roots self.entry → RefusesInOrder (P.patterns maker.now).makes own roots limit e) }
-        ensures refused { IfErr result (λ e. (own : List Document) (roots : List Site) → ArePlaced own roots → Walks M.finds (P.patterns maker.now) own roots self.entry → RefusesWalk (P.patterns maker.now).makes own roots limit at_cause e) }
+        ensures walked { IfOk result (λ w. (own : List Document) (roots : List Site) → ArePlaced own roots
+            → Walks M.finds (P.patterns maker.now) own roots self.entry
+            → IsWalked M.finds (P.patterns maker.now) own roots limit at_cause w) }
+        ensures nearest { IfErr result (λ e. (own : List Document) (roots : List Site) → ArePlaced own roots
+            → Walks M.finds (P.patterns maker.now) own roots self.entry
+            → IsInOrder own (P.patterns maker.now).makes roots self.entry
+            → RefusesInOrder (P.patterns maker.now).makes own roots limit e) }
+        ensures refused { IfErr result (λ e. (own : List Document) (roots : List Site) → ArePlaced own roots
+            → Walks M.finds (P.patterns maker.now) own roots self.entry
+            → RefusesWalk (P.patterns maker.now).makes own roots limit at_cause e) }
     {
         while self.nodes.len() < self.visits.list.len() {
             if self.visits.list.len() > limit {

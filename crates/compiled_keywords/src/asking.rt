@@ -35,7 +35,9 @@ fn items_at<'i>(place: Place<'i>) -> &'i [Value]
 /// What an applicator asks: each item by one node, or else what its questions say.
 pub(crate) fn asking_of<'i>(applicator: &Applicator, place: Place<'i>) -> Asking<'i>
     ensures { (matches : List ℕ → List ℕ → Bool)
-        → AsksSo result (rule matches (value_at place.entry) (shape_by (name_of applicator.now) (combining_of applicator.now) (form_of (asks_of applicator.now)))) }
+        → AsksSo result (rule matches (value_at place.entry)
+        (shape_by (name_of applicator.now) (combining_of applicator.now)
+        (form_of (asks_of applicator.now)))) }
 {
     match applicator.combining {
         Combining::Every => match applicator.asks {
@@ -56,7 +58,8 @@ fn push_items_from<'q, 'i: 'q>(
     items: &'i [Value],
     into: &mut Vec<Question<'q, 'i>>,
 ) -> Result<(), AllocError>
-    ensures { OnOk result ((k : List ℕ) → Puts (whole_at k) into.old.items into.new.items (map alone (each_item k node start (items_from start (items_view items.now))))) }
+    ensures { OnOk result ((k : List ℕ) → Puts (whole_at k) into.old.items into.new.items
+        (map alone (each_item k node start (items_from start (items_view items.now))))) }
 {
     for index in start..items.len() {
         into.push(Question {
@@ -80,7 +83,8 @@ pub(crate) fn push_items<'q, 'i: 'q>(
     place: Place<'i>,
     into: &mut Vec<Question<'q, 'i>>,
 ) -> Result<(), AllocError>
-    ensures { OnOk result ((k : List ℕ) → Puts (whole_at k) into.old.items into.new.items (map alone (each_item k node start (items_from start (items_of (value_at place.entry)))))) }
+    ensures { OnOk result ((k : List ℕ) → Puts (whole_at k) into.old.items into.new.items
+        (map alone (each_item k node start (items_from start (items_of (value_at place.entry)))))) }
 {
     push_items_from(start, node, items_at(place), into)
 }
@@ -90,7 +94,8 @@ fn push_indexed<'q, 'i: 'q>(
     items: &'i [Value],
     into: &mut Vec<Question<'q, 'i>>,
 ) -> Result<(), AllocError>
-    ensures { OnOk result ((k : List ℕ) → Puts (index_at k) into.old.items into.new.items (map alone (item_by_item k nodes.now 0 (items_view items.now)))) }
+    ensures { OnOk result ((k : List ℕ) → Puts (index_at k) into.old.items into.new.items
+        (map alone (item_by_item k nodes.now 0 (items_view items.now)))) }
 {
     for (index, node) in nodes.iter().enumerate() {
         if index >= items.len() {
@@ -116,7 +121,8 @@ pub(crate) fn push_item_list<'q, 'i: 'q>(
     place: Place<'i>,
     into: &mut Vec<Question<'q, 'i>>,
 ) -> Result<(), AllocError>
-    ensures { OnOk result ((k : List ℕ) → Puts (index_at k) into.old.items into.new.items (map alone (item_by_item k nodes.now 0 (items_of (value_at place.entry))))) }
+    ensures { OnOk result ((k : List ℕ) → Puts (index_at k) into.old.items into.new.items
+        (map alone (item_by_item k nodes.now 0 (items_of (value_at place.entry))))) }
 {
     push_indexed(nodes, items_at(place), into)
 }
@@ -126,7 +132,8 @@ pub(crate) fn push_branches<'q, 'i: 'q>(
     nodes: &[usize],
     into: &mut Vec<Question<'q, 'i>>,
 ) -> Result<(), AllocError>
-    ensures { OnOk result ((k : List ℕ) → Puts (index_at k) into.old.items into.new.items (map alone (each_branch k 0 nodes.now))) }
+    ensures { OnOk result ((k : List ℕ) → Puts (index_at k) into.old.items into.new.items
+        (map alone (each_branch k 0 nodes.now))) }
 {
     for (index, node) in nodes.iter().enumerate() {
         into.push(Question {
@@ -145,8 +152,10 @@ pub(crate) fn push_here<'q, 'i: 'q>(
     node: usize,
     into: &mut Vec<Question<'q, 'i>>,
 ) -> Result<(), AllocError>
-    ensures whole { OnOk result ((k : List ℕ) → Puts (whole_at k) into.old.items into.new.items (map alone (here k node ∷ []))) }
-    ensures condition { OnOk result ((k : List ℕ) → Puts (condition_at k) into.old.items into.new.items (alone (here k node) ∷ [])) }
+    ensures whole { OnOk result ((k : List ℕ)
+        → Puts (whole_at k) into.old.items into.new.items (map alone (here k node ∷ []))) }
+    ensures condition { OnOk result ((k : List ℕ)
+        → Puts (condition_at k) into.old.items into.new.items (alone (here k node) ∷ [])) }
 {
     into.push(Question {
         node,
@@ -163,7 +172,8 @@ fn push_then<'q, 'i: 'q>(
     node: Option<usize>,
     into: &mut Vec<Question<'q, 'i>>,
 ) -> Result<(), AllocError>
-    ensures { OnOk result ((k : List ℕ) → Puts (condition_at k) into.old.items into.new.items (consequent true (codes "then") node)) }
+    ensures { OnOk result ((k : List ℕ) → Puts (condition_at k) into.old.items into.new.items
+        (consequent true (codes "then") node)) }
 {
     if let Some(node) = node {
         into.push(Question {
@@ -182,7 +192,8 @@ fn push_else<'q, 'i: 'q>(
     node: Option<usize>,
     into: &mut Vec<Question<'q, 'i>>,
 ) -> Result<(), AllocError>
-    ensures { OnOk result ((k : List ℕ) → Puts (condition_at k) into.old.items into.new.items (consequent false (codes "else") node)) }
+    ensures { OnOk result ((k : List ℕ) → Puts (condition_at k) into.old.items into.new.items
+        (consequent false (codes "else") node)) }
 {
     if let Some(node) = node {
         into.push(Question {
@@ -204,7 +215,8 @@ pub(crate) fn push_condition<'q, 'i: 'q>(
     into: &mut Vec<Question<'q, 'i>>,
 ) -> Result<(), AllocError>
     ensures { OnOk result ((k : List ℕ) → Puts (condition_at k) into.old.items into.new.items
-        (alone (here k condition) ∷ (consequent true (codes "then") then_node ++ consequent false (codes "else") else_node))) }
+        (alone (here k condition) ∷ (consequent true (codes "then") then_node
+        ++ consequent false (codes "else") else_node))) }
 {
     push_here(condition, into)?;
     push_then(then_node, into)?;

@@ -78,7 +78,8 @@ fn has_all(names: &[String], value: &Value) -> bool
 
 // The same where a name is a member's.
 fn has_all_beside(name: &str, names: &[String], value: &Value) -> bool
-    ensures { result ≡ is_empty (if_member (get name.now (view value.now)) (λ e. missing (map string_bytes names.now) (view value.now))) }
+    ensures { result ≡ is_empty (if_member (get name.now (view value.now))
+        (λ e. missing (map string_bytes names.now) (view value.now))) }
 {
     if lacks(value, name) {
         true
@@ -100,7 +101,8 @@ fn has_needed(entries: &[NeededNames], value: &Value) -> bool
 }
 
 fn has_named(entry: &NamedDependency, value: &Value) -> bool
-    ensures { result ≡ is_empty (if_member (get (depending entry.now).0 (view value.now)) (λ e. needed (view value.now) (depending entry.now).1)) }
+    ensures { result ≡ is_empty (if_member (get (depending entry.now).0 (view value.now))
+        (λ e. needed (view value.now) (depending entry.now).1)) }
 {
     match &entry.dependency {
         Dependency::Needs(names) => has_all_beside(entry.name.as_str(), names, value),
@@ -111,7 +113,8 @@ fn has_named(entry: &NamedDependency, value: &Value) -> bool
 // Whether no name is missing beside the names of the entries that list some.
 #[inline(never)]
 pub(crate) fn has_dependencies(entries: &[NamedDependency], value: &Value) -> bool
-    ensures { result ≡ is_empty (flat_map (λ p. if_member (get p.0 (view value.now)) (λ e. needed (view value.now) p.1)) (map depending entries.now)) }
+    ensures { result ≡ is_empty (flat_map (λ p. if_member (get p.0 (view value.now))
+        (λ e. needed (view value.now) p.1)) (map depending entries.now)) }
 {
     for entry in entries {
         if !has_named(entry, value) {
@@ -128,7 +131,8 @@ impl Assertion {
     ///
     /// Where memory was refused, which `uniqueItems` alone takes.
     pub fn accept(&self, alloc: Global, value: &Value) -> Result<bool, AllocError>
-        ensures { IfOk result (λ b. (matches : List ℕ → List ℕ → Bool) → b ≡ is_empty (wrong matches (assertion_of self.now) (view value.now))) }
+        ensures { IfOk result (λ b. (matches : List ℕ → List ℕ → Bool)
+            → b ≡ is_empty (wrong matches (assertion_of self.now) (view value.now))) }
     {
         match self {
             Assertion::Plain(assertion) => assertion.accept(alloc, value),
@@ -145,7 +149,8 @@ impl Assertion {
     ///
     /// Where memory was refused.
     pub(crate) fn accept_at(&self, alloc: Global, place: Place<'_>) -> Result<bool, AllocError>
-        ensures { IfOk result (λ b. (matches : List ℕ → List ℕ → Bool) → b ≡ is_empty (wrong matches (assertion_of self.now) (value_at place.entry))) }
+        ensures { IfOk result (λ b. (matches : List ℕ → List ℕ → Bool)
+            → b ≡ is_empty (wrong matches (assertion_of self.now) (value_at place.entry))) }
     {
         match place {
             Place::Value(value) => self.accept(alloc, value),
@@ -156,7 +161,8 @@ impl Assertion {
     // The same of a name. It stands apart, so that no value waits for what a name needs.
     #[inline(never)]
     fn accept_name(&self, alloc: Global, name: &str) -> Result<bool, AllocError>
-        ensures { IfOk result (λ b. (matches : List ℕ → List ℕ → Bool) → b ≡ is_empty (wrong matches (assertion_of self.now) (string name.now))) }
+        ensures { IfOk result (λ b. (matches : List ℕ → List ℕ → Bool)
+            → b ≡ is_empty (wrong matches (assertion_of self.now) (string name.now))) }
     {
         let text = Value::String(String::from_str(alloc, name)?);
         self.accept(alloc, &text)

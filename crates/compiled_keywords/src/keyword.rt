@@ -92,7 +92,8 @@ fn tell_asked<'o>(
     asks: &Asks,
     observer: &mut Observer<'o>,
 ) -> Result<(), AllocError>
-    ensures { OnOk result (TellsEach situation.now keyword.now (noted (form_of asks.now) (view situation.now.value.now)) observer.old observer.new) }
+    ensures { OnOk result (TellsEach situation.now keyword.now
+        (noted (form_of asks.now) (view situation.now.value.now)) observer.old observer.new) }
 {
     match asks {
         Asks::Dependencies(entries) => tell_dependencies(situation, keyword, entries, observer),
@@ -108,7 +109,8 @@ fn push_asked<'q, 'i: 'q, T: Matching>(
 ) -> Result<(), AllocError>
     requires { KnowsAsked asks.now (T.matches matching.old).pattern }
     ensures same { OnOk result (T.matches matching.new ≡ T.matches matching.old) }
-    ensures put { OnOk result (InEach (T.matches matching.old) (λ m. (k : List ℕ) → Puts (added_in k (form_of asks.now)) into.old.items into.new.items
+    ensures put { OnOk result (InEach (T.matches matching.old)
+        (λ m. (k : List ℕ) → Puts (added_in k (form_of asks.now)) into.old.items into.new.items
         (asked_beside m k (value_at place.entry) (form_of asks.now)))) }
 {
     match asks {
@@ -134,7 +136,8 @@ fn push_asked<'q, 'i: 'q, T: Matching>(
 }
 
 fn push_target<'q, 'i: 'q>(node: usize, into: &mut Vec<Question<'q, 'i>>) -> Result<(), AllocError>
-    ensures { OnOk result ((k : List ℕ) → Puts (whole_at k) into.old.items into.new.items (map alone (record { site = node; step = stay; added = at k; follows = true } ∷ []))) }
+    ensures { OnOk result ((k : List ℕ) → Puts (whole_at k) into.old.items into.new.items
+        (map alone (record { site = node; step = stay; added = at k; follows = true } ∷ []))) }
 {
     into.push(Question {
         node,
@@ -156,7 +159,8 @@ impl Keyword {
     ) -> Result<(), AllocError>
         requires { Knows self.now (T.matches matching.old).pattern }
         ensures same { OnOk result (T.matches matching.new ≡ T.matches matching.old) }
-        ensures put { OnOk result (InEach (T.matches matching.old) (λ m. Puts (added_by self.now) into.old.items into.new.items
+        ensures put { OnOk result (InEach (T.matches matching.old)
+            (λ m. Puts (added_by self.now) into.old.items into.new.items
             (beside_in (rule m (value_at place.entry) (shape_of self.now))))) }
     {
         match self {

@@ -4,13 +4,16 @@ ghost use Rattle.std.specs.List.{flat_map};
 ghost use Rattle.json_values.specs.Parts.{Part};
 ghost use Rattle.serde_json.specs.Find.{get};
 ghost use Rattle.serde_json.specs.View.{view};
-ghost use Rattle.schema_meaning.specs.Questions.{at, at_name, members_of, names_of, other_members, each_declared, each_member, each_name, each_triggered, each_matching};
+ghost use Rattle.schema_meaning.specs.Questions.{at, at_name, members_of, names_of, other_members};
+ghost use Rattle.schema_meaning.specs.Questions.{each_declared, each_member, each_name, each_triggered};
+ghost use Rattle.schema_meaning.specs.Questions.{each_matching};
 ghost use Rattle.schema_engine.specs.Matches.{InEach};
 ghost use Rattle.schema_engine.specs.Places.{value_at};
 ghost use Rattle.applicators.specs.Questions.{each_dependency};
 ghost use Rattle.compiled_keywords.specs.Forms.{alone, whole_at, name_at};
 ghost use Rattle.compiled_keywords.specs.Members.{listed, members_in, matching_of, others_among, applied_node};
-ghost use Rattle.compiled_keywords.specs.Owned.{named, by_pattern, depending, declared_by, IsNumbered, AreNumbered, AllNumbered};
+ghost use Rattle.compiled_keywords.specs.Owned.{named, by_pattern, depending, declared_by, IsNumbered};
+ghost use Rattle.compiled_keywords.specs.Owned.{AreNumbered, AllNumbered};
 ghost use Rattle.compiled_keywords.specs.Seen.{Puts};
 
 use crate::asks::Declared;
@@ -48,7 +51,8 @@ pub(crate) fn push_declared<'q, 'i: 'q>(
     place: Place<'i>,
     into: &mut Vec<Question<'q, 'i>>,
 ) -> Result<(), AllocError>
-    ensures { OnOk result ((k : List ℕ) → Puts (name_at k (map named nodes.now)) into.old.items into.new.items (map alone (each_declared k (value_at place.entry) (map named nodes.now)))) }
+    ensures { OnOk result ((k : List ℕ) → Puts (name_at k (map named nodes.now)) into.old.items into.new.items
+        (map alone (each_declared k (value_at place.entry) (map named nodes.now)))) }
 {
     let mut walk = walk_for(nodes.len(), place);
     for (index, named) in nodes.iter().enumerate() {
@@ -72,7 +76,8 @@ pub(crate) fn push_triggered<'q, 'i: 'q>(
     place: Place<'i>,
     into: &mut Vec<Question<'q, 'i>>,
 ) -> Result<(), AllocError>
-    ensures { OnOk result ((k : List ℕ) → Puts (name_at k (map named nodes.now)) into.old.items into.new.items (map alone (each_triggered k (value_at place.entry) (map named nodes.now)))) }
+    ensures { OnOk result ((k : List ℕ) → Puts (name_at k (map named nodes.now)) into.old.items into.new.items
+        (map alone (each_triggered k (value_at place.entry) (map named nodes.now)))) }
 {
     for (index, named) in nodes.iter().enumerate() {
         if member_at(place, named.name.as_str()).is_some() {
@@ -110,7 +115,9 @@ pub(crate) fn push_dependencies<'q, 'i: 'q>(
     place: Place<'i>,
     into: &mut Vec<Question<'q, 'i>>,
 ) -> Result<(), AllocError>
-    ensures { OnOk result (Puts (name_at (codes "dependencies") (map depending entries.now)) into.old.items into.new.items (map alone (each_dependency (value_at place.entry) (map depending entries.now)))) }
+    ensures { OnOk result (Puts (name_at (codes "dependencies")
+        (map depending entries.now)) into.old.items into.new.items
+        (map alone (each_dependency (value_at place.entry) (map depending entries.now)))) }
 {
     for (index, entry) in entries.iter().enumerate() {
         if let Some(node) = applied_at(entry, place) {
@@ -131,7 +138,8 @@ fn push_members_of<'q, 'i: 'q>(
     members: &'i Map<String, Value>,
     into: &mut Vec<Question<'q, 'i>>,
 ) -> Result<(), AllocError>
-    ensures { OnOk result ((k : List ℕ) → Puts (whole_at k) into.old.items into.new.items (map alone (each_member k node (listed members.now)))) }
+    ensures { OnOk result ((k : List ℕ) → Puts (whole_at k) into.old.items into.new.items
+        (map alone (each_member k node (listed members.now)))) }
 {
     for (name, member) in members.iter() {
         let name = name.as_str();
@@ -152,7 +160,8 @@ pub(crate) fn push_members<'q, 'i: 'q>(
     place: Place<'i>,
     into: &mut Vec<Question<'q, 'i>>,
 ) -> Result<(), AllocError>
-    ensures { OnOk result ((k : List ℕ) → Puts (whole_at k) into.old.items into.new.items (map alone (each_member k node (members_of (value_at place.entry))))) }
+    ensures { OnOk result ((k : List ℕ) → Puts (whole_at k) into.old.items into.new.items
+        (map alone (each_member k node (members_of (value_at place.entry))))) }
 {
     match object_at(place) {
         Some(members) => push_members_of(node, members, into),
@@ -165,7 +174,8 @@ fn push_names_of<'q, 'i: 'q>(
     members: &'i Map<String, Value>,
     into: &mut Vec<Question<'q, 'i>>,
 ) -> Result<(), AllocError>
-    ensures { OnOk result ((k : List ℕ) → Puts (whole_at k) into.old.items into.new.items (map alone (each_name (at k) node (map (λ m. m.0) (listed members.now))))) }
+    ensures { OnOk result ((k : List ℕ) → Puts (whole_at k) into.old.items into.new.items
+        (map alone (each_name (at k) node (map (λ m. m.0) (listed members.now))))) }
 {
     for (name, _) in members.iter() {
         into.push(Question {
@@ -185,7 +195,8 @@ pub(crate) fn push_names<'q, 'i: 'q>(
     place: Place<'i>,
     into: &mut Vec<Question<'q, 'i>>,
 ) -> Result<(), AllocError>
-    ensures { OnOk result ((k : List ℕ) → Puts (whole_at k) into.old.items into.new.items (map alone (each_name (at k) node (names_of (value_at place.entry))))) }
+    ensures { OnOk result ((k : List ℕ) → Puts (whole_at k) into.old.items into.new.items
+        (map alone (each_name (at k) node (names_of (value_at place.entry))))) }
 {
     match object_at(place) {
         Some(members) => push_names_of(node, members, into),
@@ -203,8 +214,10 @@ fn push_matched<'q, 'i: 'q, T: Matching>(
 ) -> Result<(), AllocError>
     requires { IsNumbered (T.matches matching.old).pattern node.now.pattern }
     ensures same { OnOk result (T.matches matching.new ≡ T.matches matching.old) }
-    ensures put { OnOk result (InEach (T.matches matching.old) (λ m. (k : List ℕ) (added : ℕ → List Part) → added entry ≡ at_name k (by_pattern node.now).0
-        → Puts added into.old.items into.new.items (map alone (matching_of m k (by_pattern node.now) (listed members.now))))) }
+    ensures put { OnOk result (InEach (T.matches matching.old)
+        (λ m. (k : List ℕ) (added : ℕ → List Part) → added entry ≡ at_name k (by_pattern node.now).0
+        → Puts added into.old.items into.new.items
+        (map alone (matching_of m k (by_pattern node.now) (listed members.now))))) }
 {
     for (name, member) in members.iter() {
         let name = name.as_str();
@@ -229,7 +242,8 @@ fn push_each_matched<'q, 'i: 'q, T: Matching>(
 ) -> Result<(), AllocError>
     requires { AreNumbered (T.matches matching.old).pattern nodes.now }
     ensures same { OnOk result (T.matches matching.new ≡ T.matches matching.old) }
-    ensures put { OnOk result (InEach (T.matches matching.old) (λ m. (k : List ℕ) → Puts (name_at k (map by_pattern nodes.now)) into.old.items into.new.items
+    ensures put { OnOk result (InEach (T.matches matching.old)
+        (λ m. (k : List ℕ) → Puts (name_at k (map by_pattern nodes.now)) into.old.items into.new.items
         (map alone (flat_map (λ p. matching_of m k p (listed members.now)) (map by_pattern nodes.now))))) }
 {
     for (index, node) in nodes.iter().enumerate() {
@@ -247,7 +261,8 @@ pub(crate) fn push_matching<'q, 'i: 'q, T: Matching>(
 ) -> Result<(), AllocError>
     requires { AreNumbered (T.matches matching.old).pattern nodes.now }
     ensures same { OnOk result (T.matches matching.new ≡ T.matches matching.old) }
-    ensures put { OnOk result (InEach (T.matches matching.old) (λ m. (k : List ℕ) → Puts (name_at k (map by_pattern nodes.now)) into.old.items into.new.items
+    ensures put { OnOk result (InEach (T.matches matching.old)
+        (λ m. (k : List ℕ) → Puts (name_at k (map by_pattern nodes.now)) into.old.items into.new.items
         (map alone (each_matching m k (value_at place.entry) (map by_pattern nodes.now))))) }
 {
     match object_at(place) {
@@ -265,7 +280,8 @@ fn push_others_of<'q, 'i: 'q, T: Matching>(
 ) -> Result<(), AllocError>
     requires { AllNumbered (T.matches matching.old).pattern declared.now.patterns.items }
     ensures same { OnOk result (T.matches matching.new ≡ T.matches matching.old) }
-    ensures put { OnOk result (InEach (T.matches matching.old) (λ m. (k : List ℕ) → Puts (whole_at k) into.old.items into.new.items
+    ensures put { OnOk result (InEach (T.matches matching.old)
+        (λ m. (k : List ℕ) → Puts (whole_at k) into.old.items into.new.items
         (map alone (each_member k node (others_among m (declared_by declared.now) (listed members.now)))))) }
 {
     for (name, member) in members.iter() {
@@ -293,7 +309,8 @@ pub(crate) fn push_others<'q, 'i: 'q, T: Matching>(
 ) -> Result<(), AllocError>
     requires { AllNumbered (T.matches matching.old).pattern declared.now.patterns.items }
     ensures same { OnOk result (T.matches matching.new ≡ T.matches matching.old) }
-    ensures put { OnOk result (InEach (T.matches matching.old) (λ m. (k : List ℕ) → Puts (whole_at k) into.old.items into.new.items
+    ensures put { OnOk result (InEach (T.matches matching.old)
+        (λ m. (k : List ℕ) → Puts (whole_at k) into.old.items into.new.items
         (map alone (each_member k node (other_members m (declared_by declared.now) (value_at place.entry)))))) }
 {
     match object_at(place) {

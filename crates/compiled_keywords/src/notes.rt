@@ -5,7 +5,8 @@ ghost use Rattle.serde_json.specs.Find.{get};
 ghost use Rattle.serde_json.specs.View.{view};
 ghost use Rattle.schema_meaning.specs.Faults as faults;
 ghost use Rattle.schema_meaning.specs.Questions.{if_member};
-ghost use Rattle.schema_meaning.specs.Keywords.{missing, missing_beside, needed, named, pattern as asserted, unless, wrong as found_wrong};
+ghost use Rattle.schema_meaning.specs.Keywords.{missing, missing_beside, needed, named, pattern as asserted};
+ghost use Rattle.schema_meaning.specs.Keywords.{unless, wrong as found_wrong};
 ghost use Rattle.schema_engine.specs.Matches.{InEach};
 ghost use Rattle.assertions.specs.Shapes.{assertion_of as plain_of};
 ghost use Rattle.assertions.specs.Wrong.{kind_of, note_of, notes_of};
@@ -33,7 +34,8 @@ fn tell_wrong<'o>(
     wrong: Wrong<'_>,
     observer: &mut Observer<'o>,
 ) -> Result<(), AllocError>
-    ensures { OnOk result (TellsEach situation.now keyword.now (note_of (view situation.now.value.now) wrong.entry ∷ []) observer.old observer.new) }
+    ensures { OnOk result (TellsEach situation.now keyword.now
+        (note_of (view situation.now.value.now) wrong.entry ∷ []) observer.old observer.new) }
 {
     if !observer.hear() {
         return Ok(());
@@ -50,7 +52,8 @@ fn tell_unless<'o>(
     wrong: Wrong<'_>,
     observer: &mut Observer<'o>,
 ) -> Result<(), AllocError>
-    ensures { OnOk result (TellsEach situation.now keyword.now (unless accepted (kind_of wrong.entry) (view situation.now.value.now)) observer.old observer.new) }
+    ensures { OnOk result (TellsEach situation.now keyword.now
+        (unless accepted (kind_of wrong.entry) (view situation.now.value.now)) observer.old observer.new) }
 {
     if accepted {
         Ok(())
@@ -65,7 +68,8 @@ fn tell_each<'o>(
     found: &[Wrong<'_>],
     observer: &mut Observer<'o>,
 ) -> Result<(), AllocError>
-    ensures { OnOk result (TellsEach situation.now keyword.now (notes_of (view situation.now.value.now) found.now) observer.old observer.new) }
+    ensures { OnOk result (TellsEach situation.now keyword.now
+        (notes_of (view situation.now.value.now) found.now) observer.old observer.new) }
 {
     for wrong in found {
         tell_wrong(situation, keyword, *wrong, observer)?;
@@ -80,7 +84,8 @@ fn tell_lacking<'o>(
     name: &str,
     observer: &mut Observer<'o>,
 ) -> Result<(), AllocError>
-    ensures { OnOk result (TellsEach situation.now keyword.now (lacking (view situation.now.value.now) name.now) observer.old observer.new) }
+    ensures { OnOk result (TellsEach situation.now keyword.now
+        (lacking (view situation.now.value.now) name.now) observer.old observer.new) }
 {
     if lacks(situation.value, name) {
         tell_wrong(situation, keyword, Wrong::Required(name), observer)
@@ -95,7 +100,9 @@ fn tell_each_lacking<'o>(
     names: &[String],
     observer: &mut Observer<'o>,
 ) -> Result<(), AllocError>
-    ensures { OnOk result (TellsEach situation.now keyword.now (flat_map (lacking (view situation.now.value.now)) (map string_bytes names.now)) observer.old observer.new) }
+    ensures { OnOk result (TellsEach situation.now keyword.now
+        (flat_map (lacking (view situation.now.value.now))
+        (map string_bytes names.now)) observer.old observer.new) }
 {
     for name in names {
         tell_lacking(situation, keyword, name.as_str(), observer)?;
@@ -110,7 +117,8 @@ fn tell_missing<'o>(
     names: &[String],
     observer: &mut Observer<'o>,
 ) -> Result<(), AllocError>
-    ensures { OnOk result (TellsEach situation.now keyword.now (missing (map string_bytes names.now) (view situation.now.value.now)) observer.old observer.new) }
+    ensures { OnOk result (TellsEach situation.now keyword.now
+        (missing (map string_bytes names.now) (view situation.now.value.now)) observer.old observer.new) }
 {
     if situation.value.is_object() {
         tell_each_lacking(situation, keyword, names, observer)
@@ -127,7 +135,9 @@ fn tell_missing_where<'o>(
     names: &[String],
     observer: &mut Observer<'o>,
 ) -> Result<(), AllocError>
-    ensures { OnOk result (TellsEach situation.now keyword.now (if_member (get name.now (view situation.now.value.now)) (λ e. missing (map string_bytes names.now) (view situation.now.value.now))) observer.old observer.new) }
+    ensures { OnOk result (TellsEach situation.now keyword.now
+        (if_member (get name.now (view situation.now.value.now))
+        (λ e. missing (map string_bytes names.now) (view situation.now.value.now))) observer.old observer.new) }
 {
     if lacks(situation.value, name) {
         Ok(())
@@ -142,7 +152,8 @@ fn tell_missing_beside<'o>(
     entries: &[NeededNames],
     observer: &mut Observer<'o>,
 ) -> Result<(), AllocError>
-    ensures { OnOk result (TellsEach situation.now keyword.now (missing_beside (map needed_by entries.now) (view situation.now.value.now)) observer.old observer.new) }
+    ensures { OnOk result (TellsEach situation.now keyword.now
+        (missing_beside (map needed_by entries.now) (view situation.now.value.now)) observer.old observer.new) }
 {
     for entry in entries {
         let name = entry.name.as_str();
@@ -157,7 +168,9 @@ fn tell_dependency<'o>(
     entry: &NamedDependency,
     observer: &mut Observer<'o>,
 ) -> Result<(), AllocError>
-    ensures { OnOk result (TellsEach situation.now keyword.now (if_member (get (depending entry.now).0 (view situation.now.value.now)) (λ e. needed (view situation.now.value.now) (depending entry.now).1)) observer.old observer.new) }
+    ensures { OnOk result (TellsEach situation.now keyword.now
+        (if_member (get (depending entry.now).0 (view situation.now.value.now))
+        (λ e. needed (view situation.now.value.now) (depending entry.now).1)) observer.old observer.new) }
 {
     match &entry.dependency {
         Dependency::Needs(names) => {
@@ -175,7 +188,10 @@ pub(crate) fn tell_dependencies<'o>(
     entries: &[NamedDependency],
     observer: &mut Observer<'o>,
 ) -> Result<(), AllocError>
-    ensures { OnOk result (TellsEach situation.now keyword.now (flat_map (λ p. if_member (get p.0 (view situation.now.value.now)) (λ e. needed (view situation.now.value.now) p.1)) (map depending entries.now)) observer.old observer.new) }
+    ensures { OnOk result (TellsEach situation.now keyword.now
+        (flat_map (λ p. if_member (get p.0 (view situation.now.value.now))
+        (λ e. needed (view situation.now.value.now) p.1))
+        (map depending entries.now)) observer.old observer.new) }
 {
     for entry in entries {
         tell_dependency(situation, keyword, entry, observer)?;
@@ -189,7 +205,9 @@ fn tell_plain<'o>(
     observer: &mut Observer<'o>,
 ) -> Result<(), AllocError>
     ensures { OnOk result ((matches : List ℕ → List ℕ → Bool)
-        → TellsEach situation.now (named (plain_of assertion.now)) (found_wrong matches (plain_of assertion.now) (view situation.now.value.now)) observer.old observer.new) }
+        → TellsEach situation.now (named (plain_of assertion.now))
+        (found_wrong matches (plain_of assertion.now)
+        (view situation.now.value.now)) observer.old observer.new) }
 {
     let found = assertion.wrong(situation.alloc, situation.value)?;
     tell_each(situation, assertion.name(), &found, observer)
@@ -206,7 +224,9 @@ pub(crate) fn tell_assertion<'o>(
     observer: &mut Observer<'o>,
 ) -> Result<(), AllocError>
     ensures { OnOk result ((matches : List ℕ → List ℕ → Bool)
-        → TellsEach situation.now (named (assertion_of assertion.now)) (found_wrong matches (assertion_of assertion.now) (view situation.now.value.now)) observer.old observer.new) }
+        → TellsEach situation.now (named (assertion_of assertion.now))
+        (found_wrong matches (assertion_of assertion.now)
+        (view situation.now.value.now)) observer.old observer.new) }
 {
     let value = situation.value;
     match assertion {
@@ -244,7 +264,9 @@ fn tell_unmatched<'o>(
     pattern: &Pattern,
     observer: &mut Observer<'o>,
 ) -> Result<(), AllocError>
-    ensures { OnOk result (TellsEach situation.now (codes "pattern") (record { kind = faults.Pattern (text_of pattern.now); value = view situation.now.value.now } ∷ []) observer.old observer.new) }
+    ensures { OnOk result (TellsEach situation.now (codes "pattern")
+        (record { kind = faults.Pattern (text_of pattern.now); value = view situation.now.value.now }
+        ∷ []) observer.old observer.new) }
 {
     if !observer.hear() {
         return Ok(());
@@ -268,7 +290,10 @@ pub(crate) fn tell_pattern<'o, T: Matching>(
 ) -> Result<(), AllocError>
     requires { IsNumbered (T.matches matching.old).pattern pattern.now }
     ensures same { OnOk result (T.matches matching.new ≡ T.matches matching.old) }
-    ensures told { OnOk result (InEach (T.matches matching.old) (λ m. TellsEach situation.now (codes "pattern") (found_wrong m (asserted (text_of pattern.now)) (view situation.now.value.now)) observer.old observer.new)) }
+    ensures told { OnOk result (InEach (T.matches matching.old)
+        (λ m. TellsEach situation.now (codes "pattern")
+        (found_wrong m (asserted (text_of pattern.now))
+        (view situation.now.value.now)) observer.old observer.new)) }
 {
     if is_matched(pattern, Place::Value(situation.value), matching)? {
         Ok(())
@@ -286,7 +311,9 @@ pub(crate) fn tell_never<'o>(
     situation: &Situation<'_, 'o>,
     observer: &mut Observer<'o>,
 ) -> Result<(), AllocError>
-    ensures { OnOk result (TellsUnder situation.now [] (record { kind = faults.FalseSchema; value = view situation.now.value.now } ∷ []) observer.old observer.new) }
+    ensures { OnOk result (TellsUnder situation.now []
+        (record { kind = faults.FalseSchema; value = view situation.now.value.now }
+        ∷ []) observer.old observer.new) }
 {
     situation.tell_of_schema(ValidationErrorKind::FalseSchema, situation.value, observer)
 }

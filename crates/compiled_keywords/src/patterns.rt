@@ -28,7 +28,8 @@ pub(crate) fn is_matched<T: Matching>(
 ) -> Result<bool, AllocError>
     requires { IsNumbered (T.matches matching.old).pattern pattern.now }
     ensures same { OnOk result (T.matches matching.new ≡ T.matches matching.old) }
-    ensures read { IfOk result (λ b. InEach (T.matches matching.old) (λ m. b ≡ text_is (matched m (text_of pattern.now)) (value_at place.entry))) }
+    ensures read { IfOk result (λ b. InEach (T.matches matching.old)
+        (λ m. b ≡ text_is (matched m (text_of pattern.now)) (value_at place.entry))) }
 {
     match place {
         Place::Value(value) => match value {
@@ -57,7 +58,8 @@ fn is_matched_by<T: Matching>(
 ) -> Result<bool, AllocError>
     requires { AllNumbered (T.matches matching.old).pattern patterns.now }
     ensures same { OnOk result (T.matches matching.new ≡ T.matches matching.old) }
-    ensures read { IfOk result (λ b. InEach (T.matches matching.old) (λ m. b ≡ list_any (λ p. matched m p name.now) (map text_of patterns.now))) }
+    ensures read { IfOk result (λ b. InEach (T.matches matching.old)
+        (λ m. b ≡ list_any (λ p. matched m p name.now) (map text_of patterns.now))) }
 {
     for pattern in patterns {
         if matching.is_match(pattern.number, name)? {
@@ -79,7 +81,8 @@ pub(crate) fn is_declared<T: Matching>(
 ) -> Result<bool, AllocError>
     requires { AllNumbered (T.matches matching.old).pattern declared.now.patterns.items }
     ensures same { OnOk result (T.matches matching.new ≡ T.matches matching.old) }
-    ensures read { IfOk result (λ b. InEach (T.matches matching.old) (λ m. b ≡ is_among m (declared_by declared.now) name.now)) }
+    ensures read { IfOk result (λ b. InEach (T.matches matching.old)
+        (λ m. b ≡ is_among m (declared_by declared.now) name.now)) }
 {
     if is_named(&declared.names, name) {
         Ok(true)

@@ -50,7 +50,9 @@ fn undeclared_among<T: Matching>(
 ) -> Result<Vec<String>, AllocError>
     requires { AllNumbered (T.matches matching.old).pattern declared.now.patterns.items }
     ensures same { OnOk result (T.matches matching.new ≡ T.matches matching.old) }
-    ensures listed { IfOk result (λ names. InEach (T.matches matching.old) (λ m. map string_bytes names.items ≡ map (λ x. x.0) (others_among m (declared_by declared.now) (listed members.now)))) }
+    ensures listed { IfOk result (λ names. InEach (T.matches matching.old)
+        (λ m. map string_bytes names.items ≡ map (λ x. x.0)
+        (others_among m (declared_by declared.now) (listed members.now)))) }
 {
     let mut names = Vec::new(alloc);
     for (name, _) in members.iter() {
@@ -70,7 +72,9 @@ fn undeclared<T: Matching>(
 ) -> Result<Vec<String>, AllocError>
     requires { AllNumbered (T.matches matching.old).pattern declared.now.patterns.items }
     ensures same { OnOk result (T.matches matching.new ≡ T.matches matching.old) }
-    ensures listed { IfOk result (λ names. InEach (T.matches matching.old) (λ m. map string_bytes names.items ≡ map (λ x. x.0) (other_members m (declared_by declared.now) (view value.now)))) }
+    ensures listed { IfOk result (λ names. InEach (T.matches matching.old)
+        (λ m. map string_bytes names.items ≡ map (λ x. x.0)
+        (other_members m (declared_by declared.now) (view value.now)))) }
 {
     match object_at(Place::Value(value)) {
         Some(members) => undeclared_among(alloc, declared, members, matching),
@@ -85,7 +89,8 @@ fn kind_of<'o, T: Matching>(
 ) -> Result<ValidationErrorKind<'o>, AllocError>
     requires { KnowsAsked asks.now (T.matches matching.old).pattern }
     ensures same { OnOk result (T.matches matching.new ≡ T.matches matching.old) }
-    ensures stands { IfOk result (λ k. InEach (T.matches matching.old) (λ m. StandsFor k (kind_in m (form_of asks.now) (view situation.now.value.now)))) }
+    ensures stands { IfOk result (λ k. InEach (T.matches matching.old)
+        (λ m. StandsFor k (kind_in m (form_of asks.now) (view situation.now.value.now)))) }
 {
     match asks {
         Asks::ItemsFrom { .. } => Ok(ValidationErrorKind::AdditionalItems),

@@ -1,6 +1,7 @@
 //! What an index says of the documents that it was built from.
 
-ghost use Rattle.std.specs.Prelude.{◌≡◌, ◌<◌, ℕ, List, length, ◌∷◌, [], map, Option, Some, option_map, IfOk, IfSome, slice_get};
+ghost use Rattle.std.specs.Prelude.{◌≡◌, ◌<◌, ℕ, List, length, ◌∷◌, [], map, Option, Some, option_map, IfOk};
+ghost use Rattle.std.specs.Prelude.{IfSome, slice_get};
 ghost use Rattle.schema_definitions.specs.Bearers as bearers;
 ghost use Rattle.schema_definitions.specs.Places.{Dialect};
 ghost use Rattle.schema_dialects.specs.Dialects.{dialects_in};
@@ -47,7 +48,10 @@ pub fn bearer<'i, 'd>(
     uri: &str,
 ) -> Option<(&'i Document<'d>, &'i Bearer)>
     requires { IsIndexed (map document_of documents.now) index.now }
-    ensures answer { (meta : List ℕ → Option Dialect) → Indexes index.now (located_standings meta (map document_of documents.now)) → IsAnswer meta (map document_of documents.now) (option_map (λ r. bearer_of r.1.now) result) (bearers.bearer_under meta (map document_of documents.now) uri.now) }
+    ensures answer { (meta : List ℕ → Option Dialect)
+        → Indexes index.now (located_standings meta (map document_of documents.now))
+        → IsAnswer meta (map document_of documents.now) (option_map (λ r. bearer_of r.1.now) result)
+        (bearers.bearer_under meta (map document_of documents.now) uri.now) }
     ensures document { IfSome result (λ r. slice_get documents.now r.1.now.document ≡ Some r.0.now) }
 {
     let bearer = index.bearer(uri)?;
@@ -62,7 +66,10 @@ pub fn anchored<'i, 'd>(
     name: &str,
 ) -> Option<(&'i Document<'d>, &'i Bearer)>
     requires { IsIndexed (map document_of documents.now) index.now }
-    ensures answer { (meta : List ℕ → Option Dialect) → Indexes index.now (located_standings meta (map document_of documents.now)) → IsAnswer meta (map document_of documents.now) (option_map (λ r. bearer_of r.1.now) result) (bearers.anchored_under meta (map document_of documents.now) base.now name.now) }
+    ensures answer { (meta : List ℕ → Option Dialect)
+        → Indexes index.now (located_standings meta (map document_of documents.now))
+        → IsAnswer meta (map document_of documents.now) (option_map (λ r. bearer_of r.1.now) result)
+        (bearers.anchored_under meta (map document_of documents.now) base.now name.now) }
     ensures document { IfSome result (λ r. slice_get documents.now r.1.now.document ≡ Some r.0.now) }
 {
     let bearer = index.anchored(base, name)?;
@@ -77,7 +84,10 @@ pub fn dynamically_anchored<'i, 'd>(
     name: &str,
 ) -> Option<(&'i Document<'d>, &'i Bearer)>
     requires { IsIndexed (map document_of documents.now) index.now }
-    ensures answer { (meta : List ℕ → Option Dialect) → Indexes index.now (located_standings meta (map document_of documents.now)) → IsAnswer meta (map document_of documents.now) (option_map (λ r. bearer_of r.1.now) result) (dynamically_anchored_under meta (map document_of documents.now) base.now name.now) }
+    ensures answer { (meta : List ℕ → Option Dialect)
+        → Indexes index.now (located_standings meta (map document_of documents.now))
+        → IsAnswer meta (map document_of documents.now) (option_map (λ r. bearer_of r.1.now) result)
+        (dynamically_anchored_under meta (map document_of documents.now) base.now name.now) }
     ensures document { IfSome result (λ r. slice_get documents.now r.1.now.document ≡ Some r.0.now) }
 {
     let bearer = index.dynamically_anchored(base, name)?;

@@ -1,6 +1,7 @@
 //! Why a meta-schema that is awaited is not known.
 
-ghost use Rattle.std.specs.Prelude.{◌≡◌, ℕ, List, [], ◌∷◌, map, length, suc, IfOk, Some, Option, option_map, option_and_then};
+ghost use Rattle.std.specs.Prelude.{◌≡◌, ℕ, List, [], ◌∷◌, map, length, suc, IfOk, Some, Option, option_map};
+ghost use Rattle.std.specs.Prelude.{option_and_then};
 ghost use Rattle.std.specs.List.{filter};
 ghost use Rattle.std.specs.Prelude.{is_some};
 ghost use Rattle.serde_json.specs.View.{view};
@@ -32,7 +33,9 @@ pub enum Unsettled {
 
 // The URI that a schema bears once its meta-schema is known, whatever that is.
 fn own_uri(alloc: Global, standing: &Standing<'_>) -> Result<Option<Uri>, AllocError>
-    ensures { IfOk result (λ u. u ≡ option_and_then (identifiers.resolved standing.now.place.base.value) (identifiers.identifier (standard standing.now.place.dialect.siblings drafts.Unknown) (view standing.now.place.contents.now))) }
+    ensures { IfOk result (λ u. u ≡ option_and_then (identifiers.resolved standing.now.place.base.value)
+        (identifiers.identifier (standard standing.now.place.dialect.siblings drafts.Unknown)
+        (view standing.now.place.contents.now))) }
 {
     let unknown = Dialect::standard(standing.place.dialect.siblings, Draft::Unknown);
     match identifier(unknown, standing.place.contents) {
@@ -101,7 +104,8 @@ pub fn awaited_cause(
     standings: &[Standing<'_>],
     uri: Uri,
 ) -> Result<Unsettled, AllocError>
-    ensures { IfOk result (λ c. (docs : bearers.Documents) → AwaitedIn docs (map standing_of standings.now) → cause_of c ≡ causes.awaited_cause docs (suc (causes.how_many_await docs)) uri) }
+    ensures { IfOk result (λ c. (docs : bearers.Documents) → AwaitedIn docs (map standing_of standings.now)
+        → cause_of c ≡ causes.awaited_cause docs (suc (causes.how_many_await docs)) uri) }
 {
     let mut awaited = uri;
     let mut left = how_many_await(standings);

@@ -69,8 +69,10 @@ fn check_reference(
     base: &Uri,
     reference: Option<&str>,
 ) -> Result<(), Error>
-    ensures ok { OnOk result (spec.of_text (spec.wanted_at (borne_in index.now) base.now) (option_map (λ t. t.now) reference.entry) ≡ []) }
-    ensures refused { IfErr result (NamesOne (spec.of_text (spec.wanted_at (borne_in index.now) base.now) (option_map (λ t. t.now) reference.entry))) }
+    ensures ok { OnOk result (spec.of_text (spec.wanted_at (borne_in index.now) base.now)
+        (option_map (λ t. t.now) reference.entry) ≡ []) }
+    ensures refused { IfErr result (NamesOne (spec.of_text (spec.wanted_at (borne_in index.now) base.now)
+        (option_map (λ t. t.now) reference.entry))) }
 {
     match reference {
         Some(reference) => check_wanted(alloc, index, base, split_fragment(reference).0),
@@ -98,7 +100,8 @@ fn unsettled(alloc: Global, why: Unsettled) -> Error
 
 // Why the meta-schema of a URI is not known that one of these schema places awaits.
 fn refuse_awaited(alloc: Global, standings: &[Standing<'_>], uri: &Uri) -> Error
-    ensures { (docs : Documents) → AwaitedIn docs (map standing_of standings.now) → NamesCause (unknown_by docs uri.now) result }
+    ensures { (docs : Documents) → AwaitedIn docs (map standing_of standings.now)
+        → NamesCause (unknown_by docs uri.now) result }
 {
     let Ok(uri) = uri.clone() else {
         return Error::Memory;
@@ -115,8 +118,10 @@ fn check_awaited(
     standings: &[Standing<'_>],
     standing: &Standing<'_>,
 ) -> Result<(), Error>
-    ensures ok { OnOk result ((docs : Documents) → AwaitedIn docs (map standing_of standings.now) → spec.awaited_causes (borne_in index.now) (unknown_by docs) (standing_of standing.now) ≡ []) }
-    ensures refused { IfErr result (λ e. (docs : Documents) → AwaitedIn docs (map standing_of standings.now) → NamesOne (spec.awaited_causes (borne_in index.now) (unknown_by docs) (standing_of standing.now)) e) }
+    ensures ok { OnOk result ((docs : Documents) → AwaitedIn docs (map standing_of standings.now)
+        → spec.awaited_causes (borne_in index.now) (unknown_by docs) (standing_of standing.now) ≡ []) }
+    ensures refused { IfErr result (λ e. (docs : Documents) → AwaitedIn docs (map standing_of standings.now)
+        → NamesOne (spec.awaited_causes (borne_in index.now) (unknown_by docs) (standing_of standing.now)) e) }
 {
     match &standing.place.awaits {
         Some(uri) => Err(refuse_awaited(alloc, standings, uri)),
@@ -130,8 +135,10 @@ fn check_place(
     standings: &[Standing<'_>],
     standing: &Standing<'_>,
 ) -> Result<(), Error>
-    ensures ok { OnOk result ((docs : Documents) → AwaitedIn docs (map standing_of standings.now) → spec.causes_at (borne_in index.now) (unknown_by docs) (standing_of standing.now) ≡ []) }
-    ensures refused { IfErr result (λ e. (docs : Documents) → AwaitedIn docs (map standing_of standings.now) → NamesOne (spec.causes_at (borne_in index.now) (unknown_by docs) (standing_of standing.now)) e) }
+    ensures ok { OnOk result ((docs : Documents) → AwaitedIn docs (map standing_of standings.now)
+        → spec.causes_at (borne_in index.now) (unknown_by docs) (standing_of standing.now) ≡ []) }
+    ensures refused { IfErr result (λ e. (docs : Documents) → AwaitedIn docs (map standing_of standings.now)
+        → NamesOne (spec.causes_at (borne_in index.now) (unknown_by docs) (standing_of standing.now)) e) }
 {
     let place = &standing.place;
     let siblings = place.dialect.siblings;
@@ -147,8 +154,11 @@ pub(crate) fn check_places(
     index: &Index,
     standings: &[Standing<'_>],
 ) -> Result<(), Error>
-    ensures ok { OnOk result ((docs : Documents) → AwaitedIn docs (map standing_of standings.now) → flat_map (spec.causes_at (borne_in index.now) (unknown_by docs)) (map standing_of standings.now) ≡ []) }
-    ensures refused { IfErr result (λ e. (docs : Documents) → AwaitedIn docs (map standing_of standings.now) → NamesOne (flat_map (spec.causes_at (borne_in index.now) (unknown_by docs)) (map standing_of standings.now)) e) }
+    ensures ok { OnOk result ((docs : Documents) → AwaitedIn docs (map standing_of standings.now)
+        → flat_map (spec.causes_at (borne_in index.now) (unknown_by docs)) (map standing_of standings.now) ≡ []) }
+    ensures refused { IfErr result (λ e. (docs : Documents) → AwaitedIn docs (map standing_of standings.now)
+        → NamesOne (flat_map (spec.causes_at (borne_in index.now) (unknown_by docs))
+        (map standing_of standings.now)) e) }
 {
     for standing in standings {
         check_place(alloc, index, standings, standing)?;

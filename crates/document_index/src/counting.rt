@@ -21,7 +21,8 @@ fn schemas_named(value: &Value) -> Option<usize>
 
 #[cycle(named)]
 fn schemas_named_in(items: &[Value]) -> Option<usize>
-    ensures { SomeIff result (bearers.schemas_named_in (items_view items.now) < 2 ^ 64) (bearers.schemas_named_in (items_view items.now)) }
+    ensures { SomeIff result (bearers.schemas_named_in (items_view items.now) < 2 ^ 64)
+        (bearers.schemas_named_in (items_view items.now)) }
 {
     let mut count: usize = 0;
     for item in items {
@@ -32,7 +33,8 @@ fn schemas_named_in(items: &[Value]) -> Option<usize>
 
 #[cycle(named)]
 fn schemas_named_among(members: &Map<String, Value>) -> Option<usize>
-    ensures { SomeIff result (bearers.schemas_named_among (members_view members.now.entries) < 2 ^ 64) (bearers.schemas_named_among (members_view members.now.entries)) }
+    ensures { SomeIff result (bearers.schemas_named_among (members_view members.now.entries) < 2 ^ 64)
+        (bearers.schemas_named_among (members_view members.now.entries)) }
 {
     let mut count: usize = 0;
     for (name, member) in members.iter() {
@@ -45,7 +47,8 @@ fn schemas_named_among(members: &Map<String, Value>) -> Option<usize>
 /// How many members named `$schema` there are in documents, at schema places or not, and none where a `usize` does not count them. It
 /// walks each document once.
 pub fn how_many(documents: &[Document<'_>]) -> Option<usize>
-    ensures { SomeIff result (bearers.how_many (map document_of documents.now) < 2 ^ 64) (bearers.how_many (map document_of documents.now)) }
+    ensures { SomeIff result (bearers.how_many (map document_of documents.now) < 2 ^ 64)
+        (bearers.how_many (map document_of documents.now)) }
 {
     let mut count: usize = 0;
     for document in documents {

@@ -1,6 +1,7 @@
 //! The index of the schema places that bear a URI or an anchor.
 
-ghost use Rattle.std.specs.Prelude.{◌≡◌, ℕ, List, map, IfOk, OnOk, Some, option_map, option_and_then, if◌then◌else◌, bytes_eq, ◌&&◌};
+ghost use Rattle.std.specs.Prelude.{◌≡◌, ℕ, List, map, IfOk, OnOk, Some, option_map, option_and_then};
+ghost use Rattle.std.specs.Prelude.{if◌then◌else◌, bytes_eq, ◌&&◌};
 ghost use Rattle.std.specs.Prelude.{◌||◌, is_some, string_bytes};
 ghost use Rattle.serde_json.specs.View.{view};
 ghost use Rattle.schema_definitions.specs.Words as words;
@@ -61,7 +62,8 @@ fn put(
     name: &str,
     standing: &Standing<'_>,
 ) -> Result<(), AllocError>
-    ensures { OnOk result ((q : List ℕ) → named names.new q ≡ (if bytes_eq name.now q then Some (kept_of (located_of standing.now)) else named names.old q)) }
+    ensures { OnOk result ((q : List ℕ) → named names.new q
+        ≡ (if bytes_eq name.now q then Some (kept_of (located_of standing.now)) else named names.old q)) }
 {
     names.insert(String::from_str(alloc, name)?, bearer_at(standing)?)?;
     Ok(())
@@ -73,7 +75,9 @@ fn put_given_uri(
     by_uri: &mut BTreeMap<String, Bearer>,
     standing: &Standing<'_>,
 ) -> Result<(), AllocError>
-    ensures { OnOk result ((q : List ℕ) → named by_uri.new q ≡ (if bearers.is_root standing.now.place.path && bytes_eq standing.now.name.uri.value q then Some (kept_of (located_of standing.now)) else named by_uri.old q)) }
+    ensures { OnOk result ((q : List ℕ) → named by_uri.new q
+        ≡ (if bearers.is_root standing.now.place.path && bytes_eq standing.now.name.uri.value q then Some
+        (kept_of (located_of standing.now)) else named by_uri.old q)) }
 {
     if standing.place.path.is_root() {
         put(alloc, by_uri, standing.name.uri.as_str(), standing)?;
@@ -87,7 +91,10 @@ fn put_base(
     by_uri: &mut BTreeMap<String, Bearer>,
     standing: &Standing<'_>,
 ) -> Result<(), AllocError>
-    ensures { OnOk result ((q : List ℕ) → named by_uri.new q ≡ (if is_some (identifiers.identifier (dialect_of standing.now.place.dialect) (view standing.now.place.contents.now)) && bytes_eq standing.now.place.base.value q then Some (kept_of (located_of standing.now)) else named by_uri.old q)) }
+    ensures { OnOk result ((q : List ℕ) → named by_uri.new q
+        ≡ (if is_some (identifiers.identifier (dialect_of standing.now.place.dialect)
+        (view standing.now.place.contents.now)) && bytes_eq standing.now.place.base.value q then Some
+        (kept_of (located_of standing.now)) else named by_uri.old q)) }
 {
     if identifier(standing.place.dialect, standing.place.contents).is_some() {
         put(alloc, by_uri, standing.place.base.as_str(), standing)?;
@@ -100,7 +107,9 @@ fn put_uris(
     by_uri: &mut BTreeMap<String, Bearer>,
     standing: &Standing<'_>,
 ) -> Result<(), AllocError>
-    ensures { OnOk result ((q : List ℕ) → named by_uri.new q ≡ (if bearers.bears q (standing_of standing.now) then Some (kept_of (located_of standing.now)) else named by_uri.old q)) }
+    ensures { OnOk result ((q : List ℕ) → named by_uri.new q
+        ≡ (if bearers.bears q (standing_of standing.now) then Some
+        (kept_of (located_of standing.now)) else named by_uri.old q)) }
 {
     if standing.place.awaits.is_some() {
         return Ok(());
@@ -116,7 +125,9 @@ fn put_under_base(
     name: &str,
     standing: &Standing<'_>,
 ) -> Result<(), AllocError>
-    ensures { OnOk result ((b q : List ℕ) → anchor_named by_anchor.new b q ≡ (if bytes_eq standing.now.place.base.value b && bytes_eq name.now q then Some (kept_of (located_of standing.now)) else anchor_named by_anchor.old b q)) }
+    ensures { OnOk result ((b q : List ℕ) → anchor_named by_anchor.new b q
+        ≡ (if bytes_eq standing.now.place.base.value b && bytes_eq name.now q then Some
+        (kept_of (located_of standing.now)) else anchor_named by_anchor.old b q)) }
 {
     if let Some(names) = by_anchor.get_mut(standing.place.base.as_str()) {
         return put(alloc, names, name, standing);
@@ -136,7 +147,10 @@ fn put_anchor(
     name: Option<&str>,
     standing: &Standing<'_>,
 ) -> Result<(), AllocError>
-    ensures { OnOk result ((b q : List ℕ) → anchor_named by_anchor.new b q ≡ (if bytes_eq standing.now.place.base.value b && words.has_text q (words.listed (option_map (λ t. t.now) name.entry)) then Some (kept_of (located_of standing.now)) else anchor_named by_anchor.old b q)) }
+    ensures { OnOk result ((b q : List ℕ) → anchor_named by_anchor.new b q
+        ≡ (if bytes_eq standing.now.place.base.value b && words.has_text q
+        (words.listed (option_map (λ t. t.now) name.entry)) then Some
+        (kept_of (located_of standing.now)) else anchor_named by_anchor.old b q)) }
 {
     match name {
         Some(name) => put_under_base(alloc, by_anchor, name, standing),
@@ -149,7 +163,9 @@ fn put_anchors(
     by_anchor: &mut BTreeMap<String, BTreeMap<String, Bearer>>,
     standing: &Standing<'_>,
 ) -> Result<(), AllocError>
-    ensures { OnOk result ((b q : List ℕ) → anchor_named by_anchor.new b q ≡ (if bearers.bears_anchor identifiers.anchors b q (standing_of standing.now) then Some (kept_of (located_of standing.now)) else anchor_named by_anchor.old b q)) }
+    ensures { OnOk result ((b q : List ℕ) → anchor_named by_anchor.new b q
+        ≡ (if bearers.bears_anchor identifiers.anchors b q (standing_of standing.now) then Some
+        (kept_of (located_of standing.now)) else anchor_named by_anchor.old b q)) }
 {
     let place = &standing.place;
     if place.awaits.is_some() {
@@ -166,7 +182,9 @@ fn put_dynamic_anchor(
     by_anchor: &mut BTreeMap<String, BTreeMap<String, Bearer>>,
     standing: &Standing<'_>,
 ) -> Result<(), AllocError>
-    ensures { OnOk result ((b q : List ℕ) → anchor_named by_anchor.new b q ≡ (if bearers.bears_anchor identifiers.dynamic_anchors b q (standing_of standing.now) then Some (kept_of (located_of standing.now)) else anchor_named by_anchor.old b q)) }
+    ensures { OnOk result ((b q : List ℕ) → anchor_named by_anchor.new b q
+        ≡ (if bearers.bears_anchor identifiers.dynamic_anchors b q (standing_of standing.now) then Some
+        (kept_of (located_of standing.now)) else anchor_named by_anchor.old b q)) }
 {
     let place = &standing.place;
     if place.awaits.is_some() {
@@ -177,7 +195,8 @@ fn put_dynamic_anchor(
 }
 
 impl Index {
-    ghost use Rattle.document_index.specs.Indexes.{bearer_in, anchored_in, dynamically_anchored_in, dynamic_names_in, Indexes};
+    ghost use Rattle.document_index.specs.Indexes.{bearer_in, anchored_in, dynamically_anchored_in};
+    ghost use Rattle.document_index.specs.Indexes.{dynamic_names_in, Indexes};
 
     /// The index of schema places in the order in which they stand: of several bearers the last counts.
     ///

@@ -56,8 +56,10 @@ fn told_once<'d>(
 // The index of schema places under all that their documents tell, where they have no cause.
 fn checked_index(alloc: Global, places: &[Standing<'_>]) -> Result<Index, Error>
     ensures indexed { IfOk result (λ i. Indexes i (map located_of places.now)) }
-    ensures ok { OnOk result ((docs : Documents) → AreTold docs places.now → flat_map (place_causes docs) (bearers.standings (bearers.meta docs) docs) ≡ []) }
-    ensures refused { IfErr result (λ e. (docs : Documents) → AreTold docs places.now → NamesOne (flat_map (place_causes docs) (bearers.standings (bearers.meta docs) docs)) e) }
+    ensures ok { OnOk result ((docs : Documents) → AreTold docs places.now
+        → flat_map (place_causes docs) (bearers.standings (bearers.meta docs) docs) ≡ []) }
+    ensures refused { IfErr result (λ e. (docs : Documents) → AreTold docs places.now
+        → NamesOne (flat_map (place_causes docs) (bearers.standings (bearers.meta docs) docs)) e) }
 {
     let index = Index::of(alloc, places)?;
     check_places(alloc, &index, places)?;
@@ -75,8 +77,10 @@ fn checked_index(alloc: Global, places: &[Standing<'_>]) -> Result<Index, Error>
 ///
 /// A cause that the documents have, or want of memory.
 pub fn prepare(alloc: Global, documents: &[Document<'_>]) -> Result<Prepared, Error>
-    ensures indexed { IfOk result (λ p. Indexes p.index (located_standings (dialects_in p.known) (map document_of documents.now))) }
-    ensures told { IfOk result (λ p. (uri : List ℕ) → dialects_in p.known uri ≡ bearers.meta (map document_of documents.now) uri) }
+    ensures indexed { IfOk result (λ p. Indexes p.index
+        (located_standings (dialects_in p.known) (map document_of documents.now))) }
+    ensures told { IfOk result (λ p. (uri : List ℕ)
+        → dialects_in p.known uri ≡ bearers.meta (map document_of documents.now) uri) }
     ensures accepted { OnOk result (document_causes (map document_of documents.now) ≡ []) }
     ensures refused { IfErr result (NamesOne (document_causes (map document_of documents.now))) }
 {

@@ -1,6 +1,7 @@
 //! One stage: what the schema places of documents bear, and of which meta-schemas that tells another dialect than the stage before.
 
-ghost use Rattle.std.specs.Prelude.{◌≡◌, ℕ, List, map, IfOk, OnOk, Decides, Some, option_map, if◌then◌else◌, bytes_eq, ◌&&◌, is_some, slice_get};
+ghost use Rattle.std.specs.Prelude.{◌≡◌, ℕ, List, map, IfOk, OnOk, Decides, Some, option_map, if◌then◌else◌};
+ghost use Rattle.std.specs.Prelude.{bytes_eq, ◌&&◌, is_some, slice_get};
 ghost use Rattle.std.specs.List.{flat_map};
 ghost use Rattle.serde_json.specs.View.{view};
 ghost use Rattle.schema_definitions.specs.Words.{last_that, listed};
@@ -25,7 +26,9 @@ fn put(
     uri: &str,
     standing: &Standing<'_>,
 ) -> Result<(), AllocError>
-    ensures { OnOk result ((q : List ℕ) → dialects_in borne.new q ≡ (if bytes_eq uri.now q then Some (bearers.dialect_by (standing_of standing.now)) else dialects_in borne.old q)) }
+    ensures { OnOk result ((q : List ℕ) → dialects_in borne.new q
+        ≡ (if bytes_eq uri.now q then Some (bearers.dialect_by
+        (standing_of standing.now)) else dialects_in borne.old q)) }
 {
     let place = &standing.place;
     let dialect = place.dialect.by_meta_schema(place.contents);
@@ -38,7 +41,9 @@ fn put_given_uri(
     borne: &mut MetaSchemas,
     standing: &Standing<'_>,
 ) -> Result<(), AllocError>
-    ensures { OnOk result ((q : List ℕ) → dialects_in borne.new q ≡ (if bearers.is_root standing.now.place.path && bytes_eq standing.now.name.uri.value q then Some (bearers.dialect_by (standing_of standing.now)) else dialects_in borne.old q)) }
+    ensures { OnOk result ((q : List ℕ) → dialects_in borne.new q
+        ≡ (if bearers.is_root standing.now.place.path && bytes_eq standing.now.name.uri.value q then Some
+        (bearers.dialect_by (standing_of standing.now)) else dialects_in borne.old q)) }
 {
     if standing.place.path.is_root() {
         put(alloc, borne, standing.name.uri.as_str(), standing)?;
@@ -52,7 +57,10 @@ fn put_base(
     borne: &mut MetaSchemas,
     standing: &Standing<'_>,
 ) -> Result<(), AllocError>
-    ensures { OnOk result ((q : List ℕ) → dialects_in borne.new q ≡ (if is_some (identifiers.identifier (dialect_of standing.now.place.dialect) (view standing.now.place.contents.now)) && bytes_eq standing.now.place.base.value q then Some (bearers.dialect_by (standing_of standing.now)) else dialects_in borne.old q)) }
+    ensures { OnOk result ((q : List ℕ) → dialects_in borne.new q
+        ≡ (if is_some (identifiers.identifier (dialect_of standing.now.place.dialect)
+        (view standing.now.place.contents.now)) && bytes_eq standing.now.place.base.value q then Some
+        (bearers.dialect_by (standing_of standing.now)) else dialects_in borne.old q)) }
 {
     if identifier(standing.place.dialect, standing.place.contents).is_some() {
         put(alloc, borne, standing.place.base.as_str(), standing)?;
@@ -65,7 +73,9 @@ fn put_uris(
     borne: &mut MetaSchemas,
     standing: &Standing<'_>,
 ) -> Result<(), AllocError>
-    ensures { OnOk result ((q : List ℕ) → dialects_in borne.new q ≡ (if bearers.bears q (standing_of standing.now) then Some (bearers.dialect_by (standing_of standing.now)) else dialects_in borne.old q)) }
+    ensures { OnOk result ((q : List ℕ) → dialects_in borne.new q
+        ≡ (if bearers.bears q (standing_of standing.now) then Some
+        (bearers.dialect_by (standing_of standing.now)) else dialects_in borne.old q)) }
 {
     if standing.place.awaits.is_some() {
         return Ok(());
@@ -76,7 +86,9 @@ fn put_uris(
 
 // What schema places give to the schemas that name them: of several bearers of a URI the last counts.
 pub(crate) fn borne_by(alloc: Global, standings: &[Standing<'_>]) -> Result<MetaSchemas, AllocError>
-    ensures { IfOk result (λ borne. (q : List ℕ) → dialects_in borne q ≡ option_map bearers.dialect_by (last_that (bearers.bears q) (map standing_of standings.now))) }
+    ensures { IfOk result (λ borne. (q : List ℕ)
+        → dialects_in borne q ≡ option_map bearers.dialect_by
+        (last_that (bearers.bears q) (map standing_of standings.now))) }
 {
     let mut borne = MetaSchemas::none(alloc);
     for standing in standings {
@@ -110,7 +122,8 @@ fn is_told_alike(left: Option<Dialect>, right: Option<Dialect>) -> bool
 }
 
 fn unless_alike(told: &MetaSchemas, after: &MetaSchemas, uri: Uri) -> Option<Uri>
-    ensures { listed (option_map causes.circular_metaschema result) ≡ laws.unless_alike (dialects_in told.now) (dialects_in after.now) uri }
+    ensures { listed (option_map causes.circular_metaschema result)
+        ≡ laws.unless_alike (dialects_in told.now) (dialects_in after.now) uri }
 {
     if is_told_alike(told.get(uri.as_str()), after.get(uri.as_str())) {
         return None;
@@ -125,7 +138,8 @@ fn anew_at(
     told: &MetaSchemas,
     after: &MetaSchemas,
 ) -> Result<Option<Uri>, AllocError>
-    ensures { IfOk result (λ u. listed (option_map causes.circular_metaschema u) ≡ laws.anew_at (dialects_in told.now) (dialects_in after.now) (standing_of standing.now)) }
+    ensures { IfOk result (λ u. listed (option_map causes.circular_metaschema u)
+        ≡ laws.anew_at (dialects_in told.now) (dialects_in after.now) (standing_of standing.now)) }
 {
     let place = &standing.place;
     match named_meta_schema(
@@ -146,7 +160,9 @@ pub(crate) fn first_anew(
     told: &MetaSchemas,
     after: &MetaSchemas,
 ) -> Result<Option<Uri>, AllocError>
-    ensures { IfOk result (λ u. option_map causes.circular_metaschema u ≡ slice_get (flat_map (laws.anew_at (dialects_in told.now) (dialects_in after.now)) (map standing_of standings.now)) 0) }
+    ensures { IfOk result (λ u. option_map causes.circular_metaschema u
+        ≡ slice_get (flat_map (laws.anew_at (dialects_in told.now) (dialects_in after.now))
+        (map standing_of standings.now)) 0) }
 {
     for standing in standings {
         if let Some(uri) = anew_at(alloc, standing, told, after)? {

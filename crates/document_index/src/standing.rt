@@ -30,7 +30,8 @@ fn push_standings<'d>(
     position: usize,
     document: &'d Document<'_>,
 ) -> Result<(), AllocError>
-    ensures { OnOk result (map located_of found.new.items ≡ map located_of found.old.items ++ standings_at (dialects_in known.now) (position, document_of document.now)) }
+    ensures { OnOk result (map located_of found.new.items ≡ map located_of found.old.items
+        ++ standings_at (dialects_in known.now) (position, document_of document.now)) }
 {
     for place in places(
         alloc,
@@ -60,8 +61,10 @@ pub fn standings<'d>(
     known: &MetaSchemas,
     documents: &'d [Document<'_>],
 ) -> Result<Vec<Standing<'d>>, AllocError>
-    ensures stand { IfOk result (λ v. map standing_of v.items ≡ bearers.standings (dialects_in known.now) (map document_of documents.now)) }
-    ensures located { IfOk result (λ v. map located_of v.items ≡ located_standings (dialects_in known.now) (map document_of documents.now)) }
+    ensures stand { IfOk result (λ v. map standing_of v.items
+        ≡ bearers.standings (dialects_in known.now) (map document_of documents.now)) }
+    ensures located { IfOk result (λ v. map located_of v.items
+        ≡ located_standings (dialects_in known.now) (map document_of documents.now)) }
 {
     let mut found = Vec::new(alloc);
     for (position, document) in documents.iter().enumerate() {

@@ -40,9 +40,13 @@ fn one_more<'d>(
     documents: &'d [Document<'_>],
     told: &MetaSchemas,
 ) -> Result<Stage<'d>, AllocError>
-    ensures next { IfOk result (λ s. (n : ℕ) → Tells told.now (bearers.dialects (map document_of documents.now) n) → Tells s.told.meta_schemas (bearers.dialects (map document_of documents.now) (suc n))) }
-    ensures anew { IfOk result (λ s. (n : ℕ) → Tells told.now (bearers.dialects (map document_of documents.now) n) → option_map causes.circular_metaschema s.told.anew ≡ slice_get (laws.anew_after (map document_of documents.now) n) 0) }
-    ensures rests { IfOk result (λ s. s.told.anew ≡ None → AreUnder s.told.meta_schemas (map document_of documents.now) s.places.items) }
+    ensures next { IfOk result (λ s. (n : ℕ) → Tells told.now (bearers.dialects (map document_of documents.now) n)
+        → Tells s.told.meta_schemas (bearers.dialects (map document_of documents.now) (suc n))) }
+    ensures anew { IfOk result (λ s. (n : ℕ) → Tells told.now (bearers.dialects (map document_of documents.now) n)
+        → option_map causes.circular_metaschema s.told.anew
+        ≡ slice_get (laws.anew_after (map document_of documents.now) n) 0) }
+    ensures rests { IfOk result (λ s. s.told.anew ≡ None
+        → AreUnder s.told.meta_schemas (map document_of documents.now) s.places.items) }
 {
     let places = standings(alloc, told, documents)?;
     let meta_schemas = borne_by(alloc, &places)?;
@@ -59,9 +63,12 @@ fn stage_after<'d>(
     documents: &'d [Document<'_>],
     stages: usize,
 ) -> Result<Stage<'d>, AllocError>
-    ensures told { IfOk result (λ s. Tells s.told.meta_schemas (bearers.dialects (map document_of documents.now) (suc stages))) }
-    ensures anew { IfOk result (λ s. option_map causes.circular_metaschema s.told.anew ≡ slice_get (laws.anew_after (map document_of documents.now) stages) 0) }
-    ensures rests { IfOk result (λ s. s.told.anew ≡ None → AreUnder s.told.meta_schemas (map document_of documents.now) s.places.items) }
+    ensures told { IfOk result (λ s. Tells s.told.meta_schemas
+        (bearers.dialects (map document_of documents.now) (suc stages))) }
+    ensures anew { IfOk result (λ s. option_map causes.circular_metaschema s.told.anew
+        ≡ slice_get (laws.anew_after (map document_of documents.now) stages) 0) }
+    ensures rests { IfOk result (λ s. s.told.anew ≡ None
+        → AreUnder s.told.meta_schemas (map document_of documents.now) s.places.items) }
 {
     let mut next = one_more(alloc, documents, &MetaSchemas::none(alloc))?;
     let mut stage: usize = 0;
@@ -78,8 +85,10 @@ pub(crate) fn last_stage<'d>(
     documents: &'d [Document<'_>],
 ) -> Result<Stage<'d>, AllocError>
     ensures told { IfOk result (λ s. Tells s.told.meta_schemas (bearers.meta (map document_of documents.now))) }
-    ensures anew { IfOk result (λ s. option_map causes.circular_metaschema s.told.anew ≡ slice_get (causes.told_anew (map document_of documents.now)) 0) }
-    ensures rests { IfOk result (λ s. s.told.anew ≡ None → AreUnder s.told.meta_schemas (map document_of documents.now) s.places.items) }
+    ensures anew { IfOk result (λ s. option_map causes.circular_metaschema s.told.anew
+        ≡ slice_get (causes.told_anew (map document_of documents.now)) 0) }
+    ensures rests { IfOk result (λ s. s.told.anew ≡ None
+        → AreUnder s.told.meta_schemas (map document_of documents.now) s.places.items) }
 {
     match how_many(documents) {
         Some(stages) => stage_after(alloc, documents, stages),
@@ -101,8 +110,10 @@ pub fn told_after(
     documents: &[Document<'_>],
     stages: usize,
 ) -> Result<Told, AllocError>
-    ensures told { IfOk result (λ t. (uri : List ℕ) → dialects_in t.meta_schemas uri ≡ bearers.dialects (map document_of documents.now) (suc stages) uri) }
-    ensures anew { IfOk result (λ t. option_map causes.circular_metaschema t.anew ≡ slice_get (laws.anew_after (map document_of documents.now) stages) 0) }
+    ensures told { IfOk result (λ t. (uri : List ℕ)
+        → dialects_in t.meta_schemas uri ≡ bearers.dialects (map document_of documents.now) (suc stages) uri) }
+    ensures anew { IfOk result (λ t. option_map causes.circular_metaschema t.anew
+        ≡ slice_get (laws.anew_after (map document_of documents.now) stages) 0) }
 {
     Ok(stage_after(alloc, documents, stages)?.told)
 }
@@ -115,8 +126,10 @@ pub fn told_after(
 ///
 /// Where memory was refused, a count of owners is full, or a `usize` does not count the members named `$schema`.
 pub fn meta_schemas(alloc: Global, documents: &[Document<'_>]) -> Result<Told, AllocError>
-    ensures told { IfOk result (λ t. (uri : List ℕ) → dialects_in t.meta_schemas uri ≡ bearers.meta (map document_of documents.now) uri) }
-    ensures anew { IfOk result (λ t. option_map causes.circular_metaschema t.anew ≡ slice_get (causes.told_anew (map document_of documents.now)) 0) }
+    ensures told { IfOk result (λ t. (uri : List ℕ)
+        → dialects_in t.meta_schemas uri ≡ bearers.meta (map document_of documents.now) uri) }
+    ensures anew { IfOk result (λ t. option_map causes.circular_metaschema t.anew
+        ≡ slice_get (causes.told_anew (map document_of documents.now)) 0) }
     ensures rests { IfOk result (λ t. t.anew ≡ None → causes.told_anew (map document_of documents.now) ≡ []) }
 {
     Ok(last_stage(alloc, documents)?.told)

@@ -6,7 +6,8 @@ ghost use Rattle.document_index.specs.Seen.{document_of, contents_view};
 ghost use Rattle.document_sources.specs.Causes.{IsMemory, IsRefusal, NamesDocument};
 ghost use Rattle.document_sources.specs.Seen.{layer_of};
 ghost use Rattle.document_retrieval.specs.Known.{want_of};
-ghost use Rattle.document_retrieval.specs.Stages.{asking, documents_in, uris_in, IsAnswer, HasAnswer, Adds, RefusesWant, RefusesRound};
+ghost use Rattle.document_retrieval.specs.Stages.{asking, documents_in, uris_in, IsAnswer, HasAnswer, Adds};
+ghost use Rattle.document_retrieval.specs.Stages.{RefusesWant, RefusesRound};
 
 use crate::rounds::Retrieved;
 use crate::wants::{Purpose, Want};
@@ -45,8 +46,10 @@ fn answer_to<'a, R: Retrieve>(
     layer: Layer,
     retriever: &R,
 ) -> Result<Document<'a>, Error>
-    ensures ok { IfOk result (λ d. IsAnswer (asking R.may_answer R.may_refuse retriever.now (layer_of layer)) (want_of want.now) (document_of d)) }
-    ensures refused { IfErr result (λ e. IsMemory e ⊎ RefusesWant (asking R.may_answer R.may_refuse retriever.now (layer_of layer)) (want_of want.now) e) }
+    ensures ok { IfOk result (λ d. IsAnswer (asking R.may_answer R.may_refuse retriever.now (layer_of layer))
+        (want_of want.now) (document_of d)) }
+    ensures refused { IfErr result (λ e. IsMemory e ⊎ RefusesWant
+        (asking R.may_answer R.may_refuse retriever.now (layer_of layer)) (want_of want.now) e) }
 {
     match retriever.retrieve(alloc, &want.uri) {
         Ok(value) => Ok(Document {
@@ -70,7 +73,8 @@ fn keep<'a>(
     document: Document<'a>,
     uri: Rc<Uri>,
 ) -> Result<(), AllocError>
-    ensures documents { OnOk result (documents_in gathered.new ≡ documents_in gathered.old ++ document_of document.entry ∷ []) }
+    ensures documents { OnOk result (documents_in gathered.new ≡ documents_in gathered.old
+        ++ document_of document.entry ∷ []) }
     ensures uris { OnOk result (uris_in gathered.new ≡ uris_in gathered.old ++ uri.value ∷ []) }
 {
     gathered.documents.push(document)?;
@@ -86,8 +90,10 @@ fn push_answer<R: Retrieve>(
     layer: Layer,
     retriever: &R,
 ) -> Result<(), Error>
-    ensures ok { OnOk result (HasAnswer (asking R.may_answer R.may_refuse retriever.now (layer_of layer)) (want_of want.now) gathered.old gathered.new) }
-    ensures refused { IfErr result (λ e. IsMemory e ⊎ RefusesWant (asking R.may_answer R.may_refuse retriever.now (layer_of layer)) (want_of want.now) e) }
+    ensures ok { OnOk result (HasAnswer (asking R.may_answer R.may_refuse retriever.now (layer_of layer))
+        (want_of want.now) gathered.old gathered.new) }
+    ensures refused { IfErr result (λ e. IsMemory e ⊎ RefusesWant
+        (asking R.may_answer R.may_refuse retriever.now (layer_of layer)) (want_of want.now) e) }
 {
     let document = answer_to(alloc, want, layer, retriever)?;
     keep(gathered, document, want.uri.clone()?)?;
@@ -107,8 +113,11 @@ pub fn push_round<R: Retrieve>(
     retriever: &R,
     limit: u64,
 ) -> Result<(), Error>
-    ensures ok { OnOk result (Adds (asking R.may_answer R.may_refuse retriever.now (layer_of layer)) limit (map want_of wants.now) gathered.old gathered.new) }
-    ensures refused { IfErr result (λ e. IsMemory e ⊎ RefusesRound (asking R.may_answer R.may_refuse retriever.now (layer_of layer)) limit (map want_of wants.now) gathered.old e) }
+    ensures ok { OnOk result (Adds (asking R.may_answer R.may_refuse retriever.now (layer_of layer)) limit
+        (map want_of wants.now) gathered.old gathered.new) }
+    ensures refused { IfErr result (λ e. IsMemory e ⊎ RefusesRound
+        (asking R.may_answer R.may_refuse retriever.now (layer_of layer)) limit
+        (map want_of wants.now) gathered.old e) }
 {
     if wants.len() as u64 > limit.saturating_sub(gathered.uris.len() as u64) {
         return Err(Error::RetrievalLimit { limit });

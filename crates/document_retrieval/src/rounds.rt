@@ -42,11 +42,17 @@ pub fn retrieve_wanted<'a, R: Retrieve>(
     retriever: &R,
     limit: u64,
 ) -> Result<Retrieved<'a>, Error>
-    ensures ok { IfOk result (λ r. IsGathered (asking R.may_answer R.may_refuse retriever.now (layer_of layer)) limit (map document_of documents.entry.items) (documents_in r) (uris_in r)) }
-    ensures alone { IfOk result (λ r. AnswersNothing (asking R.may_answer R.may_refuse retriever.now (layer_of layer)) → (documents_in r ≡ map document_of documents.entry.items) × (uris_in r ≡ [])) }
+    ensures ok { IfOk result (λ r. IsGathered
+        (asking R.may_answer R.may_refuse retriever.now (layer_of layer)) limit
+        (map document_of documents.entry.items) (documents_in r) (uris_in r)) }
+    ensures alone { IfOk result (λ r. AnswersNothing
+        (asking R.may_answer R.may_refuse retriever.now (layer_of layer))
+        → (documents_in r ≡ map document_of documents.entry.items) × (uris_in r ≡ [])) }
     ensures once { IfOk result (λ r. none_twice (uris_in r) ≡ true) }
     ensures complete { IfOk result (λ r. wants (map document_of r.documents.items) ≡ []) }
-    ensures refused { IfErr result (λ e. IsMemory e ⊎ Stops (asking R.may_answer R.may_refuse retriever.now (layer_of layer)) limit (map document_of documents.entry.items) e) }
+    ensures refused { IfErr result (λ e. IsMemory e ⊎ Stops
+        (asking R.may_answer R.may_refuse retriever.now (layer_of layer)) limit
+        (map document_of documents.entry.items) e) }
 {
     let mut gathered = Retrieved {
         documents,

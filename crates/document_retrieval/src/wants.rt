@@ -78,7 +78,10 @@ fn push_wanted(
     wants: &mut Vec<Want>,
     standing: &Standing<'_>,
 ) -> Result<(), AllocError>
-    ensures { OnOk result ((rest : List rounds.Want) → (map want_of wants.new.items ++ rounds.further (is_known_by index.now names.new) rest) ≡ (map want_of wants.old.items ++ rounds.further (is_known_by index.now names.old) (rounds.wanted_at (standing_of standing.now) ++ rest))) }
+    ensures { OnOk result ((rest : List rounds.Want)
+        → (map want_of wants.new.items ++ rounds.further (is_known_by index.now names.new) rest)
+        ≡ (map want_of wants.old.items ++ rounds.further (is_known_by index.now names.old)
+        (rounds.wanted_at (standing_of standing.now) ++ rest))) }
 {
     if let Some(want) = wanted_at(alloc, standing)? {
         if !is_known(index, names, want.uri.as_str()) {
@@ -91,7 +94,8 @@ fn push_wanted(
 
 // The URIs of the documents.
 fn names_of(alloc: Global, documents: &[Document<'_>]) -> Result<Names, AllocError>
-    ensures { IfOk result (λ names. (q : List ℕ) → has_name names q ≡ list_any (λ d. bytes_eq d.uri q) (map document_of documents.now)) }
+    ensures { IfOk result (λ names. (q : List ℕ)
+        → has_name names q ≡ list_any (λ d. bytes_eq d.uri q) (map document_of documents.now)) }
 {
     let mut names = Names::new(alloc);
     for document in documents {

@@ -26,7 +26,8 @@ use std::alloc::{AllocError, Global};
 
 // What a question asks of; a name is never asked of here.
 fn value_of<'i>(asked: Asked<'i>, value: &'i Value) -> &'i Value
-    ensures { called_after None (step_of asked.entry) ≡ None → view result.now ≡ value_after (view value.now) (step_of asked.entry) }
+    ensures { called_after None (step_of asked.entry) ≡ None
+        → view result.now ≡ value_after (view value.now) (step_of asked.entry) }
 {
     match asked {
         Asked::Value => value,

@@ -54,7 +54,8 @@ fn is_spelled(
     evaluation: Option<&str>,
 ) -> Result<bool, Stop>
     requires shallow { depth (target_in root.now).contents ≤ deepest (documents_in root.now.resolver) }
-    ensures decides { IfOk result (DecidesAt root.now matches.now (view value.now) (text_left instance.entry) (text_left evaluation.entry)) }
+    ensures decides { IfOk result (DecidesAt root.now matches.now (view value.now) (text_left instance.entry)
+        (text_left evaluation.entry)) }
     ensures stops { IfErr result (Stops (ComesBackFrom root.now matches.now (view value.now))) }
 {
     let site = at_root(root, matches)?;
@@ -77,7 +78,8 @@ fn answer_at(
     evaluation: Option<&str>,
 ) -> Result<CheckAnswer, AllocError>
     requires shallow { depth (target_in root.now).contents ≤ deepest (documents_in root.now.resolver) }
-    ensures { IfOk result (SaysAt root.now read.now (view value.now) (text_left instance.entry) (text_left evaluation.entry)) }
+    ensures { IfOk result (SaysAt root.now read.now (view value.now) (text_left instance.entry)
+        (text_left evaluation.entry)) }
 {
     match is_spelled(alloc, root, &read.matches, value, instance, evaluation) {
         Ok(true) => Ok(CheckAnswer::Accepted),
@@ -132,7 +134,8 @@ pub fn check_by(
     value: &Value,
     path: FaultPath<'_>,
 ) -> Result<CheckAnswer, AllocError>
-    ensures { IfOk result (AnswersBy (option_copied matches.entry) (root_on registry.now root.now) (view value.now) path.entry) }
+    ensures { IfOk result (AnswersBy (option_copied matches.entry) (root_on registry.now root.now)
+        (view value.now) path.entry) }
 {
     let Some(read) = matches else {
         return Ok(CheckAnswer::Refused);

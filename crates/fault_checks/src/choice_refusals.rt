@@ -58,8 +58,10 @@ pub(crate) fn condition_refuses<'r>(
     name: &str,
 ) -> Result<bool, Stop>
     requires lies { ChoosesIn trial.now.site.now condition then_schema else_schema }
-    ensures refuses { IfOk result (λ b. KeywordRefuses trial.now (code.If condition.entry then_schema.entry else_schema.entry) name.now b) }
-    ensures stops { IfErr result (Stops (KeywordComesBack trial.now (code.If condition.entry then_schema.entry else_schema.entry))) }
+    ensures refuses { IfOk result (λ b. KeywordRefuses trial.now
+        (code.If condition.entry then_schema.entry else_schema.entry) name.now b) }
+    ensures stops { IfErr result (Stops (KeywordComesBack trial.now
+        (code.If condition.entry then_schema.entry else_schema.entry))) }
 {
     let refused = is_inner_refused(trial, "if", condition)?;
     let (chosen, part) = chosen(!refused, then_schema, else_schema);

@@ -30,9 +30,11 @@ pub fn through_condition<'r, 'i, 'p>(
 ) -> Result<Step<'r, 'i, 'p>, Stop>
     requires lies { ChoosesIn walk.site condition then_schema else_schema }
     requires more { IsMore walk.instance after }
-    ensures passes { IfOk result (PassesBy walk.entry (code.If condition.entry then_schema.entry else_schema.entry) name.now after.entry) }
+    ensures passes { IfOk result (PassesBy walk.entry
+        (code.If condition.entry then_schema.entry else_schema.entry) name.now after.entry) }
     ensures shorter { IfOk result (IsNotLonger after.entry) }
-    ensures stops { IfErr result (Stops (StepComesBack walk.entry (code.If condition.entry then_schema.entry else_schema.entry))) }
+    ensures stops { IfErr result (Stops (StepComesBack walk.entry
+        (code.If condition.entry then_schema.entry else_schema.entry))) }
 {
     let trial = Trial {
         alloc,

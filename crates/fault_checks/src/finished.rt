@@ -63,7 +63,8 @@ fn is_finished_in_members(
     pattern: &str,
     members: &Map<String, Value>,
 ) -> Result<bool, AllocError>
-    ensures { IfOk result (λ b. b ≡ leaves_none matches.now pattern.now (texts_of_members (members_view members.now.entries))) }
+    ensures { IfOk result (λ b. b ≡ leaves_none matches.now pattern.now
+        (texts_of_members (members_view members.now.entries))) }
 {
     for (name, member) in members.iter() {
         if !is_finished(alloc, matches, pattern, name.as_str())? {

@@ -114,7 +114,8 @@ pub fn matches_by<M: PatternMatcher>(
     patterns: Option<&PatternTable<M>>,
     value: &Value,
 ) -> Result<Option<ReadMatches>, AllocError>
-    ensures { IfOk result (λ m. (p : Patterns) (r : Root) → AreReached M.finds p r (option_copied patterns.entry) → AreReadIn p r (view value.now) m) }
+    ensures { IfOk result (λ m. (p : Patterns) (r : Root) → AreReached M.finds p r (option_copied patterns.entry)
+        → AreReadIn p r (view value.now) m) }
 {
     match patterns {
         Some(table) => {

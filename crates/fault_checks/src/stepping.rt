@@ -35,7 +35,8 @@ fn through_reference<'r, 'i, 'p>(
 ) -> Result<Step<'r, 'i, 'p>, AllocError>
     requires found { FindsTarget walk.site keyword text.now target }
     requires more { IsMore walk.instance after }
-    ensures passes { IfOk result (PassesThrough walk.entry (reference_row keyword text.now (target_in target.entry)) after.entry) }
+    ensures passes { IfOk result (PassesThrough walk.entry
+        (reference_row keyword text.now (target_in target.entry)) after.entry) }
     ensures shorter { IfOk result (IsNotLonger after.entry) }
 {
     let site = at_target(&target, walk.site.matches)?;

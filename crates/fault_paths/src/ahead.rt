@@ -22,7 +22,9 @@ fn behind_question<'r, 'i, 'p>(
     instance: Option<&'p str>,
     after: Option<&'p str>,
 ) -> Result<Option<Ahead<'r, 'i, 'p>>, AllocError>
-    ensures leads { IfOk result (λ o. MatchOption o (LeadsNowhere question.entry (text_left instance.entry) (text_left after.entry)) (LeadsTo question.entry (text_left instance.entry) (text_left after.entry))) }
+    ensures leads { IfOk result (λ o. MatchOption o
+        (LeadsNowhere question.entry (text_left instance.entry) (text_left after.entry))
+        (LeadsTo question.entry (text_left instance.entry) (text_left after.entry))) }
     ensures shorter { IfOk result (λ o. IfSome o (IsNoLonger (text_left after.entry))) }
 {
     let Some(instance) = behind_step(alloc, instance, question.asked)? else {
@@ -50,7 +52,9 @@ pub fn question_ahead<'r, 'i, 'p>(
     instance: Option<&'p str>,
     after: Option<&'p str>,
 ) -> Result<Option<Ahead<'r, 'i, 'p>>, AllocError>
-    ensures ahead { IfOk result (λ o. MatchOption o (NoneAhead asked.now (text_left instance.entry) (text_left after.entry)) (IsAhead asked.now (text_left instance.entry) (text_left after.entry))) }
+    ensures ahead { IfOk result (λ o. MatchOption o
+        (NoneAhead asked.now (text_left instance.entry) (text_left after.entry))
+        (IsAhead asked.now (text_left instance.entry) (text_left after.entry))) }
     ensures shorter { IfOk result (λ o. IfSome o (IsNoLonger (text_left after.entry))) }
 {
     for question in asked {

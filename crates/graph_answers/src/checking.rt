@@ -1,7 +1,8 @@
 //! Verdicts and faults by a compiled graph.
 ghost use Rattle.std.specs.Prelude.{◌≡◌, ◌<◌, length, IfOk, OnOk};
 ghost use Rattle.serde_json.specs.View.{view};
-ghost use Rattle.graph_answers.specs.Answers.{IsAnswer, HearsAnswer, Agree, IsVerdict, IsCertified, AreFaults, HaveCertificates};
+ghost use Rattle.graph_answers.specs.Answers.{IsAnswer, HearsAnswer, Agree, IsVerdict, IsCertified};
+ghost use Rattle.graph_answers.specs.Answers.{AreFaults, HaveCertificates};
 ghost use Rattle.graph_answers.specs.Linking.{KnowsTable};
 ghost use Rattle.graph_answers.specs.Tables.{matches_of};
 

@@ -42,8 +42,10 @@ fn is_open<M: PatternMatcher>(
     assumed: &[AssumedMatch],
     stopped: &UnfinishedMatch,
 ) -> bool
-    ensures found { result ≡ true → table_finds M.finds table.now (string_bytes stopped.now.pattern) (string_bytes stopped.now.text) ≡ None }
-    ensures assumed { result ≡ true → assumed_in assumed.now (string_bytes stopped.now.pattern) (string_bytes stopped.now.text) ≡ None }
+    ensures found { result ≡ true → table_finds M.finds table.now (string_bytes stopped.now.pattern)
+        (string_bytes stopped.now.text) ≡ None }
+    ensures assumed { result ≡ true → assumed_in assumed.now (string_bytes stopped.now.pattern)
+        (string_bytes stopped.now.text) ≡ None }
 {
     let text = stopped.text.as_str();
     let Some(compiled) = table.get(stopped.pattern.as_str()) else {
@@ -66,7 +68,8 @@ fn run_once<K: Validate, M: PatternMatcher>(
     requires known { KnowsTable K.knows graph.now.nodes.items table.now }
     requires forms { AreForms M.finds table.now }
     requires there { start < length graph.now.nodes.items }
-    ensures { IfOk result (IsRun K.shape graph.now.nodes.items start (view value.now) (matches_with M.finds table.now assumed.now)) }
+    ensures { IfOk result (IsRun K.shape graph.now.nodes.items start (view value.now)
+        (matches_with M.finds table.now assumed.now)) }
 {
     let mut matching = Assumed::new(alloc, table, assumed);
     let mut questions = Vec::new(alloc);
@@ -82,7 +85,8 @@ fn run_once<K: Validate, M: PatternMatcher>(
 // Assumes yes of the last match of which no is assumed, and nothing of those behind it; says whether there is one.
 fn turn_last(assumed: &mut Vec<AssumedMatch>) -> Result<bool, AllocError>
     ensures turned { IfOk result (λ turned. turned ≡ true → IsTurned assumed.old.items assumed.new.items) }
-    ensures left { IfOk result (λ turned. (rest : Answers) → is_behind assumed.old.items rest ≡ (turned && is_left assumed.new.items rest)) }
+    ensures left { IfOk result (λ turned. (rest : Answers)
+        → is_behind assumed.old.items rest ≡ (turned && is_left assumed.new.items rest)) }
 {
     while let Some(last) = assumed.pop() {
         if !last.is_match {
@@ -109,7 +113,8 @@ fn assume_each<K: Validate, M: PatternMatcher>(
     requires known { KnowsTable K.knows graph.now.nodes.items table.now }
     requires forms { AreForms M.finds table.now }
     requires there { start < length graph.now.nodes.items }
-    ensures { IfOk result (IsDecision K.shape graph.now.nodes.items start (view value.now) (matches_with M.finds table.now [])) }
+    ensures { IfOk result (IsDecision K.shape graph.now.nodes.items start (view value.now)
+        (matches_with M.finds table.now [])) }
 {
     let mut assumed = Vec::new(alloc);
     for made in 0..RUNS {
@@ -145,7 +150,8 @@ pub fn decide<K: Validate, M: PatternMatcher>(
     requires known { KnowsTable K.knows graph.now.nodes.items table.now }
     requires forms { AreForms M.finds table.now }
     requires there { start < length graph.now.nodes.items }
-    ensures cut { IfOk result (IsDecision K.shape graph.now.nodes.items start (view value.now) (matches_with M.finds table.now [])) }
+    ensures cut { IfOk result (IsDecision K.shape graph.now.nodes.items start (view value.now)
+        (matches_with M.finds table.now [])) }
     ensures verdict { IfOk result (IsVerdictOf K.shape M.finds graph.now.nodes.items table.now start (view value.now)) }
 {
     assume_each(alloc, graph, start, table, value)

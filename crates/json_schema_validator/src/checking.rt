@@ -37,8 +37,13 @@ pub fn check_error<P: PatternMaker>(
     error: &ValidationError<'_>,
 ) -> Result<CheckAnswer, AllocError>
     requires whole { only_whole (view value.now) ≡ true }
-    ensures checked { IfOk result (λ a. IsSound (P.patterns maker.now) (root_on registry.now root.now) → IsFaultChecked (P.patterns maker.now) (root_on registry.now root.now) (view value.now) (fault_of error.now) a) }
-    ensures accepted { IfOk result (λ a. IsSound (P.patterns maker.now) (root_on registry.now root.now) → HasCertificate (P.patterns maker.now) (root_on registry.now root.now) (view value.now) (fault_of error.now) → WhereStraight (P.patterns maker.now) (root_on registry.now root.now) (view value.now) (a ≡ CheckAnswer.Accepted)) }
+    ensures checked { IfOk result (λ a. IsSound (P.patterns maker.now) (root_on registry.now root.now)
+        → IsFaultChecked (P.patterns maker.now) (root_on registry.now root.now) (view value.now)
+        (fault_of error.now) a) }
+    ensures accepted { IfOk result (λ a. IsSound (P.patterns maker.now) (root_on registry.now root.now)
+        → HasCertificate (P.patterns maker.now) (root_on registry.now root.now) (view value.now)
+        (fault_of error.now) → WhereStraight (P.patterns maker.now) (root_on registry.now root.now)
+        (view value.now) (a ≡ CheckAnswer.Accepted)) }
 {
     let matches = read_matches(alloc, registry, root, maker, value)?;
     check_error_by(alloc, registry, root, matches.as_ref(), value, error)
@@ -53,7 +58,10 @@ fn check_error_by(
     value: &Value,
     error: &ValidationError<'_>,
 ) -> Result<CheckAnswer, AllocError>
-    ensures { IfOk result (λ a. (p : Patterns) → AreReadIn p (root_on registry.now root.now) (view value.now) (option_copied matches.entry) → IsSound p (root_on registry.now root.now) → IsFaultChecked p (root_on registry.now root.now) (view value.now) (fault_of error.now) a) }
+    ensures { IfOk result (λ a. (p : Patterns)
+        → AreReadIn p (root_on registry.now root.now) (view value.now) (option_copied matches.entry)
+        → IsSound p (root_on registry.now root.now)
+        → IsFaultChecked p (root_on registry.now root.now) (view value.now) (fault_of error.now) a) }
 {
     let instance = error.instance_path().to_pointer(alloc)?;
     let evaluation = error.evaluation_path().to_pointer(alloc)?;
@@ -73,7 +81,13 @@ fn check_each(
     value: &Value,
     errors: ErrorIterator<'_>,
 ) -> Result<Vec<CheckAnswer>, AllocError>
-    ensures { IfOk result (λ v. (p : Patterns) → AreReadIn p (root_on registry.now root.now) (view value.now) (option_copied matches.entry) → IsSound p (root_on registry.now root.now) → HaveCertificates p (root_on registry.now root.now) (view value.now) (faults_of (errors_left errors.entry)) → WhereStraight p (root_on registry.now root.now) (view value.now) (v.items ≡ each_accepted (faults_of (errors_left errors.entry)))) }
+    ensures { IfOk result (λ v. (p : Patterns)
+        → AreReadIn p (root_on registry.now root.now) (view value.now) (option_copied matches.entry)
+        → IsSound p (root_on registry.now root.now)
+        → HaveCertificates p (root_on registry.now root.now) (view value.now) (faults_of
+        (errors_left errors.entry))
+        → WhereStraight p (root_on registry.now root.now) (view value.now) (v.items ≡ each_accepted (faults_of
+        (errors_left errors.entry)))) }
 {
     let mut answers = Vec::new(alloc);
     for error in errors {
@@ -100,7 +114,9 @@ pub fn check_errors<M: PatternMatcher, P: PatternMaker>(
     value: &Value,
 ) -> Result<Vec<CheckAnswer>, AllocError>
     requires whole { only_whole (view value.now) ≡ true }
-    ensures accepted { IfOk result (λ v. IsMadeBy (P.patterns maker.now) (root_on registry.now root.now) validator.now → AreAccepted (P.patterns maker.now) (root_on registry.now root.now) (view value.now) v.items) }
+    ensures accepted { IfOk result (λ v. IsMadeBy (P.patterns maker.now)
+        (root_on registry.now root.now) validator.now
+        → AreAccepted (P.patterns maker.now) (root_on registry.now root.now) (view value.now) v.items) }
 {
     let errors = validator.iter_errors(value)?;
     let matches = read_matches(alloc, registry, root, maker, value)?;
@@ -124,8 +140,11 @@ pub fn check_first<M: PatternMatcher, P: PatternMaker>(
     value: &Value,
 ) -> Result<Option<CheckAnswer>, AllocError>
     requires whole { only_whole (view value.now) ≡ true }
-    ensures verdict { IfOk result (λ o. (p : Patterns) (r : Root) → IsMadeBy p r validator.now → IsAnswer verdicts p r (view value.now) (is_none o)) }
-    ensures accepted { IfOk result (λ o. IfSome o (λ a. IsMadeBy (P.patterns maker.now) (root_on registry.now root.now) validator.now → WhereStraight (P.patterns maker.now) (root_on registry.now root.now) (view value.now) (a ≡ CheckAnswer.Accepted))) }
+    ensures verdict { IfOk result (λ o. IsVerdictOf validator.now (view value.now) (is_none o)) }
+    ensures accepted { IfOk result (λ o. IfSome o (λ a. IsMadeBy (P.patterns maker.now)
+        (root_on registry.now root.now) validator.now
+        → WhereStraight (P.patterns maker.now) (root_on registry.now root.now) (view value.now) (a
+        ≡ CheckAnswer.Accepted))) }
 {
     match validator.validate(value)? {
         Ok(()) => Ok(None),
@@ -154,9 +173,14 @@ pub fn check_path<M: PatternMatcher, P: PatternMaker>(
     path: FaultPath<'_>,
 ) -> Result<(CheckAnswer, bool), AllocError>
     requires whole { only_whole (view value.now) ≡ true }
-    ensures checked { IfOk result (λ both. IsMadeBy (P.patterns maker.now) (root_on registry.now root.now) validator.now → IsChecked (P.patterns maker.now) (root_on registry.now root.now) (view value.now) path.entry.instance_path.now path.entry.evaluation_path.now both.0) }
-    ensures verdict { IfOk result (λ both. (p : Patterns) (r : Root) → IsMadeBy p r validator.now → IsAnswer verdicts p r (view value.now) both.1) }
-    ensures refused { IfOk result (λ both. IsMadeBy (P.patterns maker.now) (root_on registry.now root.now) validator.now → both.0 ≡ CheckAnswer.Accepted → WhereStraight (P.patterns maker.now) (root_on registry.now root.now) (view value.now) (both.1 ≡ false)) }
+    ensures checked { IfOk result (λ both. IsMadeBy (P.patterns maker.now)
+        (root_on registry.now root.now) validator.now
+        → IsChecked (P.patterns maker.now) (root_on registry.now root.now)
+        (view value.now) path.entry.instance_path.now path.entry.evaluation_path.now both.0) }
+    ensures verdict { IfOk result (λ both. IsVerdictOf validator.now (view value.now) both.1) }
+    ensures refused { IfOk result (λ both. IsMadeBy (P.patterns maker.now)
+        (root_on registry.now root.now) validator.now → both.0 ≡ CheckAnswer.Accepted
+        → WhereStraight (P.patterns maker.now) (root_on registry.now root.now) (view value.now) (both.1 ≡ false)) }
 {
     let answer = check_fault(alloc, registry, root, maker, value, path)?;
     let verdict = validator.is_valid(value)?;

@@ -22,7 +22,8 @@ fn text_by<M: PatternMatcher>(
     instance: &Value,
 ) -> Result<String, AllocError>
     requires whole { only_whole (view instance.now) ≡ true }
-    ensures { IfOk result (λ text. (p : Patterns) (r : Root) → IsMadeBy p r validator.now → IsTextOf p r (view instance.now) (string_bytes text)) }
+    ensures { IfOk result (λ text. (p : Patterns) (r : Root) → IsMadeBy p r validator.now
+        → IsTextOf p r (view instance.now) (string_bytes text)) }
 {
     let errors = validator.iter_errors(instance)?;
     let mut text = String::new(alloc);
@@ -40,7 +41,8 @@ pub(crate) fn answer<P: PatternMaker + Drop, R: Retrieve + Drop>(
     instance: &Value,
 ) -> Result<Result<String, BuildError>, AllocError>
     requires whole { only_whole (view instance.now) ≡ true }
-    ensures { IfOk result (IsAnswered (P.patterns options.now.maker) R.may_answer R.may_refuse options.now (documents_given documents.now) root.now (view instance.now)) }
+    ensures { IfOk result (IsAnswered (P.patterns options.now.maker) R.may_answer R.may_refuse options.now
+        (documents_given documents.now) root.now (view instance.now)) }
 {
     match options.build(documents, root) {
         Ok(validator) => Ok(Ok(text_by(alloc, &validator, instance)?)),

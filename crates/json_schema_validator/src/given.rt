@@ -1,6 +1,7 @@
 //! The documents of a form.
 
-ghost use Rattle.std.specs.Prelude.{◌≡◌, [], ◌∷◌, ◌⊎◌, ℕ, List, Option, Some, None, IfOk, IfErr, OnOk, ◌&&◌, if◌then◌else◌, bytes_eq};
+ghost use Rattle.std.specs.Prelude.{◌≡◌, [], ◌∷◌, ◌⊎◌, ℕ, List, Option, Some, None, IfOk, IfErr, OnOk, ◌&&◌};
+ghost use Rattle.std.specs.Prelude.{if◌then◌else◌, bytes_eq};
 ghost use Rattle.serde_json.specs.View.{view};
 ghost use Rattle.uri_grammar.specs.Parts.{split};
 ghost use Rattle.uri_grammar.specs.Grammar.{is_reference};
@@ -19,7 +20,8 @@ use uri_references::error::Error;
 
 // Adds a copy of a document.
 fn add(documents: &mut Documents, uri: &str, value: &Value) -> Result<(), BuildError>
-    ensures ok { OnOk result (documents_given documents.new ≡ with_given (documents_given documents.old) (given_under uri.now (view value.now))) }
+    ensures ok { OnOk result (documents_given documents.new ≡ with_given (documents_given documents.old)
+        (given_under uri.now (view value.now))) }
     ensures refused { IfErr result (RefusesDocument uri.now (view value.now)) }
 {
     match documents.add(uri, value.clone()?) {
@@ -47,8 +49,10 @@ pub(crate) fn two_documents(
     other_uri: &str,
     other: &Value,
 ) -> Result<Documents, BuildError>
-    ensures ok { IfOk result (λ d. documents_given d ≡ with_given (given_under uri.now (view value.now) ∷ []) (given_under other_uri.now (view other.now))) }
-    ensures refused { IfErr result (λ e. RefusesDocument uri.now (view value.now) e ⊎ RefusesDocument other_uri.now (view other.now) e) }
+    ensures ok { IfOk result (λ d. documents_given d ≡ with_given (given_under uri.now (view value.now) ∷ [])
+        (given_under other_uri.now (view other.now))) }
+    ensures refused { IfErr result (λ e. RefusesDocument uri.now
+        (view value.now) e ⊎ RefusesDocument other_uri.now (view other.now) e) }
 {
     let mut documents = one_document(alloc, uri, value)?;
     add(&mut documents, other_uri, other)?;

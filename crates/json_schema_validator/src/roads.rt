@@ -4,7 +4,9 @@ ghost use Rattle.std.specs.Prelude.{◌≡◌, true, IfOk};
 ghost use Rattle.serde_json.specs.View.{view};
 ghost use Rattle.schema_registries.specs.Whole.{only_whole};
 ghost use Rattle.json_schema_validator.specs.Laws.{SayOne};
-ghost use Rattle.json_schema_validator.specs.Roads.{RefusesBothGiven, RefusesRootGiven, IsForm, IsAnsweredFrom, IsInside, IsAddedBy, IsRetrievedBy, IsInsideBy, both_given, root_given};
+ghost use Rattle.json_schema_validator.specs.Roads.{RefusesBothGiven, RefusesRootGiven, IsForm};
+ghost use Rattle.json_schema_validator.specs.Roads.{IsAnsweredFrom, IsInside, IsAddedBy, IsRetrievedBy};
+ghost use Rattle.json_schema_validator.specs.Roads.{IsInsideBy, both_given, root_given};
 
 use crate::forms::answer;
 use crate::given::{one_document, only, two_documents};
@@ -51,7 +53,9 @@ fn answer_from<P: PatternMaker + Drop, R: Retrieve + Drop>(
     instance: &Value,
 ) -> Result<Result<String, BuildError>, AllocError>
     requires whole { only_whole (view instance.now) ≡ true }
-    ensures { IfOk result (IsAnsweredFrom (P.patterns options.now.maker) R.may_answer R.may_refuse options.now documents root.now (view instance.now)) }
+    ensures { IfOk result (IsAnsweredFrom
+        (P.patterns options.now.maker) R.may_answer R.may_refuse options.now documents root.now
+        (view instance.now)) }
 {
     match documents {
         Ok(documents) => answer(alloc, options, &documents, root, instance),
@@ -68,7 +72,8 @@ fn added<P: PatternMaker + Drop, R: Retrieve + Drop>(
     instance: &Value,
 ) -> Result<Result<String, BuildError>, AllocError>
     requires whole { only_whole (view instance.now) ≡ true }
-    ensures { IfOk result (IsForm (P.patterns options.now.maker) R.may_answer R.may_refuse options.now (both_given moving.now) (RefusesBothGiven moving.now) moving.now.root_uri.now (view instance.now)) }
+    ensures { IfOk result (IsForm (P.patterns options.now.maker) R.may_answer R.may_refuse options.now
+        (both_given moving.now) (RefusesBothGiven moving.now) moving.now.root_uri.now (view instance.now)) }
 {
     let documents = two_documents(
         alloc,
@@ -88,7 +93,8 @@ fn alone<P: PatternMaker + Drop, R: Retrieve + Drop>(
     instance: &Value,
 ) -> Result<Result<String, BuildError>, AllocError>
     requires whole { only_whole (view instance.now) ≡ true }
-    ensures { IfOk result (IsForm (P.patterns options.now.maker) R.may_answer R.may_refuse options.now (root_given moving.now) (RefusesRootGiven moving.now) moving.now.root_uri.now (view instance.now)) }
+    ensures { IfOk result (IsForm (P.patterns options.now.maker) R.may_answer R.may_refuse options.now
+        (root_given moving.now) (RefusesRootGiven moving.now) moving.now.root_uri.now (view instance.now)) }
 {
     let documents = one_document(alloc, moving.root_uri, moving.root);
     answer_from(alloc, options, documents, moving.root_uri, instance)
@@ -102,7 +108,8 @@ fn inside<P: PatternMaker + Drop, R: Retrieve + Drop>(
     instance: &Value,
 ) -> Result<Result<String, BuildError>, AllocError>
     requires whole { only_whole (view instance.now) ≡ true }
-    ensures { IfOk result (IsInside (P.patterns options.now.maker) R.may_answer R.may_refuse options.now moving.now (view instance.now)) }
+    ensures { IfOk result (IsInside
+        (P.patterns options.now.maker) R.may_answer R.may_refuse options.now moving.now (view instance.now)) }
 {
     match join(alloc, moving.root, moving.moved, moving.fresh)? {
         Joined::Whole(whole) => {
@@ -132,9 +139,12 @@ pub fn same_on_three_roads<P: PatternMaker + Drop>(
     instance: &Value,
 ) -> Result<Roads, AllocError>
     requires whole { only_whole (view instance.now) ≡ true }
-    ensures added { IfOk result (λ r. IsAddedBy (P.patterns maker) ⟦<DefaultRetriever as Retrieve>⟧.may_answer ⟦<DefaultRetriever as Retrieve>⟧.may_refuse maker moving.now (view instance.now) r.added) }
-    ensures retrieved { IfOk result (λ r. IsRetrievedBy (P.patterns maker) ⟦<MapRetriever as Retrieve>⟧.may_answer ⟦<MapRetriever as Retrieve>⟧.may_refuse maker moving.now (view instance.now) r.retrieved) }
-    ensures inside { IfOk result (λ r. IsInsideBy (P.patterns maker) ⟦<DefaultRetriever as Retrieve>⟧.may_answer ⟦<DefaultRetriever as Retrieve>⟧.may_refuse maker moving.now (view instance.now) r.inside) }
+    ensures added { IfOk result (λ r. IsAddedBy
+        (P.patterns maker) ⟦<DefaultRetriever as Retrieve>⟧.may_answer ⟦<DefaultRetriever as Retrieve>⟧.may_refuse maker moving.now (view instance.now) r.added) }
+    ensures retrieved { IfOk result (λ r. IsRetrievedBy
+        (P.patterns maker) ⟦<MapRetriever as Retrieve>⟧.may_answer ⟦<MapRetriever as Retrieve>⟧.may_refuse maker moving.now (view instance.now) r.retrieved) }
+    ensures inside { IfOk result (λ r. IsInsideBy
+        (P.patterns maker) ⟦<DefaultRetriever as Retrieve>⟧.may_answer ⟦<DefaultRetriever as Retrieve>⟧.may_refuse maker moving.now (view instance.now) r.inside) }
     ensures same { IfOk result (SayOne (P.patterns maker) moving.now (view instance.now)) }
 {
     let options = Validator::options(alloc)?.with_pattern_maker(maker);

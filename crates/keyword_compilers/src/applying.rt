@@ -78,7 +78,8 @@ pub(crate) fn applied<M: PatternMatcher>(
     nodes: &Nodes<'_>,
     table: &PatternTable<M>,
 ) -> Result<Keyword, AllocError>
-    ensures shape { IfOk result (λ k. shape_of k ≡ shape_by (name_of read.now) (combining_of read.now) (numbered_form nodes.now (asks_of read.now))) }
+    ensures shape { IfOk result (λ k. shape_of k
+        ≡ shape_by (name_of read.now) (combining_of read.now) (numbered_form nodes.now (asks_of read.now))) }
     ensures patterns { IfOk result (λ k. map seen (patterns_of k)
         ≡ map (numbered (texts_of_table table.now)) (patterns_asked (asks_of read.now))) }
 {

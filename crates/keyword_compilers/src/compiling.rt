@@ -12,7 +12,8 @@ ghost use Rattle.schema_sites.specs.Read as read;
 ghost use Rattle.schema_sites.specs.References.{kind_of};
 ghost use Rattle.compiled_keywords.specs.Shapes.{shape_of, reference_of, Knows};
 ghost use Rattle.keyword_compilers.specs.Linking.{AreNodesOf, IsGiven};
-ghost use Rattle.keyword_compilers.specs.Patterns.{numbered, seen, patterns_needed, patterns_of, patterns_in, table_texts, AreEntries, AreHeld};
+ghost use Rattle.keyword_compilers.specs.Patterns.{numbered, seen, patterns_needed, patterns_of, patterns_in};
+ghost use Rattle.keyword_compilers.specs.Patterns.{table_texts, AreEntries, AreHeld};
 ghost use Rattle.keyword_compilers.specs.Shapes.{shapes_in, numbered_shapes};
 
 use crate::applying::{applied, conditional};
@@ -77,13 +78,15 @@ pub fn compiled<'r, M: PatternMatcher>(
     table: &PatternTable<M>,
 ) -> Result<Option<Keyword>, AllocError>
     ensures made { IfOk result (λ k. shapes_in k ≡ numbered_shapes nodes.now keyword.now) }
-    ensures shapes { IfOk result (λ k. (docs : Documents) (s : Site) (pairs : List (Site × ℕ)) → AreNodesOf pairs docs s keyword.now nodes.now
+    ensures shapes { IfOk result (λ k. (docs : Documents) (s : Site) (pairs : List (Site × ℕ))
+        → AreNodesOf pairs docs s keyword.now nodes.now
         → AllZip (RelatedShape (Linked pairs)) (read.shapes_of docs s keyword.now) (shapes_in k)) }
     ensures entries { IfOk result (λ k. AreHeld (texts_of_table table.now) (patterns_needed keyword.now)
         → AreEntries (texts_of_table table.now) (patterns_in k)) }
     ensures knows { IfOk result (λ k. AreHeld (texts_of_table table.now) (patterns_needed keyword.now)
         → IfSome k (λ c. Knows c (table_texts (texts_of_table table.now)))) }
-    ensures nodes { IfOk result (λ k. (docs : Documents) (s : Site) → length (read.leads_of docs s keyword.now) ≡ length nodes.now.leads.now
+    ensures nodes { IfOk result (λ k. (docs : Documents) (s : Site)
+        → length (read.leads_of docs s keyword.now) ≡ length nodes.now.leads.now
         → IfSome k (λ c. (follows : Bool) (m : ℕ) → In m (leads_of follows (shape_of c)) → IsGiven nodes.now m)) }
 {
     made(alloc, keyword, nodes, table)

@@ -15,7 +15,8 @@ use serde_json::{Map, Value};
 use std::alloc::{AllocError, Global};
 
 fn push_text(value: &Value, into: &mut Vec<String>) -> Result<(), AllocError>
-    ensures { OnOk result (map string_bytes into.new.items ≡ map string_bytes into.old.items ++ listed (as_str (view value.now))) }
+    ensures { OnOk result (map string_bytes into.new.items ≡ map string_bytes into.old.items
+        ++ listed (as_str (view value.now))) }
 {
     if let Value::String(text) = value {
         into.push(text.clone()?)?;

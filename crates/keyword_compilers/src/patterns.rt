@@ -84,7 +84,8 @@ fn patterns_in<M: PatternMatcher>(
     schemas: Option<&Map<String, Value>>,
     table: &PatternTable<M>,
 ) -> Result<Vec<Pattern>, AllocError>
-    ensures { IfOk result (λ v. map seen v.items ≡ map (numbered (texts_of_table table.now)) (names_declared schemas.entry)) }
+    ensures { IfOk result (λ v. map seen v.items
+        ≡ map (numbered (texts_of_table table.now)) (names_declared schemas.entry)) }
 {
     match schemas {
         Some(schemas) => patterns_of(alloc, schemas, table),

@@ -13,8 +13,8 @@ ghost use Rattle.line_runs.specs.Runs.{IsLineTextBy};
 use crate::counts::{LineCounts, LineVerdict};
 use crate::form::LineForm;
 use crate::line_value;
-use regex_patterns::kept::Kept;
 use line_cuts::LineAnswers;
+use regex_patterns::kept::Kept;
 use schema_engine::matching::Matching;
 use schema_patterns::PatternMatcher;
 use schema_validators::Validator;
@@ -141,7 +141,9 @@ impl<M: PatternMatcher> LineTask<'_, M> {
     ) -> Result<LineVerdict, AllocError>
         requires meant { T.matches matching.old ≡ matches_of M.finds (table_in self.now.validator.now) }
         ensures matches { OnOk result (T.matches matching.new ≡ T.matches matching.old) }
-        ensures answered { OnOk result ((written : List ℕ) × IsLineToldBy self.now.form self.now.validator.now line.now written × (string_bytes text.new ≡ string_bytes text.old ++ written)) }
+        ensures answered { OnOk result ((written : List ℕ)
+            × IsLineToldBy self.now.form self.now.validator.now line.now written
+            × (string_bytes text.new ≡ string_bytes text.old ++ written)) }
     {
         let value = line_value(self.alloc, line)?;
         let verdict = self.answer_read(matching, line, &value, text)?;
@@ -160,7 +162,9 @@ impl<M: PatternMatcher> LineTask<'_, M> {
         requires whole { IfSome value.now (λ v. only_whole (view v) ≡ true) }
         requires meant { T.matches matching.old ≡ matches_of M.finds (table_in self.now.validator.now) }
         ensures matches { OnOk result (T.matches matching.new ≡ T.matches matching.old) }
-        ensures answered { OnOk result ((written : List ℕ) × IsToldBy self.now.form self.now.validator.now (option_map (λ v. view v) value.now) written × (string_bytes text.new ≡ string_bytes text.old ++ written)) }
+        ensures answered { OnOk result ((written : List ℕ)
+            × IsToldBy self.now.form self.now.validator.now (option_map (λ v. view v) value.now) written
+            × (string_bytes text.new ≡ string_bytes text.old ++ written)) }
     {
         match value {
             Some(value) => self.answer_value(matching, value, text),
@@ -178,7 +182,9 @@ impl<M: PatternMatcher> LineTask<'_, M> {
         requires whole { only_whole (view value.now) ≡ true }
         requires meant { T.matches matching.old ≡ matches_of M.finds (table_in self.now.validator.now) }
         ensures matches { OnOk result (T.matches matching.new ≡ T.matches matching.old) }
-        ensures answered { OnOk result ((written : List ℕ) × IsToldBy self.now.form self.now.validator.now (Some (view value.now)) written × (string_bytes text.new ≡ string_bytes text.old ++ written)) }
+        ensures answered { OnOk result ((written : List ℕ)
+            × IsToldBy self.now.form self.now.validator.now (Some (view value.now)) written
+            × (string_bytes text.new ≡ string_bytes text.old ++ written)) }
     {
         if self.validator.is_valid_by(matching, value)? {
             self.form.write_accepted(text)?;
@@ -192,7 +198,8 @@ impl<M: PatternMatcher> LineTask<'_, M> {
 
     // What is written for a line that has no value.
     fn answer_none(&self, line: &[u8], text: &mut String) -> Result<LineVerdict, AllocError>
-        ensures { OnOk result ((written : List ℕ) × IsToldBy self.now.form self.now.validator.now None written × (string_bytes text.new ≡ string_bytes text.old ++ written)) }
+        ensures { OnOk result ((written : List ℕ) × IsToldBy self.now.form self.now.validator.now None written
+            × (string_bytes text.new ≡ string_bytes text.old ++ written)) }
     {
         self.form.write_none(self.alloc, self.label, line, text)?;
         Ok(LineVerdict::Unread)

@@ -23,7 +23,8 @@ pub fn write_faults(
     errors: ErrorIterator<'_>,
     text: &mut String,
 ) -> Result<(), AllocError>
-    ensures ok { OnOk result (string_bytes text.new ≡ string_bytes text.old ++ faults_text (faults_of (errors_left errors.entry))) }
+    ensures ok { OnOk result (string_bytes text.new ≡ string_bytes text.old
+        ++ faults_text (faults_of (errors_left errors.entry))) }
     ensures unchanged { OnErr result (string_bytes text.new ≡ string_bytes text.old) }
 {
     let pairs = pairs_in_order(alloc, errors)?;

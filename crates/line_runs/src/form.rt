@@ -7,8 +7,9 @@ ghost use Rattle.line_runs.specs.Forms.{Tells, TellsNone, end_of, refuses_in};
 
 use crate::faults::write_faults;
 use crate::reading::reason_of;
-use error_texts::{is_accepted_line, write_accepted, write_refused, write_unread};
-use error_texts::{write_reason, write_sentences};
+use error_texts::{
+    is_accepted_line, write_accepted, write_reason, write_refused, write_sentences, write_unread,
+};
 use schema_reports::ErrorIterator;
 use std::alloc::{AllocError, Global};
 
@@ -26,7 +27,8 @@ pub enum LineForm {
 impl LineForm {
     // Appends what is written for a value that has no faults.
     pub(crate) fn write_accepted(self, text: &mut String) -> Result<(), AllocError>
-        ensures { OnOk result ((written : List ℕ) × Tells self none written × (string_bytes text.new ≡ string_bytes text.old ++ written)) }
+        ensures { OnOk result ((written : List ℕ) × Tells self none written
+            × (string_bytes text.new ≡ string_bytes text.old ++ written)) }
     {
         match self {
             LineForm::Pairs => text.push_str("[]"),
@@ -44,7 +46,8 @@ impl LineForm {
         text: &mut String,
     ) -> Result<(), AllocError>
         requires { is_none (faults_of (errors_left errors)) ≡ false }
-        ensures { OnOk result ((written : List ℕ) × Tells self (faults_of (errors_left errors.entry)) written × (string_bytes text.new ≡ string_bytes text.old ++ written)) }
+        ensures { OnOk result ((written : List ℕ) × Tells self (faults_of (errors_left errors.entry)) written
+            × (string_bytes text.new ≡ string_bytes text.old ++ written)) }
     {
         match self {
             LineForm::Pairs => write_faults(alloc, errors, text),
@@ -61,7 +64,8 @@ impl LineForm {
         line: &[u8],
         text: &mut String,
     ) -> Result<(), AllocError>
-        ensures { OnOk result ((written : List ℕ) × TellsNone self written × (string_bytes text.new ≡ string_bytes text.old ++ written)) }
+        ensures { OnOk result ((written : List ℕ) × TellsNone self written
+            × (string_bytes text.new ≡ string_bytes text.old ++ written)) }
     {
         match self {
             LineForm::Pairs => text.push_str("null"),

@@ -11,8 +11,8 @@ ghost use Rattle.line_runs.specs.Objects.{is_refused_object};
 use crate::answers::{FormedLines, KeptLines};
 use crate::counts::LineCounts;
 use crate::form::LineForm;
-use regex_patterns::kept::Kept;
 use line_cuts::{ByteSink, ByteSource, RunError, RunReport, answer_each, answer_lines};
+use regex_patterns::kept::Kept;
 use schema_validators::Validator;
 use std::alloc::Global;
 
@@ -37,12 +37,19 @@ pub fn run_in_form<S: ByteSource, K: ByteSink>(
     writer: &mut K,
     validator: &Validator,
 ) -> Result<FormedRun, RunError>
-    ensures nodes { IfOk result (λ run. RunsThroughBy (refuses_in form) (IsLineToldBy form validator.now) (S.remaining reader.old) (S.remaining reader.new) (K.contents writer.old) (K.contents writer.new) run.report) }
-    ensures ok { IfOk result (λ run. (p : Patterns) (r : Root) → IsMadeBy p r validator.now → RunsThroughBy (refuses_in form) (IsLineTold form p r) (S.remaining reader.old) (S.remaining reader.new) (K.contents writer.old) (K.contents writer.new) run.report) }
+    ensures nodes { IfOk result (λ run. RunsThroughBy (refuses_in form) (IsLineToldBy form validator.now)
+        (S.remaining reader.old) (S.remaining reader.new) (K.contents writer.old)
+        (K.contents writer.new) run.report) }
+    ensures ok { IfOk result (λ run. (p : Patterns) (r : Root) → IsMadeBy p r validator.now
+        → RunsThroughBy (refuses_in form) (IsLineTold form p r) (S.remaining reader.old) (S.remaining reader.new)
+        (K.contents writer.old) (K.contents writer.new) run.report) }
     ensures read_quiet { OnOk result (S.failures reader.new ≡ S.failures reader.old) }
     ensures write_quiet { OnOk result (K.failures writer.new ≡ K.failures writer.old) }
-    ensures stops { IfErr result (λ e. (p : Patterns) (r : Root) → IsMadeBy p r validator.now → Stops (IsLineTold form p r) e (S.remaining reader.old) (S.remaining reader.new) (K.contents writer.old) (K.contents writer.new)) }
-    ensures counts { IfErr result (λ e. Counts e (S.failures reader.old) (S.failures reader.new) (K.failures writer.old) (K.failures writer.new)) }
+    ensures stops { IfErr result (λ e. (p : Patterns) (r : Root) → IsMadeBy p r validator.now
+        → Stops (IsLineTold form p r) e (S.remaining reader.old) (S.remaining reader.new) (K.contents writer.old)
+        (K.contents writer.new)) }
+    ensures counts { IfErr result (λ e. Counts e (S.failures reader.old) (S.failures reader.new)
+        (K.failures writer.old) (K.failures writer.new)) }
 {
     let answers = FormedLines {
         alloc,
@@ -78,8 +85,11 @@ pub fn answer_texts<K: ByteSink>(
     writer: &mut K,
     validator: &Validator,
 ) -> Result<FormedRun, RunError>
-    ensures ok { IfOk result (λ run. (p : Patterns) (r : Root) → IsMadeBy p r validator.now → AnswersEach (refuses_in form) (IsLineTold form p r) (bytes_of texts.now) (K.contents writer.old) (K.contents writer.new) run.report) }
-    ensures breaks { OnErr result ((p : Patterns) (r : Root) → IsMadeBy p r validator.now → BreaksAt (IsLineTold form p r) (bytes_of texts.now) (K.contents writer.old) (K.contents writer.new)) }
+    ensures ok { IfOk result (λ run. (p : Patterns) (r : Root) → IsMadeBy p r validator.now
+        → AnswersEach (refuses_in form) (IsLineTold form p r) (bytes_of texts.now) (K.contents writer.old)
+        (K.contents writer.new) run.report) }
+    ensures breaks { OnErr result ((p : Patterns) (r : Root) → IsMadeBy p r validator.now
+        → BreaksAt (IsLineTold form p r) (bytes_of texts.now) (K.contents writer.old) (K.contents writer.new)) }
 {
     let answers = FormedLines {
         alloc,
@@ -113,9 +123,14 @@ pub fn run_objects<S: ByteSource, K: ByteSink>(
     writer: &mut K,
     validator: &Validator,
 ) -> Result<RunReport, RunError>
-    ensures nodes { IfOk result (RunsThroughBy is_refused_object (IsObjectLineBy validator.now) (S.remaining reader.old) (S.remaining reader.new) (K.contents writer.old) (K.contents writer.new)) }
-    ensures ok { IfOk result (λ report. (p : Patterns) (r : Root) → IsMadeBy p r validator.now → RunsThroughBy is_refused_object (IsObjectLine p r) (S.remaining reader.old) (S.remaining reader.new) (K.contents writer.old) (K.contents writer.new) report) }
-    ensures stops { IfErr result (λ e. (p : Patterns) (r : Root) → IsMadeBy p r validator.now → Stops (IsObjectLine p r) e (S.remaining reader.old) (S.remaining reader.new) (K.contents writer.old) (K.contents writer.new)) }
+    ensures nodes { IfOk result (RunsThroughBy is_refused_object (IsObjectLineBy validator.now)
+        (S.remaining reader.old) (S.remaining reader.new) (K.contents writer.old) (K.contents writer.new)) }
+    ensures ok { IfOk result (λ report. (p : Patterns) (r : Root) → IsMadeBy p r validator.now
+        → RunsThroughBy is_refused_object (IsObjectLine p r) (S.remaining reader.old) (S.remaining reader.new)
+        (K.contents writer.old) (K.contents writer.new) report) }
+    ensures stops { IfErr result (λ e. (p : Patterns) (r : Root) → IsMadeBy p r validator.now
+        → Stops (IsObjectLine p r) e (S.remaining reader.old) (S.remaining reader.new) (K.contents writer.old)
+        (K.contents writer.new)) }
 {
     let run = run_in_form(alloc, LineForm::Objects, reader, writer, validator)?;
     Ok(run.report)

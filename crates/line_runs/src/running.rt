@@ -32,12 +32,18 @@ pub fn run<S: ByteSource, K: ByteSink>(
     writer: &mut K,
     validator: &Validator,
 ) -> Result<RunReport, RunError>
-    ensures nodes { IfOk result (RunsThrough (IsLineTextBy validator.now) (S.remaining reader.old) (S.remaining reader.new) (K.contents writer.old) (K.contents writer.new)) }
-    ensures ok { IfOk result (λ report. (p : Patterns) (r : Root) → IsMadeBy p r validator.now → RunsThrough (IsLineText p r) (S.remaining reader.old) (S.remaining reader.new) (K.contents writer.old) (K.contents writer.new) report) }
+    ensures nodes { IfOk result (RunsThrough (IsLineTextBy validator.now) (S.remaining reader.old)
+        (S.remaining reader.new) (K.contents writer.old) (K.contents writer.new)) }
+    ensures ok { IfOk result (λ report. (p : Patterns) (r : Root) → IsMadeBy p r validator.now
+        → RunsThrough (IsLineText p r) (S.remaining reader.old) (S.remaining reader.new) (K.contents writer.old)
+        (K.contents writer.new) report) }
     ensures read_quiet { OnOk result (S.failures reader.new ≡ S.failures reader.old) }
     ensures write_quiet { OnOk result (K.failures writer.new ≡ K.failures writer.old) }
-    ensures stops { IfErr result (λ e. (p : Patterns) (r : Root) → IsMadeBy p r validator.now → Stops (IsLineText p r) e (S.remaining reader.old) (S.remaining reader.new) (K.contents writer.old) (K.contents writer.new)) }
-    ensures counts { IfErr result (λ e. Counts e (S.failures reader.old) (S.failures reader.new) (K.failures writer.old) (K.failures writer.new)) }
+    ensures stops { IfErr result (λ e. (p : Patterns) (r : Root) → IsMadeBy p r validator.now
+        → Stops (IsLineText p r) e (S.remaining reader.old) (S.remaining reader.new) (K.contents writer.old)
+        (K.contents writer.new)) }
+    ensures counts { IfErr result (λ e. Counts e (S.failures reader.old) (S.failures reader.new)
+        (K.failures writer.old) (K.failures writer.new)) }
 {
     let run = run_in_form(alloc, LineForm::Pairs, reader, writer, validator)?;
     Ok(run.report)
@@ -54,12 +60,18 @@ pub fn run_directly<M: PatternMatcher, S: ByteSource, K: ByteSink>(
     writer: &mut K,
     validator: &Validator<M>,
 ) -> Result<RunReport, RunError>
-    ensures nodes { IfOk result (RunsThrough (IsLineTextBy validator.now) (S.remaining reader.old) (S.remaining reader.new) (K.contents writer.old) (K.contents writer.new)) }
-    ensures ok { IfOk result (λ report. (p : Patterns) (r : Root) → IsMadeBy p r validator.now → RunsThrough (IsLineText p r) (S.remaining reader.old) (S.remaining reader.new) (K.contents writer.old) (K.contents writer.new) report) }
+    ensures nodes { IfOk result (RunsThrough (IsLineTextBy validator.now) (S.remaining reader.old)
+        (S.remaining reader.new) (K.contents writer.old) (K.contents writer.new)) }
+    ensures ok { IfOk result (λ report. (p : Patterns) (r : Root) → IsMadeBy p r validator.now
+        → RunsThrough (IsLineText p r) (S.remaining reader.old) (S.remaining reader.new) (K.contents writer.old)
+        (K.contents writer.new) report) }
     ensures read_quiet { OnOk result (S.failures reader.new ≡ S.failures reader.old) }
     ensures write_quiet { OnOk result (K.failures writer.new ≡ K.failures writer.old) }
-    ensures stops { IfErr result (λ e. (p : Patterns) (r : Root) → IsMadeBy p r validator.now → Stops (IsLineText p r) e (S.remaining reader.old) (S.remaining reader.new) (K.contents writer.old) (K.contents writer.new)) }
-    ensures counts { IfErr result (λ e. Counts e (S.failures reader.old) (S.failures reader.new) (K.failures writer.old) (K.failures writer.new)) }
+    ensures stops { IfErr result (λ e. (p : Patterns) (r : Root) → IsMadeBy p r validator.now
+        → Stops (IsLineText p r) e (S.remaining reader.old) (S.remaining reader.new) (K.contents writer.old)
+        (K.contents writer.new)) }
+    ensures counts { IfErr result (λ e. Counts e (S.failures reader.old) (S.failures reader.new)
+        (K.failures writer.old) (K.failures writer.new)) }
 {
     let answers = LineFaults { alloc, validator };
     answer_lines(alloc, reader, writer, &answers, &mut ())

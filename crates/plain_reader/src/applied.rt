@@ -4,7 +4,8 @@ ghost use Rattle.serde_json.specs.Data.{depth};
 ghost use Rattle.serde_json.specs.View.{view};
 ghost use Rattle.applicators.specs.Combined.{is_by_answers};
 ghost use Rattle.plain_reader.specs.Applied.{EachInside, IsPart};
-ghost use Rattle.plain_reader.specs.Readings.{ApplicatorAccepts, AreItsQuestions, EachAccepts, CountsAccepted, QuestionAccepts, PartAccepts};
+ghost use Rattle.plain_reader.specs.Readings.{ApplicatorAccepts, AreItsQuestions, EachAccepts};
+ghost use Rattle.plain_reader.specs.Readings.{CountsAccepted, QuestionAccepts, PartAccepts};
 ghost use Rattle.plain_reader.specs.Returns.{Stops};
 ghost use Rattle.plain_reader.specs.Returning.{ApplicatorReturns, QuestionReturns, PartReturns};
 

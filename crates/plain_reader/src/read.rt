@@ -69,7 +69,8 @@ fn accepts_member<'r>(
     requires members { view reading.now.site.now.contents.now ≡ object (members_view members.now.entries) }
     requires listed { In (name.now, view part.now) (listed_members (members_view members.now.entries)) }
     ensures accepts { IfOk result (MemberAccepts reading.now (members_view members.now.entries) name.now (view part.now)) }
-    ensures stops { IfErr result (Stops (MemberReturns reading.now (members_view members.now.entries) name.now (view part.now))) }
+    ensures stops { IfErr result (Stops (MemberReturns reading.now (members_view members.now.entries) name.now
+        (view part.now))) }
 {
     match keyword(reading.alloc, reading.site, members, name, part) {
         Ok(keyword) => accepts_keyword(reading, part, keyword),

@@ -34,7 +34,8 @@ pub(crate) fn accepts_alone<'r, 'a>(
     at: &'a LazyLocation<'a, 'a>,
 ) -> Result<bool, Stop>
     requires shallow { depth (view site.now.contents.now) ≤ deepest (documents_at site.now) }
-    ensures accepts { IfOk result (Accepts site.now (spots_in (location_of at.now) (view value.now)) (view value.now) (location_of at.now) []) }
+    ensures accepts { IfOk result (Accepts site.now (spots_in (location_of at.now) (view value.now))
+        (view value.now) (location_of at.now) []) }
     ensures stops { IfErr result (Stops (Returns site.now (view value.now) (location_of at.now) [])) }
 {
     let nothing = Progress::Nothing;

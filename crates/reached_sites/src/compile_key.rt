@@ -3,7 +3,8 @@
 ghost use Rattle.std.specs.Prelude.{◌≡◌};
 ghost use Rattle.std.specs.Bool.{Decides};
 ghost use Rattle.referencing.specs.Keys.{key_of};
-ghost use Rattle.reached_sites.specs.Keyed.{AreOne, key_fed, key_in, keys_equal, keys_equal_equiv, keys_equal_per, keys_fed_alike};
+ghost use Rattle.reached_sites.specs.Keyed.{AreOne, key_fed, key_in, keys_equal, keys_equal_equiv};
+ghost use Rattle.reached_sites.specs.Keyed.{keys_equal_per, keys_fed_alike};
 
 use crate::waypoint::Waypoint;
 use referencing::ScopeKey;

@@ -24,7 +24,8 @@ use uri_grammar::grammar::is_uri_reference;
 pub fn check_identifier(alloc: Global, visit: &Visit<'_>) -> Result<(), BuildCause>
     ensures right { OnOk result ((s : sites.Site) → Met visit.now s → identifier_causes s ≡ []) }
     ensures refused { IfErr result (λ e. (s : sites.Site) → Met visit.now s → RefusesIdentifier s e) }
-    ensures tells { IfErr result (TellsIdentifier (identifier_text_in (dialect_of visit.now.site.dialect) (view visit.now.site.contents.now))) }
+    ensures tells { IfErr result (TellsIdentifier
+        (identifier_text_in (dialect_of visit.now.site.dialect) (view visit.now.site.contents.now))) }
 {
     let Some(text) = identifier_text(visit.site.dialect, visit.site.contents) else {
         return Ok(());

@@ -31,7 +31,8 @@ fn push_at<'r>(
     schema: &'r Value,
     leads: &mut Vec<Visit<'r>>,
 ) -> Result<(), AllocError>
-    ensures { OnOk result (Adds (documents_in visit.now.site.resolver) leads.old.items leads.new.items (read.site_at (documents_at visit.now.site) (site_of visit.now) keyword.now (view schema.now) ∷ [])) }
+    ensures { OnOk result (Adds (documents_in visit.now.site.resolver) leads.old.items leads.new.items
+        (read.site_at (documents_at visit.now.site) (site_of visit.now) keyword.now (view schema.now) ∷ [])) }
 {
     let point = visit.point.member(alloc, keyword)?;
     leads.push(visit.below(alloc, point, schema)?)?;
@@ -45,8 +46,11 @@ fn point_of(
     subschema: &Subschema<'_>,
 ) -> Result<Waypoint, AllocError>
     ensures document { IfOk result (λ p. name_of p.place.document ≡ name_of visit.now.point.place.document) }
-    ensures path { IfOk result (λ p. p.place.path ≡ applied.added_at subschema.now.keyword.now subschema.now.entry ++ visit.now.point.place.path) }
-    ensures road { IfOk result (λ p. p.schema_path.steps ≡ spelled (applied.added_at subschema.now.keyword.now subschema.now.entry) ++ visit.now.point.schema_path.steps) }
+    ensures path { IfOk result (λ p. p.place.path ≡ applied.added_at subschema.now.keyword.now subschema.now.entry
+        ++ visit.now.point.place.path) }
+    ensures road { IfOk result (λ p. p.schema_path.steps
+        ≡ spelled (applied.added_at subschema.now.keyword.now subschema.now.entry)
+        ++ visit.now.point.schema_path.steps) }
 {
     let point = visit.point.member(alloc, subschema.keyword)?;
     match subschema.entry {
@@ -62,7 +66,8 @@ fn push_subschemas<'r>(
     found: &[Subschema<'r>],
     leads: &mut Vec<Visit<'r>>,
 ) -> Result<(), AllocError>
-    ensures { OnOk result (Adds (documents_in visit.now.site.resolver) leads.old.items leads.new.items (map (applied.place_of (sites.below (documents_at visit.now.site) (site_of visit.now))) found.now)) }
+    ensures { OnOk result (Adds (documents_in visit.now.site.resolver) leads.old.items leads.new.items
+        (map (applied.place_of (sites.below (documents_at visit.now.site) (site_of visit.now))) found.now)) }
 {
     for subschema in found {
         let point = point_of(alloc, visit, subschema)?;
@@ -77,7 +82,8 @@ fn push_applied<'r>(
     applicator: &Applicator<'r>,
     leads: &mut Vec<Visit<'r>>,
 ) -> Result<(), AllocError>
-    ensures { OnOk result (Adds (documents_in visit.now.site.resolver) leads.old.items leads.new.items (read.leads_of (documents_at visit.now.site) (site_of visit.now) (Keyword.Applicator applicator.now))) }
+    ensures { OnOk result (Adds (documents_in visit.now.site.resolver) leads.old.items leads.new.items
+        (read.leads_of (documents_at visit.now.site) (site_of visit.now) (Keyword.Applicator applicator.now))) }
 {
     let found = subschemas(alloc, applicator)?;
     push_subschemas(alloc, visit, found.as_slice(), leads)
@@ -91,7 +97,8 @@ fn push_target<'r>(
     leads: &mut Vec<Visit<'r>>,
 ) -> Result<(), AllocError>
     requires { (keyword : ReferenceKeyword) × read.FindsTarget visit.now.site keyword text.now target.now }
-    ensures { OnOk result (Adds (documents_in visit.now.site.resolver) leads.old.items leads.new.items (sites.target_site (site_of visit.now) text.now (target_in target.now) ∷ [])) }
+    ensures { OnOk result (Adds (documents_in visit.now.site.resolver) leads.old.items leads.new.items
+        (sites.target_site (site_of visit.now) text.now (target_in target.now) ∷ [])) }
 {
     leads.push(Visit::of_target(alloc, text, target, visit.site.matches)?)?;
     Ok(())
@@ -109,7 +116,8 @@ pub fn push_leads<'r>(
     leads: &mut Vec<Visit<'r>>,
 ) -> Result<(), AllocError>
     requires { (d : Data) × read.Finds visit.now.site d keyword.now }
-    ensures { OnOk result (Adds (documents_in visit.now.site.resolver) leads.old.items leads.new.items (read.leads_of (documents_at visit.now.site) (site_of visit.now) keyword.now)) }
+    ensures { OnOk result (Adds (documents_in visit.now.site.resolver) leads.old.items leads.new.items
+        (read.leads_of (documents_at visit.now.site) (site_of visit.now) keyword.now)) }
 {
     match keyword {
         Keyword::Nothing => Ok(()),

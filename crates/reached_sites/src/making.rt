@@ -16,7 +16,9 @@ fn add_pattern<P: PatternMaker>(
     pattern: &Pattern<'_>,
     table: &mut PatternTable<P::Matcher>,
 ) -> Result<(), BuildCause>
-    ensures filled { IsFilled P.Matcher.finds (P.patterns maker.now).finished (P.patterns maker.now).makes table.old → IsFilled P.Matcher.finds (P.patterns maker.now).finished (P.patterns maker.now).makes table.new }
+    ensures filled { IsFilled P.Matcher.finds (P.patterns maker.now).finished
+        (P.patterns maker.now).makes table.old
+        → IsFilled P.Matcher.finds (P.patterns maker.now).finished (P.patterns maker.now).makes table.new }
     ensures kept { Holds table.new (texts_of_table table.old) }
     ensures grows { IsFront (texts_of_table table.old) (texts_of_table table.new) }
     ensures held { OnOk result (is_listed (text_of pattern.now) (texts_of_table table.new) ≡ true) }
@@ -45,7 +47,9 @@ pub fn add_patterns<P: PatternMaker>(
     patterns: &[Pattern<'_>],
     table: &mut PatternTable<P::Matcher>,
 ) -> Result<(), BuildCause>
-    ensures filled { IsFilled P.Matcher.finds (P.patterns maker.now).finished (P.patterns maker.now).makes table.old → IsFilled P.Matcher.finds (P.patterns maker.now).finished (P.patterns maker.now).makes table.new }
+    ensures filled { IsFilled P.Matcher.finds (P.patterns maker.now).finished
+        (P.patterns maker.now).makes table.old
+        → IsFilled P.Matcher.finds (P.patterns maker.now).finished (P.patterns maker.now).makes table.new }
     ensures kept { Holds table.new (texts_of_table table.old) }
     ensures grows { IsFront (texts_of_table table.old) (texts_of_table table.new) }
     ensures held { OnOk result (Holds table.new (texts_of patterns.now)) }

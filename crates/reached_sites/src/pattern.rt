@@ -30,7 +30,8 @@ fn push_names<'r>(
     schemas: &'r Map<String, Value>,
     patterns: &mut Vec<Pattern<'r>>,
 ) -> Result<(), AllocError>
-    ensures { OnOk result (Puts (place_in place.now) (λ p. name_part p ∷ []) (member_names (members_view schemas.now.entries)) patterns.old.items patterns.new.items) }
+    ensures { OnOk result (Puts (place_in place.now) (λ p. name_part p ∷ [])
+        (member_names (members_view schemas.now.entries)) patterns.old.items patterns.new.items) }
 {
     for (name, _) in schemas.iter() {
         let text = name.as_str();
@@ -44,7 +45,8 @@ fn push_names<'r>(
 
 // The schemas whose names are patterns.
 fn by_patterns<'r>(applicator: &Applicator<'r>) -> Option<&'r Map<String, Value>>
-    ensures some { IfSome result (λ schemas. making.patterns_in applicator.now ≡ member_names (members_view schemas.now.entries)) }
+    ensures some { IfSome result (λ schemas. making.patterns_in applicator.now
+        ≡ member_names (members_view schemas.now.entries)) }
     ensures none { IfNone result (making.patterns_in applicator.now ≡ []) }
 {
     match applicator.asks() {
@@ -65,7 +67,8 @@ pub fn push_patterns<'r>(
     keyword: &Keyword<'r>,
     patterns: &mut Vec<Pattern<'r>>,
 ) -> Result<(), AllocError>
-    ensures { OnOk result (Puts (place_in place.now) (pattern_parts keyword.now name.now) (patterns_in keyword.now) patterns.old.items patterns.new.items) }
+    ensures { OnOk result (Puts (place_in place.now) (pattern_parts keyword.now name.now)
+        (patterns_in keyword.now) patterns.old.items patterns.new.items) }
 {
     match keyword {
         Keyword::Pattern(text) => {

@@ -70,7 +70,9 @@ pub fn refused(
     value: &Value,
     refusal: Refusal<'_>,
 ) -> Result<BuildCause, AllocError>
-    ensures names { IfOk result (λ e. (x : rows.Context) (d : Data) (row : rows.Row) → rows.place_at x [] ≡ place_in place.now → Refuses x name.now d row refusal.entry → (cause : rows.BuildCause) × NamesCause cause e × In cause row.causes) }
+    ensures names { IfOk result (λ e. (x : rows.Context) (d : Data) (row : rows.Row)
+        → rows.place_at x [] ≡ place_in place.now → Refuses x name.now d row refusal.entry
+        → (cause : rows.BuildCause) × NamesCause cause e × In cause row.causes) }
     ensures tells { IfOk result (λ e. Tells (view value.now) refusal.entry (told_in e)) }
 {
     let here = place.member(alloc, name)?;

@@ -43,7 +43,8 @@ fn is_one_base(one: &Site<'_>, other: &Site<'_>) -> Result<bool, AllocError>
 
 // The key of a site's scope.
 fn key_of_scope(alloc: Global, site: &Site<'_>) -> Result<Rc<ScopeKey>, AllocError>
-    ensures { IfOk result (λ k. key_of k.value ≡ scope_key (documents_at site.now) (base_of site.now.resolver) (scope_of site.now.resolver)) }
+    ensures { IfOk result (λ k. key_of k.value
+        ≡ scope_key (documents_at site.now) (base_of site.now.resolver) (scope_of site.now.resolver)) }
 {
     Ok(Rc::new(alloc, site.resolver.scope_key()?)?)
 }
@@ -113,7 +114,9 @@ impl<'r> Visit<'r> {
         matches: &'r Matches,
     ) -> Result<Visit<'r>, AllocError>
         requires { reads_as_path text.now ≡ true }
-        ensures met { IfOk result (λ v. (s : sites.Site) → scope_of target.now.resolver ≡ entered_scope (base_of target.now.resolver) s.base s.scope → Met v (sites.target_site s text.now (target_in target.now))) }
+        ensures met { IfOk result (λ v. (s : sites.Site)
+            → scope_of target.now.resolver ≡ entered_scope (base_of target.now.resolver) s.base s.scope
+            → Met v (sites.target_site s text.now (target_in target.now))) }
         ensures belongs { IfOk result (Belongs (documents_in target.now.resolver)) }
     {
         let site = at_target(target, matches)?;
@@ -126,7 +129,11 @@ impl<'r> Visit<'r> {
 
     // The key of a subschema's scope: one without a base of its own has that of the schema around it.
     fn key_below(&self, alloc: Global, site: &Site<'_>) -> Result<Rc<ScopeKey>, AllocError>
-        ensures { IfOk result (λ k. documents_at site.now ≡ documents_at self.now.site → scope_of site.now.resolver ≡ entered_scope (base_of site.now.resolver) (base_of self.now.site.resolver) (scope_of self.now.site.resolver) → key_of k.value ≡ scope_key (documents_at site.now) (base_of site.now.resolver) (scope_of site.now.resolver)) }
+        ensures { IfOk result (λ k. documents_at site.now ≡ documents_at self.now.site
+            → scope_of site.now.resolver ≡ entered_scope (base_of site.now.resolver)
+            (base_of self.now.site.resolver) (scope_of self.now.site.resolver)
+            → key_of k.value ≡ scope_key (documents_at site.now) (base_of site.now.resolver)
+            (scope_of site.now.resolver)) }
     {
         if is_one_base(&self.site, site)? {
             self.key.clone()
@@ -146,7 +153,11 @@ impl<'r> Visit<'r> {
         point: Waypoint,
         contents: &'r Value,
     ) -> Result<Visit<'r>, AllocError>
-        ensures met { IfOk result (λ v. (added : List Part) → name_of self.now.point.place.document ≡ name_of point.place.document → added ++ self.now.point.place.path ≡ point.place.path → spelled added ++ self.now.point.schema_path.steps ≡ point.schema_path.steps → Met v (sites.below (documents_at self.now.site) (site_of self.now) added (view contents.now))) }
+        ensures met { IfOk result (λ v. (added : List Part)
+            → name_of self.now.point.place.document ≡ name_of point.place.document
+            → added ++ self.now.point.place.path ≡ point.place.path
+            → spelled added ++ self.now.point.schema_path.steps ≡ point.schema_path.steps
+            → Met v (sites.below (documents_at self.now.site) (site_of self.now) added (view contents.now))) }
         ensures belongs { IfOk result (Belongs (documents_in self.now.site.resolver)) }
     {
         let site = self.site.below(alloc, contents)?;

@@ -28,8 +28,10 @@ fn required_or_all(
     draft: Draft,
     meta_schema: Option<&Value>,
 ) -> Result<VocabularySet, AllocError>
-    ensures same { IfOk result (λ s. sets.AreSame (sets.vocabularies_of s) (required_from (option_map (λ v. view v.now) meta_schema.entry))) }
-    ensures whole { IfOk result (λ s. required_from (option_map (λ v. view v.now) meta_schema.entry) ≡ spec.all_of_draft → sets.listed s ≡ sets.own draft) }
+    ensures same { IfOk result (λ s. sets.AreSame (sets.vocabularies_of s)
+        (required_from (option_map (λ v. view v.now) meta_schema.entry))) }
+    ensures whole { IfOk result (λ s. required_from (option_map (λ v. view v.now) meta_schema.entry)
+        ≡ spec.all_of_draft → sets.listed s ≡ sets.own draft) }
 {
     match meta_schema {
         Some(contents) => find_vocabularies(alloc, draft, contents),
@@ -40,7 +42,8 @@ fn required_or_all(
 impl<'a> Registry<'a> {
     // The contents of the meta-schema that a schema names, where somebody bears its URI.
     fn meta_schema_of(&self, contents: &Value) -> Result<Option<&Value>, AllocError>
-        ensures { IfOk result (λ m. option_map (λ v. view v.now) m ≡ meta_schema_of (documents_of self.now) (view contents.now)) }
+        ensures { IfOk result (λ m. option_map (λ v. view v.now) m
+            ≡ meta_schema_of (documents_of self.now) (view contents.now)) }
     {
         match named_meta_schema(self.alloc, self.siblings, true, contents)? {
             Some(uri) => Ok(self.contents_of(uri.as_str())),
@@ -61,8 +64,10 @@ impl<'a> Registry<'a> {
         draft: Draft,
         contents: &Value,
     ) -> Result<VocabularySet, AllocError>
-        ensures same { IfOk result (λ s. sets.AreSame (sets.vocabularies_of s) (vocabularies_for (documents_of self.now) (view contents.now))) }
-        ensures whole { IfOk result (λ s. vocabularies_for (documents_of self.now) (view contents.now) ≡ spec.all_of_draft → sets.listed s ≡ sets.own draft) }
+        ensures same { IfOk result (λ s. sets.AreSame (sets.vocabularies_of s)
+            (vocabularies_for (documents_of self.now) (view contents.now))) }
+        ensures whole { IfOk result (λ s. vocabularies_for (documents_of self.now) (view contents.now)
+            ≡ spec.all_of_draft → sets.listed s ≡ sets.own draft) }
     {
         required_or_all(self.alloc, draft, self.meta_schema_of(contents)?)
     }
@@ -93,8 +98,10 @@ impl<'r> Resolver<'r> {
         draft: Draft,
         contents: &Value,
     ) -> Result<VocabularySet, AllocError>
-        ensures same { IfOk result (λ s. sets.AreSame (sets.vocabularies_of s) (vocabularies_for (documents_in self.now) (view contents.now))) }
-        ensures whole { IfOk result (λ s. vocabularies_for (documents_in self.now) (view contents.now) ≡ spec.all_of_draft → sets.listed s ≡ sets.own draft) }
+        ensures same { IfOk result (λ s. sets.AreSame (sets.vocabularies_of s)
+            (vocabularies_for (documents_in self.now) (view contents.now))) }
+        ensures whole { IfOk result (λ s. vocabularies_for (documents_in self.now) (view contents.now)
+            ≡ spec.all_of_draft → sets.listed s ≡ sets.own draft) }
     {
         self.registry.find_vocabularies(draft, contents)
     }

@@ -161,7 +161,8 @@ impl<'a, S: Drop> RegistryBuilder<'a, S> {
         uri: &str,
         resource: R,
     ) -> Result<RegistryBuilder<'a, S>, Refused<'a, S>>
-        ensures ok { IfOk result (λ b. given_in b ≡ with_given (given_in self.entry) (given_by R.contents R.draft uri.now resource)) }
+        ensures ok { IfOk result (λ b. given_in b
+            ≡ with_given (given_in self.entry) (given_by R.contents R.draft uri.now resource)) }
         ensures draft { IfOk result (λ b. b.draft ≡ self.entry.draft) }
         ensures retrieval { IfOk result (AsksAlike self.entry) }
         ensures beginning { IfOk result (BeginsAlike self.entry) }
@@ -250,11 +251,17 @@ impl<'a, S: Drop> RegistryBuilder<'a, S> {
     where
         I::IntoIter: Drop,
         requires { IsFiniteIterable I.into_iter_gives I.IntoIter.can_next I.IntoIter.remaining pairs }
-        ensures ok { IfOk result (λ b. (it : I.IntoIter) × (xs : List (U × R)) × I.into_iter_gives pairs it × Drains I.IntoIter.next_gives it xs × Adds U.text R.contents R.draft (given_in self.entry) xs (given_in b)) }
+        ensures ok { IfOk result (λ b. (it : I.IntoIter) × (xs : List (U × R)) × I.into_iter_gives pairs it
+            × Drains I.IntoIter.next_gives it xs
+            × Adds U.text R.contents R.draft (given_in self.entry) xs (given_in b)) }
         ensures draft { IfOk result (λ b. b.draft ≡ self.entry.draft) }
         ensures retrieval { IfOk result (AsksAlike self.entry) }
         ensures beginning { IfOk result (BeginsAlike self.entry) }
-        ensures refused { IfErr result (λ r. (it : I.IntoIter) × (before : List (U × R)) × (x : U × R) × (rest : I.IntoIter) × I.into_iter_gives pairs it × YieldsThen I.IntoIter.next_gives it before (Some x) rest × Adds U.text R.contents R.draft (given_in self.entry) before (given_in r.builder) × RefusesUri (U.text x.0) r.error) }
+        ensures refused { IfErr result (λ r. (it : I.IntoIter) × (before : List (U × R)) × (x : U × R)
+            × (rest : I.IntoIter) × I.into_iter_gives pairs it
+            × YieldsThen I.IntoIter.next_gives it before (Some x) rest
+            × Adds U.text R.contents R.draft (given_in self.entry) before (given_in r.builder)
+            × RefusesUri (U.text x.0) r.error) }
         ensures same_draft { IfErr result (λ r. r.builder.draft ≡ self.entry.draft) }
         ensures same_retrieval { IfErr result (λ r. AsksAlike self.entry r.builder) }
         ensures same_beginning { IfErr result (λ r. BeginsAlike self.entry r.builder) }

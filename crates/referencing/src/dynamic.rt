@@ -32,7 +32,8 @@ pub(crate) fn outermost_bearer<'s>(
     name: &str,
     scope: &'s List<Rc<Uri>>,
 ) -> Option<&'s Rc<Uri>>
-    ensures { option_map (λ u. u.now.value) result ≡ keys.outermost_bearer (documents_of registry.now) (map (λ u. u.value) scope.now) name.now }
+    ensures { option_map (λ u. u.now.value) result
+        ≡ keys.outermost_bearer (documents_of registry.now) (map (λ u. u.value) scope.now) name.now }
 {
     let mut outermost = None;
     let mut rest = scope.iter();
@@ -51,7 +52,10 @@ fn outermost_standing<'r>(
     innermost: &Uri,
     scope: &List<Rc<Uri>>,
 ) -> Result<Option<Standing<'r>>, AllocError>
-    ensures { IfOk result (λ s. option_map standing_of s ≡ option_and_then (λ u. bearers.dynamically_anchored (documents_of registry.now) u name.now) (words.last_that (λ u. is_some (bearers.dynamically_anchored (documents_of registry.now) u name.now)) (innermost.now ∷ map (λ u. u.value) scope.now))) }
+    ensures { IfOk result (λ s. option_map standing_of s
+        ≡ option_and_then (λ u. bearers.dynamically_anchored (documents_of registry.now) u name.now)
+        (words.last_that (λ u. is_some (bearers.dynamically_anchored (documents_of registry.now) u name.now))
+        (innermost.now ∷ map (λ u. u.value) scope.now))) }
 {
     match outermost_bearer(registry, name, scope) {
         Some(resource) => registry.dynamically_anchored(resource.as_str(), name),
@@ -65,8 +69,10 @@ fn outermost<'r>(
     innermost: &Uri,
     scope: &List<Rc<Uri>>,
 ) -> Result<Found<'r>, Error>
-    ensures ok { IfOk result (λ f. spec.outermost (documents_of registry.now) name.now (innermost.now ∷ map (λ u. u.value) scope.now) ≡ Ok (found_target f)) }
-    ensures refused { IfErr result (RefusesLookup (spec.outermost (documents_of registry.now) name.now (innermost.now ∷ map (λ u. u.value) scope.now))) }
+    ensures ok { IfOk result (λ f. spec.outermost (documents_of registry.now) name.now
+        (innermost.now ∷ map (λ u. u.value) scope.now) ≡ Ok (found_target f)) }
+    ensures refused { IfErr result (RefusesLookup
+        (spec.outermost (documents_of registry.now) name.now (innermost.now ∷ map (λ u. u.value) scope.now))) }
 {
     match outermost_standing(registry, name, innermost, scope)? {
         Some(standing) => Ok(whole(standing)),
@@ -82,7 +88,8 @@ fn is_anchor_name(name: &str) -> bool
 
 // Whether a name is that of an anchor, and what was found has it as a dynamic one.
 fn is_dynamic(found: &Found<'_>, name: &str) -> bool
-    ensures { result ≡ (is_name name.now && words.has_text name.now (dynamic_anchors (found_target found.now).dialect (found_target found.now).contents)) }
+    ensures { result ≡ (is_name name.now && words.has_text name.now
+        (dynamic_anchors (found_target found.now).dialect (found_target found.now).contents)) }
 {
     match dynamic_anchor(found.reached.dialect, found.reached.contents) {
         Some(anchor) => is_anchor_name(name) && anchor == name,
@@ -96,7 +103,8 @@ fn end_of_run<'s>(
     present: &'s Rc<Uri>,
     scope: &'s List<Rc<Uri>>,
 ) -> &'s Rc<Uri>
-    ensures { result.now.value ≡ spec.end_of_run (documents_of registry.now) present.now.value (map (λ u. u.value) scope.now) }
+    ensures { result.now.value ≡ spec.end_of_run (documents_of registry.now) present.now.value
+        (map (λ u. u.value) scope.now) }
 {
     let mut last = present;
     let mut rest = scope.iter();
@@ -125,8 +133,10 @@ impl<'r> Resolver<'r> {
 
     // What a dynamic reference leads to, by what it leads to as a plain one.
     fn redirected(&self, found: Found<'r>, name: &str) -> Result<Found<'r>, Error>
-        ensures ok { IfOk result (λ f. redirect (documents_in self.now) (scope_of self.now) name.now (found_target found.entry) ≡ Ok (found_target f)) }
-        ensures refused { IfErr result (RefusesLookup (redirect (documents_in self.now) (scope_of self.now) name.now (found_target found.entry))) }
+        ensures ok { IfOk result (λ f. redirect (documents_in self.now) (scope_of self.now) name.now
+            (found_target found.entry) ≡ Ok (found_target f)) }
+        ensures refused { IfErr result (RefusesLookup
+            (redirect (documents_in self.now) (scope_of self.now) name.now (found_target found.entry))) }
     {
         if is_dynamic(&found, name) {
             outermost(self.registry, name, &found.reached.base, &self.scope)
@@ -144,11 +154,14 @@ impl<'r> Resolver<'r> {
     ///
     /// Why the reference leads nowhere, with the texts that it names, or want of memory.
     pub fn lookup_dynamic_ref(&self, reference: &str) -> Result<Resolved<'r>, Error>
-        ensures ok { IfOk result (λ r. spec.dynamic_lookup (documents_in self.now) (base_of self.now) (scope_of self.now) reference.now ≡ Ok (target_in r)) }
-        ensures scope { IfOk result (λ r. scope_of r.resolver ≡ entered_scope (base_of r.resolver) (base_of self.now) (scope_of self.now)) }
+        ensures ok { IfOk result (λ r. spec.dynamic_lookup (documents_in self.now) (base_of self.now)
+            (scope_of self.now) reference.now ≡ Ok (target_in r)) }
+        ensures scope { IfOk result (λ r. scope_of r.resolver
+            ≡ entered_scope (base_of r.resolver) (base_of self.now) (scope_of self.now)) }
         ensures documents { IfOk result (λ r. documents_in r.resolver ≡ documents_in self.now) }
         ensures siblings { IfOk result (λ r. siblings_in r.resolver ≡ siblings_in self.now) }
-        ensures refused { IfErr result (RefusesLookup (spec.dynamic_lookup (documents_in self.now) (base_of self.now) (scope_of self.now) reference.now)) }
+        ensures refused { IfErr result (RefusesLookup
+            (spec.dynamic_lookup (documents_in self.now) (base_of self.now) (scope_of self.now) reference.now)) }
     {
         let (_, fragment) = split_fragment(reference);
         let found = look_up(self.registry, &self.base, reference)?;
@@ -165,11 +178,14 @@ impl<'r> Resolver<'r> {
     ///
     /// Where no schema place bears the base, which is then named, or want of memory.
     pub fn lookup_recursive_ref(&self) -> Result<Resolved<'r>, Error>
-        ensures ok { IfOk result (λ r. spec.recursive_lookup (documents_in self.now) (base_of self.now) (scope_of self.now) ≡ Ok (target_in r)) }
-        ensures scope { IfOk result (λ r. scope_of r.resolver ≡ entered_scope (base_of r.resolver) (base_of self.now) (scope_of self.now)) }
+        ensures ok { IfOk result (λ r. spec.recursive_lookup (documents_in self.now) (base_of self.now)
+            (scope_of self.now) ≡ Ok (target_in r)) }
+        ensures scope { IfOk result (λ r. scope_of r.resolver
+            ≡ entered_scope (base_of r.resolver) (base_of self.now) (scope_of self.now)) }
         ensures documents { IfOk result (λ r. documents_in r.resolver ≡ documents_in self.now) }
         ensures siblings { IfOk result (λ r. siblings_in r.resolver ≡ siblings_in self.now) }
-        ensures refused { IfErr result (RefusesLookup (spec.recursive_lookup (documents_in self.now) (base_of self.now) (scope_of self.now))) }
+        ensures refused { IfErr result (RefusesLookup
+            (spec.recursive_lookup (documents_in self.now) (base_of self.now) (scope_of self.now))) }
     {
         let resource = self.run_end();
         match self.registry.bearer(resource.as_str())? {

@@ -24,7 +24,8 @@ fn standing_at<'r>(
     document: &'r Document<'_>,
     bearer: &Bearer,
 ) -> Result<Option<Standing<'r>>, AllocError>
-    ensures { IfOk result (λ s. option_map standing_of s ≡ kept_standing (document_of document.now) (bearer_of bearer.now)) }
+    ensures { IfOk result (λ s. option_map standing_of s
+        ≡ kept_standing (document_of document.now) (bearer_of bearer.now)) }
 {
     let Some(contents) = bearer.path.find_in(document.contents.value()) else {
         return Ok(None);
@@ -103,7 +104,8 @@ impl<'a> Registry<'a> {
         base: &str,
         name: &str,
     ) -> Result<Option<Standing<'_>>, AllocError>
-        ensures { IfOk result (λ s. option_map standing_of s ≡ bearers.dynamically_anchored (documents_of self.now) base.now name.now) }
+        ensures { IfOk result (λ s. option_map standing_of s
+            ≡ bearers.dynamically_anchored (documents_of self.now) base.now name.now) }
     {
         match answers::dynamically_anchored(&self.documents, &self.index, base, name) {
             Some((document, bearer)) => standing_at(document, bearer),
@@ -120,7 +122,9 @@ impl<'a> Registry<'a> {
 
     // What the last schema place that bears a URI holds.
     pub(crate) fn contents_of(&self, uri: &str) -> Option<&Value>
-        ensures { option_map (λ v. view v.now) result ≡ option_map (λ (s : bearers.Standing). s.place.contents) (bearers.bearer (documents_of self.now) uri.now) }
+        ensures { option_map (λ v. view v.now) result
+            ≡ option_map (λ (s : bearers.Standing). s.place.contents)
+            (bearers.bearer (documents_of self.now) uri.now) }
     {
         let (document, bearer) = answers::bearer(&self.documents, &self.index, uri)?;
         bearer.path.find_in(document.contents.value())

@@ -49,9 +49,14 @@ fn chain_at<'r>(resolved: Resolved<'r>) -> Result<Chain<'r>, AllocError>
 }
 
 fn take_step<'r>(chain: Chain<'r>, step: &Step<'_>) -> Result<Chain<'r>, Error>
-    ensures ok { IfOk result (λ c. one_step (siblings_in chain.entry.resolver) (documents_in chain.entry.resolver) (stand_of chain.entry) step.now ≡ Ok (stand_of c)) }
-    ensures over { IfOk result (λ c. IsOver (siblings_in chain.entry.resolver) (documents_in chain.entry.resolver) chain.entry → IsOver (siblings_in chain.entry.resolver) (documents_in chain.entry.resolver) c) }
-    ensures refused { IfErr result (RefusesLookup (one_step (siblings_in chain.entry.resolver) (documents_in chain.entry.resolver) (stand_of chain.entry) step.now)) }
+    ensures ok { IfOk result (λ c. one_step (siblings_in chain.entry.resolver) (documents_in chain.entry.resolver)
+        (stand_of chain.entry) step.now ≡ Ok (stand_of c)) }
+    ensures over { IfOk result (λ c. IsOver (siblings_in chain.entry.resolver)
+        (documents_in chain.entry.resolver) chain.entry
+        → IsOver (siblings_in chain.entry.resolver) (documents_in chain.entry.resolver) c) }
+    ensures refused { IfErr result (RefusesLookup
+        (one_step (siblings_in chain.entry.resolver) (documents_in chain.entry.resolver)
+        (stand_of chain.entry) step.now)) }
 {
     match step {
         Step::Lookup(reference) => Ok(chain_at(chain.resolver.lookup(reference)?)?),
@@ -76,10 +81,12 @@ pub fn follow<'r>(
     base: Uri,
     steps: &[Step<'_>],
 ) -> Result<Option<Resolved<'r>>, Error>
-    ensures ok { IfOk result (λ r. last_of_chain registry.now.siblings (documents_of registry.now) base steps.now ≡ Ok (option_map answer_in r)) }
+    ensures ok { IfOk result (λ r. last_of_chain registry.now.siblings (documents_of registry.now) base steps.now
+        ≡ Ok (option_map answer_in r)) }
     ensures documents { IfOk result (λ r. IfSome r (λ x. documents_in x.resolver ≡ documents_of registry.now)) }
     ensures siblings { IfOk result (λ r. IfSome r (λ x. siblings_in x.resolver ≡ registry.now.siblings)) }
-    ensures refused { IfErr result (RefusesLookup (followed registry.now.siblings (documents_of registry.now) (begun base) steps.now)) }
+    ensures refused { IfErr result (RefusesLookup
+        (followed registry.now.siblings (documents_of registry.now) (begun base) steps.now)) }
 {
     let mut chain = Chain {
         resolver: registry.resolver(base)?,

@@ -11,7 +11,8 @@ ghost use Rattle.document_index.specs.Seen.{name_of};
 ghost use Rattle.document_sources.specs.Causes.{RefusesLookup};
 ghost use Rattle.referencing.specs.Found.{found_target};
 ghost use Rattle.referencing.specs.Seen.{documents_of};
-ghost use Rattle.referencing.specs.Resolved.{base_of, scope_of, documents_in, siblings_in, target_in, entered_at, entered_by};
+ghost use Rattle.referencing.specs.Resolved.{base_of, scope_of, documents_in, siblings_in, target_in};
+ghost use Rattle.referencing.specs.Resolved.{entered_at, entered_by};
 
 use crate::registry::Registry;
 use crate::resolver::{Resolved, Resolver};
@@ -60,7 +61,8 @@ fn enter(
     present: &Rc<Uri>,
     base: &Rc<Uri>,
 ) -> Result<List<Rc<Uri>>, AllocError>
-    ensures { IfOk result (λ s. map (λ u. u.value) s ≡ entered_scope base.now.value present.now.value (map (λ u. u.value) scope.now)) }
+    ensures { IfOk result (λ s. map (λ u. u.value) s
+        ≡ entered_scope base.now.value present.now.value (map (λ u. u.value) scope.now)) }
 {
     if base.as_str() == present.as_str() {
         scope.clone()
@@ -163,7 +165,8 @@ impl<'r> Resolver<'r> {
     }
 
     fn at_identifier(&self, id: &str) -> Result<Resolver<'r>, Error>
-        ensures ok { IfOk result (λ r. entered_at (base_of self.now) (scope_of self.now) id.now ≡ Ok (base_of r, scope_of r)) }
+        ensures ok { IfOk result (λ r. entered_at (base_of self.now) (scope_of self.now) id.now
+            ≡ Ok (base_of r, scope_of r)) }
         ensures documents { IfOk result (λ r. documents_in r ≡ documents_in self.now) }
         ensures siblings { IfOk result (λ r. siblings_in r ≡ siblings_in self.now) }
         ensures refused { IfErr result (RefusesLookup (entered_at (base_of self.now) (scope_of self.now) id.now)) }
@@ -178,7 +181,8 @@ impl<'r> Resolver<'r> {
     // What was found, with the resolver there.
     pub(crate) fn arrived(&self, found: Found<'r>) -> Result<Resolved<'r>, AllocError>
         ensures target { IfOk result (λ r. target_in r ≡ found_target found.entry) }
-        ensures scope { IfOk result (λ r. scope_of r.resolver ≡ entered_scope (base_of r.resolver) (base_of self.now) (scope_of self.now)) }
+        ensures scope { IfOk result (λ r. scope_of r.resolver
+            ≡ entered_scope (base_of r.resolver) (base_of self.now) (scope_of self.now)) }
         ensures documents { IfOk result (λ r. documents_in r.resolver ≡ documents_in self.now) }
         ensures siblings { IfOk result (λ r. siblings_in r.resolver ≡ siblings_in self.now) }
     {
@@ -202,11 +206,14 @@ impl<'r> Resolver<'r> {
     ///
     /// Why the reference leads nowhere, with the texts that it names, or want of memory.
     pub fn lookup(&self, reference: &str) -> Result<Resolved<'r>, Error>
-        ensures ok { IfOk result (λ r. spec.lookup (documents_in self.now) (base_of self.now) reference.now ≡ Ok (target_in r)) }
-        ensures scope { IfOk result (λ r. scope_of r.resolver ≡ entered_scope (base_of r.resolver) (base_of self.now) (scope_of self.now)) }
+        ensures ok { IfOk result (λ r. spec.lookup (documents_in self.now) (base_of self.now) reference.now
+            ≡ Ok (target_in r)) }
+        ensures scope { IfOk result (λ r. scope_of r.resolver
+            ≡ entered_scope (base_of r.resolver) (base_of self.now) (scope_of self.now)) }
         ensures documents { IfOk result (λ r. documents_in r.resolver ≡ documents_in self.now) }
         ensures siblings { IfOk result (λ r. siblings_in r.resolver ≡ siblings_in self.now) }
-        ensures refused { IfErr result (RefusesLookup (spec.lookup (documents_in self.now) (base_of self.now) reference.now)) }
+        ensures refused { IfErr result (RefusesLookup
+            (spec.lookup (documents_in self.now) (base_of self.now) reference.now)) }
     {
         let found = look_up(self.registry, &self.base, reference)?;
         Ok(self.arrived(found)?)
@@ -219,10 +226,14 @@ impl<'r> Resolver<'r> {
     ///
     /// Where the identifier is no URI reference, which is then named, or want of memory.
     pub fn in_subresource(&self, subresource: ResourceRef<'_>) -> Result<Resolver<'r>, Error>
-        ensures ok { IfOk result (λ r. entered_by (standard (siblings_in self.now) subresource.entry.draft) (view subresource.entry.contents.now) (base_of self.now) (scope_of self.now) ≡ Ok (base_of r, scope_of r)) }
+        ensures ok { IfOk result (λ r. entered_by (standard (siblings_in self.now) subresource.entry.draft)
+            (view subresource.entry.contents.now) (base_of self.now) (scope_of self.now)
+            ≡ Ok (base_of r, scope_of r)) }
         ensures documents { IfOk result (λ r. documents_in r ≡ documents_in self.now) }
         ensures siblings { IfOk result (λ r. siblings_in r ≡ siblings_in self.now) }
-        ensures refused { IfErr result (RefusesLookup (entered_by (standard (siblings_in self.now) subresource.entry.draft) (view subresource.entry.contents.now) (base_of self.now) (scope_of self.now))) }
+        ensures refused { IfErr result (RefusesLookup
+            (entered_by (standard (siblings_in self.now) subresource.entry.draft)
+            (view subresource.entry.contents.now) (base_of self.now) (scope_of self.now))) }
     {
         let siblings = self.registry.siblings;
         match identifier(siblings, subresource.draft(), subresource.contents()) {

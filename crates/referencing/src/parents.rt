@@ -69,11 +69,15 @@ impl<'a> Registry<'a> {
     where
         I::IntoIter: Drop,
         requires { IsFiniteIterable I.into_iter_gives I.IntoIter.can_next I.IntoIter.remaining pairs }
-        ensures ok { IfOk result (λ b. (it : I.IntoIter) × (xs : List (U × R)) × I.into_iter_gives pairs it × Drains I.IntoIter.next_gives it xs × Adds U.text R.contents R.draft [] xs (given_in b)) }
+        ensures ok { IfOk result (λ b. (it : I.IntoIter) × (xs : List (U × R)) × I.into_iter_gives pairs it
+            × Drains I.IntoIter.next_gives it xs × Adds U.text R.contents R.draft [] xs (given_in b)) }
         ensures child { IfOk result (IsChildOf self.now) }
         ensures draft { IfOk result (λ b. b.draft ≡ newest) }
         ensures limit { IfOk result (λ b. b.limit ≡ 256) }
-        ensures refused { IfErr result (λ e. IsMemory e ⊎ ((it : I.IntoIter) × (before : List (U × R)) × (x : U × R) × (rest : I.IntoIter) × I.into_iter_gives pairs it × YieldsThen I.IntoIter.next_gives it before (Some x) rest × IsTrue (are_document_uris U.text before) × RefusesUri (U.text x.0) e)) }
+        ensures refused { IfErr result (λ e. IsMemory e ⊎
+            ((it : I.IntoIter) × (before : List (U × R)) × (x : U × R) × (rest : I.IntoIter)
+            × I.into_iter_gives pairs it × YieldsThen I.IntoIter.next_gives it before (Some x) rest
+            × IsTrue (are_document_uris U.text before) × RefusesUri (U.text x.0) e)) }
     {
         let builder = self.begin()?.extend(pairs)?;
         Ok(builder)

@@ -62,8 +62,11 @@ fn by_pointer<'r>(
     standing: Standing<'r>,
     fragment: &str,
 ) -> Result<Found<'r>, Error>
-    ensures ok { IfOk result (λ f. spec.by_pointer (told_by registry.now) (standing_of standing.entry) fragment.now (percent_decode fragment.now) ≡ Ok (found_target f)) }
-    ensures refused { IfErr result (RefusesLookup (spec.by_pointer (told_by registry.now) (standing_of standing.entry) fragment.now (percent_decode fragment.now))) }
+    ensures ok { IfOk result (λ f. spec.by_pointer (told_by registry.now)
+        (standing_of standing.entry) fragment.now (percent_decode fragment.now) ≡ Ok (found_target f)) }
+    ensures refused { IfErr result (RefusesLookup
+        (spec.by_pointer (told_by registry.now) (standing_of standing.entry) fragment.now
+        (percent_decode fragment.now))) }
 {
     match follow_pointer(registry.alloc, &registry.known, &standing.place, fragment) {
         Ok(reached) => Ok(Found {
@@ -85,8 +88,10 @@ fn by_anchor<'r>(
     standing: &Standing<'_>,
     name: &str,
 ) -> Result<Found<'r>, Error>
-    ensures ok { IfOk result (λ f. spec.by_anchor (told_by registry.now) (documents_of registry.now) (standing_of standing.now) name.now ≡ Ok (found_target f)) }
-    ensures refused { IfErr result (RefusesLookup (spec.by_anchor (told_by registry.now) (documents_of registry.now) (standing_of standing.now) name.now)) }
+    ensures ok { IfOk result (λ f. spec.by_anchor (told_by registry.now) (documents_of registry.now)
+        (standing_of standing.now) name.now ≡ Ok (found_target f)) }
+    ensures refused { IfErr result (RefusesLookup
+        (spec.by_anchor (told_by registry.now) (documents_of registry.now) (standing_of standing.now) name.now)) }
 {
     if has_slash(name) {
         return Err(invalid_anchor(registry.alloc, name));
@@ -102,8 +107,11 @@ fn by_fragment<'r>(
     standing: Standing<'r>,
     fragment: &str,
 ) -> Result<Found<'r>, Error>
-    ensures ok { IfOk result (λ f. spec.by_fragment (told_by registry.now) (documents_of registry.now) (standing_of standing.entry) fragment.now ≡ Ok (found_target f)) }
-    ensures refused { IfErr result (RefusesLookup (spec.by_fragment (told_by registry.now) (documents_of registry.now) (standing_of standing.entry) fragment.now)) }
+    ensures ok { IfOk result (λ f. spec.by_fragment (told_by registry.now) (documents_of registry.now)
+        (standing_of standing.entry) fragment.now ≡ Ok (found_target f)) }
+    ensures refused { IfErr result (RefusesLookup
+        (spec.by_fragment (told_by registry.now) (documents_of registry.now)
+        (standing_of standing.entry) fragment.now)) }
 {
     match fragment.as_bytes() {
         [] => Ok(whole(standing)),

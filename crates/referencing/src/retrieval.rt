@@ -45,13 +45,19 @@ impl<'a> Registry<'a> {
         retriever: &R,
         limit: u64,
     ) -> Result<Registry<'a>, Error>
-        ensures documents { IfOk result (λ r. IsGathered (asking R.may_answer R.may_refuse retriever.now (layer_of layer)) limit (map document_of documents.entry.items) (documents_of r) (retrieved_by r)) }
+        ensures documents { IfOk result (λ r. IsGathered
+            (asking R.may_answer R.may_refuse retriever.now (layer_of layer)) limit
+            (map document_of documents.entry.items) (documents_of r) (retrieved_by r)) }
         ensures siblings { IfOk result (λ r. r.siblings ≡ layer.siblings) }
         ensures once { IfOk result (λ r. none_twice (retrieved_by r) ≡ true) }
         ensures complete { IfOk result (λ r. wants (documents_of r) ≡ []) }
         ensures accepted { IfOk result (λ r. document_causes (documents_of r) ≡ []) }
-        ensures alone { IfOk result (λ r. AnswersNothing (asking R.may_answer R.may_refuse retriever.now (layer_of layer)) → (documents_of r ≡ map document_of documents.entry.items) × (retrieved_by r ≡ [])) }
-        ensures refused { IfErr result (RefusesRegistry (asking R.may_answer R.may_refuse retriever.now (layer_of layer)) limit (map document_of documents.entry.items)) }
+        ensures alone { IfOk result (λ r. AnswersNothing
+            (asking R.may_answer R.may_refuse retriever.now (layer_of layer))
+            → (documents_of r ≡ map document_of documents.entry.items) × (retrieved_by r ≡ [])) }
+        ensures refused { IfErr result (RefusesRegistry
+            (asking R.may_answer R.may_refuse retriever.now (layer_of layer)) limit
+            (map document_of documents.entry.items)) }
     {
         let Retrieved { documents, uris } = retrieve_wanted(
             alloc, documents, layer, retriever, limit,
@@ -76,13 +82,17 @@ impl<'a, R: Retrieve + Drop> RegistryBuilder<'a, R> {
     /// Where the retriever refuses what is wanted, which is then named; where more is wanted than may be retrieved; a cause that the
     /// documents have, those that were retrieved among them; or want of memory. Nothing of the registry is left then.
     pub fn prepare(self) -> Result<Registry<'a>, Error>
-        ensures documents { IfOk result (λ r. IsGathered (asking_of R.may_answer R.may_refuse self.entry) self.entry.limit (added_in self.entry) (documents_of r) (retrieved_by r)) }
+        ensures documents { IfOk result (λ r. IsGathered
+            (asking_of R.may_answer R.may_refuse self.entry) self.entry.limit (added_in self.entry)
+            (documents_of r) (retrieved_by r)) }
         ensures siblings { IfOk result (λ r. r.siblings ≡ self.entry.siblings) }
         ensures once { IfOk result (λ r. none_twice (retrieved_by r) ≡ true) }
         ensures complete { IfOk result (λ r. wants (documents_of r) ≡ []) }
         ensures accepted { IfOk result (λ r. document_causes (documents_of r) ≡ []) }
-        ensures alone { IfOk result (λ r. AnswersNothing (asking_of R.may_answer R.may_refuse self.entry) → (documents_of r ≡ added_in self.entry) × (retrieved_by r ≡ [])) }
-        ensures refused { IfErr result (RefusesRegistry (asking_of R.may_answer R.may_refuse self.entry) self.entry.limit (added_in self.entry)) }
+        ensures alone { IfOk result (λ r. AnswersNothing (asking_of R.may_answer R.may_refuse self.entry)
+            → (documents_of r ≡ added_in self.entry) × (retrieved_by r ≡ [])) }
+        ensures refused { IfErr result (RefusesRegistry
+            (asking_of R.may_answer R.may_refuse self.entry) self.entry.limit (added_in self.entry)) }
     {
         let RegistryBuilder {
             alloc,

@@ -76,7 +76,9 @@ fn outermost_bearers(
     registry: &Registry<'_>,
     scope: &List<Rc<Uri>>,
 ) -> Result<Vec<Option<Rc<Uri>>>, AllocError>
-    ensures { IfOk result (λ v. map (option_map (λ u. u.value)) v.items ≡ map (spec.outermost_bearer (documents_of registry.now) (map (λ u. u.value) scope.now)) (spec.dynamic_names (documents_of registry.now))) }
+    ensures { IfOk result (λ v. map (option_map (λ u. u.value)) v.items
+        ≡ map (spec.outermost_bearer (documents_of registry.now) (map (λ u. u.value) scope.now))
+        (spec.dynamic_names (documents_of registry.now))) }
 {
     let mut bearers = Vec::new(registry.alloc);
     for name in registry.index.dynamic_names() {
@@ -96,8 +98,11 @@ impl<'r> Resolver<'r> {
     ///
     /// Where memory was refused or a count of owners is full.
     pub fn scope_key(&self) -> Result<ScopeKey, AllocError>
-        ensures key { IfOk result (λ k. key_of k ≡ spec.scope_key (documents_in self.now) (base_of self.now) (scope_of self.now)) }
-        ensures alike { IfOk result (λ k. (scope : List (List ℕ)) → IsPresent (base_of self.now) scope → key_of k ≡ spec.scope_key (documents_in self.now) (base_of self.now) scope → Alike (documents_in self.now) (base_of self.now) (scope_of self.now) scope) }
+        ensures key { IfOk result (λ k. key_of k
+            ≡ spec.scope_key (documents_in self.now) (base_of self.now) (scope_of self.now)) }
+        ensures alike { IfOk result (λ k. (scope : List (List ℕ)) → IsPresent (base_of self.now) scope
+            → key_of k ≡ spec.scope_key (documents_in self.now) (base_of self.now) scope
+            → Alike (documents_in self.now) (base_of self.now) (scope_of self.now) scope) }
     {
         Ok(ScopeKey {
             bearers: outermost_bearers(self.registry, &self.scope)?,

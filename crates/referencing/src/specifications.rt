@@ -35,11 +35,18 @@ impl<'a> Registry<'a> {
     where
         I::IntoIter: Drop,
         requires { IsFiniteIterable I.into_iter_gives I.IntoIter.can_next I.IntoIter.remaining pairs }
-        ensures ok { IfOk result (λ r. (it : I.IntoIter) × (xs : List (U × R)) × I.into_iter_gives pairs it × Drains I.IntoIter.next_gives it xs × IsTrue (are_document_uris U.text xs) × (documents_of r ≡ specified_by U.text R.contents R.draft xs)) }
+        ensures ok { IfOk result (λ r. (it : I.IntoIter) × (xs : List (U × R)) × I.into_iter_gives pairs it
+            × Drains I.IntoIter.next_gives it xs × IsTrue (are_document_uris U.text xs)
+            × (documents_of r ≡ specified_by U.text R.contents R.draft xs)) }
         ensures siblings { IfOk result (λ r. r.siblings ≡ false) }
         ensures alone { IfOk result (λ r. retrieved_by r ≡ []) }
         ensures accepted { IfOk result (λ r. document_causes (documents_of r) ≡ []) }
-        ensures refused { IfErr result (λ e. ((it : I.IntoIter) × (before : List (U × R)) × (x : U × R) × (rest : I.IntoIter) × I.into_iter_gives pairs it × YieldsThen I.IntoIter.next_gives it before (Some x) rest × IsTrue (are_document_uris U.text before) × RefusesUri (U.text x.0) e) ⊎ ((it : I.IntoIter) × (xs : List (U × R)) × I.into_iter_gives pairs it × Drains I.IntoIter.next_gives it xs × NamesOne (document_causes (specified_by U.text R.contents R.draft xs)) e)) }
+        ensures refused { IfErr result (λ e. ((it : I.IntoIter) × (before : List (U × R)) × (x : U × R)
+            × (rest : I.IntoIter) × I.into_iter_gives pairs it
+            × YieldsThen I.IntoIter.next_gives it before (Some x) rest × IsTrue (are_document_uris U.text before)
+            × RefusesUri (U.text x.0) e) ⊎ ((it : I.IntoIter) × (xs : List (U × R)) × I.into_iter_gives pairs it
+            × Drains I.IntoIter.next_gives it xs
+            × NamesOne (document_causes (specified_by U.text R.contents R.draft xs)) e)) }
     {
         let (given, draft) = RegistryBuilder::new(alloc).extend(pairs)?.into_parts();
         let layer = Layer {

@@ -37,9 +37,11 @@ pub fn accepts<'q, 'i: 'q, K: Validate, T: Matching>(
     ensures questions { OnOk result (questions.new.items ≡ questions.old.items) }
     ensures cut { IfOk result (λ b. InEach (T.matches matching.old) (λ m.
         let r = reading_of K.shape m graph.now.nodes.items in
-        (all : List Key) → AreAll r node (whole (view value.now)) all → b ≡ cut verdicts r all [] node (whole (view value.now)))) }
+        (all : List Key) → AreAll r node (whole (view value.now)) all
+        → b ≡ cut verdicts r all [] node (whole (view value.now)))) }
     ensures decided { IfOk result (λ b. InEach (T.matches matching.old) (λ m.
-        (r : Reading ℕ) (n : ℕ) (answer : Bool) → IsReadingOf K.shape m graph.now.nodes.items r → unfolded verdicts r n node (whole (view value.now)) ≡ Some answer → b ≡ answer)) }
+        (r : Reading ℕ) (n : ℕ) (answer : Bool) → IsReadingOf K.shape m graph.now.nodes.items r
+        → unfolded verdicts r n node (whole (view value.now)) ≡ Some answer → b ≡ answer)) }
 {
     accepts_node(
         graph,

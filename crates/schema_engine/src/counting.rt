@@ -24,12 +24,15 @@ pub(crate) fn count_accepted<'q, 'i: 'q, K: Validate, T: Matching>(
     questions: &mut Vec<Question<'q, 'i>>,
 ) -> Result<usize, AllocError>
     requires known { AreKnown K.knows (T.matches matching.old).pattern here.now.graph.now.nodes.items }
-    requires asked { EachMayAsk here.now.graph.now.nodes.items (rank_at here.now.graph.now.nodes.items here.now.node) (value_at here.now.place) (map call_of (drop start questions.old.items)) }
+    requires asked { EachMayAsk here.now.graph.now.nodes.items
+        (rank_at here.now.graph.now.nodes.items here.now.node) (value_at here.now.place)
+        (map call_of (drop start questions.old.items)) }
     ensures matches { OnOk result (T.matches matching.new ≡ T.matches matching.old) }
     ensures questions { OnOk result (questions.new.items ≡ questions.old.items) }
     ensures counted { IfOk result (λ b. InEach (T.matches matching.old) (λ m.
         let r = reading_of K.shape m here.now.graph.now.nodes.items in
-        Counts here.now.place (numbers_in here.now.progress.now) (size_of here.now) (λ x. count_true (map (asked_in r x) (map call_of (drop start questions.old.items)))) b)) }
+        Counts here.now.place (numbers_in here.now.progress.now) (size_of here.now)
+        (λ x. count_true (map (asked_in r x) (map call_of (drop start questions.old.items)))) b)) }
 {
     let mut count = 0;
     let end = questions.len();

@@ -20,5 +20,6 @@ pub trait Matching {
     /// Where memory was refused, or nothing is known of the match.
     fn is_match(&mut self, pattern: usize, text: &str) -> Result<bool, AllocError>
         ensures same { OnOk result (matches self.new ≡ matches self.old) }
-        ensures read { IfOk result (λ b. InEach (matches self.old) (λ m. b ≡ matched m ((matches self.old).pattern pattern) text.now)) };
+        ensures read { IfOk result (λ b. InEach (matches self.old)
+            (λ m. b ≡ matched m ((matches self.old).pattern pattern) text.now)) };
 }

@@ -11,7 +11,8 @@ pub(crate) fn one_of<'o>(
     accepted: usize,
     errors: Vec<Vec<ValidationError<'o>>>,
 ) -> ValidationErrorKind<'o>
-    ensures { (branches : Branches) → AreBranches errors.entry.items branches → StandsFor result (one_of_kind accepted branches) }
+    ensures { (branches : Branches) → AreBranches errors.entry.items branches
+        → StandsFor result (one_of_kind accepted branches) }
 {
     let context = ErrorContext::new(errors);
     if accepted > 0 {

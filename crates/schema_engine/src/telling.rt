@@ -11,8 +11,11 @@ ghost use Rattle.schema_engine.specs.Refusals.{has_one_fault};
 ghost use Rattle.schema_engine.specs.Rules.{combination_of};
 ghost use Rattle.schema_engine.specs.Graphs.{keywords_at, path_at, rank_at, reading_of, AreKnown};
 ghost use Rattle.schema_engine.specs.Verdicts.{GoesDown, MayAsk, EachMayAsk};
-ghost use Rattle.schema_engine.specs.Faults.{node_faults, rule_faults, one_told, question_faults, faults_beside, faults_by_first, faults_of_object, AreAsked, AreErrorsOf, Hearing};
-ghost use Rattle.schema_engine.specs.Standing.{nodes_of, size_at, size_of, stand_in, stand_of, stand_of_name, HearsAt, HearsOf, IsThere};
+ghost use Rattle.schema_engine.specs.Faults.{node_faults, rule_faults, one_told, question_faults};
+ghost use Rattle.schema_engine.specs.Faults.{faults_beside, faults_by_first, faults_of_object, AreAsked};
+ghost use Rattle.schema_engine.specs.Faults.{AreErrorsOf, Hearing};
+ghost use Rattle.schema_engine.specs.Standing.{nodes_of, size_at, size_of, stand_in, stand_of, stand_of_name};
+ghost use Rattle.schema_engine.specs.Standing.{HearsAt, HearsOf, IsThere};
 ghost use Rattle.schema_engine.specs.Matches.{InEach};
 
 use crate::combination::Combination;
@@ -50,7 +53,8 @@ pub(crate) fn tell_value<'q, 'i: 'q, K: Validate, T: Matching>(
     ensures questions { OnOk result (questions.new.items ≡ questions.old.items) }
     ensures heard { let nodes = graph.now.nodes.items in OnOk result (InEach (T.matches matching.old) (λ m.
         let r = reading_of K.shape m nodes in
-        Hearing (stand_in situation.entry) (suc (size_at nodes (stand_in situation.entry) node)) (node_faults r node) observer.old observer.new)) }
+        Hearing (stand_in situation.entry) (suc (size_at nodes (stand_in situation.entry) node))
+        (node_faults r node) observer.old observer.new)) }
 {
     let there = There {
         here: Here {
@@ -79,7 +83,8 @@ fn tell_node<'q, 'i: 'q, K: Validate, T: Matching>(
     ensures questions { OnOk result (questions.new.items ≡ questions.old.items) }
     ensures heard { OnOk result (InEach (T.matches matching.old) (λ m.
         let r = reading_of K.shape m (nodes_of there.now.here) in
-        Hearing (stand_of there.now) (suc (size_of there.now.here)) (node_faults r there.now.here.node) observer.old observer.new)) }
+        Hearing (stand_of there.now) (suc (size_of there.now.here))
+        (node_faults r there.now.here.node) observer.old observer.new)) }
 {
     for keyword in &there.here.graph.nodes[there.here.node].keywords {
         if observer.is_settled() {
@@ -106,7 +111,8 @@ fn tell_keyword<'q, 'i: 'q, K: Validate, T: Matching>(
     ensures questions { OnOk result (questions.new.items ≡ questions.old.items) }
     ensures heard { OnOk result (InEach (T.matches matching.old) (λ m.
         let r = reading_of K.shape m (nodes_of there.now.here) in
-        HearsAt there.now (rule_faults r there.now.here.node (rule m (value_at there.now.here.place) (K.shape keyword.now))) observer.old observer.new)) }
+        HearsAt there.now (rule_faults r there.now.here.node
+        (rule m (value_at there.now.here.place) (K.shape keyword.now))) observer.old observer.new)) }
 {
     let start = questions.len();
     keyword.questions(there.here.place, matching, questions)?;
@@ -128,12 +134,15 @@ fn tell_by_rule<'q, 'i: 'q, K: Validate, T: Matching>(
     requires known { AreKnown K.knows (T.matches matching.old).pattern (nodes_of there.now.here) }
     requires right { IsThere there.now }
     requires stands { In keyword.now (keywords_at (nodes_of there.now.here) there.now.here.node) }
-    requires asked { InEach (T.matches matching.old) (λ m. AreAsked (K.added keyword.now) (rule m (value_at there.now.here.place) (K.shape keyword.now)) (drop start questions.old.items)) }
+    requires asked { InEach (T.matches matching.old)
+        (λ m. AreAsked (K.added keyword.now) (rule m (value_at there.now.here.place) (K.shape keyword.now))
+        (drop start questions.old.items)) }
     ensures matches { OnOk result (T.matches matching.new ≡ T.matches matching.old) }
     ensures questions { OnOk result (questions.new.items ≡ questions.old.items) }
     ensures heard { OnOk result (InEach (T.matches matching.old) (λ m.
         let r = reading_of K.shape m (nodes_of there.now.here) in
-        HearsAt there.now (rule_faults r there.now.here.node (rule m (value_at there.now.here.place) (K.shape keyword.now))) observer.old observer.new)) }
+        HearsAt there.now (rule_faults r there.now.here.node
+        (rule m (value_at there.now.here.place) (K.shape keyword.now))) observer.old observer.new)) }
 {
     let combination = keyword.combination(there.here.place);
     match combination {
@@ -172,12 +181,14 @@ fn tell_each<'q, 'i: 'q, K: Validate, T: Matching>(
 ) -> Result<(), AllocError>
     requires known { AreKnown K.knows (T.matches matching.old).pattern (nodes_of there.now.here) }
     requires right { IsThere there.now }
-    requires asked { EachMayAsk (nodes_of there.now.here) (rank_at (nodes_of there.now.here) there.now.here.node) (value_at there.now.here.place) (map call_of (drop start questions.old.items)) }
+    requires asked { EachMayAsk (nodes_of there.now.here) (rank_at (nodes_of there.now.here) there.now.here.node)
+        (value_at there.now.here.place) (map call_of (drop start questions.old.items)) }
     ensures matches { OnOk result (T.matches matching.new ≡ T.matches matching.old) }
     ensures questions { OnOk result (questions.new.items ≡ questions.old.items) }
     ensures heard { OnOk result (InEach (T.matches matching.old) (λ m.
         let r = reading_of K.shape m (nodes_of there.now.here) in
-        HearsAt there.now (λ x. faults_beside (question_faults r (K.added keyword.now) x) beside (drop start questions.old.items)) observer.old observer.new)) }
+        HearsAt there.now (λ x. faults_beside (question_faults r (K.added keyword.now) x) beside
+        (drop start questions.old.items)) observer.old observer.new)) }
 {
     let end = questions.len();
     for index in start..end {
@@ -205,12 +216,14 @@ fn tell_conditional<'q, 'i: 'q, K: Validate, T: Matching>(
 ) -> Result<(), AllocError>
     requires known { AreKnown K.knows (T.matches matching.old).pattern (nodes_of there.now.here) }
     requires right { IsThere there.now }
-    requires asked { EachMayAsk (nodes_of there.now.here) (rank_at (nodes_of there.now.here) there.now.here.node) (value_at there.now.here.place) (map call_of (drop start questions.old.items)) }
+    requires asked { EachMayAsk (nodes_of there.now.here) (rank_at (nodes_of there.now.here) there.now.here.node)
+        (value_at there.now.here.place) (map call_of (drop start questions.old.items)) }
     ensures matches { OnOk result (T.matches matching.new ≡ T.matches matching.old) }
     ensures questions { OnOk result (questions.new.items ≡ questions.old.items) }
     ensures heard { OnOk result (InEach (T.matches matching.old) (λ m.
         let r = reading_of K.shape m (nodes_of there.now.here) in
-        HearsAt there.now (λ x. faults_by_first (question_faults r (K.added keyword.now) x) (drop start questions.old.items)) observer.old observer.new)) }
+        HearsAt there.now (λ x. faults_by_first (question_faults r (K.added keyword.now) x)
+        (drop start questions.old.items)) observer.old observer.new)) }
 {
     if start >= questions.len() {
         return Ok(());
@@ -240,12 +253,14 @@ fn tell_named<'q, 'i: 'q, K: Validate, T: Matching>(
 ) -> Result<(), AllocError>
     requires known { AreKnown K.knows (T.matches matching.old).pattern (nodes_of there.now.here) }
     requires right { IsThere there.now }
-    requires asked { EachMayAsk (nodes_of there.now.here) (rank_at (nodes_of there.now.here) there.now.here.node) (value_at there.now.here.place) (map call_of (drop start questions.old.items)) }
+    requires asked { EachMayAsk (nodes_of there.now.here) (rank_at (nodes_of there.now.here) there.now.here.node)
+        (value_at there.now.here.place) (map call_of (drop start questions.old.items)) }
     ensures matches { OnOk result (T.matches matching.new ≡ T.matches matching.old) }
     ensures questions { OnOk result (questions.new.items ≡ questions.old.items) }
     ensures heard { OnOk result (InEach (T.matches matching.old) (λ m.
         let r = reading_of K.shape m (nodes_of there.now.here) in
-        HearsAt there.now (λ x. faults_of_object (question_faults r (K.added keyword.now) x) x (drop start questions.old.items)) observer.old observer.new)) }
+        HearsAt there.now (λ x. faults_of_object (question_faults r (K.added keyword.now) x) x
+        (drop start questions.old.items)) observer.old observer.new)) }
 {
     let situation = &there.situation;
     let end = questions.len();
@@ -275,14 +290,18 @@ fn tell_combined<'q, 'i: 'q, K: Validate, T: Matching>(
     requires known { AreKnown K.knows (T.matches matching.old).pattern (nodes_of there.now.here) }
     requires right { IsThere there.now }
     requires stands { In keyword.now (keywords_at (nodes_of there.now.here) there.now.here.node) }
-    requires combination { InEach (T.matches matching.old) (λ m. combination ≡ combination_of (rule m (value_at there.now.here.place) (K.shape keyword.now))) }
+    requires combination { InEach (T.matches matching.old)
+        (λ m. combination ≡ combination_of (rule m (value_at there.now.here.place) (K.shape keyword.now))) }
     requires once { has_one_fault combination ≡ true }
-    requires asked { InEach (T.matches matching.old) (λ m. AreAsked (K.added keyword.now) (rule m (value_at there.now.here.place) (K.shape keyword.now)) (drop start questions.old.items)) }
+    requires asked { InEach (T.matches matching.old)
+        (λ m. AreAsked (K.added keyword.now) (rule m (value_at there.now.here.place) (K.shape keyword.now))
+        (drop start questions.old.items)) }
     ensures matches { OnOk result (T.matches matching.new ≡ T.matches matching.old) }
     ensures questions { OnOk result (questions.new.items ≡ questions.old.items) }
     ensures heard { OnOk result (InEach (T.matches matching.old) (λ m.
         let r = reading_of K.shape m (nodes_of there.now.here) in
-        HearsAt there.now (rule_faults r there.now.here.node (rule m (value_at there.now.here.place) (K.shape keyword.now))) observer.old observer.new)) }
+        HearsAt there.now (rule_faults r there.now.here.node
+        (rule m (value_at there.now.here.place) (K.shape keyword.now))) observer.old observer.new)) }
 {
     if accepts_combined(&there.here, combination, start, matching, questions)? {
         return Ok(());
@@ -315,14 +334,18 @@ fn tell_refusal<'q, 'i: 'q, K: Validate, T: Matching>(
     requires known { AreKnown K.knows (T.matches matching.old).pattern (nodes_of there.now.here) }
     requires right { IsThere there.now }
     requires stands { In keyword.now (keywords_at (nodes_of there.now.here) there.now.here.node) }
-    requires combination { InEach (T.matches matching.old) (λ m. combination ≡ combination_of (rule m (value_at there.now.here.place) (K.shape keyword.now))) }
+    requires combination { InEach (T.matches matching.old)
+        (λ m. combination ≡ combination_of (rule m (value_at there.now.here.place) (K.shape keyword.now))) }
     requires once { has_one_fault combination ≡ true }
-    requires asked { InEach (T.matches matching.old) (λ m. AreAsked (K.added keyword.now) (rule m (value_at there.now.here.place) (K.shape keyword.now)) (drop start questions.old.items)) }
+    requires asked { InEach (T.matches matching.old)
+        (λ m. AreAsked (K.added keyword.now) (rule m (value_at there.now.here.place) (K.shape keyword.now))
+        (drop start questions.old.items)) }
     ensures matches { OnOk result (T.matches matching.new ≡ T.matches matching.old) }
     ensures questions { OnOk result (questions.new.items ≡ questions.old.items) }
     ensures heard { OnOk result (InEach (T.matches matching.old) (λ m.
         let r = reading_of K.shape m (nodes_of there.now.here) in
-        HearsAt there.now (one_told r there.now.here.node (rule m (value_at there.now.here.place) (K.shape keyword.now))) observer.old observer.new)) }
+        HearsAt there.now (one_told r there.now.here.node
+        (rule m (value_at there.now.here.place) (K.shape keyword.now))) observer.old observer.new)) }
 {
     let situation = &there.situation;
     match combination {
@@ -370,12 +393,14 @@ fn tell_branches<'q, 'i: 'q, K: Validate, T: Matching>(
 ) -> Result<Vec<Vec<ValidationError<'i>>>, AllocError>
     requires known { AreKnown K.knows (T.matches matching.old).pattern (nodes_of there.now.here) }
     requires right { IsThere there.now }
-    requires asked { EachMayAsk (nodes_of there.now.here) (rank_at (nodes_of there.now.here) there.now.here.node) (value_at there.now.here.place) (map call_of (drop start questions.old.items)) }
+    requires asked { EachMayAsk (nodes_of there.now.here) (rank_at (nodes_of there.now.here) there.now.here.node)
+        (value_at there.now.here.place) (map call_of (drop start questions.old.items)) }
     ensures matches { OnOk result (T.matches matching.new ≡ T.matches matching.old) }
     ensures questions { OnOk result (questions.new.items ≡ questions.old.items) }
     ensures branches { IfOk result (λ context. InEach (T.matches matching.old) (λ m.
         let r = reading_of K.shape m (nodes_of there.now.here) in
-        AreErrorsOf (stand_of there.now) (size_of there.now.here) (question_faults r (K.added keyword.now)) (drop start questions.old.items) context.items)) }
+        AreErrorsOf (stand_of there.now) (size_of there.now.here) (question_faults r (K.added keyword.now))
+        (drop start questions.old.items) context.items)) }
 {
     let alloc = there.situation.alloc;
     let mut context = Vec::new(alloc);
@@ -401,7 +426,8 @@ fn tell_question<'q, 'i: 'q, K: Validate, T: Matching>(
 ) -> Result<(), AllocError>
     requires known { AreKnown K.knows (T.matches matching.old).pattern (nodes_of there.now.here) }
     requires right { IsThere there.now }
-    requires asked { MayAsk (nodes_of there.now.here) (rank_at (nodes_of there.now.here) there.now.here.node) (value_at there.now.here.place) (call_of question) }
+    requires asked { MayAsk (nodes_of there.now.here) (rank_at (nodes_of there.now.here) there.now.here.node)
+        (value_at there.now.here.place) (call_of question) }
     ensures matches { OnOk result (T.matches matching.new ≡ T.matches matching.old) }
     ensures questions { OnOk result (questions.new.items ≡ questions.old.items) }
     ensures heard { OnOk result (InEach (T.matches matching.old) (λ m.
@@ -439,12 +465,14 @@ fn tell_step<'q, 'i: 'q, 'e, K: Validate, T: Matching>(
 ) -> Result<(), AllocError>
     requires known { AreKnown K.knows (T.matches matching.old).pattern (nodes_of there.now.here) }
     requires right { IsThere there.now }
-    requires asked { MayAsk (nodes_of there.now.here) (rank_at (nodes_of there.now.here) there.now.here.node) (value_at there.now.here.place) (call_of question) }
+    requires asked { MayAsk (nodes_of there.now.here) (rank_at (nodes_of there.now.here) there.now.here.node)
+        (value_at there.now.here.place) (call_of question) }
     ensures matches { OnOk result (T.matches matching.new ≡ T.matches matching.old) }
     ensures questions { OnOk result (questions.new.items ≡ questions.old.items) }
     ensures heard { OnOk result (InEach (T.matches matching.old) (λ m.
         let r = reading_of K.shape m (nodes_of there.now.here) in
-        HearsOf r there.now (location_of evaluation.now) question.entry.node (step_of question.entry.asked) question.entry.follows observer.old observer.new)) }
+        HearsOf r there.now (location_of evaluation.now) question.entry.node
+        (step_of question.entry.asked) question.entry.follows observer.old observer.new)) }
 {
     let node = question.node;
     let graph = there.here.graph;
@@ -579,7 +607,9 @@ fn tell_name<'q, 'i: 'q, K: Validate, T: Matching>(
     ensures matches { OnOk result (T.matches matching.new ≡ T.matches matching.old) }
     ensures heard { let nodes = graph.now.nodes.items in OnOk result (InEach (T.matches matching.old) (λ m.
         let r = reading_of K.shape m nodes in
-        Hearing (stand_of_name name.entry object.entry) (suc (size_at nodes (stand_of_name name.entry object.entry) node)) (node_faults r node) observer.old observer.new)) }
+        Hearing (stand_of_name name.entry object.entry)
+        (suc (size_at nodes (stand_of_name name.entry object.entry) node))
+        (node_faults r node) observer.old observer.new)) }
 {
     let alloc = object.alloc;
     let text = Value::String(String::from_str(alloc, name)?);

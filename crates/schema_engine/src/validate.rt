@@ -38,11 +38,13 @@ pub trait Validate: Drop {
 
     /// How the answers to its questions make its verdict.
     fn combination(&self, place: Place<'_>) -> Combination
-        ensures { (matches : List ℕ → List ℕ → Bool) → result ≡ combination_of (rule matches (value_at place.entry) (shape self.now)) };
+        ensures { (matches : List ℕ → List ℕ → Bool)
+            → result ≡ combination_of (rule matches (value_at place.entry) (shape self.now)) };
 
     /// What it asks, where that is simple: then each answer has to be yes.
     fn asking<'i>(&self, place: Place<'i>) -> Asking<'i>
-        ensures { (matches : List ℕ → List ℕ → Bool) → AsksSo result (rule matches (value_at place.entry) (shape self.now)) };
+        ensures { (matches : List ℕ → List ℕ → Bool)
+            → AsksSo result (rule matches (value_at place.entry) (shape self.now)) };
 
     /// Whether nothing is wrong with the value itself.
     ///
@@ -75,7 +77,8 @@ pub trait Validate: Drop {
         ensures pushed { OnOk result (InEach (T.matches matching.old) (λ m.
             Pushes into.old.items into.new.items (questions_of (rule m (value_at place.entry) (shape self.now))))) }
         ensures asked { OnOk result (InEach (T.matches matching.old) (λ m.
-            PushesAsked (added self.now) into.old.items into.new.items (asks (rule m (value_at place.entry) (shape self.now))))) };
+            PushesAsked (added self.now) into.old.items into.new.items
+            (asks (rule m (value_at place.entry) (shape self.now))))) };
 
     /// Where in it the schema of a question of this entry stands.
     fn entry(&self, entry: usize) -> Entry<'_>
@@ -83,7 +86,8 @@ pub trait Validate: Drop {
 
     /// The name under which it refuses where so many of its questions are answered yes, if one fault speaks for all of them.
     fn refused_name(&self, accepted: usize) -> &str
-        ensures { (matches : List ℕ → List ℕ → Bool) (d : Data) → IsRefusedUnder (rule matches d (shape self.now)) accepted result.now };
+        ensures { (matches : List ℕ → List ℕ → Bool) (d : Data)
+            → IsRefusedUnder (rule matches d (shape self.now)) accepted result.now };
 
     /// Tells an observer of what is wrong with the value itself.
     ///

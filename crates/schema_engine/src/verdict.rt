@@ -45,7 +45,9 @@ pub fn accepts_node<'q, 'i: 'q, K: Validate, T: Matching>(
     ensures questions { OnOk result (questions.new.items ≡ questions.old.items) }
     ensures verdict { let nodes = graph.now.nodes.items in IfOk result (λ b. InEach (T.matches matching.old) (λ m.
         let r = reading_of K.shape m nodes in
-        Tells place.entry (numbers_in progress.now) (suc (size nodes (value_at place.entry) (numbers_in progress.now) (rank_at nodes node))) (node_in r node) b)) }
+        Tells place.entry (numbers_in progress.now)
+        (suc (size nodes (value_at place.entry) (numbers_in progress.now) (rank_at nodes node)))
+        (node_in r node) b)) }
 {
     let here = Here {
         graph,
@@ -75,11 +77,13 @@ fn accepts_keyword<'q, 'i: 'q, K: Validate, T: Matching>(
 ) -> Result<bool, AllocError>
     requires known { AreKnown K.knows (T.matches matching.old).pattern here.now.graph.now.nodes.items }
     requires stands { In keyword.now (keywords_at here.now.graph.now.nodes.items here.now.node) }
-    requires right { InEach (T.matches matching.old) (λ m. is_right (rule m (value_at here.now.place) (K.shape keyword.now)) ≡ true) }
+    requires right { InEach (T.matches matching.old)
+        (λ m. is_right (rule m (value_at here.now.place) (K.shape keyword.now)) ≡ true) }
     ensures matches { OnOk result (T.matches matching.new ≡ T.matches matching.old) }
     ensures questions { OnOk result (questions.new.items ≡ questions.old.items) }
     ensures verdict { let nodes = here.now.graph.now.nodes.items in IfOk result (λ b. InEach (T.matches matching.old) (λ m.
-        TellsFrom nodes here.now.node here.now.place (numbers_in here.now.progress.now) (rule_in (reading_of K.shape m nodes) (rule m (value_at here.now.place) (K.shape keyword.now))) b)) }
+        TellsFrom nodes here.now.node here.now.place (numbers_in here.now.progress.now)
+        (rule_in (reading_of K.shape m nodes) (rule m (value_at here.now.place) (K.shape keyword.now))) b)) }
 {
     match keyword.asking(here.place) {
         Asking::Nothing => Ok(true),
@@ -101,11 +105,13 @@ fn accepts_listed<'q, 'i: 'q, K: Validate, T: Matching>(
 ) -> Result<bool, AllocError>
     requires known { AreKnown K.knows (T.matches matching.old).pattern here.now.graph.now.nodes.items }
     requires stands { In keyword.now (keywords_at here.now.graph.now.nodes.items here.now.node) }
-    requires right { InEach (T.matches matching.old) (λ m. is_right (rule m (value_at here.now.place) (K.shape keyword.now)) ≡ true) }
+    requires right { InEach (T.matches matching.old)
+        (λ m. is_right (rule m (value_at here.now.place) (K.shape keyword.now)) ≡ true) }
     ensures matches { OnOk result (T.matches matching.new ≡ T.matches matching.old) }
     ensures questions { OnOk result (questions.new.items ≡ questions.old.items) }
     ensures verdict { let nodes = here.now.graph.now.nodes.items in IfOk result (λ b. InEach (T.matches matching.old) (λ m.
-        TellsFrom nodes here.now.node here.now.place (numbers_in here.now.progress.now) (rule_in (reading_of K.shape m nodes) (rule m (value_at here.now.place) (K.shape keyword.now))) b)) }
+        TellsFrom nodes here.now.node here.now.place (numbers_in here.now.progress.now)
+        (rule_in (reading_of K.shape m nodes) (rule m (value_at here.now.place) (K.shape keyword.now))) b)) }
 {
     let start = questions.len();
     keyword.questions(here.place, matching, questions)?;
@@ -126,12 +132,16 @@ fn accepts_items<'q, 'i: 'q, K: Validate, T: Matching>(
     questions: &mut Vec<Question<'q, 'i>>,
 ) -> Result<bool, AllocError>
     requires known { AreKnown K.knows (T.matches matching.old).pattern here.now.graph.now.nodes.items }
-    requires asked { EachMayAsk here.now.graph.now.nodes.items (rank_at here.now.graph.now.nodes.items here.now.node) (value_at here.now.place) (item_calls node start (items_view (drop start items.now))) }
+    requires asked { EachMayAsk here.now.graph.now.nodes.items
+        (rank_at here.now.graph.now.nodes.items here.now.node) (value_at here.now.place)
+        (item_calls node start (items_view (drop start items.now))) }
     ensures matches { OnOk result (T.matches matching.new ≡ T.matches matching.old) }
     ensures questions { OnOk result (questions.new.items ≡ questions.old.items) }
     ensures verdict { let nodes = here.now.graph.now.nodes.items in IfOk result (λ b. InEach (T.matches matching.old) (λ m.
         let r = reading_of K.shape m nodes in
-        TellsFrom nodes here.now.node here.now.place (numbers_in here.now.progress.now) (λ x. all_beside (asked_in r x) true (item_calls node start (items_view (drop start items.now)))) b)) }
+        TellsFrom nodes here.now.node here.now.place (numbers_in here.now.progress.now)
+        (λ x. all_beside (asked_in r x) true
+        (item_calls node start (items_view (drop start items.now)))) b)) }
 {
     for index in start..items.len() {
         let question = Question {
@@ -161,12 +171,15 @@ pub(crate) fn accepts_combined<'q, 'i: 'q, K: Validate, T: Matching>(
     questions: &mut Vec<Question<'q, 'i>>,
 ) -> Result<bool, AllocError>
     requires known { AreKnown K.knows (T.matches matching.old).pattern here.now.graph.now.nodes.items }
-    requires asked { EachMayAsk here.now.graph.now.nodes.items (rank_at here.now.graph.now.nodes.items here.now.node) (value_at here.now.place) (map call_of (drop start questions.old.items)) }
+    requires asked { EachMayAsk here.now.graph.now.nodes.items
+        (rank_at here.now.graph.now.nodes.items here.now.node) (value_at here.now.place)
+        (map call_of (drop start questions.old.items)) }
     ensures matches { OnOk result (T.matches matching.new ≡ T.matches matching.old) }
     ensures questions { OnOk result (questions.new.items ≡ questions.old.items) }
     ensures verdict { let nodes = here.now.graph.now.nodes.items in IfOk result (λ b. InEach (T.matches matching.old) (λ m.
         let r = reading_of K.shape m nodes in
-        TellsFrom nodes here.now.node here.now.place (numbers_in here.now.progress.now) (λ x. combined combination (asked_in r x) (map call_of (drop start questions.old.items))) b)) }
+        TellsFrom nodes here.now.node here.now.place (numbers_in here.now.progress.now)
+        (λ x. combined combination (asked_in r x) (map call_of (drop start questions.old.items))) b)) }
 {
     match combination {
         Combination::Every => accepts_each(here, true, start, matching, questions),
@@ -192,12 +205,15 @@ fn accepts_each<'q, 'i: 'q, K: Validate, T: Matching>(
     questions: &mut Vec<Question<'q, 'i>>,
 ) -> Result<bool, AllocError>
     requires known { AreKnown K.knows (T.matches matching.old).pattern here.now.graph.now.nodes.items }
-    requires asked { EachMayAsk here.now.graph.now.nodes.items (rank_at here.now.graph.now.nodes.items here.now.node) (value_at here.now.place) (map call_of (drop start questions.old.items)) }
+    requires asked { EachMayAsk here.now.graph.now.nodes.items
+        (rank_at here.now.graph.now.nodes.items here.now.node) (value_at here.now.place)
+        (map call_of (drop start questions.old.items)) }
     ensures matches { OnOk result (T.matches matching.new ≡ T.matches matching.old) }
     ensures questions { OnOk result (questions.new.items ≡ questions.old.items) }
     ensures verdict { let nodes = here.now.graph.now.nodes.items in IfOk result (λ b. InEach (T.matches matching.old) (λ m.
         let r = reading_of K.shape m nodes in
-        TellsFrom nodes here.now.node here.now.place (numbers_in here.now.progress.now) (λ x. all_beside (asked_in r x) beside (map call_of (drop start questions.old.items))) b)) }
+        TellsFrom nodes here.now.node here.now.place (numbers_in here.now.progress.now)
+        (λ x. all_beside (asked_in r x) beside (map call_of (drop start questions.old.items))) b)) }
 {
     let end = questions.len();
     for index in start..end {
@@ -222,12 +238,16 @@ fn accepts_counted<'q, 'i: 'q, K: Validate, T: Matching>(
     questions: &mut Vec<Question<'q, 'i>>,
 ) -> Result<bool, AllocError>
     requires known { AreKnown K.knows (T.matches matching.old).pattern here.now.graph.now.nodes.items }
-    requires asked { EachMayAsk here.now.graph.now.nodes.items (rank_at here.now.graph.now.nodes.items here.now.node) (value_at here.now.place) (map call_of (drop start questions.old.items)) }
+    requires asked { EachMayAsk here.now.graph.now.nodes.items
+        (rank_at here.now.graph.now.nodes.items here.now.node) (value_at here.now.place)
+        (map call_of (drop start questions.old.items)) }
     ensures matches { OnOk result (T.matches matching.new ≡ T.matches matching.old) }
     ensures questions { OnOk result (questions.new.items ≡ questions.old.items) }
     ensures verdict { let nodes = here.now.graph.now.nodes.items in IfOk result (λ b. InEach (T.matches matching.old) (λ m.
         let r = reading_of K.shape m nodes in
-        TellsFrom nodes here.now.node here.now.place (numbers_in here.now.progress.now) (λ x. is_counted least most (count_true (map (asked_in r x) (map call_of (drop start questions.old.items))))) b)) }
+        TellsFrom nodes here.now.node here.now.place (numbers_in here.now.progress.now)
+        (λ x. is_counted least most (count_true
+        (map (asked_in r x) (map call_of (drop start questions.old.items))))) b)) }
 {
     let mut count = 0;
     let end = questions.len();
@@ -252,12 +272,15 @@ fn accepts_conditional<'q, 'i: 'q, K: Validate, T: Matching>(
     questions: &mut Vec<Question<'q, 'i>>,
 ) -> Result<bool, AllocError>
     requires known { AreKnown K.knows (T.matches matching.old).pattern here.now.graph.now.nodes.items }
-    requires asked { EachMayAsk here.now.graph.now.nodes.items (rank_at here.now.graph.now.nodes.items here.now.node) (value_at here.now.place) (map call_of (drop start questions.old.items)) }
+    requires asked { EachMayAsk here.now.graph.now.nodes.items
+        (rank_at here.now.graph.now.nodes.items here.now.node) (value_at here.now.place)
+        (map call_of (drop start questions.old.items)) }
     ensures matches { OnOk result (T.matches matching.new ≡ T.matches matching.old) }
     ensures questions { OnOk result (questions.new.items ≡ questions.old.items) }
     ensures verdict { let nodes = here.now.graph.now.nodes.items in IfOk result (λ b. InEach (T.matches matching.old) (λ m.
         let r = reading_of K.shape m nodes in
-        TellsFrom nodes here.now.node here.now.place (numbers_in here.now.progress.now) (λ x. chosen_by_first (asked_in r x) (map call_of (drop start questions.old.items))) b)) }
+        TellsFrom nodes here.now.node here.now.place (numbers_in here.now.progress.now)
+        (λ x. chosen_by_first (asked_in r x) (map call_of (drop start questions.old.items))) b)) }
 {
     if start >= questions.len() {
         return Ok(true);
@@ -276,12 +299,14 @@ pub(crate) fn accepts_question<'q, 'i: 'q, K: Validate, T: Matching>(
     questions: &mut Vec<Question<'q, 'i>>,
 ) -> Result<bool, AllocError>
     requires known { AreKnown K.knows (T.matches matching.old).pattern here.now.graph.now.nodes.items }
-    requires asked { MayAsk here.now.graph.now.nodes.items (rank_at here.now.graph.now.nodes.items here.now.node) (value_at here.now.place) (call_of question) }
+    requires asked { MayAsk here.now.graph.now.nodes.items (rank_at here.now.graph.now.nodes.items here.now.node)
+        (value_at here.now.place) (call_of question) }
     ensures matches { OnOk result (T.matches matching.new ≡ T.matches matching.old) }
     ensures questions { OnOk result (questions.new.items ≡ questions.old.items) }
     ensures verdict { let nodes = here.now.graph.now.nodes.items in IfOk result (λ b. InEach (T.matches matching.old) (λ m.
         let r = reading_of K.shape m nodes in
-        TellsFrom nodes here.now.node here.now.place (numbers_in here.now.progress.now) (λ x. asked_in r x (call_of question.entry)) b)) }
+        TellsFrom nodes here.now.node here.now.place (numbers_in here.now.progress.now)
+        (λ x. asked_in r x (call_of question.entry)) b)) }
 {
     let below = Progress::Nothing;
     match question.asked {
@@ -340,7 +365,8 @@ fn accepts_target<'q, 'i: 'q, K: Validate, T: Matching>(
     ensures questions { OnOk result (questions.new.items ≡ questions.old.items) }
     ensures verdict { let nodes = here.now.graph.now.nodes.items in IfOk result (λ b. InEach (T.matches matching.old) (λ m.
         let r = reading_of K.shape m nodes in
-        TellsFrom nodes here.now.node here.now.place (numbers_in here.now.progress.now) (λ x. asked_in r x (record { node = target; step = stay; follows = true; beside = true })) b)) }
+        TellsFrom nodes here.now.node here.now.place (numbers_in here.now.progress.now)
+        (λ x. asked_in r x (record { node = target; step = stay; follows = true; beside = true })) b)) }
 {
     if is_in_progress(here.progress, target) {
         return Ok(true);

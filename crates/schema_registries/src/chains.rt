@@ -25,8 +25,10 @@ fn follow_from<'r>(
     base: &Uri,
     steps: &[Step<'_>],
 ) -> Result<Option<Resolved<'r>>, Error>
-    ensures ok { IfOk result (λ r. last_of_chain registry.now.siblings (documents_of registry.now) base.now steps.now ≡ Ok (option_map answer_in r)) }
-    ensures refused { IfErr result (RefusesLookup (followed registry.now.siblings (documents_of registry.now) (begun base.now) steps.now)) }
+    ensures ok { IfOk result (λ r. last_of_chain registry.now.siblings
+        (documents_of registry.now) base.now steps.now ≡ Ok (option_map answer_in r)) }
+    ensures refused { IfErr result (RefusesLookup
+        (followed registry.now.siblings (documents_of registry.now) (begun base.now) steps.now)) }
 {
     follow(registry, base.clone()?, steps)
 }
@@ -44,8 +46,10 @@ pub fn follow_both<'l, 'r>(
 ) -> BothAnswers<'l, 'r>
     requires documents { documents_of left.now ≡ documents_of right.now }
     requires siblings { left.now.siblings ≡ right.now.siblings }
-    ensures ok { IfOk result.left (λ r. last_of_chain left.now.siblings (documents_of left.now) base.now steps.now ≡ Ok (option_map answer_in r)) }
-    ensures refused { IfErr result.left (RefusesLookup (followed left.now.siblings (documents_of left.now) (begun base.now) steps.now)) }
+    ensures ok { IfOk result.left (λ r. last_of_chain left.now.siblings (documents_of left.now) base.now steps.now
+        ≡ Ok (option_map answer_in r)) }
+    ensures refused { IfErr result.left (RefusesLookup
+        (followed left.now.siblings (documents_of left.now) (begun base.now) steps.now)) }
     ensures alike { AnswerAlike result.left result.right }
 {
     BothAnswers {

@@ -67,7 +67,8 @@ impl Documents {
     /// Where the text is no URI of a document, where a number is no whole number of 64 bits, or where memory was refused, looked for in
     /// that order. The documents then stay as they were, and the value is dropped.
     pub fn add(&mut self, uri: &str, value: Value) -> Result<(), DocumentError>
-        ensures ok { OnOk result (documents_given self.new ≡ with_given (documents_given self.old) (given_under uri.now (view value))) }
+        ensures ok { OnOk result (documents_given self.new
+            ≡ with_given (documents_given self.old) (given_under uri.now (view value))) }
         ensures accepted { OnOk result (IsTrue (is_document_uri uri.now)) }
         ensures whole { OnOk result (only_whole (view value) ≡ true) }
         ensures refused { IfErr result (RefusesValue uri.now (view value)) }
@@ -94,7 +95,9 @@ impl Documents {
     }
 
     fn add_under(&mut self, uri: Rc<Uri>, value: Value) -> Result<(), DocumentError>
-        ensures ok { OnOk result (documents_given self.new ≡ with_given (documents_given self.old) (record { uri = uri.value; contents = view value; draft = None })) }
+        ensures ok { OnOk result (documents_given self.new
+            ≡ with_given (documents_given self.old)
+            (record { uri = uri.value; contents = view value; draft = None })) }
         ensures whole { OnOk result (only_whole (view value) ≡ true) }
         ensures refused { IfErr result (NamesNumber uri.value (view value)) }
         ensures unchanged { OnErr result (documents_given self.new ≡ documents_given self.old) }
@@ -119,7 +122,8 @@ impl Documents {
 
     // Puts a document among the others, where memory is given.
     fn put(&mut self, document: Document<'static>) -> bool
-        ensures put { result ≡ true → documents_given self.new ≡ with_given (documents_given self.old) (given_of document.entry) }
+        ensures put { result ≡ true → documents_given self.new
+            ≡ with_given (documents_given self.old) (given_of document.entry) }
         ensures unchanged { result ≡ false → documents_given self.new ≡ documents_given self.old }
     {
         let list = mem::replace(&mut self.list, DocumentList::new(self.alloc));

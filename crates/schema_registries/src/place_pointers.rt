@@ -33,7 +33,8 @@ fn pointers_under(
     document: &Document<'_>,
 ) -> Result<Vec<String>, AllocError>
     requires { rises (document_of document.now).contents ≡ true }
-    ensures pointers { IfOk result (λ v. map string_bytes v.items ≡ spec.pointers_under (dialects_in known.now) (document_of document.now)) }
+    ensures pointers { IfOk result (λ v. map string_bytes v.items
+        ≡ spec.pointers_under (dialects_in known.now) (document_of document.now)) }
     ensures distinct { IfOk result (λ v. IsDistinct bytes_eq (map string_bytes v.items)) }
 {
     let places = places(
@@ -63,7 +64,9 @@ pub fn pointers_in(
     registry: &Registry<'_>,
     document: &Uri,
 ) -> Result<Vec<String>, AllocError>
-    ensures pointers { IfOk result (λ v. (d : bearers.Document) → spec.IsDocumentAt (documents_of registry.now) document.now d → map string_bytes v.items ≡ spec.pointers_of (documents_of registry.now) d) }
+    ensures pointers { IfOk result (λ v. (d : bearers.Document)
+        → spec.IsDocumentAt (documents_of registry.now) document.now d
+        → map string_bytes v.items ≡ spec.pointers_of (documents_of registry.now) d) }
     ensures distinct { IfOk result (λ v. IsDistinct bytes_eq (map string_bytes v.items)) }
     ensures none { IfOk result (λ v. spec.document_at (documents_of registry.now) document.now ≡ None → v.items ≡ []) }
 {

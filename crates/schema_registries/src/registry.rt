@@ -41,9 +41,13 @@ fn gathered<R: Retrieve>(
     limit: u64,
 ) -> Result<SharedRegistry, Error>
     requires apart { are_apart (map document_of documents.items) ≡ true }
-    ensures prepared { IfOk result (λ r. IsPrepared (asking R.may_answer R.may_refuse retriever.now (layer_of layer)) limit (map document_of documents.entry.items) (documents_of r.registry.value) (retrieved_by r.registry.value)) }
+    ensures prepared { IfOk result (λ r. IsPrepared
+        (asking R.may_answer R.may_refuse retriever.now (layer_of layer)) limit
+        (map document_of documents.entry.items) (documents_of r.registry.value) (retrieved_by r.registry.value)) }
     ensures siblings { IfOk result (λ r. r.registry.value.siblings ≡ layer.siblings) }
-    ensures refused { IfErr result (RefusesRegistry (asking R.may_answer R.may_refuse retriever.now (layer_of layer)) limit (map document_of documents.entry.items)) }
+    ensures refused { IfErr result (RefusesRegistry
+        (asking R.may_answer R.may_refuse retriever.now (layer_of layer)) limit
+        (map document_of documents.entry.items)) }
 {
     let registry = Registry::with_wanted(alloc, documents, layer, retriever, limit)?;
     match Rc::new(alloc, registry) {
@@ -53,7 +57,8 @@ fn gathered<R: Retrieve>(
 }
 
 impl SharedRegistry {
-    ghost use Rattle.schema_registries.specs.Seen.{documents_given, documents_shared, retrieved_shared, siblings_shared, layer_over};
+    ghost use Rattle.schema_registries.specs.Seen.{documents_given, documents_shared, retrieved_shared};
+    ghost use Rattle.schema_registries.specs.Seen.{siblings_shared, layer_over};
 
     /// The registry of documents and of those that they want, which the retriever is asked for, those without a draft of their own by
     /// the one given. `siblings` says whether what stands beside `$ref` is read in Drafts 6 and 7.
@@ -72,9 +77,14 @@ impl SharedRegistry {
         retriever: &R,
         limit: u64,
     ) -> Result<SharedRegistry, Error>
-        ensures prepared { IfOk result (λ r. IsPrepared (asking R.may_answer R.may_refuse retriever.now (first_layer draft siblings)) limit (documents_by (first_layer draft siblings) (documents_given documents.now)) (documents_shared r) (retrieved_shared r)) }
+        ensures prepared { IfOk result (λ r. IsPrepared
+            (asking R.may_answer R.may_refuse retriever.now (first_layer draft siblings)) limit
+            (documents_by (first_layer draft siblings) (documents_given documents.now)) (documents_shared r)
+            (retrieved_shared r)) }
         ensures siblings { IfOk result (λ r. siblings_shared r ≡ siblings) }
-        ensures refused { IfErr result (RefusesRegistry (asking R.may_answer R.may_refuse retriever.now (first_layer draft siblings)) limit (documents_by (first_layer draft siblings) (documents_given documents.now))) }
+        ensures refused { IfErr result (RefusesRegistry
+            (asking R.may_answer R.may_refuse retriever.now (first_layer draft siblings)) limit
+            (documents_by (first_layer draft siblings) (documents_given documents.now))) }
     {
         let layer = Layer {
             number: 0,
@@ -103,9 +113,14 @@ impl SharedRegistry {
         retriever: &R,
         limit: u64,
     ) -> Result<SharedRegistry, Error>
-        ensures prepared { IfOk result (λ r. IsPrepared (asking R.may_answer R.may_refuse retriever.now (layer_over self.now draft)) limit (beside (documents_shared self.now) (layer_over self.now draft) (documents_given documents.now)) (documents_shared r) (retrieved_shared r)) }
+        ensures prepared { IfOk result (λ r. IsPrepared
+            (asking R.may_answer R.may_refuse retriever.now (layer_over self.now draft)) limit
+            (beside (documents_shared self.now) (layer_over self.now draft) (documents_given documents.now))
+            (documents_shared r) (retrieved_shared r)) }
         ensures siblings { IfOk result (λ r. siblings_shared r ≡ siblings_shared self.now) }
-        ensures refused { IfErr result (RefusesRegistry (asking R.may_answer R.may_refuse retriever.now (layer_over self.now draft)) limit (beside (documents_shared self.now) (layer_over self.now draft) (documents_given documents.now))) }
+        ensures refused { IfErr result (RefusesRegistry
+            (asking R.may_answer R.may_refuse retriever.now (layer_over self.now draft)) limit
+            (beside (documents_shared self.now) (layer_over self.now draft) (documents_given documents.now))) }
     {
         let layer = Layer {
             number: layer_above(self.registry.documents())?,

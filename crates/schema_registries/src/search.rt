@@ -55,7 +55,8 @@ fn other_member<'v>(
     path: &Path,
 ) -> Result<(Path, &'v Value), AllocError>
     requires { members_only_whole (members_view members.now.entries) ≡ false }
-    ensures { IfOk result (λ found. IsNearer (object (members_view members.entry.now.entries)) path.now found.0 (view found.1.now)) }
+    ensures { IfOk result (λ found. IsNearer (object (members_view members.entry.now.entries)) path.now found.0
+        (view found.1.now)) }
 {
     let _count = members.len();
     for (name, member) in members.iter() {

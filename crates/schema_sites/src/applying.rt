@@ -13,9 +13,11 @@ use applicator_reading::reading::Reading;
 
 pub(crate) fn applying<'r>(reading: Reading<'r>) -> Result<Keyword<'r>, Refusal<'r>>
     requires answers { IsByAnswers reading }
-    ensures read { IfOk result (λ k. (x : rows.Context) (n : List ℕ) (row : rows.Row) → ReadsAs x n row reading.entry → IsRowOf x n row k) }
+    ensures read { IfOk result (λ k. (x : rows.Context) (n : List ℕ) (row : rows.Row)
+        → ReadsAs x n row reading.entry → IsRowOf x n row k) }
     ensures found { IfOk result (λ k. (c : code.Site) (d : Data) → Finds c d k) }
-    ensures refused { IfErr result (λ e. (x : rows.Context) (n : List ℕ) (d : Data) (row : rows.Row) → ReadsAs x n row reading.entry → Refuses x n d row e) }
+    ensures refused { IfErr result (λ e. (x : rows.Context) (n : List ℕ) (d : Data) (row : rows.Row)
+        → ReadsAs x n row reading.entry → Refuses x n d row e) }
 {
     match reading {
         Reading::Applied(applicator) => Ok(Keyword::Applicator(applicator)),

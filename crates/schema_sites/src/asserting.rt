@@ -12,9 +12,11 @@ use crate::keyword::{Keyword, Refusal};
 use assertions::reading::Reading;
 
 pub(crate) fn asserting<'r>(reading: Reading<'r>) -> Result<Keyword<'r>, Refusal<'r>>
-    ensures read { IfOk result (λ k. (x : rows.Context) (n : List ℕ) (row : rows.Row) → ReadsAs x n row reading.entry → IsRowOf x n row k) }
+    ensures read { IfOk result (λ k. (x : rows.Context) (n : List ℕ) (row : rows.Row)
+        → ReadsAs x n row reading.entry → IsRowOf x n row k) }
     ensures found { IfOk result (λ k. (c : code.Site) (d : Data) → Finds c d k) }
-    ensures refused { IfErr result (λ e. (x : rows.Context) (n : List ℕ) (d : Data) (row : rows.Row) → ReadsAs x n row reading.entry → Refuses x n d row e) }
+    ensures refused { IfErr result (λ e. (x : rows.Context) (n : List ℕ) (d : Data) (row : rows.Row)
+        → ReadsAs x n row reading.entry → Refuses x n d row e) }
 {
     match reading {
         Reading::Read(assertion) => Ok(Keyword::Assertion(assertion)),

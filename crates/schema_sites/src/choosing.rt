@@ -22,7 +22,8 @@ use serde_json::Value;
 
 // An applicator as it is found: an `if` is a keyword of its own.
 fn found<'r>(applicator: Applicator<'r>) -> Keyword<'r>
-    ensures { (condition : Bor json.Value) (t e : Option (Bor json.Value)) → applicator.entry.asks ≡ asked.Condition condition t e → result ≡ keyword.If condition t e }
+    ensures { (condition : Bor json.Value) (t e : Option (Bor json.Value))
+        → applicator.entry.asks ≡ asked.Condition condition t e → result ≡ keyword.If condition t e }
 {
     match applicator.asks {
         Asks::Condition {

@@ -31,9 +31,11 @@ use serde_json::{Map, Value};
 use std::alloc::Global;
 
 fn pattern<'r>(value: &'r Value) -> Result<Keyword<'r>, Refusal<'r>>
-    ensures read { IfOk result (λ k. (x : rows.Context) → IsRowOf x (codes "pattern") (arms.one_pattern_row x (view value.now)) k) }
+    ensures read { IfOk result (λ k. (x : rows.Context)
+        → IsRowOf x (codes "pattern") (arms.one_pattern_row x (view value.now)) k) }
     ensures found { IfOk result (λ k. (c : code.Site) → Finds c (view value.now) k) }
-    ensures refused { IfErr result (λ e. (x : rows.Context) → Refuses x (codes "pattern") (view value.now) (arms.one_pattern_row x (view value.now)) e) }
+    ensures refused { IfErr result (λ e. (x : rows.Context)
+        → Refuses x (codes "pattern") (view value.now) (arms.one_pattern_row x (view value.now)) e) }
 {
     match value.as_str() {
         Some(text) => Ok(Keyword::Pattern(text)),
@@ -42,9 +44,13 @@ fn pattern<'r>(value: &'r Value) -> Result<Keyword<'r>, Refusal<'r>>
 }
 
 fn dependencies<'r>(alloc: Global, value: &'r Value) -> Result<Keyword<'r>, Refusal<'r>>
-    ensures read { IfOk result (λ k. (x : rows.Context) → IsRowOf x (codes "dependencies") (rows.read_among rows.readers x (codes "dependencies") (view value.now)) k) }
+    ensures read { IfOk result (λ k. (x : rows.Context)
+        → IsRowOf x (codes "dependencies") (rows.read_among rows.readers x (codes "dependencies")
+        (view value.now)) k) }
     ensures found { IfOk result (λ k. (c : code.Site) → Finds c (view value.now) k) }
-    ensures refused { IfErr result (λ e. (x : rows.Context) → Refuses x (codes "dependencies") (view value.now) (rows.read_among rows.readers x (codes "dependencies") (view value.now)) e) }
+    ensures refused { IfErr result (λ e. (x : rows.Context)
+        → Refuses x (codes "dependencies") (view value.now)
+        (rows.read_among rows.readers x (codes "dependencies") (view value.now)) e) }
 {
     let reading = read_dependencies(alloc, value)?;
     applying(reading)
@@ -52,7 +58,9 @@ fn dependencies<'r>(alloc: Global, value: &'r Value) -> Result<Keyword<'r>, Refu
 
 fn hash_text(value: &Value) -> Result<&str, &'static str>
     ensures said { IfOk result (λ t. references.Says ReferenceKeyword.RecursiveRef (view value.now) t.now) }
-    ensures refused { IfErr result (λ word. (x : rows.Context) → references.reference_row ReferenceKeyword.RecursiveRef x (view value.now) ≡ rows.bad_value x (codes "$recursiveRef") word.now) }
+    ensures refused { IfErr result (λ word. (x : rows.Context)
+        → references.reference_row ReferenceKeyword.RecursiveRef x (view value.now)
+        ≡ rows.bad_value x (codes "$recursiveRef") word.now) }
 {
     let Some(text) = value.as_str() else {
         return Err("text #");
@@ -63,7 +71,9 @@ fn hash_text(value: &Value) -> Result<&str, &'static str>
 // The text of a reference, or what was expected.
 fn reference_text(keyword: ReferenceKeyword, value: &Value) -> Result<&str, &'static str>
     ensures said { IfOk result (λ t. references.Says keyword (view value.now) t.now) }
-    ensures refused { IfErr result (λ word. (x : rows.Context) → references.reference_row keyword x (view value.now) ≡ rows.bad_value x (references.name_of keyword) word.now) }
+    ensures refused { IfErr result (λ word. (x : rows.Context)
+        → references.reference_row keyword x (view value.now)
+        ≡ rows.bad_value x (references.name_of keyword) word.now) }
 {
     match keyword {
         ReferenceKeyword::Ref | ReferenceKeyword::DynamicRef => match value.as_str() {
@@ -79,9 +89,13 @@ fn reference<'r>(
     keyword: ReferenceKeyword,
     value: &'r Value,
 ) -> Result<Keyword<'r>, Refusal<'r>>
-    ensures read { IfOk result (λ k. (ms : Members) → ReadAs site.now ms (references.name_of keyword) (λ x. references.reference_row keyword x (view value.now)) k) }
+    ensures read { IfOk result (λ k. (ms : Members)
+        → ReadAs site.now ms (references.name_of keyword)
+        (λ x. references.reference_row keyword x (view value.now)) k) }
     ensures found { IfOk result (λ k. Finds site.now (view value.now) k) }
-    ensures refused { IfErr result (λ e. (ms : Members) → RefusedAs site.now ms (references.name_of keyword) (view value.now) (λ x. references.reference_row keyword x (view value.now)) e) }
+    ensures refused { IfErr result (λ e. (ms : Members)
+        → RefusedAs site.now ms (references.name_of keyword) (view value.now)
+        (λ x. references.reference_row keyword x (view value.now)) e) }
 {
     match reference_text(keyword, value) {
         Ok(text) => {
@@ -156,9 +170,17 @@ pub fn keyword<'r>(
     name: &str,
     value: &'r Value,
 ) -> Result<Keyword<'r>, Refusal<'r>>
-    ensures read { IfOk result (λ k. (makes : List ℕ → Bool) (s : sites.Site) → Stands site.now s → s.scope ≡ scope_of site.now.resolver → IsRowOf (context_at site.now (members_view members.now.entries) makes s) name.now (rows.row_at (context_at site.now (members_view members.now.entries) makes s) name.now (view value.now)) k) }
+    ensures read { IfOk result (λ k. (makes : List ℕ → Bool) (s : sites.Site) → Stands site.now s
+        → s.scope ≡ scope_of site.now.resolver
+        → IsRowOf (context_at site.now (members_view members.now.entries) makes s) name.now
+        (rows.row_at (context_at site.now (members_view members.now.entries) makes s) name.now
+        (view value.now)) k) }
     ensures found { IfOk result (λ k. Finds site.now (view value.now) k) }
-    ensures refused { IfErr result (λ e. (makes : List ℕ → Bool) (s : sites.Site) → Stands site.now s → s.scope ≡ scope_of site.now.resolver → Refuses (context_at site.now (members_view members.now.entries) makes s) name.now (view value.now) (rows.row_at (context_at site.now (members_view members.now.entries) makes s) name.now (view value.now)) e) }
+    ensures refused { IfErr result (λ e. (makes : List ℕ → Bool) (s : sites.Site) → Stands site.now s
+        → s.scope ≡ scope_of site.now.resolver
+        → Refuses (context_at site.now (members_view members.now.entries) makes s) name.now (view value.now)
+        (rows.row_at (context_at site.now (members_view members.now.entries) makes s) name.now
+        (view value.now)) e) }
 {
     if !site.counts(has_reference(members), name) {
         return Ok(Keyword::Nothing);

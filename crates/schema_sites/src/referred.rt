@@ -22,10 +22,14 @@ pub(crate) fn look_up<'r>(
     keyword: ReferenceKeyword,
     text: &str,
 ) -> Result<Resolved<'r>, Error>
-    ensures ok { IfOk result (λ r. references.looked_up keyword (documents_in resolver.now) (base_of resolver.now) (scope_of resolver.now) text.now ≡ Ok (target_in r)) }
-    ensures scope { IfOk result (λ r. scope_of r.resolver ≡ entered_scope (base_of r.resolver) (base_of resolver.now) (scope_of resolver.now)) }
+    ensures ok { IfOk result (λ r. references.looked_up keyword (documents_in resolver.now) (base_of resolver.now)
+        (scope_of resolver.now) text.now ≡ Ok (target_in r)) }
+    ensures scope { IfOk result (λ r. scope_of r.resolver
+        ≡ entered_scope (base_of r.resolver) (base_of resolver.now) (scope_of resolver.now)) }
     ensures documents { IfOk result (λ r. documents_in r.resolver ≡ documents_in resolver.now) }
-    ensures refused { IfErr result (RefusesLookup (references.looked_up keyword (documents_in resolver.now) (base_of resolver.now) (scope_of resolver.now) text.now)) }
+    ensures refused { IfErr result (RefusesLookup
+        (references.looked_up keyword (documents_in resolver.now) (base_of resolver.now)
+        (scope_of resolver.now) text.now)) }
 {
     match keyword {
         ReferenceKeyword::Ref => resolver.lookup(text),
@@ -39,9 +43,16 @@ pub(crate) fn led_to<'r>(
     text: &'r str,
     target: Resolved<'r>,
 ) -> Result<Keyword<'r>, Refusal<'r>>
-    ensures read { IfOk result (λ k. (x : rows.Context) → IsRowOf x (references.name_of keyword) (rows.led_to x (references.name_of keyword) (references.kind_of keyword) text.now (Ok (target_in target.entry))) k) }
-    ensures found { IfOk result (λ k. (c : code.Site) (d : Data) → FindsTarget c keyword text.now target.entry → Finds c d k) }
-    ensures refused { IfErr result (λ e. (x : rows.Context) (d : Data) → Refuses x (references.name_of keyword) d (rows.led_to x (references.name_of keyword) (references.kind_of keyword) text.now (Ok (target_in target.entry))) e) }
+    ensures read { IfOk result (λ k. (x : rows.Context)
+        → IsRowOf x (references.name_of keyword)
+        (rows.led_to x (references.name_of keyword) (references.kind_of keyword) text.now
+        (Ok (target_in target.entry))) k) }
+    ensures found { IfOk result (λ k. (c : code.Site) (d : Data) → FindsTarget c keyword text.now target.entry
+        → Finds c d k) }
+    ensures refused { IfErr result (λ e. (x : rows.Context) (d : Data)
+        → Refuses x (references.name_of keyword) d
+        (rows.led_to x (references.name_of keyword) (references.kind_of keyword) text.now
+        (Ok (target_in target.entry))) e) }
 {
     if !is_schema(target.contents()) {
         return Err(Refusal::Target { target });

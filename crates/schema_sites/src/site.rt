@@ -36,7 +36,8 @@ pub fn at_target<'r>(resolved: &Resolved<'r>, matches: &'r Matches) -> Result<Si
     ensures matches { IfOk result (λ c. c.matches ≡ matches.entry) }
     ensures scope { IfOk result (λ c. scope_of c.resolver ≡ scope_of resolved.now.resolver) }
     ensures documents { IfOk result (λ c. documents_at c ≡ documents_in resolved.now.resolver) }
-    ensures stands { IfOk result (λ c. (s : sites.Site) (reference : List ℕ) → Stands c (sites.target_site s reference (target_in resolved.now))) }
+    ensures stands { IfOk result (λ c. (s : sites.Site) (reference : List ℕ)
+        → Stands c (sites.target_site s reference (target_in resolved.now))) }
 {
     Ok(Site {
         contents: resolved.contents(),
@@ -78,8 +79,10 @@ impl<'r> Site<'r> {
         ensures contents { IfOk result (λ c. c.contents ≡ contents.entry) }
         ensures matches { IfOk result (λ c. c.matches ≡ self.now.matches) }
         ensures documents { IfOk result (λ c. documents_at c ≡ documents_at self.now) }
-        ensures scope { IfOk result (λ c. scope_of c.resolver ≡ entered_scope (base_of c.resolver) (base_of self.now.resolver) (scope_of self.now.resolver)) }
-        ensures stands { IfOk result (λ c. (s : sites.Site) (added : List Part) → Stands self.now s → Stands c (sites.below (documents_at self.now) s added (view contents.now))) }
+        ensures scope { IfOk result (λ c. scope_of c.resolver
+            ≡ entered_scope (base_of c.resolver) (base_of self.now.resolver) (scope_of self.now.resolver)) }
+        ensures stands { IfOk result (λ c. (s : sites.Site) (added : List Part) → Stands self.now s
+            → Stands c (sites.below (documents_at self.now) s added (view contents.now))) }
     {
         let base = self.resolver.base_uri()?;
         let known = self.resolver.meta_schemas();

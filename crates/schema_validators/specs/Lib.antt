@@ -8,6 +8,7 @@ pub mod Told
 pub mod ByNodes
 pub mod Numbers
 pub mod Missing
+pub mod Calls
 pub mod Counted
 pub mod Asked
 pub mod Prepared

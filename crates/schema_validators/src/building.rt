@@ -40,11 +40,15 @@ fn compile_at<P: PatternMaker>(
     maker: &P,
     node_limit: usize,
 ) -> Result<(Draft, Compiled<P::Matcher>), BuildError>
-    ensures made { IfOk result (λ x. IsMadeAt P.Matcher.finds (P.patterns maker.now) (root_of (documents_shared registry.now) base.now root.now)
+    ensures made { IfOk result (λ x. IsMadeAt P.Matcher.finds (P.patterns maker.now) (root_of
+        (documents_shared registry.now) base.now root.now)
         x.1.schemas.graph.nodes.items x.1.start x.1.schemas.table) }
-    ensures draft { IfOk result (λ x. (target : Target) → Finds (root_of (documents_shared registry.now) base.now root.now) target → x.0 ≡ target.dialect.draft) }
-    ensures within { IfOk result (λ x. IsWithin (P.patterns maker.now) node_limit (root_of (documents_shared registry.now) base.now root.now)) }
-    ensures refused { IfErr result (RefusesBuild (P.patterns maker.now) node_limit (root_of (documents_shared registry.now) base.now root.now)) }
+    ensures draft { IfOk result (λ x. (target : Target)
+        → Finds (root_of (documents_shared registry.now) base.now root.now) target → x.0 ≡ target.dialect.draft) }
+    ensures within { IfOk result (λ x. IsWithin (P.patterns maker.now) node_limit (root_of
+        (documents_shared registry.now) base.now root.now)) }
+    ensures refused { IfErr result (RefusesBuild (P.patterns maker.now) node_limit (root_of
+        (documents_shared registry.now) base.now root.now)) }
 {
     let resolver = registry.registry().resolver(base.clone()?)?;
     let found = match resolver.lookup(root) {
@@ -65,7 +69,8 @@ pub(crate) fn draft_at(
     base: &Uri,
     root: &str,
 ) -> Result<Draft, AllocError>
-    ensures { IfOk result (λ d. (target : Target) → Finds (root_of (documents_shared registry.now) base.now root.now) target → d ≡ target.dialect.draft) }
+    ensures { IfOk result (λ d. (target : Target)
+        → Finds (root_of (documents_shared registry.now) base.now root.now) target → d ≡ target.dialect.draft) }
 {
     let resolver = registry.registry().resolver(base.clone()?)?;
     match resolver.lookup(root) {
@@ -105,10 +110,15 @@ impl<M: PatternMatcher> Validator<M> {
         maker: &P,
         node_limit: usize,
     ) -> Result<Validator<M>, BuildError>
-        ensures made { IfOk result (IsMadeBy (P.patterns maker.now) (root_of (documents_shared registry.now) base.now root.now)) }
-        ensures draft { IfOk result (λ v. (target : Target) → Finds (root_of (documents_shared registry.now) base.now root.now) target → v.draft ≡ target.dialect.draft) }
-        ensures within { IfOk result (λ v. IsWithin (P.patterns maker.now) node_limit (root_of (documents_shared registry.now) base.now root.now)) }
-        ensures refused { IfErr result (RefusesBuild (P.patterns maker.now) node_limit (root_of (documents_shared registry.now) base.now root.now)) }
+        ensures made { IfOk result (IsMadeBy (P.patterns maker.now) (root_of
+            (documents_shared registry.now) base.now root.now)) }
+        ensures draft { IfOk result (λ v. (target : Target)
+            → Finds (root_of (documents_shared registry.now) base.now root.now) target
+            → v.draft ≡ target.dialect.draft) }
+        ensures within { IfOk result (λ v. IsWithin (P.patterns maker.now) node_limit (root_of
+            (documents_shared registry.now) base.now root.now)) }
+        ensures refused { IfErr result (RefusesBuild (P.patterns maker.now) node_limit (root_of
+            (documents_shared registry.now) base.now root.now)) }
     {
         let (draft, compiled) = compile_at(alloc, registry, base, root, maker, node_limit)?;
         let start = compiled.start;

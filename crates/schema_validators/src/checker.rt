@@ -5,10 +5,6 @@ ghost use Rattle.serde_json.specs.View.{view};
 ghost use Rattle.graph_answers.specs.Tables.{matches_of};
 ghost use Rattle.regex_patterns.specs.Matchers.{finds_by_regex};
 ghost use Rattle.schema_meaning.specs.Faults.{is_none};
-ghost use Rattle.schema_meaning.specs.Readings.{verdicts};
-ghost use Rattle.schema_registries.specs.Answers.{IsAnswer};
-ghost use Rattle.schema_registries.specs.Certified.{IsCertified, HaveCertificates};
-ghost use Rattle.schema_registries.specs.Roots.{Root, Patterns};
 ghost use Rattle.schema_registries.specs.Whole.{only_whole};
 ghost use Rattle.schema_reports.specs.Left.{errors_left};
 ghost use Rattle.schema_reports.specs.Told.{faults_of, are_proper};
@@ -40,9 +36,8 @@ fn nothing_kept<'v>(alloc: Global, validator: &'v Validator) -> Kept<'v>
 }
 
 impl<'v> Checker<'v> {
-    ghost use Rattle.schema_validators.specs.Answered.{AreFaults};
-    ghost use Rattle.schema_validators.specs.Made.{IsMadeBy};
-    ghost use Rattle.schema_validators.specs.Missing.{TellsEachMissing};
+    ghost use Rattle.schema_validators.specs.Calls.{IsVerdictOf, IsCertifiedOf, AreFaultsOf};
+    ghost use Rattle.schema_validators.specs.Calls.{HaveCertificatesOf, TellsMissingOf};
     ghost use Rattle.schema_validators.specs.Told.{verdict_by, faults_by};
 
     /// A checker of a validator. It takes room for a search for each of its patterns, and makes none yet.
@@ -70,8 +65,8 @@ impl<'v> Checker<'v> {
         requires whole { only_whole (view value.now) ≡ true }
         ensures same { self.new.validator.now ≡ self.old.validator.now }
         ensures cut { IfOk result (λ b. b ≡ verdict_by self.old.validator.now (view value.now)) }
-        ensures verdict { IfOk result (λ b. (p : Patterns) (r : Root) → IsMadeBy p r self.old.validator.now → IsAnswer verdicts p r (view value.now) b) }
-        ensures certified { IfOk result (λ b. (p : Patterns) (r : Root) → IsMadeBy p r self.old.validator.now → IsCertified p r (view value.now) b) }
+        ensures verdict { IfOk result (IsVerdictOf self.old.validator.now (view value.now)) }
+        ensures certified { IfOk result (IsCertifiedOf self.old.validator.now (view value.now)) }
     {
         let mut kept = replace(&mut self.kept, nothing_kept(self.alloc, self.validator));
         let answer = self.validator.is_valid_by(&mut kept, value)?;
@@ -88,13 +83,17 @@ impl<'v> Checker<'v> {
     pub fn iter_errors<'i>(&mut self, value: &'i Value) -> Result<ErrorIterator<'i>, AllocError>
         requires whole { only_whole (view value.now) ≡ true }
         ensures same { self.new.validator.now ≡ self.old.validator.now }
-        ensures cut { IfOk result (λ errors. faults_of (errors_left errors) ≡ faults_by self.old.validator.now (view value.now)) }
-        ensures agree { OnOk result (is_none (faults_by self.old.validator.now (view value.now)) ≡ verdict_by self.old.validator.now (view value.now)) }
-        ensures faults { IfOk result (λ errors. (p : Patterns) (r : Root) → IsMadeBy p r self.old.validator.now → AreFaults p r (view value.now) (faults_of (errors_left errors))) }
+        ensures cut { IfOk result (λ errors. faults_of (errors_left errors) ≡ faults_by self.old.validator.now
+            (view value.now)) }
+        ensures agree { OnOk result (is_none (faults_by self.old.validator.now (view value.now))
+            ≡ verdict_by self.old.validator.now (view value.now)) }
+        ensures faults { IfOk result (λ errors. AreFaultsOf self.old.validator.now (view value.now) (faults_of
+            (errors_left errors))) }
         ensures proper { IfOk result (λ errors. are_proper (errors_left errors) ≡ true) }
-        ensures certified { IfOk result (λ errors. (p : Patterns) (r : Root) → IsMadeBy p r self.old.validator.now → HaveCertificates p r (view value.now) (faults_of (errors_left errors))) }
-        ensures missing { IfOk result (λ errors. (p : Patterns) (r : Root) → IsMadeBy p r self.old.validator.now
-            → TellsEachMissing p r (view value.now) (faults_of (errors_left errors))) }
+        ensures certified { IfOk result (λ errors. HaveCertificatesOf self.old.validator.now (view value.now)
+            (faults_of (errors_left errors))) }
+        ensures missing { IfOk result (λ errors. TellsMissingOf self.old.validator.now (view value.now) (faults_of
+            (errors_left errors))) }
     {
         let mut kept = replace(&mut self.kept, nothing_kept(self.alloc, self.validator));
         let errors = self.validator.errors_by(&mut kept, value)?;

@@ -4,7 +4,10 @@ ghost use Rattle.std.specs.Prelude.{◌≡◌, ◌∷◌, [], ℕ, List, IfOk, s
 ghost use Rattle.std.specs.List.{concat};
 ghost use Rattle.schema_reports.specs.Phrases.{AreSpelled};
 ghost use Rattle.schema_reports.specs.Sentences.{description_of};
-ghost use Rattle.schema_validators.specs.Described.{quoted as quoted_text, words_of as said_of_lookup, line_at as line_of, said_of_value, said_of_reference, said_of_cause, said_of_fault, said_of_retrieval, IsDescribed};
+ghost use Rattle.schema_validators.specs.Described.{quoted as quoted_text, words_of as said_of_lookup};
+ghost use Rattle.schema_validators.specs.Described.{line_at as line_of, said_of_value, said_of_reference};
+ghost use Rattle.schema_validators.specs.Described.{said_of_cause, said_of_fault, said_of_retrieval};
+ghost use Rattle.schema_validators.specs.Described.{IsDescribed};
 
 use crate::error::BuildError;
 use document_sources::error::{RetrieveError, UriError};

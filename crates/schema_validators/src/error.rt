@@ -106,7 +106,9 @@ impl BuildError {
 
     /// The error of a root that is not found.
     pub(crate) fn of_root(error: ReferenceError) -> BuildError
-        ensures { (p : Patterns) (limit : ℕ) (root : Root) → RefusesLookup (lookup root.documents root.base root.reference) error → RefusesBuild p limit root result }
+        ensures { (p : Patterns) (limit : ℕ) (root : Root)
+            → RefusesLookup (lookup root.documents root.base root.reference) error
+            → RefusesBuild p limit root result }
     {
         match error {
             ReferenceError::Memory => BuildError::Memory,
@@ -116,7 +118,9 @@ impl BuildError {
 
     /// The error of a root that leads to a cause, or to too much.
     pub(crate) fn of_schema(cause: BuildCause) -> BuildError
-        ensures { (p : Patterns) (limit : ℕ) (root : Root) (target : Target) → Finds root target → reached.RefusesWithin root.documents p.makes (site_of_root root target) limit cause → RefusesBuild p limit root result }
+        ensures { (p : Patterns) (limit : ℕ) (root : Root) (target : Target) → Finds root target
+            → reached.RefusesWithin root.documents p.makes (site_of_root root target) limit cause
+            → RefusesBuild p limit root result }
     {
         match cause {
             BuildCause::Memory => BuildError::Memory,
@@ -126,7 +130,8 @@ impl BuildError {
 
     /// The error of a reference to a root that leads nowhere.
     pub(crate) fn of_reference(error: ReferenceError) -> BuildError
-        ensures { (root : Root) → RefusesLookup (lookup root.documents root.base root.reference) error → RefusesReference root result }
+        ensures { (root : Root) → RefusesLookup (lookup root.documents root.base root.reference) error
+            → RefusesReference root result }
     {
         match error {
             ReferenceError::Memory => BuildError::Memory,

@@ -1,12 +1,14 @@
 //! How maps of validators are built.
 
-ghost use Rattle.std.specs.Prelude.{◌≡◌, map, bytes_eq, string_bytes, length, slice_get, ◌<◌, IfOk, IfErr, IfSome, OnOk, None, Some};
+ghost use Rattle.std.specs.Prelude.{◌≡◌, map, bytes_eq, string_bytes, length, slice_get, ◌<◌, IfOk, IfErr};
+ghost use Rattle.std.specs.Prelude.{IfSome, OnOk, None, Some};
 ghost use Rattle.std.specs.List.{All, IsDistinct};
 ghost use Rattle.schema_definitions.specs.Bearers.{Document};
 ghost use Rattle.schema_registries.specs.Pointers as places;
 ghost use Rattle.schema_registries.specs.Seen.{documents_shared};
 ghost use Rattle.compiled_graphs.specs.Marked.{IsNode};
-ghost use Rattle.schema_validators.specs.Maps.{entries_in, entry_at, PutsPlace, Enters, IsMapOf, IsMapAt, ArePlacesExceeded, RefusesMapAt};
+ghost use Rattle.schema_validators.specs.Maps.{entries_in, entry_at, PutsPlace, Enters, IsMapOf, IsMapAt};
+ghost use Rattle.schema_validators.specs.Maps.{ArePlacesExceeded, RefusesMapAt};
 ghost use Rattle.schema_validators.specs.Meant.{IsOfSome};
 
 use crate::building::draft_at;
@@ -46,7 +48,9 @@ fn put<M: PatternMatcher>(
     requires there { IsNode (length schemas.now.value.graph.nodes.items) start }
     requires of_some { IsOfSome schemas.now.value.graph.nodes.items start }
     requires absent { entry_at map.old pointer.now ≡ None }
-    ensures { OnOk result (PutsPlace (documents_shared registry.now) document.now schemas.now.value pointer.now start (entries_in map.old) (entries_in map.new)) }
+    ensures { OnOk result (PutsPlace
+        (documents_shared registry.now) document.now schemas.now.value pointer.now start (entries_in map.old)
+        (entries_in map.new)) }
 {
     let Some(start) = start else {
         return Ok(());
@@ -81,7 +85,8 @@ fn validators_at<M: PatternMatcher>(
     requires there { All (IsNode (length schemas.graph.nodes.items)) starts.now }
     requires of_some { All (IsOfSome schemas.graph.nodes.items) starts.now }
     requires distinct { IsDistinct bytes_eq (map string_bytes pointers.now) }
-    ensures { IfOk result (λ m. Enters (documents_shared registry.now) document.now schemas (map string_bytes pointers.now) starts.now (entries_in m)) }
+    ensures { IfOk result (λ m. Enters (documents_shared registry.now) document.now schemas
+        (map string_bytes pointers.now) starts.now (entries_in m)) }
 {
     let shared = Rc::new(alloc, schemas)?;
     let mut map = ValidatorMap::new(alloc);
@@ -101,8 +106,12 @@ fn map_of<P: PatternMaker>(
     maker: &P,
     node_limit: usize,
 ) -> Result<ValidatorMap<P::Matcher>, BuildError>
-    ensures built { IfOk result (λ m. (d : Document) → places.IsDocumentAt (documents_shared registry.now) document.now d → IsMapOf (P.patterns maker.now) (documents_shared registry.now) d node_limit m) }
-    ensures refused { IfErr result (λ e. (d : Document) → places.IsDocumentAt (documents_shared registry.now) document.now d → ArePlacesExceeded (P.patterns maker.now) (documents_shared registry.now) d node_limit e) }
+    ensures built { IfOk result (λ m. (d : Document)
+        → places.IsDocumentAt (documents_shared registry.now) document.now d
+        → IsMapOf (P.patterns maker.now) (documents_shared registry.now) d node_limit m) }
+    ensures refused { IfErr result (λ e. (d : Document)
+        → places.IsDocumentAt (documents_shared registry.now) document.now d
+        → ArePlacesExceeded (P.patterns maker.now) (documents_shared registry.now) d node_limit e) }
 {
     let pointers = pointers_in(alloc, registry.registry(), document)?;
     let references = references_to(alloc, pointers.as_slice())?;

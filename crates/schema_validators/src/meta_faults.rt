@@ -3,16 +3,12 @@
 ghost use Rattle.std.specs.Prelude.{◌≡◌, IfOk, IfErr, codes, true};
 ghost use Rattle.serde_json.specs.View.{view};
 ghost use Rattle.schema_meaning.specs.Faults.{is_none};
-ghost use Rattle.schema_meaning.specs.Readings.{verdicts};
 ghost use Rattle.reached_sites.specs.Passed.{target_in};
-ghost use Rattle.schema_registries.specs.Answers.{IsAnswer};
-ghost use Rattle.schema_registries.specs.Roots.{Root, Patterns};
 ghost use Rattle.schema_reports.specs.Left.{errors_left};
 ghost use Rattle.schema_reports.specs.Told.{faults_of, are_proper};
 ghost use Rattle.schema_validators.specs.AllTold.{TellsAll, TellsOf, RefusesTellingOf};
-ghost use Rattle.schema_validators.specs.Answered.{AreFaults};
 ghost use Rattle.schema_validators.specs.Asked.{meta_root};
-ghost use Rattle.schema_validators.specs.Made.{IsMadeBy};
+ghost use Rattle.schema_validators.specs.Calls.{IsVerdictOf, AreFaultsOf};
 ghost use Rattle.schema_validators.specs.Refused.{RefusesBuild};
 
 use crate::error::BuildError;
@@ -47,10 +43,8 @@ fn tell<M: PatternMatcher>(
     meta_schema: &Validator<M>,
     value: &Value,
 ) -> Result<OwnedErrors, AllocError>
-    ensures faults { IfOk result (λ v. (p : Patterns) (r : Root) → IsMadeBy p r meta_schema.now
-        → AreFaults p r (view value.now) (faults_of v.items)) }
-    ensures verdict { IfOk result (λ v. (p : Patterns) (r : Root) → IsMadeBy p r meta_schema.now
-        → IsAnswer verdicts p r (view value.now) (is_none (faults_of v.items))) }
+    ensures faults { IfOk result (λ v. AreFaultsOf meta_schema.now (view value.now) (faults_of v.items)) }
+    ensures verdict { IfOk result (λ v. IsVerdictOf meta_schema.now (view value.now) (is_none (faults_of v.items))) }
     ensures proper { IfOk result (λ v. are_proper v.items ≡ true) }
 {
     let errors = meta_schema.all_faults(value)?;

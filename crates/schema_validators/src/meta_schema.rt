@@ -2,16 +2,14 @@
 
 ghost use Rattle.std.specs.Prelude.{◌≡◌, ◌⊎◌, IfOk, IfErr, IfSome, OnOk, ℕ, List, None, codes, option_map, false, true};
 ghost use Rattle.serde_json.specs.View.{view};
-ghost use Rattle.schema_meaning.specs.Readings.{verdicts};
 ghost use Rattle.schema_definitions.specs.Places as places;
 ghost use Rattle.schema_definitions.specs.Words.{has_text};
 ghost use Rattle.reached_sites.specs.Passed.{target_in};
 ghost use Rattle.schema_registries.specs.Passed.{retrieved_by};
-ghost use Rattle.schema_registries.specs.Answers.{IsAnswer};
-ghost use Rattle.schema_registries.specs.Roots.{Root, Patterns};
-ghost use Rattle.schema_validators.specs.Asked.{schema_of_draft, schema_text, meta_schema_of, meta_root, Accepts, IsAsked, IsHandedIn, IsMetIn};
-ghost use Rattle.schema_validators.specs.Made.{IsMadeBy};
-ghost use Rattle.schema_validators.specs.Refused.{RefusesAt, RefusesByMeta, RefusesValue};
+ghost use Rattle.schema_validators.specs.Asked.{schema_of_draft, schema_text, meta_schema_of, meta_root};
+ghost use Rattle.schema_validators.specs.Asked.{Accepts, IsAsked, IsHandedIn, IsMetIn};
+ghost use Rattle.schema_validators.specs.Calls.{IsVerdictOf, RefusesValueOf};
+ghost use Rattle.schema_validators.specs.Refused.{RefusesAt, RefusesByMeta};
 ghost use Rattle.schema_validators.specs.declared.error.BuildError.TheVariants.{Memory};
 
 use crate::error::BuildError;
@@ -130,8 +128,8 @@ fn ask<M: PatternMatcher>(
     meta_schema: &Validator<M>,
     value: &Value,
 ) -> Result<(), BuildError>
-    ensures accepted { OnOk result ((p : Patterns) (r : Root) → IsMadeBy p r meta_schema.now → IsAnswer verdicts p r (view value.now) true) }
-    ensures refused { IfErr result (λ e. (p : Patterns) (r : Root) → IsMadeBy p r meta_schema.now → (e ≡ Memory) ⊎ RefusesValue p r (view value.now) e) }
+    ensures accepted { OnOk result (IsVerdictOf meta_schema.now (view value.now) true) }
+    ensures refused { IfErr result (RefusesValueOf meta_schema.now (view value.now)) }
 {
     match meta_schema.first_fault(value)? {
         Ok(()) => Ok(()),
@@ -150,8 +148,10 @@ fn ask_at<P: PatternMaker>(
     node_limit: usize,
 ) -> Result<(), BuildError>
     requires base { base.now ≡ codes "json-schema:///" }
-    ensures accepted { OnOk result (Accepts (P.patterns maker.now) node_limit (meta_root parent.now uri.now) (view value.now)) }
-    ensures refused { IfErr result (RefusesAt (P.patterns maker.now) node_limit (meta_root parent.now uri.now) (view value.now)) }
+    ensures accepted { OnOk result (Accepts (P.patterns maker.now) node_limit (meta_root parent.now uri.now)
+        (view value.now)) }
+    ensures refused { IfErr result (RefusesAt (P.patterns maker.now) node_limit (meta_root parent.now uri.now)
+        (view value.now)) }
 {
     let meta_schema = Validator::at(alloc, parent, base, uri, maker, node_limit)?;
     ask(alloc, &meta_schema, value)

@@ -101,8 +101,10 @@ fn meet<P: PatternMaker>(
     maker: &P,
     node_limit: usize,
 ) -> Result<(), BuildError>
-    ensures met { OnOk result ((target : Target) → Finds (root_on registry.now root.now) target → IsMet (P.patterns maker.now) node_limit registry.now.parent target) }
-    ensures refused { IfErr result (RefusesRoot (P.patterns maker.now) node_limit registry.now (root_on registry.now root.now)) }
+    ensures met { OnOk result ((target : Target) → Finds (root_on registry.now root.now) target
+        → IsMet (P.patterns maker.now) node_limit registry.now.parent target) }
+    ensures refused { IfErr result (RefusesRoot (P.patterns maker.now) node_limit registry.now
+        (root_on registry.now root.now)) }
 {
     let Some(parent) = registry.parent() else {
         return Ok(());
@@ -124,7 +126,8 @@ fn tell_faults<P: PatternMaker>(
 ) -> Result<Vec<ValidationError<'static>>, BuildError>
     ensures told { IfOk result (λ v. (target : Target) → Finds (root_on registry.now root.now) target
         → TellsIn (P.patterns maker.now) node_limit registry.now.parent target v.items) }
-    ensures refused { IfErr result (RefusesTelling (P.patterns maker.now) node_limit registry.now (root_on registry.now root.now)) }
+    ensures refused { IfErr result (RefusesTelling (P.patterns maker.now) node_limit registry.now
+        (root_on registry.now root.now)) }
 {
     let Some(parent) = registry.parent() else {
         return Ok(Vec::new(alloc));
@@ -253,10 +256,14 @@ impl<P: PatternMaker + Drop, R: Drop> ValidationOptions<P, R> {
         root: &str,
     ) -> Result<Validator<P::Matcher>, BuildError>
         ensures made { IfOk result (IsMadeBy (P.patterns self.now.maker) (root_on registry.now root.now)) }
-        ensures draft { IfOk result (λ v. (target : Target) → Finds (root_on registry.now root.now) target → v.draft ≡ target.dialect.draft) }
-        ensures within { IfOk result (λ v. IsWithin (P.patterns self.now.maker) self.now.node_limit (root_on registry.now root.now)) }
-        ensures met { IfOk result (λ v. (target : Target) → Finds (root_on registry.now root.now) target → IsMet (P.patterns self.now.maker) self.now.node_limit registry.now.parent target) }
-        ensures refused { IfErr result (RefusesRoot (P.patterns self.now.maker) self.now.node_limit registry.now (root_on registry.now root.now)) }
+        ensures draft { IfOk result (λ v. (target : Target) → Finds (root_on registry.now root.now) target
+            → v.draft ≡ target.dialect.draft) }
+        ensures within { IfOk result (λ v. IsWithin (P.patterns self.now.maker) self.now.node_limit
+            (root_on registry.now root.now)) }
+        ensures met { IfOk result (λ v. (target : Target) → Finds (root_on registry.now root.now) target
+            → IsMet (P.patterns self.now.maker) self.now.node_limit registry.now.parent target) }
+        ensures refused { IfErr result (RefusesRoot (P.patterns self.now.maker) self.now.node_limit registry.now
+            (root_on registry.now root.now)) }
     {
         let (alloc, limit) = (self.alloc, self.node_limit);
         let validator = Validator::at(
@@ -283,9 +290,12 @@ impl<P: PatternMaker + Drop, R: Drop> ValidationOptions<P, R> {
         registry: &SchemaRegistry,
         root: &str,
     ) -> Result<Vec<BuildCause>, BuildError>
-        ensures listed { IfOk result (λ v. ListsCauses (P.patterns self.now.maker) (root_on registry.now root.now) v.items) }
-        ensures sound { IfOk result (λ v. NoneWhereSound (P.patterns self.now.maker) (root_on registry.now root.now) v.items) }
-        ensures refused { IfErr result (RefusesListing (P.patterns self.now.maker) self.now.node_limit (root_on registry.now root.now)) }
+        ensures listed { IfOk result (λ v. ListsCauses (P.patterns self.now.maker)
+            (root_on registry.now root.now) v.items) }
+        ensures sound { IfOk result (λ v. NoneWhereSound (P.patterns self.now.maker)
+            (root_on registry.now root.now) v.items) }
+        ensures refused { IfErr result (RefusesListing (P.patterns self.now.maker) self.now.node_limit
+            (root_on registry.now root.now)) }
     {
         causes_at(self.alloc, registry, root, &self.maker, self.node_limit)
     }
@@ -304,7 +314,8 @@ impl<P: PatternMaker + Drop, R: Drop> ValidationOptions<P, R> {
     ) -> Result<Vec<ValidationError<'static>>, BuildError>
         ensures told { IfOk result (λ v. (target : Target) → Finds (root_on registry.now root.now) target
             → TellsIn (P.patterns self.now.maker) self.now.node_limit registry.now.parent target v.items) }
-        ensures refused { IfErr result (RefusesTelling (P.patterns self.now.maker) self.now.node_limit registry.now (root_on registry.now root.now)) }
+        ensures refused { IfErr result (RefusesTelling
+            (P.patterns self.now.maker) self.now.node_limit registry.now (root_on registry.now root.now)) }
     {
         tell_faults(self.alloc, registry, root, &self.maker, self.node_limit)
     }
@@ -313,9 +324,13 @@ impl<P: PatternMaker + Drop, R: Drop> ValidationOptions<P, R> {
 impl<P: Drop, R: Retrieve + Drop> ValidationOptions<P, R> {
     // Documents with what they want, over no others.
     fn first(&self, documents: &Documents) -> Result<SharedRegistry, Error>
-        ensures prepared { IfOk result (λ r. IsPrepared (asking_by R.may_answer R.may_refuse self.now (layer_by self.now)) self.now.limit (documents_by (layer_by self.now) (documents_given documents.now)) (documents_shared r) (retrieved_shared r)) }
+        ensures prepared { IfOk result (λ r. IsPrepared (asking_by R.may_answer R.may_refuse self.now
+            (layer_by self.now)) self.now.limit (documents_by (layer_by self.now) (documents_given documents.now))
+            (documents_shared r) (retrieved_shared r)) }
         ensures siblings { IfOk result (λ r. siblings_shared r ≡ self.now.siblings) }
-        ensures refused { IfErr result (RefusesRegistry (asking_by R.may_answer R.may_refuse self.now (layer_by self.now)) self.now.limit (documents_by (layer_by self.now) (documents_given documents.now))) }
+        ensures refused { IfErr result (RefusesRegistry (asking_by R.may_answer R.may_refuse self.now
+            (layer_by self.now)) self.now.limit (documents_by (layer_by self.now)
+            (documents_given documents.now))) }
     {
         SharedRegistry::prepare(
             self.alloc,
@@ -329,11 +344,15 @@ impl<P: Drop, R: Retrieve + Drop> ValidationOptions<P, R> {
 
     // The documents with what they want, beside those of the meta-schemas with what these want.
     fn gather(&self, documents: &Documents, base: Uri) -> Result<SchemaRegistry, Error>
-        ensures documents { IfOk result (AreDocuments (asking_by R.may_answer R.may_refuse self.now) self.now.limit (layer_by self.now) (meta_schemas_given self.now) (documents_given documents.now)) }
+        ensures documents { IfOk result (AreDocuments
+            (asking_by R.may_answer R.may_refuse self.now) self.now.limit (layer_by self.now)
+            (meta_schemas_given self.now) (documents_given documents.now)) }
         ensures draft { IfOk result (λ r. r.draft ≡ self.now.draft) }
         ensures base { IfOk result (λ r. r.base ≡ base) }
         ensures siblings { IfOk result (λ r. siblings_shared r.own ≡ self.now.siblings) }
-        ensures refused { IfErr result (λ e. IsMemory e ⊎ RefusesGiven (asking_by R.may_answer R.may_refuse self.now) self.now.limit (layer_by self.now) (meta_schemas_given self.now) (documents_given documents.now) e) }
+        ensures refused { IfErr result (λ e. IsMemory e ⊎ RefusesGiven
+            (asking_by R.may_answer R.may_refuse self.now) self.now.limit (layer_by self.now)
+            (meta_schemas_given self.now) (documents_given documents.now) e) }
     {
         let (alloc, draft, limit) = (self.alloc, self.draft, self.limit);
         match &self.meta_schemas {
@@ -360,7 +379,8 @@ impl<P: Drop, R: Retrieve + Drop> ValidationOptions<P, R> {
     /// meta-schemas have to be refused, or want of memory.
     pub fn prepare(&self, documents: &Documents) -> Result<SchemaRegistry, BuildError>
         ensures prepared { IfOk result (IsRegistry R.may_answer R.may_refuse self.now (documents_given documents.now)) }
-        ensures refused { IfErr result (RefusesPreparing R.may_answer R.may_refuse self.now (documents_given documents.now)) }
+        ensures refused { IfErr result (RefusesPreparing R.may_answer R.may_refuse self.now
+            (documents_given documents.now)) }
     {
         let base = self.base.clone()?;
         match self.gather(documents, base) {
@@ -381,8 +401,12 @@ impl<P: PatternMaker + Drop, R: Retrieve + Drop> ValidationOptions<P, R> {
         documents: &Documents,
         root: &str,
     ) -> Result<Validator<P::Matcher>, BuildError>
-        ensures built { IfOk result (IsBuilt (P.patterns self.now.maker) R.may_answer R.may_refuse self.now (documents_given documents.now) root.now) }
-        ensures refused { IfErr result (λ e. RefusesPreparing R.may_answer R.may_refuse self.now (documents_given documents.now) e ⊎ RefusesBuilding (P.patterns self.now.maker) R.may_answer R.may_refuse self.now (documents_given documents.now) root.now e) }
+        ensures built { IfOk result (IsBuilt (P.patterns self.now.maker) R.may_answer R.may_refuse self.now
+            (documents_given documents.now) root.now) }
+        ensures refused { IfErr result (λ e. RefusesPreparing R.may_answer R.may_refuse self.now
+            (documents_given documents.now) e ⊎ RefusesBuilding
+            (P.patterns self.now.maker) R.may_answer R.may_refuse self.now
+            (documents_given documents.now) root.now e) }
     {
         let registry = self.prepare(documents)?;
         self.build_on(&registry, root)
@@ -403,8 +427,12 @@ impl<P: PatternMaker + Drop, R: Retrieve + Drop> ValidationOptions<P, R> {
         documents: &Documents,
         root: &str,
     ) -> Result<ValidatorMap<P::Matcher>, BuildError>
-        ensures built { IfOk result (IsMapBuilt (P.patterns self.now.maker) R.may_answer R.may_refuse self.now (documents_given documents.now) root.now) }
-        ensures refused { IfErr result (λ e. RefusesPreparing R.may_answer R.may_refuse self.now (documents_given documents.now) e ⊎ RefusesMapping (P.patterns self.now.maker) R.may_answer R.may_refuse self.now (documents_given documents.now) root.now e) }
+        ensures built { IfOk result (IsMapBuilt (P.patterns self.now.maker) R.may_answer R.may_refuse self.now
+            (documents_given documents.now) root.now) }
+        ensures refused { IfErr result (λ e. RefusesPreparing R.may_answer R.may_refuse self.now
+            (documents_given documents.now) e ⊎ RefusesMapping
+            (P.patterns self.now.maker) R.may_answer R.may_refuse self.now
+            (documents_given documents.now) root.now e) }
     {
         let registry = self.prepare(documents)?;
         map_at(self.alloc, &registry, root, &self.maker, self.node_limit)

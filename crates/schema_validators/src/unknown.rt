@@ -98,7 +98,8 @@ fn unknown_at(
     place: &Place<'_>,
     name: &str,
 ) -> Result<UnknownKeyword, AllocError>
-    ensures { IfOk result (λ u. spec.unknown_from u ≡ spec.unknown_name (name_of document.now) (place_of place.now) name.now) }
+    ensures { IfOk result (λ u. spec.unknown_from u ≡ spec.unknown_name (name_of document.now)
+        (place_of place.now) name.now) }
 {
     Ok(UnknownKeyword {
         place: SchemaPlace {
@@ -117,7 +118,8 @@ fn push_unknown(
     place: &Place<'_>,
     found: &mut Vec<UnknownKeyword>,
 ) -> Result<(), AllocError>
-    ensures { OnOk result (map spec.unknown_from found.new.items ≡ map spec.unknown_from found.old.items ++ spec.unknown_at (name_of document.now) (place_of place.now)) }
+    ensures { OnOk result (map spec.unknown_from found.new.items ≡ map spec.unknown_from found.old.items
+        ++ spec.unknown_at (name_of document.now) (place_of place.now)) }
 {
     if let Value::Object(members) = place.contents {
         for (name, _) in members.iter() {
@@ -135,7 +137,8 @@ fn unknown_under(
     known: &MetaSchemas,
     document: &Document<'_>,
 ) -> Result<Vec<UnknownKeyword>, AllocError>
-    ensures { IfOk result (λ v. map spec.unknown_from v.items ≡ spec.unknown_under (dialects_in known.now) (document_of document.now)) }
+    ensures { IfOk result (λ v. map spec.unknown_from v.items ≡ spec.unknown_under (dialects_in known.now)
+        (document_of document.now)) }
 {
     let places = places(
         alloc,
@@ -165,8 +168,11 @@ pub fn unknown_keywords(
     registry: &SchemaRegistry,
     document: &Uri,
 ) -> Result<Vec<UnknownKeyword>, AllocError>
-    ensures unknown { IfOk result (λ v. (d : bearers.Document) → pointers.IsDocumentAt (documents_in_registry registry.now) document.now d → map spec.unknown_from v.items ≡ spec.unknown_of (documents_in_registry registry.now) d) }
-    ensures none { IfOk result (λ v. pointers.document_at (documents_in_registry registry.now) document.now ≡ None → v.items ≡ []) }
+    ensures unknown { IfOk result (λ v. (d : bearers.Document)
+        → pointers.IsDocumentAt (documents_in_registry registry.now) document.now d
+        → map spec.unknown_from v.items ≡ spec.unknown_of (documents_in_registry registry.now) d) }
+    ensures none { IfOk result (λ v. pointers.document_at (documents_in_registry registry.now) document.now
+        ≡ None → v.items ≡ []) }
 {
     let Some(found) = document_at(registry.registry().documents(), document) else {
         return Ok(Vec::new(alloc));

@@ -4,15 +4,11 @@ ghost use Rattle.std.specs.Prelude.{◌≡◌, ◌<◌, length, OnOk, IfOk, IfEr
 ghost use Rattle.serde_json.specs.View.{view};
 ghost use Rattle.schema_drafts.specs.Drafts as drafts;
 ghost use Rattle.schema_meaning.specs.Faults.{Faults, Told, is_none};
-ghost use Rattle.schema_meaning.specs.Readings.{verdicts};
 ghost use Rattle.schema_reports.specs.Left.{errors_left};
 ghost use Rattle.schema_reports.specs.Stands.{first_stands};
 ghost use Rattle.schema_reports.specs.Told.{fault_of, faults_of, error_is_proper, are_proper};
 ghost use Rattle.schema_validators.specs.Heard.{SaysOne};
 ghost use Rattle.schema_validators.specs.Meant.{AreOfSome};
-ghost use Rattle.schema_registries.specs.Answers.{IsAnswer};
-ghost use Rattle.schema_registries.specs.Certified.{IsCertified, HasCertificate, HaveCertificates};
-ghost use Rattle.schema_registries.specs.Roots.{Root, Patterns};
 ghost use Rattle.schema_registries.specs.Whole.{only_whole};
 ghost use Rattle.graph_answers.specs.Tables.{AreForms, matches_of};
 ghost use Rattle.schema_validators.specs.Numbers.{NamesOther};
@@ -65,10 +61,8 @@ impl Validator {
 }
 
 impl<M: PatternMatcher> Validator<M> {
-    ghost use Rattle.schema_validators.specs.Answered.{AreFaults, IsFault};
-    ghost use Rattle.schema_validators.specs.Decided.{IsDecidedAs};
-    ghost use Rattle.schema_validators.specs.Made.{IsMadeBy};
-    ghost use Rattle.schema_validators.specs.Missing.{TellsEachMissing};
+    ghost use Rattle.schema_validators.specs.Calls.{IsVerdictOf, IsCertifiedOf, IsDecidedOf, IsFaultOf, AreFaultsOf};
+    ghost use Rattle.schema_validators.specs.Calls.{HasCertificateOf, HaveCertificatesOf, TellsMissingOf};
     ghost use Rattle.schema_validators.specs.New.{IsNew, Refuses};
     ghost use Rattle.schema_validators.specs.Seen.{nodes_in, table_in};
     ghost use Rattle.schema_validators.specs.Told.{verdict_by, faults_by};
@@ -87,8 +81,10 @@ impl<M: PatternMatcher> Validator<M> {
         schema: Value,
         maker: P,
     ) -> Result<Validator<M>, BuildError>
-        ensures built { IfOk result (IsNew (P.patterns maker) ⟦<DefaultRetriever as Retrieve>⟧.may_answer ⟦<DefaultRetriever as Retrieve>⟧.may_refuse maker (view schema)) }
-        ensures refused { IfErr result (Refuses (P.patterns maker) ⟦<DefaultRetriever as Retrieve>⟧.may_answer ⟦<DefaultRetriever as Retrieve>⟧.may_refuse maker (view schema)) }
+        ensures built { IfOk result (IsNew
+            (P.patterns maker) ⟦<DefaultRetriever as Retrieve>⟧.may_answer ⟦<DefaultRetriever as Retrieve>⟧.may_refuse maker (view schema)) }
+        ensures refused { IfErr result (Refuses
+            (P.patterns maker) ⟦<DefaultRetriever as Retrieve>⟧.may_answer ⟦<DefaultRetriever as Retrieve>⟧.may_refuse maker (view schema)) }
     {
         let options = Validator::options(alloc)?.with_pattern_maker(maker);
         let mut documents = Documents::new(alloc);
@@ -122,8 +118,8 @@ impl<M: PatternMatcher> Validator<M> {
     pub fn is_valid(&self, value: &Value) -> Result<bool, AllocError>
         requires whole { only_whole (view value.now) ≡ true }
         ensures cut { IfOk result (λ b. b ≡ verdict_by self.now (view value.now)) }
-        ensures verdict { IfOk result (λ b. (p : Patterns) (r : Root) → IsMadeBy p r self.now → IsAnswer verdicts p r (view value.now) b) }
-        ensures certified { IfOk result (λ b. (p : Patterns) (r : Root) → IsMadeBy p r self.now → IsCertified p r (view value.now) b) }
+        ensures verdict { IfOk result (IsVerdictOf self.now (view value.now)) }
+        ensures certified { IfOk result (IsCertifiedOf self.now (view value.now)) }
     {
         let mut matching = self.direct();
         self.is_valid_by(&mut matching, value)
@@ -140,7 +136,7 @@ impl<M: PatternMatcher> Validator<M> {
     pub fn decide(&self, value: &Value) -> Result<Decision, AllocError>
         requires whole { only_whole (view value.now) ≡ true }
         ensures cut { IfOk result (Decides self.now (view value.now)) }
-        ensures verdict { IfOk result (λ decision. (p : Patterns) (r : Root) → IsMadeBy p r self.now → IsDecidedAs p r (view value.now) decision) }
+        ensures verdict { IfOk result (IsDecidedOf self.now (view value.now)) }
     {
         self.schemas.decide(self.alloc, self.start, value)
     }
@@ -174,8 +170,8 @@ impl<M: PatternMatcher> Validator<M> {
         requires meant { T.matches matching.old ≡ matches_of M.finds (table_in self.now) }
         ensures matches { OnOk result (T.matches matching.new ≡ T.matches matching.old) }
         ensures cut { IfOk result (λ b. b ≡ verdict_by self.now (view value.now)) }
-        ensures verdict { IfOk result (λ b. (p : Patterns) (r : Root) → IsMadeBy p r self.now → IsAnswer verdicts p r (view value.now) b) }
-        ensures certified { IfOk result (λ b. (p : Patterns) (r : Root) → IsMadeBy p r self.now → IsCertified p r (view value.now) b) }
+        ensures verdict { IfOk result (IsVerdictOf self.now (view value.now)) }
+        ensures certified { IfOk result (IsCertifiedOf self.now (view value.now)) }
     {
         self.schemas
             .is_valid_by(self.alloc, self.start, matching, value)
@@ -196,10 +192,11 @@ impl<M: PatternMatcher> Validator<M> {
         requires whole { only_whole (view value.now) ≡ true }
         ensures cut { IfOk result (λ answer. is_ok answer ≡ verdict_by self.now (view value.now)) }
         ensures one { IfOk result (λ answer. IfErr answer (λ e. Told (fault_of e) (faults_by self.now (view value.now)))) }
-        ensures verdict { IfOk result (λ answer. (p : Patterns) (r : Root) → IsMadeBy p r self.now → IsAnswer verdicts p r (view value.now) (is_ok answer)) }
-        ensures fault { IfOk result (λ answer. IfErr answer (λ e. (p : Patterns) (r : Root) → IsMadeBy p r self.now → IsFault p r (view value.now) (fault_of e))) }
+        ensures verdict { IfOk result (λ answer. IsVerdictOf self.now (view value.now) (is_ok answer)) }
+        ensures fault { IfOk result (λ answer. IfErr answer (λ e. IsFaultOf self.now (view value.now) (fault_of e))) }
         ensures proper { IfOk result (λ answer. IfErr answer (λ e. error_is_proper e ≡ true)) }
-        ensures certified { IfOk result (λ answer. IfErr answer (λ e. (p : Patterns) (r : Root) → IsMadeBy p r self.now → HasCertificate p r (view value.now) (fault_of e))) }
+        ensures certified { IfOk result (λ answer. IfErr answer (λ e. HasCertificateOf self.now (view value.now)
+            (fault_of e))) }
     {
         self.first_fault(value)
     }
@@ -211,10 +208,11 @@ impl<M: PatternMatcher> Validator<M> {
     ) -> Result<Result<(), ValidationError<'i>>, AllocError>
         ensures cut { IfOk result (λ answer. is_ok answer ≡ verdict_by self.now (view value.now)) }
         ensures one { IfOk result (λ answer. IfErr answer (λ e. Told (fault_of e) (faults_by self.now (view value.now)))) }
-        ensures verdict { IfOk result (λ answer. (p : Patterns) (r : Root) → IsMadeBy p r self.now → IsAnswer verdicts p r (view value.now) (is_ok answer)) }
-        ensures fault { IfOk result (λ answer. IfErr answer (λ e. (p : Patterns) (r : Root) → IsMadeBy p r self.now → IsFault p r (view value.now) (fault_of e))) }
+        ensures verdict { IfOk result (λ answer. IsVerdictOf self.now (view value.now) (is_ok answer)) }
+        ensures fault { IfOk result (λ answer. IfErr answer (λ e. IsFaultOf self.now (view value.now) (fault_of e))) }
         ensures proper { IfOk result (λ answer. IfErr answer (λ e. error_is_proper e ≡ true)) }
-        ensures certified { IfOk result (λ answer. IfErr answer (λ e. (p : Patterns) (r : Root) → IsMadeBy p r self.now → HasCertificate p r (view value.now) (fault_of e))) }
+        ensures certified { IfOk result (λ answer. IfErr answer (λ e. HasCertificateOf self.now (view value.now)
+            (fault_of e))) }
     {
         let mut matching = self.direct();
         self.first_fault_by(&mut matching, value)
@@ -230,10 +228,11 @@ impl<M: PatternMatcher> Validator<M> {
         ensures matches { OnOk result (T.matches matching.new ≡ T.matches matching.old) }
         ensures cut { IfOk result (λ answer. is_ok answer ≡ verdict_by self.now (view value.now)) }
         ensures one { IfOk result (λ answer. IfErr answer (λ e. Told (fault_of e) (faults_by self.now (view value.now)))) }
-        ensures verdict { IfOk result (λ answer. (p : Patterns) (r : Root) → IsMadeBy p r self.now → IsAnswer verdicts p r (view value.now) (is_ok answer)) }
-        ensures fault { IfOk result (λ answer. IfErr answer (λ e. (p : Patterns) (r : Root) → IsMadeBy p r self.now → IsFault p r (view value.now) (fault_of e))) }
+        ensures verdict { IfOk result (λ answer. IsVerdictOf self.now (view value.now) (is_ok answer)) }
+        ensures fault { IfOk result (λ answer. IfErr answer (λ e. IsFaultOf self.now (view value.now) (fault_of e))) }
         ensures proper { IfOk result (λ answer. IfErr answer (λ e. error_is_proper e ≡ true)) }
-        ensures certified { IfOk result (λ answer. IfErr answer (λ e. (p : Patterns) (r : Root) → IsMadeBy p r self.now → HasCertificate p r (view value.now) (fault_of e))) }
+        ensures certified { IfOk result (λ answer. IfErr answer (λ e. HasCertificateOf self.now (view value.now)
+            (fault_of e))) }
     {
         let observer = self.told(matching, value, Observer::First(FirstFault::new()))?;
         match observer {
@@ -257,10 +256,11 @@ impl<M: PatternMatcher> Validator<M> {
     ) -> Result<Result<(), ValidationError<'i>>, NumberError>
         ensures whole { OnOk result (only_whole (view value.now) ≡ true) }
         ensures cut { IfOk result (λ answer. is_ok answer ≡ verdict_by self.now (view value.now)) }
-        ensures verdict { IfOk result (λ answer. (p : Patterns) (r : Root) → IsMadeBy p r self.now → IsAnswer verdicts p r (view value.now) (is_ok answer)) }
-        ensures fault { IfOk result (λ answer. IfErr answer (λ e. (p : Patterns) (r : Root) → IsMadeBy p r self.now → IsFault p r (view value.now) (fault_of e))) }
+        ensures verdict { IfOk result (λ answer. IsVerdictOf self.now (view value.now) (is_ok answer)) }
+        ensures fault { IfOk result (λ answer. IfErr answer (λ e. IsFaultOf self.now (view value.now) (fault_of e))) }
         ensures proper { IfOk result (λ answer. IfErr answer (λ e. error_is_proper e ≡ true)) }
-        ensures certified { IfOk result (λ answer. IfErr answer (λ e. (p : Patterns) (r : Root) → IsMadeBy p r self.now → HasCertificate p r (view value.now) (fault_of e))) }
+        ensures certified { IfOk result (λ answer. IfErr answer (λ e. HasCertificateOf self.now (view value.now)
+            (fault_of e))) }
         ensures refused { IfErr result (NamesOther (view value.now)) }
     {
         if !has_only_whole(value) {
@@ -284,11 +284,12 @@ impl<M: PatternMatcher> Validator<M> {
         requires whole { only_whole (view value.now) ≡ true }
         ensures cut { IfOk result (λ errors. faults_of (errors_left errors) ≡ faults_by self.now (view value.now)) }
         ensures agree { OnOk result (is_none (faults_by self.now (view value.now)) ≡ verdict_by self.now (view value.now)) }
-        ensures faults { IfOk result (λ errors. (p : Patterns) (r : Root) → IsMadeBy p r self.now → AreFaults p r (view value.now) (faults_of (errors_left errors))) }
+        ensures faults { IfOk result (λ errors. AreFaultsOf self.now (view value.now) (faults_of (errors_left errors))) }
         ensures proper { IfOk result (λ errors. are_proper (errors_left errors) ≡ true) }
-        ensures certified { IfOk result (λ errors. (p : Patterns) (r : Root) → IsMadeBy p r self.now → HaveCertificates p r (view value.now) (faults_of (errors_left errors))) }
-        ensures missing { IfOk result (λ errors. (p : Patterns) (r : Root) → IsMadeBy p r self.now
-            → TellsEachMissing p r (view value.now) (faults_of (errors_left errors))) }
+        ensures certified { IfOk result (λ errors. HaveCertificatesOf self.now (view value.now) (faults_of
+            (errors_left errors))) }
+        ensures missing { IfOk result (λ errors. TellsMissingOf self.now (view value.now) (faults_of
+            (errors_left errors))) }
     {
         let mut matching = self.direct();
         self.errors_by(&mut matching, value)
@@ -310,20 +311,21 @@ impl<M: PatternMatcher> Validator<M> {
         ensures matches { OnOk result (T.matches matching.new ≡ T.matches matching.old) }
         ensures cut { IfOk result (λ errors. faults_of (errors_left errors) ≡ faults_by self.now (view value.now)) }
         ensures agree { OnOk result (is_none (faults_by self.now (view value.now)) ≡ verdict_by self.now (view value.now)) }
-        ensures faults { IfOk result (λ errors. (p : Patterns) (r : Root) → IsMadeBy p r self.now → AreFaults p r (view value.now) (faults_of (errors_left errors))) }
+        ensures faults { IfOk result (λ errors. AreFaultsOf self.now (view value.now) (faults_of (errors_left errors))) }
         ensures proper { IfOk result (λ errors. are_proper (errors_left errors) ≡ true) }
-        ensures certified { IfOk result (λ errors. (p : Patterns) (r : Root) → IsMadeBy p r self.now → HaveCertificates p r (view value.now) (faults_of (errors_left errors))) }
-        ensures missing { IfOk result (λ errors. (p : Patterns) (r : Root) → IsMadeBy p r self.now
-            → TellsEachMissing p r (view value.now) (faults_of (errors_left errors))) }
+        ensures certified { IfOk result (λ errors. HaveCertificatesOf self.now (view value.now) (faults_of
+            (errors_left errors))) }
+        ensures missing { IfOk result (λ errors. TellsMissingOf self.now (view value.now) (faults_of
+            (errors_left errors))) }
     {
         self.all_faults_by(matching, value)
     }
 
     // All faults of any value that the JSON reader gives.
     pub(crate) fn all_faults<'i>(&self, value: &'i Value) -> Result<ErrorIterator<'i>, AllocError>
-        ensures verdict { IfOk result (λ errors. (p : Patterns) (r : Root) → IsMadeBy p r self.now
-            → IsAnswer verdicts p r (view value.now) (is_none (faults_of (errors_left errors)))) }
-        ensures faults { IfOk result (λ errors. (p : Patterns) (r : Root) → IsMadeBy p r self.now → AreFaults p r (view value.now) (faults_of (errors_left errors))) }
+        ensures verdict { IfOk result (λ errors. IsVerdictOf self.now (view value.now) (is_none (faults_of
+            (errors_left errors)))) }
+        ensures faults { IfOk result (λ errors. AreFaultsOf self.now (view value.now) (faults_of (errors_left errors))) }
         ensures proper { IfOk result (λ errors. are_proper (errors_left errors) ≡ true) }
     {
         let mut matching = self.direct();
@@ -340,13 +342,14 @@ impl<M: PatternMatcher> Validator<M> {
         ensures matches { OnOk result (T.matches matching.new ≡ T.matches matching.old) }
         ensures cut { IfOk result (λ errors. faults_of (errors_left errors) ≡ faults_by self.now (view value.now)) }
         ensures agree { OnOk result (is_none (faults_by self.now (view value.now)) ≡ verdict_by self.now (view value.now)) }
-        ensures verdict { IfOk result (λ errors. (p : Patterns) (r : Root) → IsMadeBy p r self.now
-            → IsAnswer verdicts p r (view value.now) (is_none (faults_of (errors_left errors)))) }
-        ensures faults { IfOk result (λ errors. (p : Patterns) (r : Root) → IsMadeBy p r self.now → AreFaults p r (view value.now) (faults_of (errors_left errors))) }
+        ensures verdict { IfOk result (λ errors. IsVerdictOf self.now (view value.now) (is_none (faults_of
+            (errors_left errors)))) }
+        ensures faults { IfOk result (λ errors. AreFaultsOf self.now (view value.now) (faults_of (errors_left errors))) }
         ensures proper { IfOk result (λ errors. are_proper (errors_left errors) ≡ true) }
-        ensures certified { IfOk result (λ errors. (p : Patterns) (r : Root) → IsMadeBy p r self.now → HaveCertificates p r (view value.now) (faults_of (errors_left errors))) }
-        ensures missing { IfOk result (λ errors. (p : Patterns) (r : Root) → IsMadeBy p r self.now
-            → TellsEachMissing p r (view value.now) (faults_of (errors_left errors))) }
+        ensures certified { IfOk result (λ errors. HaveCertificatesOf self.now (view value.now) (faults_of
+            (errors_left errors))) }
+        ensures missing { IfOk result (λ errors. TellsMissingOf self.now (view value.now) (faults_of
+            (errors_left errors))) }
     {
         let observer = self.told(matching, value, Observer::All(AllFaults::new(self.alloc)))?;
         match observer {

@@ -61,8 +61,10 @@ pub(crate) fn run_in<S: ByteSource, K: ByteSink>(
     writer: &mut K,
     validator: &Validator,
 ) -> Result<FormedRun, RunError>
-    ensures ok { IfOk result (λ run. RunsBy validator.now form (S.remaining reader.old) (S.remaining reader.new) (K.contents writer.old) (K.contents writer.new) run.report) }
-    ensures stops { IfErr result (λ e. StopsBy validator.now form e (S.remaining reader.old) (S.remaining reader.new) (K.contents writer.old) (K.contents writer.new)) }
+    ensures ok { IfOk result (λ run. RunsBy validator.now form (S.remaining reader.old) (S.remaining reader.new)
+        (K.contents writer.old) (K.contents writer.new) run.report) }
+    ensures stops { IfErr result (λ e. StopsBy validator.now form e (S.remaining reader.old)
+        (S.remaining reader.new) (K.contents writer.old) (K.contents writer.new)) }
 {
     match form {
         OutputForm::Lines(form) => run_in_form(alloc, form, reader, writer, validator),
@@ -83,8 +85,10 @@ pub(crate) fn answer_in<K: ByteSink>(
     writer: &mut K,
     validator: &Validator,
 ) -> Result<FormedRun, RunError>
-    ensures ok { IfOk result (λ run. AnswersEachBy validator.now form (bytes_of texts.now) (K.contents writer.old) (K.contents writer.new) run.report) }
-    ensures breaks { OnErr result (BreaksBy validator.now form (bytes_of texts.now) (K.contents writer.old) (K.contents writer.new)) }
+    ensures ok { IfOk result (λ run. AnswersEachBy validator.now form (bytes_of texts.now) (K.contents writer.old)
+        (K.contents writer.new) run.report) }
+    ensures breaks { OnErr result (BreaksBy validator.now form (bytes_of texts.now) (K.contents writer.old)
+        (K.contents writer.new)) }
 {
     match form {
         OutputForm::Lines(form) => answer_texts(alloc, form, names, texts, writer, validator),
