@@ -137,7 +137,8 @@ fn of_cause(
             text.push_str(more.as_str())?;
             Ok(text)
         }
-        BuildCause::NodeLimit { .. } | BuildCause::Memory => Ok(String::new(alloc)),
+        BuildCause::NodeLimit { .. } => line_of(alloc, sentence),
+        BuildCause::Memory => Ok(String::new(alloc)),
     }
 }
 
