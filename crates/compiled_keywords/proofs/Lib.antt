@@ -1,4 +1,5 @@
 pub mod CopyLemmas
+pub mod Searching
 pub mod RuleLemmas
 pub mod SeenLemmas
 pub mod AskLemmas

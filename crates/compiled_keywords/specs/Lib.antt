@@ -1,3 +1,4 @@
+pub mod Sorted
 pub mod Owned
 pub mod Forms
 pub mod Applied

@@ -33,7 +33,7 @@ abbrev pub needed_by : NeededNames → List ℕ × List (List ℕ)
 needed_by n = (string_bytes n.name, map string_bytes n.needed.items)
 
 abbrev pub declared_by : Declared → told.Declared
-declared_by w = record { names = map string_bytes w.names.items; patterns = map text_of w.patterns.items }
+declared_by w = record { names = map string_bytes w.names.list.items; patterns = map text_of w.patterns.items }
 
 -- ---- patterns by their numbers
 

@@ -1,11 +1,12 @@
 //! What compiled keywords ask of a value.
 
+use crate::names::SortedNames;
 use crate::subschemas::{NamedDependency, NamedNode, Pattern, PatternNode, ShownNode};
 
 /// What `properties` and `patternProperties` beside `additionalProperties` declare.
 #[derive(Drop, Debug)]
 pub struct Declared {
-    pub names: Vec<String>,
+    pub names: SortedNames,
     pub patterns: Vec<Pattern>,
 }
 

@@ -12,6 +12,7 @@ pub mod keyword;
 mod kinds;
 pub mod leads;
 mod members;
+pub mod names;
 mod notes;
 pub mod numbering;
 mod patterns;

@@ -1,9 +1,8 @@
 //! Texts and members' names that patterns match.
-ghost use Rattle.std.specs.Prelude.{◌≡◌, OnOk, IfOk, map, string_bytes};
+ghost use Rattle.std.specs.Prelude.{◌≡◌, OnOk, IfOk, map};
 ghost use Rattle.std.specs.List.{list_any};
 ghost use Rattle.json_values.specs.Patterns.{matched};
 ghost use Rattle.schema_meaning.specs.Keywords.{text_is};
-ghost use Rattle.schema_meaning.specs.Members.{is_listed};
 ghost use Rattle.schema_meaning.specs.Questions.{is_declared as is_among};
 ghost use Rattle.schema_engine.specs.Matches.{InEach};
 ghost use Rattle.schema_engine.specs.Places.{value_at};
@@ -40,17 +39,6 @@ pub(crate) fn is_matched<T: Matching>(
     }
 }
 
-fn is_named(names: &[String], name: &str) -> bool
-    ensures { result ≡ is_listed name.now (map string_bytes names.now) }
-{
-    for other in names {
-        if name == other.as_str() {
-            return true;
-        }
-    }
-    false
-}
-
 fn is_matched_by<T: Matching>(
     patterns: &[Pattern],
     name: &str,
@@ -84,7 +72,7 @@ pub(crate) fn is_declared<T: Matching>(
     ensures read { IfOk result (λ b. InEach (T.matches matching.old)
         (λ m. b ≡ is_among m (declared_by declared.now) name.now)) }
 {
-    if is_named(&declared.names, name) {
+    if declared.names.contains(name) {
         Ok(true)
     } else {
         is_matched_by(&declared.patterns, name, matching)

@@ -1,3 +1,4 @@
+pub mod Rising
 pub mod Related
 pub mod Linking
 pub mod Standing

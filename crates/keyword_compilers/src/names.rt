@@ -10,9 +10,11 @@ ghost use Rattle.compiled_keywords.specs.Owned.{named, needed_by};
 ghost use Rattle.keyword_compilers.specs.Numbers.{beside};
 
 use crate::nodes::{first, rest};
+use compiled_keywords::names::SortedNames;
 use compiled_keywords::subschemas::{NamedNode, NeededNames};
 use serde_json::{Map, Value};
 use std::alloc::{AllocError, Global};
+use value_checks::rising::entries_rise;
 
 fn push_text(value: &Value, into: &mut Vec<String>) -> Result<(), AllocError>
     ensures { OnOk result (map string_bytes into.new.items ≡ map string_bytes into.old.items
@@ -76,12 +78,18 @@ fn names_of(alloc: Global, schemas: &Map<String, Value>) -> Result<Vec<String>, 
 pub(crate) fn names_in(
     alloc: Global,
     schemas: Option<&Map<String, Value>>,
-) -> Result<Vec<String>, AllocError>
-    ensures { IfOk result (λ v. map string_bytes v.items ≡ names_declared schemas.entry) }
+) -> Result<SortedNames, AllocError>
+    ensures { IfOk result (λ names. map string_bytes names.list.items ≡ names_declared schemas.entry) }
 {
     match schemas {
-        Some(schemas) => names_of(alloc, schemas),
-        None => Ok(Vec::new(alloc)),
+        Some(schemas) => {
+            entries_rise(schemas);
+            let list = names_of(alloc, schemas)?;
+            Ok(SortedNames { list })
+        }
+        None => Ok(SortedNames {
+            list: Vec::new(alloc),
+        }),
     }
 }
 

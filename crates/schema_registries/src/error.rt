@@ -15,7 +15,7 @@ pub enum DocumentError {
     /// A text that is no URI reference, or has a fragment that is not empty.
     InvalidUri(UriError),
     /// Bytes that are no JSON text (RFC 8259), for the document of this URI, with the line and the byte of it, both counted from 1, at
-    /// which they cannot be read on. Where they end too early, it is the last byte.
+    /// which they cannot be read on. Where they end too early, it is the last byte, or the quote that begins a text that is not ended.
     JsonText {
         uri: String,
         line: usize,

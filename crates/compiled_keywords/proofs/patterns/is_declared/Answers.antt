@@ -8,15 +8,14 @@ use Rattle.compiled_keywords.specs.Owned.{text_of}
 use Rattle.compiled_keywords.specs.declared.subschemas.Pattern.{Pattern}
 use Rattle.compiled_keywords.proofs.patterns.is_declared.Goals as goal
 
-pub returns-else-is_named-clause-read : goal.returns-else-is_named-clause-read
-returns-else-is_named-clause-read g c =
+pub returns-else-contains-clause-read : goal.returns-else-contains-clause-read
+returns-else-contains-clause-read g c =
     let entry = g.T.Matching.matches c.args.matching.now in
     let w = c.args.declared.now in
     let name = c.args.name.now in
-    let names = c.deref.ensures.value in
-    let unnamed : is_listed name (map string_bytes w.names.items) ≡ false = ap (λ ns. is_listed name (map string_bytes ns)) (sym names) ∙ sym c.is_named.ensures ∙ c.if-is_named.false in
+    let unnamed : is_listed name (map string_bytes w.names.list.items) ≡ false = sym c.contains.ensures ∙ c.if-contains.false in
     IfOk-weaker c.is_matched_by.result _ _
     (λ b read rest.
-    read rest ∙ ap (λ (ps : List Pattern). list_any (λ p. matched (completed entry rest) p name) (map text_of ps)) c.deref-else-is_named.ensures.value
+    read rest ∙ ap (λ (ps : List Pattern). list_any (λ p. matched (completed entry rest) p name) (map text_of ps)) c.deref.ensures.value
     ∙ sym (ap (λ a. a || list_any (λ p. matched (completed entry rest) p name) (map text_of w.patterns.items)) unnamed))
     c.is_matched_by.ensures.read
