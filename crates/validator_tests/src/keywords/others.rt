@@ -27,6 +27,9 @@ const OTHERS: &str = r##"
     {"a":1} :: #/a #/additionalProperties/not;
 - {"$schema":"http://json-schema.org/draft-04/schema#","properties":{"a":{}},"additionalProperties":false}
     {"b":1} :: # #/additionalProperties;
+- {"properties":{"a":true,"ab":true,"b":true,"c":true,"e":true,"f":true,"é":true},"additionalProperties":{"type":"null"}}
+    {"a":1,"ab":1,"b":1,"c":1,"e":1,"f":1,"é":1} :: valid
+    {"":1,"a":1,"aa":1,"abc":1,"d":1,"f":1,"g":1,"è":1,"é":1,"ê":1,"éa":1} :: #/ #/additionalProperties/type; #/aa #/additionalProperties/type; #/abc #/additionalProperties/type; #/d #/additionalProperties/type; #/g #/additionalProperties/type; #/è #/additionalProperties/type; #/éa #/additionalProperties/type; #/ê #/additionalProperties/type;
 - {"allOf":[{"properties":{"a":{}}}],"additionalProperties":false}
     {"a":1} :: # #/additionalProperties;
 - {"properties":{"a":{"$ref":"#"}},"additionalProperties":false}
