@@ -2,14 +2,13 @@
 
 ghost use Rattle.std.specs.Prelude.{◌≡◌, IfOk, IfSome, true, false, is_none, option_copied};
 ghost use Rattle.serde_json.specs.View.{view};
-ghost use Rattle.schema_meaning.specs.Readings.{verdicts};
 ghost use Rattle.schema_reports.specs.Left.{errors_left};
 ghost use Rattle.schema_reports.specs.Told.{fault_of, faults_of};
 ghost use Rattle.schema_registries.specs.Roots.{Patterns, Root, IsSound, root_on};
-ghost use Rattle.schema_registries.specs.Answers.{IsAnswer};
 ghost use Rattle.schema_registries.specs.Whole.{only_whole};
 ghost use Rattle.schema_registries.specs.Certified.{HasCertificate, HaveCertificates};
 ghost use Rattle.fault_checks.specs.Checked.{AreReadIn, IsChecked};
+ghost use Rattle.schema_validators.specs.Calls.{IsVerdictOf};
 ghost use Rattle.schema_validators.specs.Made.{IsMadeBy};
 ghost use Rattle.json_schema_validator.specs.Joined.{IsFaultChecked, WhereStraight, AreAccepted, each_accepted};
 

@@ -6,7 +6,7 @@ ghost use Rattle.schema_reports.specs.Told.{faults_of};
 ghost use Rattle.line_runs.specs.Forms.{Tells, TellsNone, end_of, refuses_in};
 
 use crate::faults::write_faults;
-use crate::reading::reason_of;
+use crate::reasons::reason_of;
 use error_texts::{
     is_accepted_line, write_accepted, write_reason, write_refused, write_sentences, write_unread,
 };

@@ -7,6 +7,7 @@ mod faults;
 mod form;
 mod formed_runs;
 mod reading;
+mod reasons;
 mod running;
 
 pub use counts::LineCounts;

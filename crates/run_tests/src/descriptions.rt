@@ -44,19 +44,19 @@ const WORDS: [Row; 6] = [
     ),
 ];
 
-const DOCUMENTS: [Row; 6] = [
+const DOCUMENTS: [Row; 7] = [
     (
         &["plain.json", "u:x=none", "--output", "text"],
         "1\n",
         r"2  build refused: Document 'u:x' is no JSON text
-  in the file 'none': The document 'u:x' is no JSON text, from line 1, column 1 on
+  in the file 'none': it is no JSON text, from line 1, column 1 on
 ",
     ),
     (
         &["half", "--output", "json"],
         "1\n",
         r"2  build refused: Number at 'json-schema:///#' is no whole number of 64 bits
-  in the file 'half': The number at 'json-schema:///#' is no whole number from -2^63 to 2^64-1
+  in the file 'half': 1.5 is no whole number from -2^63 to 2^64-1
 ",
     ),
     (
@@ -68,7 +68,14 @@ const DOCUMENTS: [Row; 6] = [
         ],
         "1\n",
         r"2  build refused: Number at 'http://a.test/~x#/a/0' is no whole number of 64 bits
-  in the file 'deep.json' at '/a/0': The number at 'http://a.test/~x#/a/0' is no whole number from -2^63 to 2^64-1
+  in the file 'deep.json' at '/a/0': 1.5 is no whole number from -2^63 to 2^64-1
+",
+    ),
+    (
+        &["plain.json", "--meta", "broken.json", "--output", "text"],
+        "1\n",
+        r"2  build refused: Number at 'http://a.test/m6#/a' is no whole number of 64 bits
+  in the file 'broken.json' at 'http://a.test/m6#/a': 0.5 is no whole number from -2^63 to 2^64-1
 ",
     ),
     (
@@ -95,11 +102,12 @@ const DOCUMENTS: [Row; 6] = [
         "1\n",
         r"2  build refused: Circular meta-schema 'http://a.test/c'
   The documents are refused: the meta-schema 'http://a.test/c' waits for itself
+  'http://a.test/c' is in the file 'circle.json'
 ",
     ),
 ];
 
-const BUILDS: [Row; 9] = [
+const BUILDS: [Row; 14] = [
     (
         &["wrong.json", "--output", "text"],
         "1\n",
@@ -118,6 +126,7 @@ const BUILDS: [Row; 9] = [
         ],
         "1\n",
         r"2  build refused: Resource 'http://a.test/leaf.json' is not present and retrieving it failed
+  The documents are refused: the document 'http://a.test/leaf.json' is not present
   the documents at hand are
     'http://a.test/root.json' in the file 'root.json'
     'u:other' in the file 'plain.json'
@@ -127,6 +136,7 @@ const BUILDS: [Row; 9] = [
         &["own.json", "--output", "text"],
         "1\n",
         r"2  build refused: Unknown meta-schema 'http://a.test/m2'
+  The documents are refused: the meta-schema 'http://a.test/m2' is not known
   a file with a list of meta-schemas is given by --meta
 ",
     ),
@@ -169,6 +179,51 @@ const BUILDS: [Row; 9] = [
   in the file 'several.json' at '/properties/a/maxItems': Expected count, found -1
   in the file 'several.json' at '/properties/a/pattern': The pattern "(" is refused
 "#,
+    ),
+    (
+        &["mended.json", "--meta", "bad.json", "--output", "text"],
+        "1\n",
+        r"2  build refused: Keyword value at 'http://a.test/m5#/type': expected type name
+  in the file 'bad.json' at 'http://a.test/m5#/type': Expected type name, found 5
+",
+    ),
+    (
+        &["left.json", "--output", "json"],
+        "1\n",
+        r"2  build refused: Keyword at 'json-schema:///#/items/unevaluatedItems' is left out
+  in the file 'left.json' at '/items/unevaluatedItems': The keyword is left out by this library
+",
+    ),
+    (
+        &["plain.json", "--instance", "absent", "--output", "text"],
+        "1\n",
+        r"2  file refused: absent
+  it is not there, is not read, or holds something else than is asked of it
+",
+    ),
+    (
+        &["plain.json", "--check", "absent", "--output", "json"],
+        "1\n",
+        r"2  file refused: absent
+  it is not there, is not read, or holds something else than is asked of it
+",
+    ),
+    (
+        &[
+            "root.json",
+            "--check",
+            "right",
+            "--base",
+            "http://a.test/root.json",
+            "--output",
+            "text",
+        ],
+        "1\n",
+        r"2  build refused: Resource 'http://a.test/leaf.json' is not present and retrieving it failed
+  The documents are refused: the document 'http://a.test/leaf.json' is not present
+  the documents at hand are
+    'http://a.test/root.json' in the file 'root.json'
+",
     ),
     (
         &["several.json"],

@@ -14,7 +14,7 @@ const OBJECTS: [Row; 3] = [
 {"errors":[{"description":"1 is not of type string","evaluation_path":"/type","instance_path":"","keyword_location":"json-schema:///#/type","kind":"Types","names":["string"],"schema_path":"/type"}],"valid":false}
 {"column":0,"line":1,"reason":"EOF while parsing at line 1 column 0","valid":null}
 {"column":1,"line":1,"reason":"EOF while parsing at line 1 column 1","valid":null}
-{"reason":"a number is no whole number of 64 bits","valid":null}
+{"reason":"a number is no whole number of 64 bits: 1.5","valid":null}
  "#,
     ),
     (&["plain.json", "--output", "json"], "", "0  "),
@@ -50,10 +50,10 @@ const REASONS: [Row; 2] = [
         ],
         "",
         r#"1 {"column":1,"line":2,"reason":"invalid JSON at line 2 column 1","valid":null}
-{"column":2,"line":1,"reason":"invalid JSON at line 1 column 2","valid":null}
+{"column":2,"line":1,"reason":"no UTF-8 at line 1 column 2","valid":null}
 {"column":1,"line":1,"reason":"EOF while parsing at line 1 column 1","valid":null}
-{"column":128,"line":1,"reason":"invalid JSON at line 1 column 128","valid":null}
-{"reason":"a number is no whole number of 64 bits","valid":null}
+{"column":128,"line":1,"reason":"nested deeper than 127 at line 1 column 128","valid":null}
+{"reason":"a number is no whole number of 64 bits: 1.5 at '/a/0'","valid":null}
  "#,
     ),
 ];
@@ -90,16 +90,28 @@ fn objects(rt: HostRuntime) {
     assert_outcomes(&rt, rt.alloc(), &SOUND, &LINKED_OBJECTS);
 }
 
-const SENTENCES: [Row; 3] = [
+const SENTENCES: [Row; 4] = [
     (
         &["plain.json", "--output", "text"],
         "\"a\"\n1\n\n{\n1.5",
         r"1 2:: 1 is not of type string (json-schema:///#/type)
 3: EOF while parsing at line 1 column 0
 4: EOF while parsing at line 1 column 1
-5: a number is no whole number of 64 bits
+5: a number is no whole number of 64 bits: 1.5
  lines: 5, valid: 1, not valid: 1, not read: 3
 ",
+    ),
+    (
+        &["one.json", "--output", "text"],
+        "3\n1\n\"a\"\n",
+        r#"1 1:: 3 is to be accepted by exactly one schema of oneOf, and is by 2 of 2 (json-schema:///#/oneOf)
+  oneOf/0: it is accepted
+  oneOf/1: it is accepted
+3:: "a" is to be accepted by exactly one schema of oneOf, and is by 2 of 2 (json-schema:///#/oneOf)
+  oneOf/0: it is accepted
+  oneOf/1: it is accepted
+ lines: 3, valid: 1, not valid: 2, not read: 0
+"#,
     ),
     (
         &["plain.json", "--output=text"],

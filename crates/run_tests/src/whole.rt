@@ -46,7 +46,7 @@ const STRICT: &str =
 const NESTED: &str =
     "[[[[[[[[[[[[[[[[[[[[[[[[[[[[[[[[[[[[[[[[[[[[[[[[[[[[[[[[[[[[[[[[[[[[[[[[[[[[[[[[[[[[[[[[[[[[[[[[[[[[[[[[[[[[[[[[[[[[[[[[[[[[[[[[";
 
-const FILES: [(&str, &str); 32] = [
+const FILES: [(&str, &str); 37] = [
     ("root.json", ROOT),
     ("leaf.json", LEAF),
     ("plain.json", "{\"type\":\"string\"}"),
@@ -93,6 +93,14 @@ const FILES: [(&str, &str); 32] = [
         "{\"$schema\":\"http://a.test/c\",\"$id\":\"http://a.test/c\"}",
     ),
     ("typos.json", TYPOS),
+    ("bad.json", "[{\"$id\":\"http://a.test/m5\",\"type\":5}]"),
+    ("broken.json", "[{\"$id\":\"http://a.test/m6\",\"a\":0.5}]"),
+    (
+        "mended.json",
+        "{\"$schema\":\"http://a.test/m5\",\"type\":\"string\"}",
+    ),
+    ("left.json", "{\"items\":{\"unevaluatedItems\":false}}"),
+    ("one.json", "{\"oneOf\":[{\"minimum\":2},{\"maximum\":4}]}"),
     (
         "old.json",
         "{\"items\":[{\"$anchors\":1}],\"additionalItems\":false}",

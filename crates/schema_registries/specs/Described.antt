@@ -12,13 +12,13 @@ abbrev pub refused_text : UriError → List ℕ
 refused_text (Parse uri) = string_bytes uri
 refused_text (Resolve uri base) = string_bytes uri
 
--- it names the text, or the document and the place
+-- it names the text, or the document, the place and the number that stands there
 abbrev pub description_of : DocumentError → List ℕ
 description_of (InvalidUri e) = concat (codes "The text '" ∷ refused_text e ∷ codes "' is no URI of a document" ∷ [])
 description_of (JsonText uri line column) =
     concat (codes "The document '" ∷ string_bytes uri ∷ codes "' is no JSON text, from line " ∷ decimal line ∷ codes ", column " ∷ decimal column ∷ codes " on" ∷ [])
-description_of (OtherNumber document path) =
-    concat (codes "The number at '" ∷ string_bytes document ∷ codes "#" ∷ pointer_text (reverse path) ∷ codes "' is no whole number from -2^63 to 2^64-1" ∷ [])
+description_of (OtherNumber document path found) =
+    concat (codes "The number " ∷ string_bytes found ∷ codes " at '" ∷ string_bytes document ∷ codes "#" ∷ pointer_text (reverse path) ∷ codes "' is no whole number from -2^63 to 2^64-1" ∷ [])
 description_of Memory = codes "No memory"
 
 abbrev pub joined : List (Bor (List ℕ)) → List ℕ

@@ -23,21 +23,21 @@ IsNamed text (Resolve uri base) = ⊥
 abbrev pub NamesUri : List ℕ → DocumentError → Type 0
 NamesUri text (InvalidUri e) = (is_document_uri text ≡ false) × IsNamed text e
 NamesUri text (JsonText document line column) = ⊥
-NamesUri text (OtherNumber document path) = ⊥
+NamesUri text (OtherNumber document path found) = ⊥
 NamesUri text Memory = Unit {0}
 
 -- a document is named of which the text has no value
 abbrev pub NamesText : List ℕ → List ℕ → DocumentError → Type 0
 NamesText uri text (InvalidUri e) = ⊥
 NamesText uri text (JsonText document line column) = (string_bytes document ≡ uri) × (text_value text ≡ None)
-NamesText uri text (OtherNumber document path) = ⊥
+NamesText uri text (OtherNumber document path found) = ⊥
 NamesText uri text Memory = Unit {0}
 
 -- the place is named of a number that is not whole
 abbrev pub NamesNumber : List ℕ → Data → DocumentError → Type 0
 NamesNumber uri d (InvalidUri e) = ⊥
 NamesNumber uri d (JsonText document line column) = ⊥
-NamesNumber uri d (OtherNumber document path) = (string_bytes document ≡ uri) × IsOtherNumber d path
+NamesNumber uri d (OtherNumber document path found) = (string_bytes document ≡ uri) × IsOtherNumber d path
 NamesNumber uri d Memory = Unit {0}
 
 -- the error of a value added under a text

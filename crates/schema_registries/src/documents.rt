@@ -18,9 +18,10 @@ use document_sources::document::{Contents, Document};
 use document_sources::error::Error;
 use document_sources::list::DocumentList;
 use document_sources::uri::document_uri;
+use schema_steps::Path;
 use serde_json::Value;
 use serde_json::error::Category;
-use std::alloc::Global;
+use std::alloc::{AllocError, Global};
 use std::mem;
 use std::rc::Rc;
 use uri_references::uri::Uri;
@@ -176,8 +177,23 @@ fn number_refused(alloc: Global, uri: &Uri, value: &Value) -> DocumentError
     let Ok(document) = String::from_str(alloc, uri.as_str()) else {
         return DocumentError::Memory;
     };
-    match other_number(alloc, value) {
-        Ok(path) => DocumentError::OtherNumber { document, path },
+    let Ok(path) = other_number(alloc, value) else {
+        return DocumentError::Memory;
+    };
+    match shown_at(alloc, &path, value) {
+        Ok(found) => DocumentError::OtherNumber {
+            document,
+            path,
+            found,
+        },
         Err(_) => DocumentError::Memory,
+    }
+}
+
+// The part of a value at a path, as JSON.
+fn shown_at(alloc: Global, path: &Path, value: &Value) -> Result<String, AllocError> {
+    match path.find_in(value) {
+        Some(part) => part.to_string(alloc),
+        None => Ok(String::new(alloc)),
     }
 }

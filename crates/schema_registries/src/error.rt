@@ -21,10 +21,11 @@ pub enum DocumentError {
         line: usize,
         column: usize,
     },
-    /// A number that is no whole number from -2^63 to 2^64-1: the URI of its document, and its path there.
+    /// A number that is no whole number from -2^63 to 2^64-1: the URI of its document, its path there, and the number as JSON.
     OtherNumber {
         document: String,
         path: Path,
+        found: String,
     },
     /// Memory was refused.
     Memory,
@@ -45,7 +46,7 @@ impl fmt::Display for DocumentError {
         match self {
             DocumentError::InvalidUri(error) => write!(f, "{error}"),
             DocumentError::JsonText { uri, .. } => write!(f, "Document '{uri}' is no JSON text"),
-            DocumentError::OtherNumber { document, path } => write!(
+            DocumentError::OtherNumber { document, path, .. } => write!(
                 f,
                 "Number at '{document}#{path}' is no whole number of 64 bits"
             ),
@@ -87,12 +88,18 @@ impl DocumentError {
                     ],
                 )
             }
-            DocumentError::OtherNumber { document, path } => {
+            DocumentError::OtherNumber {
+                document,
+                path,
+                found,
+            } => {
                 let pointer = path.to_pointer(alloc)?;
                 joined(
                     alloc,
                     &[
-                        "The number at '",
+                        "The number ",
+                        found.as_str(),
+                        " at '",
                         document.as_str(),
                         "#",
                         pointer.as_str(),

@@ -79,15 +79,29 @@ fn of_document(
     words: &ProgramWords<'_>,
     error: &DocumentError,
 ) -> Result<String, AllocError> {
-    let said = error.description(alloc)?;
-    let sentence = first_line(said.as_str());
     match error {
-        DocumentError::JsonText { uri, .. } => in_file(alloc, words, uri.as_str(), "", sentence),
-        DocumentError::OtherNumber { document, path } => {
-            let path = path.to_pointer(alloc)?;
-            in_file(alloc, words, document.as_str(), path.as_str(), sentence)
+        DocumentError::JsonText { uri, line, column } => {
+            let said = format!(in alloc;
+                "it is no JSON text, from line {line}, column {column} on"
+            )?;
+            in_file(alloc, words, uri.as_str(), "", said.as_str())
         }
-        DocumentError::InvalidUri(_) => line_of(alloc, sentence),
+        DocumentError::OtherNumber {
+            document,
+            path,
+            found,
+        } => {
+            let said = format!(in alloc; "{found} is no whole number from -2^63 to 2^64-1")?;
+            let path = path.to_pointer(alloc)?;
+            in_file(
+                alloc,
+                words,
+                document.as_str(),
+                path.as_str(),
+                said.as_str(),
+            )
+        }
+        DocumentError::InvalidUri(_) => line_of(alloc, error.description(alloc)?.as_str()),
         DocumentError::Memory => Ok(String::new(alloc)),
     }
 }
@@ -99,14 +113,7 @@ fn of_build(
 ) -> Result<String, AllocError> {
     match error {
         BuildError::Document(error) => of_document(alloc, words, error),
-        BuildError::Registry(reference) => {
-            let more = of_reference(alloc, words, reference)?;
-            if more.is_empty() {
-                return line_of(alloc, error.description(alloc)?.as_str());
-            }
-            Ok(more)
-        }
-        BuildError::Root(reference) => {
+        BuildError::Registry(reference) | BuildError::Root(reference) => {
             let mut text = line_of(alloc, error.description(alloc)?.as_str())?;
             let more = of_reference(alloc, words, reference)?;
             text.push_str(more.as_str())?;
@@ -156,6 +163,7 @@ fn of_reference(
     match error {
         ReferenceError::Unretrievable { .. } => at_hand(alloc, words),
         ReferenceError::UnknownSpecification { .. } => String::from_str(alloc, META_SCHEMAS),
+        ReferenceError::CircularMetaschema { uri } => where_given(alloc, words, uri.as_str()),
         _ => Ok(String::new(alloc)),
     }
 }
@@ -187,7 +195,8 @@ fn at_place(
     )
 }
 
-// The file of a document, the path in it, and what is said of the place; where the document was given by no file, its URI.
+// The file of a document, the path in it, and what is said of the place. One that no file was given for by itself is a meta-schema, and is
+// named by its URI.
 fn in_file(
     alloc: Global,
     words: &ProgramWords<'_>,
@@ -197,7 +206,20 @@ fn in_file(
 ) -> Result<String, AllocError> {
     match file_of(alloc, words, uri)? {
         Some(file) => at_path(alloc, file, path, sentence),
-        None => format!(in alloc; "  at '{uri}#{path}': {sentence}\n"),
+        None => match words.meta {
+            Some(file) => {
+                format!(in alloc; "  in the file '{file}' at '{uri}#{path}': {sentence}\n")
+            }
+            None => format!(in alloc; "  at '{uri}#{path}': {sentence}\n"),
+        },
+    }
+}
+
+// A line that tells the file of a document.
+fn where_given(alloc: Global, words: &ProgramWords<'_>, uri: &str) -> Result<String, AllocError> {
+    match file_of(alloc, words, uri)? {
+        Some(file) => format!(in alloc; "  '{uri}' is in the file '{file}'\n"),
+        None => Ok(String::new(alloc)),
     }
 }
 

@@ -81,6 +81,10 @@ document <http://a.test/r> {"$ref":"s#/b/x"}
 says The reference "s#/b/x" is refused: 'x' is no index of an array
 says   at 'http://a.test/r#/$ref'
 
+document <http://a.test/r> {"$ref":"#a/b"}
+says The reference "#a/b" is refused: 'a/b' is no anchor
+says   at 'http://a.test/r#/$ref'
+
 document <http://a.test/r> {"$ref":"#none"}
 says The reference "#none" is refused: no schema there has the anchor 'none'
 says   at 'http://a.test/r#/$ref'
@@ -204,7 +208,7 @@ const TEXTS: [(&str, &str, &str); 8] = [
     (
         "http://a.test/r",
         "{\"a\":[0,1.5]}",
-        "The number at 'http://a.test/r#/a/1' is no whole number from -2^63 to 2^64-1",
+        "The number 1.5 at 'http://a.test/r#/a/1' is no whole number from -2^63 to 2^64-1",
     ),
     (
         "http://a.test/%",

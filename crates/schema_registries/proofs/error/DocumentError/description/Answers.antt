@@ -17,6 +17,7 @@ returns-in_ok-pointer-in-OtherNumber c =
     rw (
       c.in-OtherNumber.is,
       sym c.as_str-in-OtherNumber.ensures.value,
-      sym c.in_ok-pointer-in-OtherNumber.ensures.text,
       sym c.as_str-in-OtherNumber-2.ensures.value,
+      sym c.in_ok-pointer-in-OtherNumber.ensures.text,
+      sym c.as_str-in-OtherNumber-3.ensures.value,
     ) c.joined-in-OtherNumber.ensures
