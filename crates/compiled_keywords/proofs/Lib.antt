@@ -1,5 +1,6 @@
 pub mod CopyLemmas
 pub mod Searching
+pub mod Collected
 pub mod RuleLemmas
 pub mod SeenLemmas
 pub mod AskLemmas

@@ -1,4 +1,5 @@
 pub mod Sorted
+pub mod Options
 pub mod Owned
 pub mod Forms
 pub mod Applied

@@ -3,8 +3,7 @@ ghost use Rattle.std.specs.Prelude.{◌≡◌, ℕ, List, Bool, IfOk, map, strin
 ghost use Rattle.std.specs.List.{filter, flat_map};
 ghost use Rattle.serde_json.specs.Data.{string};
 ghost use Rattle.serde_json.specs.Find.{get};
-ghost use Rattle.serde_json.specs.View.{view, items_view};
-ghost use Rattle.json_values.specs.Equality.{is_among as is_equal_to_some};
+ghost use Rattle.serde_json.specs.View.{view};
 ghost use Rattle.schema_meaning.specs.Members.{is_empty};
 ghost use Rattle.schema_meaning.specs.Questions.{if_member};
 ghost use Rattle.schema_meaning.specs.Keywords.{none_there, missing, missing_beside, needed, wrong};
@@ -12,6 +11,7 @@ ghost use Rattle.schema_engine.specs.Places.{value_at};
 ghost use Rattle.compiled_keywords.specs.Owned.{needed_by, depending};
 ghost use Rattle.compiled_keywords.specs.Shapes.{assertion_of};
 
+use crate::options::Options;
 use crate::subschemas::{Dependency, NamedDependency, NeededNames};
 use assertions::assertion as plain;
 use schema_engine::place::Place;
@@ -24,24 +24,10 @@ use value_checks::equality::equal;
 pub enum Assertion {
     /// One that needs no part of a schema: types, numbers, counts and items that differ.
     Plain(plain::Assertion<'static>),
-    /// The values, in the schema's order.
-    Enumeration(Vec<Value>),
+    Enumeration(Options),
     Constant(Value),
     Required(Vec<String>),
     DependentRequired(Vec<NeededNames>),
-}
-
-// Whether a value equals one of these.
-#[inline(never)]
-pub(crate) fn is_among(options: &[Value], value: &Value) -> bool
-    ensures { result ≡ is_equal_to_some (view value.now) (items_view options.now) }
-{
-    for option in options {
-        if equal(value, option) {
-            return true;
-        }
-    }
-    false
 }
 
 // Whether a value has no member of a name.
@@ -136,7 +122,7 @@ impl Assertion {
     {
         match self {
             Assertion::Plain(assertion) => assertion.accept(alloc, value),
-            Assertion::Enumeration(options) => Ok(is_among(options, value)),
+            Assertion::Enumeration(options) => Ok(options.contains(value)),
             Assertion::Constant(expected) => Ok(equal(value, expected)),
             Assertion::Required(names) => Ok(has_all(names, value)),
             Assertion::DependentRequired(entries) => Ok(has_needed(entries, value)),

@@ -15,6 +15,7 @@ mod members;
 pub mod names;
 mod notes;
 pub mod numbering;
+pub mod options;
 mod patterns;
 mod reasons;
 mod rules;

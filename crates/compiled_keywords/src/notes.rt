@@ -14,7 +14,7 @@ ghost use Rattle.compiled_keywords.specs.Owned.{needed_by, depending, text_of, I
 ghost use Rattle.compiled_keywords.specs.Shapes.{assertion_of};
 ghost use Rattle.compiled_keywords.specs.Told.{TellsEach, TellsUnder, lacking};
 
-use crate::assertion::{Assertion, is_among, lacks};
+use crate::assertion::{Assertion, lacks};
 use crate::kinds::kind_of_wrong;
 use crate::patterns::is_matched;
 use crate::subschemas::{Dependency, NamedDependency, NeededNames, Pattern};
@@ -232,12 +232,12 @@ pub(crate) fn tell_assertion<'o>(
     match assertion {
         Assertion::Plain(assertion) => tell_plain(situation, assertion, observer),
         Assertion::Enumeration(options) => {
-            let accepted = is_among(options, value);
+            let accepted = options.contains(value);
             tell_unless(
                 situation,
                 "enum",
                 accepted,
-                Wrong::Enumeration(options),
+                Wrong::Enumeration(&options.list),
                 observer,
             )
         }

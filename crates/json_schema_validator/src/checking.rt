@@ -10,6 +10,7 @@ ghost use Rattle.schema_registries.specs.Certified.{HasCertificate, HaveCertific
 ghost use Rattle.fault_checks.specs.Checked.{AreReadIn, IsChecked};
 ghost use Rattle.schema_validators.specs.Calls.{IsVerdictOf};
 ghost use Rattle.schema_validators.specs.Made.{IsMadeBy};
+ghost use Rattle.schema_validators.specs.Told.{verdict_by};
 ghost use Rattle.json_schema_validator.specs.Joined.{IsFaultChecked, WhereStraight, AreAccepted, each_accepted};
 
 use fault_checks::checking::{CheckAnswer, FaultPath, check_by, check_fault};
@@ -139,6 +140,7 @@ pub fn check_first<M: PatternMatcher, P: PatternMaker>(
     value: &Value,
 ) -> Result<Option<CheckAnswer>, AllocError>
     requires whole { only_whole (view value.now) ≡ true }
+    ensures cut { IfOk result (λ o. is_none o ≡ verdict_by validator.now (view value.now)) }
     ensures verdict { IfOk result (λ o. IsVerdictOf validator.now (view value.now) (is_none o)) }
     ensures accepted { IfOk result (λ o. IfSome o (λ a. IsMadeBy (P.patterns maker.now)
         (root_on registry.now root.now) validator.now
@@ -176,6 +178,7 @@ pub fn check_path<M: PatternMatcher, P: PatternMaker>(
         (root_on registry.now root.now) validator.now
         → IsChecked (P.patterns maker.now) (root_on registry.now root.now)
         (view value.now) path.entry.instance_path.now path.entry.evaluation_path.now both.0) }
+    ensures cut { IfOk result (λ both. both.1 ≡ verdict_by validator.now (view value.now)) }
     ensures verdict { IfOk result (λ both. IsVerdictOf validator.now (view value.now) both.1) }
     ensures refused { IfOk result (λ both. IsMadeBy (P.patterns maker.now)
         (root_on registry.now root.now) validator.now → both.0 ≡ CheckAnswer.Accepted

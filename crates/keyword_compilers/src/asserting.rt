@@ -7,6 +7,7 @@ ghost use Rattle.compiled_keywords.specs.Shapes.{assertion_of};
 use crate::names::{needed, texts};
 use assertions::assertion::Assertion as Read;
 use compiled_keywords::assertion::Assertion;
+use compiled_keywords::options::Options;
 use serde_json::Value;
 use std::alloc::{AllocError, Global};
 
@@ -23,7 +24,8 @@ pub(crate) fn assertion(alloc: Global, read: &Read<'_>) -> Result<Assertion, All
     match read {
         Read::Types(names) => Ok(Assertion::Plain(Read::Types(names.clone()?))),
         Read::Enumeration(options) => {
-            Ok(Assertion::Enumeration(values_of(alloc, options.as_slice())?))
+            let list = values_of(alloc, options.as_slice())?;
+            Ok(Assertion::Enumeration(Options::of(alloc, list)?))
         }
         Read::Constant(expected) => Ok(Assertion::Constant((*expected).clone()?)),
         Read::MultipleOf(divisor) => Ok(Assertion::Plain(Read::MultipleOf(*divisor))),

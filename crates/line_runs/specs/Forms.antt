@@ -1,11 +1,11 @@
 -- The forms of what is written for lines.
-use Rattle.std.specs.Prelude.{◌≡◌, ℕ, List, [], ◌∷◌, ◌++◌, Bool, not, bytes_eq, codes, Option, Some, None}
+use Rattle.std.specs.Prelude.{◌≡◌, ℕ, List, [], ◌∷◌, ◌++◌, Bool, true, not, bytes_eq, codes, Option, Some, None}
 use Rattle.std.specs.List.{AllZip, concat}
 use Rattle.serde_json.specs.Data.{Data}
 use Rattle.schema_meaning.specs.Faults.{Faults}
 use Rattle.schema_definitions.specs.Lines.{line_value, faults_text}
 use Rattle.schema_patterns.specs.declared.matcher.PatternMatcher.{Ghosts}
-use Rattle.schema_reports.specs.Told.{faults_of}
+use Rattle.schema_reports.specs.Told.{faults_of, are_proper}
 use Rattle.schema_reports.specs.declared.error.ValidationError.{ValidationError}
 use Rattle.error_texts.specs.Sentences.{IsSentence, reason_line}
 use Rattle.line_cuts.specs.Runs.{is_refused}
@@ -18,11 +18,12 @@ use Rattle.line_runs.specs.Objects.{IsObjectText, IsUnreadText, is_refused_objec
 use Rattle.line_runs.specs.declared.form.LineForm.{LineForm}
 use Rattle.line_runs.specs.declared.form.LineForm.TheVariants.{Pairs, Objects, Sentences}
 
--- a line for each of these faults, in order, under the label of the instance
+-- a line for each of these faults, in order, under the label of the instance; each carries such values as its keyword has
 pub record AreSentences (label : List ℕ) (fs : Faults) (text : List ℕ) : Type 0 where
   pub errors : List ValidationError
   pub lines : List (List ℕ)
   pub told : faults_of errors ≡ fs
+  pub proper : are_proper errors ≡ true
   pub zipped : AllZip (IsSentence label) errors lines
   pub is_text : text ≡ concat lines
 

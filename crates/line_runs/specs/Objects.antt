@@ -1,17 +1,18 @@
 -- Objects that are written for lines.
-use Rattle.std.specs.Prelude.{◌≡◌, ℕ, List, [], ◌∷◌, ◌++◌, Bool, Option, not, bytes_eq}
+use Rattle.std.specs.Prelude.{◌≡◌, ℕ, List, [], ◌∷◌, ◌++◌, Bool, true, Option, not, bytes_eq}
 use Rattle.serde_json.specs.Written.{compact_text}
 use Rattle.schema_meaning.specs.Faults.{Faults, none, also}
-use Rattle.schema_reports.specs.Told.{faults_of}
+use Rattle.schema_reports.specs.Told.{faults_of, are_proper}
 use Rattle.schema_reports.specs.declared.error.ValidationError.{ValidationError}
 use Rattle.error_texts.specs.Objects.{HasObjects, accepted_text}
 use Rattle.error_texts.specs.Unread.{unread_data}
 use Rattle.error_texts.specs.declared.unread.TextPlace.{TextPlace}
 
--- it is not valid, and there is an object for each of these faults, in order
+-- it is not valid, and there is an object for each of these faults, in order, which carries such values as its keyword has
 pub record IsRefusedText (fs : Faults) (text : List ℕ) : Type 0 where
   pub errors : List ValidationError
   pub told : faults_of errors ≡ fs
+  pub proper : are_proper errors ≡ true
   pub has : HasObjects errors text
 
 -- it is valid exactly where there are no faults

@@ -1,8 +1,8 @@
 //! The forms of what is written for a line.
-ghost use Rattle.std.specs.Prelude.{◌≡◌, ◌++◌, ℕ, List, false, OnOk, string_bytes};
+ghost use Rattle.std.specs.Prelude.{◌≡◌, ◌++◌, ℕ, List, false, true, OnOk, string_bytes};
 ghost use Rattle.schema_meaning.specs.Faults.{none, is_none};
 ghost use Rattle.schema_reports.specs.Left.{errors_left};
-ghost use Rattle.schema_reports.specs.Told.{faults_of};
+ghost use Rattle.schema_reports.specs.Told.{faults_of, are_proper};
 ghost use Rattle.line_runs.specs.Forms.{Tells, TellsNone, end_of, refuses_in};
 
 use crate::faults::write_faults;
@@ -45,7 +45,8 @@ impl LineForm {
         errors: ErrorIterator<'_>,
         text: &mut String,
     ) -> Result<(), AllocError>
-        requires { is_none (faults_of (errors_left errors)) ≡ false }
+        requires some { is_none (faults_of (errors_left errors)) ≡ false }
+        requires proper { are_proper (errors_left errors) ≡ true }
         ensures { OnOk result ((written : List ℕ) × Tells self (faults_of (errors_left errors.entry)) written
             × (string_bytes text.new ≡ string_bytes text.old ++ written)) }
     {

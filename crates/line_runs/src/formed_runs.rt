@@ -3,7 +3,8 @@ ghost use Rattle.std.specs.Prelude.{◌≡◌, IfOk, IfErr, OnOk, OnErr};
 ghost use Rattle.schema_validators.specs.Passed.{Patterns, Root};
 ghost use Rattle.schema_validators.specs.Made.{IsMadeBy};
 ghost use Rattle.line_cuts.specs.Cuts.{bytes_of};
-ghost use Rattle.line_cuts.specs.Runs.{AnswersEach, BreaksAt, Counts, RunsThroughBy, Stops};
+ghost use Rattle.line_cuts.specs.Devices.{IsRisen};
+ghost use Rattle.line_cuts.specs.Runs.{AnswersEach, BreaksAt, ByError, Counts, RunsThroughBy, Stops};
 ghost use Rattle.line_runs.specs.Forms.{IsLineTold, IsLineToldBy, refuses_in};
 ghost use Rattle.line_runs.specs.Runs.{IsObjectLine, IsObjectLineBy};
 ghost use Rattle.line_runs.specs.Objects.{is_refused_object};
@@ -88,8 +89,13 @@ pub fn answer_texts<K: ByteSink>(
     ensures ok { IfOk result (λ run. (p : Patterns) (r : Root) → IsMadeBy p r validator.now
         → AnswersEach (refuses_in form) (IsLineTold form p r) (bytes_of texts.now) (K.contents writer.old)
         (K.contents writer.new) run.report) }
+    ensures nodes { IfOk result (λ run. AnswersEach (refuses_in form) (IsLineToldBy form validator.now)
+        (bytes_of texts.now) (K.contents writer.old) (K.contents writer.new) run.report) }
+    ensures quiet { OnOk result (K.failures writer.new ≡ K.failures writer.old) }
     ensures breaks { OnErr result ((p : Patterns) (r : Root) → IsMadeBy p r validator.now
         → BreaksAt (IsLineTold form p r) (bytes_of texts.now) (K.contents writer.old) (K.contents writer.new)) }
+    ensures failed { IfErr result (λ e. ByError e ⊥ (IsRisen (K.failures writer.old) (K.failures writer.new))
+        (K.failures writer.new ≡ K.failures writer.old)) }
 {
     let answers = FormedLines {
         alloc,
@@ -128,9 +134,13 @@ pub fn run_objects<S: ByteSource, K: ByteSink>(
     ensures ok { IfOk result (λ report. (p : Patterns) (r : Root) → IsMadeBy p r validator.now
         → RunsThroughBy is_refused_object (IsObjectLine p r) (S.remaining reader.old) (S.remaining reader.new)
         (K.contents writer.old) (K.contents writer.new) report) }
+    ensures read_quiet { OnOk result (S.failures reader.new ≡ S.failures reader.old) }
+    ensures write_quiet { OnOk result (K.failures writer.new ≡ K.failures writer.old) }
     ensures stops { IfErr result (λ e. (p : Patterns) (r : Root) → IsMadeBy p r validator.now
         → Stops (IsObjectLine p r) e (S.remaining reader.old) (S.remaining reader.new) (K.contents writer.old)
         (K.contents writer.new)) }
+    ensures counts { IfErr result (λ e. Counts e (S.failures reader.old) (S.failures reader.new)
+        (K.failures writer.old) (K.failures writer.new)) }
 {
     let run = run_in_form(alloc, LineForm::Objects, reader, writer, validator)?;
     Ok(run.report)

@@ -42,7 +42,7 @@ warning: document 'json-schema:///' in the file 'either.json' replaces the one i
         "1\n",
         r"2  warning: document 'u:x' in the file 'none' replaces the one in the file 'true.json'
 build refused: Document 'u:x' is no JSON text
-  in the file 'none': The document 'u:x' is no JSON text, from line 1, column 1 on
+  in the file 'none': it is no JSON text, from line 1, column 1 on
 ",
     ),
     (

@@ -1,10 +1,10 @@
 //! Validators that begin at one root answer alike: those built on registries of equal documents, and one that is asked again.
 
-ghost use Rattle.std.specs.Prelude.{◌≡◌, true, IfOk, IfErr};
+ghost use Rattle.std.specs.Prelude.{◌≡◌, ◌⊎◌, true, IfOk, IfErr};
 ghost use Rattle.serde_json.specs.View.{view};
 ghost use Rattle.schema_meaning.specs.Order.{SameFaults};
 ghost use Rattle.schema_reports.specs.Left.{errors_left};
-ghost use Rattle.schema_reports.specs.Told.{faults_of};
+ghost use Rattle.schema_reports.specs.Told.{faults_of, are_proper};
 ghost use Rattle.schema_registries.specs.Roots.{root_on};
 ghost use Rattle.schema_registries.specs.Whole.{only_whole};
 ghost use Rattle.schema_validators.specs.Made.{IsMadeBy};
@@ -108,6 +108,8 @@ pub fn iter_errors_by_both<'i, M: PatternMatcher>(
         faults_of (errors_left both.1) ≡ faults_by right.now (view value.now)) }
     ensures equal { IfOk result (λ both. WhereAlike left.now right.now (view value.now)
         (SameFaults (faults_of (errors_left both.0)) (faults_of (errors_left both.1)))) }
+    ensures proper { IfOk result (λ both.
+        (are_proper (errors_left both.0) ≡ true) × (are_proper (errors_left both.1) ≡ true)) }
 {
     let first = left.iter_errors(value)?;
     let second = right.iter_errors(value)?;
@@ -149,6 +151,9 @@ pub fn answers_on_both<'i, P: PatternMaker + Drop, R: Drop>(
         WhereDecided p (root_on left.now root.now) (view value.now) (λ matches target.
         (both.verdicts.0 ≡ both.verdicts.1) × SameFaults
         (faults_of (errors_left both.errors.0)) (faults_of (errors_left both.errors.1)))) }
+    ensures refused { let p = P.patterns (maker_in options.now) in IfErr result (λ e.
+        RefusesRoot p (node_limit_in options.now) left.now (root_on left.now root.now) e
+        ⊎ RefusesRoot p (node_limit_in options.now) right.now (root_on right.now root.now) e) }
 {
     let first = options.build_on(left, root)?;
     let second = options.build_on(right, root)?;
@@ -192,6 +197,8 @@ pub fn iter_errors_twice<'i, M: PatternMatcher>(
         faults_of (errors_left both.0) ≡ faults_by validator.now (view value.now)) }
     ensures equal { IfOk result (λ both.
         faults_of (errors_left both.0) ≡ faults_of (errors_left both.1)) }
+    ensures proper { IfOk result (λ both.
+        (are_proper (errors_left both.0) ≡ true) × (are_proper (errors_left both.1) ≡ true)) }
 {
     iter_errors_by_both(validator, validator, value)
 }

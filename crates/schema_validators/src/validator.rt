@@ -256,6 +256,7 @@ impl<M: PatternMatcher> Validator<M> {
     ) -> Result<Result<(), ValidationError<'i>>, NumberError>
         ensures whole { OnOk result (only_whole (view value.now) ≡ true) }
         ensures cut { IfOk result (λ answer. is_ok answer ≡ verdict_by self.now (view value.now)) }
+        ensures one { IfOk result (λ answer. IfErr answer (λ e. Told (fault_of e) (faults_by self.now (view value.now)))) }
         ensures verdict { IfOk result (λ answer. IsVerdictOf self.now (view value.now) (is_ok answer)) }
         ensures fault { IfOk result (λ answer. IfErr answer (λ e. IsFaultOf self.now (view value.now) (fault_of e))) }
         ensures proper { IfOk result (λ answer. IfErr answer (λ e. error_is_proper e ≡ true)) }

@@ -1,3 +1,4 @@
+use Rattle.std.proofs.Common.{refl}
 use Rattle.std.proofs.lemmas.Result.{err_from_is_err_and}
 use Rattle.line_runs.specs.Forms.{IsLineToldBy, IsLineTold}
 use Rattle.line_runs.proofs.Others.{each_so, breaks_at_so}
@@ -8,6 +9,16 @@ pub returns-in_err-searches-clause-breaks : goal.returns-in_err-searches-clause-
 returns-in_err-searches-clause-breaks g c =
     let e = err_from_is_err_and c.from_residual.result c.from_residual.ensures.1 in
     rw (e.1) (λ p r made. breaks_at_once _ _ _)
+
+pub returns-in_err-searches-clause-failed : goal.returns-in_err-searches-clause-failed
+returns-in_err-searches-clause-failed g c =
+    let e = err_from_is_err_and c.from_residual.result c.from_residual.ensures.1 in
+    rw (e.1, e.2) refl
+
+pub returns-in_err-report-clause-failed : goal.returns-in_err-report-clause-failed
+returns-in_err-report-clause-failed g c =
+    let e = err_from_is_err_and c.from_residual-in_err-report.result c.from_residual-in_err-report.ensures.1 in
+    rw (e.1, e.2) c.in_err-report.ensures.failed
 
 pub returns-in_err-report-clause-breaks : goal.returns-in_err-report-clause-breaks
 returns-in_err-report-clause-breaks g c =

@@ -19,5 +19,5 @@ returns-in-Objects c =
 
 pub returns-in-Sentences : goal.returns-in-Sentences
 returns-in-Sentences c =
-    let nothing : AreSentences [] none [] = record { errors = []; lines = []; told = refl; zipped = tt; is_text = refl } in
+    let nothing : AreSentences [] none [] = record { errors = []; lines = []; told = refl; proper = refl; zipped = tt; is_text = refl } in
     ([], subst (λ (f : LineForm). Tells f none []) (sym c.in-Sentences.is) ([], nothing), sym (append-nil (string_bytes c.args.text.now)))

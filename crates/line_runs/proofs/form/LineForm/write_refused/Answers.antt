@@ -23,7 +23,7 @@ returns-in-Objects c =
     let fs = faults_of es in
     in_form (λ f. Tells f fs) _ Objects c.write_refused.result _ _ c.in-Objects.is
     (told_so (Tells Objects fs) (string_bytes c.args.text.now) _ c.write_refused.result (HasObjects es) (λ text. text)
-    (λ text has. refused_text fs es text c.requires refl has) c.write_refused.ensures)
+    (λ text has. refused_text fs es text c.requires.some refl c.requires.proper has) c.write_refused.ensures)
 
 pub returns-in-Sentences : goal.returns-in-Sentences
 returns-in-Sentences c =
@@ -32,4 +32,4 @@ returns-in-Sentences c =
     let label = c.args.label.now in
     in_form (λ f. Tells f fs) _ Sentences c.write_sentences.result _ _ c.in-Sentences.is
     (told_so (Tells Sentences fs) (string_bytes c.args.text.now) _ c.write_sentences.result (λ lines. AllZip (IsSentence label) es lines) concat
-    (λ lines zipped. (label, record { errors = es; lines = lines; told = refl; zipped = zipped; is_text = refl })) c.write_sentences.ensures)
+    (λ lines zipped. (label, record { errors = es; lines = lines; told = refl; proper = c.requires.proper; zipped = zipped; is_text = refl })) c.write_sentences.ensures)
