@@ -1,5 +1,5 @@
 //! What is said of a value, as the text of a JSON object.
-ghost use Rattle.std.specs.Prelude.{◌≡◌, ◌++◌, ◌∷◌, [], ℕ, List, map, bytes_eq, string_bytes, IfOk, OnOk};
+ghost use Rattle.std.specs.Prelude.{◌≡◌, ◌++◌, ◌∷◌, [], ℕ, List, map, bytes_eq, string_bytes, IfOk, OnOk, OnErr};
 ghost use Rattle.std.specs.List.{AllZip};
 ghost use Rattle.serde_json.specs.Data.{Data};
 ghost use Rattle.serde_json.specs.View.{view, items_of, members_view};
@@ -20,7 +20,8 @@ const ACCEPTED_LINE: &[u8] = b"{\"errors\":[],\"valid\":true}\n";
 
 /// Appends what is said of a value that is accepted. The text is as it was where memory is out.
 pub fn write_accepted(text: &mut String) -> Result<(), AllocError>
-    ensures { OnOk result (string_bytes text.new ≡ string_bytes text.old ++ accepted_text) }
+    ensures written { OnOk result (string_bytes text.new ≡ string_bytes text.old ++ accepted_text) }
+    ensures unchanged { OnErr result (string_bytes text.new ≡ string_bytes text.old) }
 {
     text.push_str(ACCEPTED)
 }
@@ -42,15 +43,17 @@ pub fn write_refused(
     errors: ErrorIterator<'_>,
     text: &mut String,
 ) -> Result<(), AllocError>
-    ensures { OnOk result ((written : List ℕ) × HasObjects (errors_left errors.entry) written
+    ensures written { OnOk result ((written : List ℕ) × HasObjects (errors_left errors.entry) written
         × (string_bytes text.new ≡ string_bytes text.old ++ written)) }
+    ensures unchanged { OnErr result (string_bytes text.new ≡ string_bytes text.old) }
 {
     let written = refused_value(alloc, errors)?.to_string(alloc)?;
     text.push_str(written.as_str())
 }
 
 fn refused_value(alloc: Global, errors: ErrorIterator<'_>) -> Result<Value, AllocError>
-    ensures { IfOk result (λ v. (ds : List Data) × AllZip IsObject (errors_left errors.entry) ds × (view v ≡ refused_data (items_of ds))) }
+    ensures { IfOk result (λ v. (ds : List Data) × AllZip IsObject (errors_left errors.entry) ds
+        × (view v ≡ refused_data (items_of ds))) }
 {
     let errors = Value::Array(error_values(alloc, errors)?);
     json!(in alloc; {"errors": errors, "valid": false})
@@ -81,7 +84,8 @@ fn insert_all(
     mut members: Map<String, Value>,
     fields: Vec<Field>,
 ) -> Result<Map<String, Value>, AllocError>
-    ensures { IfOk result (λ ms. members_view ms.entries ≡ with_fields (map field_data fields.entry.items) (members_view members.entries)) }
+    ensures { IfOk result (λ ms. members_view ms.entries
+        ≡ with_fields (map field_data fields.entry.items) (members_view members.entries)) }
 {
     for (name, value) in fields {
         put(&mut members, alloc, name, value)?;

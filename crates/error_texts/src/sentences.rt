@@ -72,7 +72,8 @@ fn push_sentence(
     location: &str,
     text: &mut String,
 ) -> Result<(), AllocError>
-    ensures { OnOk result (string_bytes text.new ≡ string_bytes text.old ++ sentence_line label.now place.now description.now location.now) }
+    ensures { OnOk result (string_bytes text.new ≡ string_bytes text.old
+        ++ sentence_line label.now place.now description.now location.now) }
 {
     match description.split_once('\n') {
         Some((first, more)) => push_parts(

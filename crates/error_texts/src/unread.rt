@@ -1,5 +1,5 @@
 //! What is said of a text that is no value.
-ghost use Rattle.std.specs.Prelude.{◌≡◌, ◌++◌, string_bytes, IfOk, OnOk};
+ghost use Rattle.std.specs.Prelude.{◌≡◌, ◌++◌, string_bytes, IfOk, OnOk, OnErr};
 ghost use Rattle.serde_json.specs.View.{view};
 ghost use Rattle.serde_json.specs.Written.{compact_text};
 ghost use Rattle.error_texts.specs.Unread.{placed_data, unread_data};
@@ -23,7 +23,9 @@ pub fn write_unread(
     place: Option<TextPlace>,
     text: &mut String,
 ) -> Result<(), AllocError>
-    ensures { OnOk result (string_bytes text.new ≡ string_bytes text.old ++ compact_text (unread_data reason.now place)) }
+    ensures written { OnOk result (string_bytes text.new ≡ string_bytes text.old
+        ++ compact_text (unread_data reason.now place)) }
+    ensures unchanged { OnErr result (string_bytes text.new ≡ string_bytes text.old) }
 {
     let written = unread_value(alloc, reason, place)?.to_string(alloc)?;
     text.push_str(written.as_str())

@@ -15,7 +15,7 @@ returns-in-Pairs c =
 pub returns-in-Objects : goal.returns-in-Objects
 returns-in-Objects c =
     in_form (λ f. Tells f none) _ Objects c.write_accepted.result _ _ c.in-Objects.is
-    (told_on (Tells Objects none) (string_bytes c.args.text.now) _ c.write_accepted.result accepted_text refl c.write_accepted.ensures)
+    (told_on (Tells Objects none) (string_bytes c.args.text.now) _ c.write_accepted.result accepted_text refl c.write_accepted.ensures.written)
 
 pub returns-in-Sentences : goal.returns-in-Sentences
 returns-in-Sentences c =

@@ -14,7 +14,7 @@ pub returns-in_ok-reason-in-Objects : goal.returns-in_ok-reason-in-Objects
 returns-in_ok-reason-in-Objects c =
     let reason = c.as_str.result.now in
     in_form TellsNone _ Objects c.write_unread.result _ _ c.in-Objects.is
-    (told_on (TellsNone Objects) (string_bytes c.args.text.now) _ c.write_unread.result _ (reason, _, refl) c.write_unread.ensures)
+    (told_on (TellsNone Objects) (string_bytes c.args.text.now) _ c.write_unread.result _ (reason, _, refl) c.write_unread.ensures.written)
 
 pub returns-in_ok-reason-in-Sentences : goal.returns-in_ok-reason-in-Sentences
 returns-in_ok-reason-in-Sentences c =

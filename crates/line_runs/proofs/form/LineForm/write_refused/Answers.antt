@@ -23,7 +23,7 @@ returns-in-Objects c =
     let fs = faults_of es in
     in_form (λ f. Tells f fs) _ Objects c.write_refused.result _ _ c.in-Objects.is
     (told_so (Tells Objects fs) (string_bytes c.args.text.now) _ c.write_refused.result (HasObjects es) (λ text. text)
-    (λ text has. refused_text fs es text c.requires.some refl c.requires.proper has) c.write_refused.ensures)
+    (λ text has. refused_text fs es text c.requires.some refl c.requires.proper has) c.write_refused.ensures.written)
 
 pub returns-in-Sentences : goal.returns-in-Sentences
 returns-in-Sentences c =
