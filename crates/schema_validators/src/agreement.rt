@@ -5,8 +5,11 @@ ghost use Rattle.serde_json.specs.View.{view};
 ghost use Rattle.schema_meaning.specs.Order.{SameFaults};
 ghost use Rattle.schema_reports.specs.Left.{errors_left};
 ghost use Rattle.schema_reports.specs.Told.{faults_of, are_proper};
-ghost use Rattle.schema_registries.specs.Roots.{root_on};
+ghost use Rattle.schema_definitions.specs.Lookup.{Target};
+ghost use Rattle.schema_registries.specs.Roots.{Finds, root_on};
 ghost use Rattle.schema_registries.specs.Whole.{only_whole};
+ghost use Rattle.schema_validators.specs.Asked.{IsMet};
+ghost use Rattle.schema_validators.specs.Counted.{IsWithin};
 ghost use Rattle.schema_validators.specs.Made.{IsMadeBy};
 ghost use Rattle.schema_validators.specs.Refused.{RefusesRoot};
 ghost use Rattle.schema_validators.specs.Answered.{WhereDecided};
@@ -52,6 +55,17 @@ pub fn build_on_both<P: PatternMaker + Drop, R: Drop>(
         (RefusesRoot p (node_limit_in options.now) left.now (root_on left.now root.now)) }
     ensures right_refused { let p = P.patterns (maker_in options.now) in IfErr result.right
         (RefusesRoot p (node_limit_in options.now) right.now (root_on right.now root.now)) }
+
+    ensures left_within { let p = P.patterns (maker_in options.now) in IfOk result.left
+        (λ v. IsWithin p (node_limit_in options.now) (root_on left.now root.now)) }
+    ensures right_within { let p = P.patterns (maker_in options.now) in IfOk result.right
+        (λ v. IsWithin p (node_limit_in options.now) (root_on right.now root.now)) }
+    ensures left_met { let p = P.patterns (maker_in options.now) in IfOk result.left (λ v.
+        (target : Target) → Finds (root_on left.now root.now) target
+        → IsMet p (node_limit_in options.now) left.now.parent target) }
+    ensures right_met { let p = P.patterns (maker_in options.now) in IfOk result.right (λ v.
+        (target : Target) → Finds (root_on right.now root.now) target
+        → IsMet p (node_limit_in options.now) right.now.parent target) }
 
     ensures one_root { let p = P.patterns (maker_in options.now) in AreAlike left.now right.now
         → IfOk result.right (IsMadeBy p (root_on left.now root.now)) }

@@ -126,6 +126,7 @@ fn tell_faults<P: PatternMaker>(
 ) -> Result<Vec<ValidationError<'static>>, BuildError>
     ensures told { IfOk result (λ v. (target : Target) → Finds (root_on registry.now root.now) target
         → TellsIn (P.patterns maker.now) node_limit registry.now.parent target v.items) }
+    ensures none { IfOk result (λ v. registry.now.parent ≡ None → v.items ≡ []) }
     ensures refused { IfErr result (RefusesTelling (P.patterns maker.now) node_limit registry.now
         (root_on registry.now root.now)) }
 {
@@ -314,6 +315,7 @@ impl<P: PatternMaker + Drop, R: Drop> ValidationOptions<P, R> {
     ) -> Result<Vec<ValidationError<'static>>, BuildError>
         ensures told { IfOk result (λ v. (target : Target) → Finds (root_on registry.now root.now) target
             → TellsIn (P.patterns self.now.maker) self.now.node_limit registry.now.parent target v.items) }
+        ensures none { IfOk result (λ v. registry.now.parent ≡ None → v.items ≡ []) }
         ensures refused { IfErr result (RefusesTelling
             (P.patterns self.now.maker) self.now.node_limit registry.now (root_on registry.now root.now)) }
     {

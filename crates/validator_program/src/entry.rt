@@ -1,6 +1,6 @@
 //! The program.
 
-ghost use Rattle.std.specs.Prelude.{◌≡◌, ◌≤◌, ◌⊎◌, List, IfOk, IfErr, if◌then◌else◌};
+ghost use Rattle.std.specs.Prelude.{◌≡◌, ◌≤◌, ◌⊎◌, ℕ, List, IfOk, IfErr, if◌then◌else◌};
 ghost use Rattle.clap.specs.Words.{Row, matches_of};
 ghost use Rattle.clap.specs.Walk.{texts};
 ghost use Rattle.program_inputs.specs.Program.{program_app};
@@ -67,7 +67,7 @@ pub fn program<'a, F: SchemaFiles, S: ByteSource, K: ByteSink, T: ByteSink>(
     }
 }
 
-/// Does what `program` does, by the words that the process was given.
+/// Does what `program` does, by the words that the process was given, which no clause tells.
 ///
 /// A word that is no UTF-8 is refused, and the status is then 2.
 pub fn run_program<R: Env + AllocGlobal, F: SchemaFiles, S: ByteSource, K: ByteSink, T: ByteSink>(
@@ -77,7 +77,15 @@ pub fn run_program<R: Env + AllocGlobal, F: SchemaFiles, S: ByteSource, K: ByteS
     writer: &mut K,
     faults: &mut T,
 ) -> u8
-    ensures { result ≤ 3 }
+    ensures range { result ≤ 3 }
+    ensures answered { result ≤ 1 → (words : List (List ℕ)) × Does (matches_of program_app words)
+        (F.held files.now) (S.remaining reader.old) (S.remaining reader.new)
+        (K.contents writer.old) (K.contents writer.new) result }
+    ensures refused { result ≡ 2 → (reader.new ≡ reader.old) × (writer.new ≡ writer.old) }
+    ensures stopped { result ≡ 3 → ((reader.new ≡ reader.old) × (writer.new ≡ writer.old))
+        ⊎ ((words : List (List ℕ)) × BreaksOff (matches_of program_app words)
+        (F.held files.now) (S.remaining reader.old) (S.remaining reader.new)
+        (K.contents writer.old) (K.contents writer.new)) }
 {
     let alloc = rt.alloc();
     match given_words(rt) {
@@ -104,7 +112,15 @@ fn by_words<F: SchemaFiles, S: ByteSource, K: ByteSink, T: ByteSink>(
     writer: &mut K,
     faults: &mut T,
 ) -> u8
-    ensures { result ≤ 3 }
+    ensures range { result ≤ 3 }
+    ensures answered { result ≤ 1 → (words : List (List ℕ)) × Does (matches_of program_app words)
+        (F.held files.now) (S.remaining reader.old) (S.remaining reader.new)
+        (K.contents writer.old) (K.contents writer.new) result }
+    ensures refused { result ≡ 2 → (reader.new ≡ reader.old) × (writer.new ≡ writer.old) }
+    ensures stopped { result ≡ 3 → ((reader.new ≡ reader.old) × (writer.new ≡ writer.old))
+        ⊎ ((words : List (List ℕ)) × BreaksOff (matches_of program_app words)
+        (F.held files.now) (S.remaining reader.old) (S.remaining reader.new)
+        (K.contents writer.old) (K.contents writer.new)) }
 {
     match lent_words(alloc, given) {
         Ok(words) => program(alloc, words.as_slice(), files, reader, writer, faults),
@@ -114,7 +130,7 @@ fn by_words<F: SchemaFiles, S: ByteSource, K: ByteSink, T: ByteSink>(
 
 // Tells a fault of which no more is said, and answers its status.
 fn plainly_told<T: ByteSink>(alloc: Global, fault: ProgramFault<'_>, faults: &mut T) -> u8
-    ensures { result ≤ 3 }
+    ensures { (2 ≤ result) × (result ≤ 3) }
 {
     told(alloc, &Refusal::plain(fault), faults)
 }
