@@ -1,5 +1,5 @@
 -- What the meta-schema of a root finds wrong, told of the root.
-use Rattle.std.proofs.Common.{◌≡◌, ◌∙◌, ◌⊎◌, inl, inr, ℕ, List, [], true, Option, Some, Result, Ok, Err, IfOk, IfErr, IsErrAnd, sym, subst}
+use Rattle.std.proofs.Common.{◌≡◌, ◌∙◌, ◌⊎◌, inl, inr, ℕ, List, [], true, Option, Some, None, Result, Ok, Err, IfOk, IfErr, IsErrAnd, sym, subst}
 use Rattle.std.specs.declared.alloc.Global.{Global}
 use Rattle.std.specs.declared.vec.Vec.{Vec}
 use Rattle.serde_json.specs.Data.{Data}
@@ -26,6 +26,11 @@ use Rattle.schema_validators.proofs.Asking.{one_named}
 pub memory_refuses : {T : Type 0} (p : Patterns) (limit : ℕ) (r : Root) (x : Result T BuildError) → IsErrAnd x (λ e. e ≡ error.Memory) → IfErr x (RefusesBuild p limit r)
 memory_refuses p limit r (Ok y) h = tt
 memory_refuses p limit r (Err e) h = subst (RefusesBuild p limit r) (sym h) tt
+
+-- what holds where there is none holds beside one
+pub none_beside : {T E A : Type 0} (r : Result T E) (o : Option A) (x : A) (P : T → Type 0) → o ≡ Some x → IfOk r (λ v. o ≡ None → P v)
+none_beside (Ok v) o x P is = λ none. (let some : Some x ≡ None = sym is ∙ none in cc)
+none_beside (Err e) o x P is = tt
 
 -- what a validator tells is told of the root that it validates by
 pub tells_by : (p : Patterns) (limit : ℕ) (r other : Root) → r ≡ other → (d : Data) (es : List ValidationError) → IsSound p r → IsWithin p limit r → AreFaults p r d (faults_of es)

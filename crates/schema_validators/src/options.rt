@@ -1,6 +1,6 @@
 //! How validators are built.
 
-ghost use Rattle.std.specs.Prelude.{◌≡◌, ◌⊎◌, IfOk, IfErr, OnOk, codes, None, Some, false};
+ghost use Rattle.std.specs.Prelude.{◌≡◌, ◌⊎◌, [], IfOk, IfErr, OnOk, codes, None, Some, false};
 ghost use Rattle.schema_drafts.specs.Drafts as drafts;
 ghost use Rattle.schema_definitions.specs.Lookup.{Target};
 ghost use Rattle.document_sources.specs.Causes.{IsMemory};
@@ -303,11 +303,11 @@ impl<P: PatternMaker + Drop, R: Drop> ValidationOptions<P, R> {
 
     /// All that the meta-schema of the schema finds wrong with it that a reference leads to, against the registry's base: the faults of the
     /// root's value, in the order in which they are met, where that meta-schema was handed in. `build_on` names one of them. There is none
-    /// exactly where it accepts the value, or none is asked.
+    /// exactly where it accepts the value, or none is asked; where none was handed in the reference is not looked up.
     ///
     /// # Errors
     ///
-    /// Where the reference leads nowhere, why the meta-schema is not read, or want of memory.
+    /// Where some were handed in: where the reference leads nowhere, and why the meta-schema is not read. Want of memory.
     pub fn meta_schema_faults_on(
         &self,
         registry: &SchemaRegistry,

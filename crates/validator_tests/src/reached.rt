@@ -203,6 +203,10 @@ fn dynamic_circles(rt: HostRuntime) {
 
 // Identifiers behind references, where no schema place of the document is.
 const IDENTIFIERS: &str = r##"
+root #/x
+document <http://a.test/r> {"x":{"$id":"%%"}}
+build => Invalid URI '%%'
+
 document <http://a.test/r> {"$ref":"#/x","x":{"$id":"%%"}}
 build => Invalid URI '%%'
 

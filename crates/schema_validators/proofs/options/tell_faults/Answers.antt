@@ -1,10 +1,10 @@
-use Rattle.std.proofs.Common.{◌≡◌, ◌∙◌, Some, inl, ap₂, sym, subst}
+use Rattle.std.proofs.Common.{◌≡◌, ◌∙◌, [], Some, inl, ap₂, sym, subst}
 use Rattle.schema_definitions.specs.Lookup.{lookup}
 use Rattle.document_sources.specs.Causes.{RefusesLookup}
 use Rattle.reached_sites.specs.Passed.{documents_in, base_of, target_in}
 use Rattle.schema_registries.specs.Seen.{documents_in_registry}
 use Rattle.schema_registries.specs.Roots.{Root, Finds, root_on}
-use Rattle.schema_validators.proofs.Telling.{told_by, untold_by}
+use Rattle.schema_validators.proofs.Telling.{told_by, untold_by, none_beside}
 use Rattle.schema_validators.proofs.options.tell_faults.Goals as goal
 
 pub returns-in-Ok-clause-told : goal.returns-in-Ok-clause-told
@@ -40,3 +40,7 @@ returns-clause-refused g c =
     let base : base_of resolver ≡ r.base = c.in_ok-resolver.ensures.base ∙ c.in_ok-clone.ensures.cases ∙ c.base.ensures in
     let same : lookup (documents_in resolver) (base_of resolver) r.reference ≡ lookup r.documents r.base r.reference = ap₂ (λ ds b. lookup ds b c.args.root.now) documents base in
     inl (c.of_reference.ensures r (subst (λ x. RefusesLookup x c.in-Err.error) same c.in-Err.ensures.refused))
+
+pub returns-in-Ok-clause-none : goal.returns-in-Ok-clause-none
+returns-in-Ok-clause-none g c =
+    none_beside c.tell_by_meta_schema.result c.args.registry.now.parent c.in-Some.parent.now (λ v. v.items ≡ []) (sym c.in-Some.ensures)
