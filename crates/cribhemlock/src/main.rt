@@ -1,4 +1,4 @@
-//! Checks lines of JSON against a JSON Schema: `cribhemlock SCHEMA [URI=FILE]... [--base URI] [--draft DRAFT]`.
+//! Checks lines or files of JSON against a JSON Schema; `--help` lists its words.
 #![tactic(auto)]
 
 use line_cuts::{OverRead, OverWrite, WatchedSource};
