@@ -24,8 +24,8 @@ returns-then-branch-clause-answered g c =
       appended,
     )
 
-pub write_refused-requires-some : goal.write_refused-requires-some
-write_refused-requires-some g c =
+pub write_refused-requires-clause-some : goal.write_refused-requires-clause-some
+write_refused-requires-clause-some g c =
     let errors = c.in_ok-errors.ensures in
     ap is_none errors.cut ∙ errors.agree ∙ sym c.in_ok-is_valid_by.ensures.cut ∙ c.if-branch.false
 
