@@ -19,6 +19,13 @@ impl fmt::Display for Path {
     }
 }
 
+/// The pointer's text between quotation marks, which are not escaped in it.
+impl fmt::Debug for Path {
+    fn fmt<W: fmt::Write>(&self, f: &mut fmt::Formatter<W>) -> fmt::Result {
+        write!(f, "\"{self}\"")
+    }
+}
+
 /// The part of a pointer, without the `/` before it.
 impl fmt::Display for Step {
     ghost output = { λ step. Some (part_text (step_part step)) };

@@ -16,7 +16,7 @@ use std::marker::Model;
 use std::rc::RcStr;
 
 /// A path from a place in a document up to the document's root. A contract sees it as the list of its parts, the last first.
-#[derive(Debug, Drop)]
+#[derive(Drop)]
 pub struct Path {
     steps: List<Step>,
 }

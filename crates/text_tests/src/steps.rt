@@ -99,7 +99,7 @@ fn assert_last(rt: &impl Abort, path: &Path) {
 
 fn assert_shown(rt: &impl Abort, alloc: Global, root: &Path, path: &Path) {
     let text = format!(in alloc; "{root:?} {path:?}").expect(rt, "memory");
-    let want = "Path { steps: [] } Path { steps: [Item(7)] }";
+    let want = "\"\" \"/7\"";
     assert_text(rt, "shown", text, want);
 }
 
