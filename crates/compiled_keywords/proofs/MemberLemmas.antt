@@ -1,14 +1,14 @@
 -- Entries of compiled keywords, and what is asked of members, one after another.
-use Rattle.std.proofs.Common.{◌≡◌, ◌<◌, ◌+◌, ◌∙◌, ◌++◌, ℕ, List, [], ◌∷◌, map, drop, codes, length, get_or, true, false, Option, None, Some, is_some, option_map, refl, ap}
+use Rattle.std.proofs.Common.{◌≡◌, ◌<◌, ◌+◌, ◌∙◌, ◌++◌, ℕ, List, [], ◌∷◌, map, drop, codes, length, get_or, Bool, true, false, Option, None, Some, is_some, option_map, refl, sym, ap, append_assoc}
 use Rattle.std.proofs.lemmas.Option.{slice_get_read, slice_get-map}
 use Rattle.serde_json.specs.Data.{Data}
 use Rattle.serde_json.specs.Find.{get}
 use Rattle.schema_meaning.specs.Keywords.{Dependency, needs, applies, applied}
 use Rattle.schema_meaning.specs.Places.{stay, to_member}
-use Rattle.schema_meaning.specs.Questions.{question, at_name, if_member, each_declared, each_triggered}
+use Rattle.schema_meaning.specs.Questions.{question, at_name, if_member, each_declared, each_triggered, Declared, is_declared}
 use Rattle.applicators.specs.Questions.{each_dependency}
 use Rattle.compiled_keywords.specs.Forms.{alone, name_at, named_part}
-use Rattle.compiled_keywords.specs.Members.{applied_node}
+use Rattle.compiled_keywords.specs.Members.{applied_node, others_among}
 use Rattle.compiled_keywords.specs.Owned.{named, depending}
 use Rattle.compiled_keywords.specs.declared.subschemas.NamedNode.{NamedNode}
 use Rattle.compiled_keywords.specs.declared.subschemas.NamedDependency.{NamedDependency}
@@ -64,3 +64,20 @@ module _ (d : Data) (entries : List NamedDependency) (i : ℕ) (p : NamedDepende
   pub applied_next : (s : ℕ) → applied_node (get (depending p).0 d) (depending p).1 ≡ Some s
       → map alone (each_dependency d (map depending (drop i entries))) ≡ alone (question s stay (at_name (codes "dependencies") (depending p).0)) ∷ map alone (each_dependency d (map depending (drop (i + 1) entries)))
   applied_next s there = next ∙ ap (λ xs. map alone (xs ++ each_dependency d (map depending (drop (i + 1) entries)))) (applied_so d (depending p).0 (get (depending p).0 d) (depending p).1 s there)
+
+-- the names of those that are not declared
+module _ (reads : List ℕ → List ℕ → Bool) (w : Declared) (all front : List (List ℕ)) where
+  abbrev others_in : List (List ℕ × Data) → List (List ℕ)
+  others_in ms = map (λ x. x.0) (others_among reads w ms)
+
+  pub other_named : (n : List ℕ) (e : Data) (ms more : List (List ℕ × Data)) → ms ≡ (n, e) ∷ more
+      → is_declared reads w n ≡ false → all ≡ front ++ others_in ms
+      → all ≡ (front ++ n ∷ []) ++ others_in more
+  other_named n e ms more is other so =
+      so ∙ ap (λ xs. front ++ others_in xs) is
+      ∙ rw other (sym (append_assoc front (n ∷ []) (others_in more)))
+
+  pub declared_named : (n : List ℕ) (e : Data) (ms more : List (List ℕ × Data)) → ms ≡ (n, e) ∷ more
+      → is_declared reads w n ≡ true → all ≡ front ++ others_in ms → all ≡ front ++ others_in more
+  declared_named n e ms more is declared so =
+      so ∙ ap (λ xs. front ++ others_in xs) is ∙ rw declared refl

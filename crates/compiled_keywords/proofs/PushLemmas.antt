@@ -72,6 +72,12 @@ module _ (reads : List ℕ → List ℕ → Bool) (k : List ℕ) where
       → map alone (each_member k s (others_among reads w ms)) ≡ alone (question s (to_member n e) (at k)) ∷ map alone (each_member k s (others_among reads w more))
   other_next w s n e ms more is other = ap (λ xs. map alone (each_member k s (others_among reads w xs))) is ∙ rw other refl
 
+  pub declared_next : (w : Declared) (s : ℕ) (n : List ℕ) (e : Data) (ms more : List (List ℕ × Data)) → ms ≡ (n, e) ∷ more → is_declared reads w n ≡ true
+      → map alone (each_member k s (others_among reads w ms))
+      ≡ map alone (each_member k s (others_among reads w more))
+  declared_next w s n e ms more is declared =
+      ap (λ xs. map alone (each_member k s (others_among reads w xs))) is ∙ rw declared refl
+
 -- by the form that a keyword's asking has
 pub as_asked : (reads : List ℕ → List ℕ → Bool) (k : List ℕ) (d : Data) (old new : List Question) (f g : Asks) → f ≡ g → Puts (added_in k (form_of g)) old new (asked_beside reads k d (form_of g))
     → Puts (added_in k (form_of f)) old new (asked_beside reads k d (form_of f))

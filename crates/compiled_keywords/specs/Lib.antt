@@ -1,6 +1,7 @@
 pub mod Sorted
 pub mod Options
 pub mod Owned
+pub mod Asked
 pub mod Forms
 pub mod Applied
 pub mod Seen

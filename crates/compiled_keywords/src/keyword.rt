@@ -1,13 +1,15 @@
 //! The keywords of compiled schemas.
-ghost use Rattle.std.specs.Prelude.{◌≡◌, ℕ, List, [], ◌∷◌, OnOk, map, true};
+ghost use Rattle.std.specs.Prelude.{◌≡◌, ℕ, List, [], ◌∷◌, OnOk, OnErr, map, true};
 ghost use Rattle.serde_json.specs.View.{view};
 ghost use Rattle.schema_meaning.specs.Keywords.{rule, reference_name};
 ghost use Rattle.schema_meaning.specs.Members.{is_empty};
 ghost use Rattle.schema_meaning.specs.Places.{stay};
 ghost use Rattle.schema_meaning.specs.Questions.{at};
+ghost use Rattle.schema_engine.specs.Led.{MayAskFor};
 ghost use Rattle.schema_engine.specs.Matches.{InEach};
 ghost use Rattle.schema_engine.specs.Places.{value_at};
 ghost use Rattle.applicators.specs.Forms.{noted};
+ghost use Rattle.compiled_keywords.specs.Asked.{MayMatchIn};
 ghost use Rattle.compiled_keywords.specs.Forms.{alone, form_of, whole_at, added_in, asked_beside};
 ghost use Rattle.compiled_keywords.specs.Seen.{Puts, beside_in};
 ghost use Rattle.compiled_keywords.specs.Shapes.{shape_of, added_by, reference_of, Knows, KnowsAsked};
@@ -107,8 +109,10 @@ fn push_asked<'q, 'i: 'q, T: Matching>(
     matching: &mut T,
     into: &mut Vec<Question<'q, 'i>>,
 ) -> Result<(), AllocError>
-    requires { KnowsAsked asks.now (T.matches matching.old).pattern }
+    requires known { KnowsAsked asks.now (T.matches matching.old).pattern }
+    requires asked { MayMatchIn (T.matches matching.old) (form_of asks.now) (value_at place) }
     ensures same { OnOk result (T.matches matching.new ≡ T.matches matching.old) }
+    ensures stays { OnErr result (T.matches matching.new ≡ T.matches matching.old) }
     ensures put { OnOk result (InEach (T.matches matching.old)
         (λ m. (k : List ℕ) → Puts (added_in k (form_of asks.now)) into.old.items into.new.items
         (asked_beside m k (value_at place.entry) (form_of asks.now)))) }
@@ -157,8 +161,10 @@ impl Keyword {
         matching: &mut T,
         into: &mut Vec<Question<'q, 'i>>,
     ) -> Result<(), AllocError>
-        requires { Knows self.now (T.matches matching.old).pattern }
+        requires known { Knows self.now (T.matches matching.old).pattern }
+        requires asked { MayAskFor (T.matches matching.old) (shape_of self.now) (value_at place) }
         ensures same { OnOk result (T.matches matching.new ≡ T.matches matching.old) }
+        ensures stays { OnErr result (T.matches matching.new ≡ T.matches matching.old) }
         ensures put { OnOk result (InEach (T.matches matching.old)
             (λ m. Puts (added_by self.now) into.old.items into.new.items
             (beside_in (rule m (value_at place.entry) (shape_of self.now))))) }

@@ -1,5 +1,5 @@
 //! The questions of compiled keywords about members.
-ghost use Rattle.std.specs.Prelude.{◌≡◌, ℕ, List, OnOk, map, option_map, codes};
+ghost use Rattle.std.specs.Prelude.{◌≡◌, ℕ, List, [], ◌∷◌, OnOk, OnErr, map, option_map, codes};
 ghost use Rattle.std.specs.List.{flat_map};
 ghost use Rattle.json_values.specs.Parts.{Part};
 ghost use Rattle.serde_json.specs.Find.{get};
@@ -10,6 +10,7 @@ ghost use Rattle.schema_meaning.specs.Questions.{each_matching};
 ghost use Rattle.schema_engine.specs.Matches.{InEach};
 ghost use Rattle.schema_engine.specs.Places.{value_at};
 ghost use Rattle.applicators.specs.Questions.{each_dependency};
+ghost use Rattle.compiled_keywords.specs.Asked.{patterns_of, MayMatchNames};
 ghost use Rattle.compiled_keywords.specs.Forms.{alone, whole_at, name_at};
 ghost use Rattle.compiled_keywords.specs.Members.{listed, members_in, matching_of, others_among, applied_node};
 ghost use Rattle.compiled_keywords.specs.Owned.{named, by_pattern, depending, declared_by, IsNumbered};
@@ -212,8 +213,11 @@ fn push_matched<'q, 'i: 'q, T: Matching>(
     matching: &mut T,
     into: &mut Vec<Question<'q, 'i>>,
 ) -> Result<(), AllocError>
-    requires { IsNumbered (T.matches matching.old).pattern node.now.pattern }
+    requires known { IsNumbered (T.matches matching.old).pattern node.now.pattern }
+    requires asked { MayMatchNames (T.matches matching.old)
+        ((by_pattern node.now).0 ∷ []) (listed members.now) }
     ensures same { OnOk result (T.matches matching.new ≡ T.matches matching.old) }
+    ensures stays { OnErr result (T.matches matching.new ≡ T.matches matching.old) }
     ensures put { OnOk result (InEach (T.matches matching.old)
         (λ m. (k : List ℕ) (added : ℕ → List Part) → added entry ≡ at_name k (by_pattern node.now).0
         → Puts added into.old.items into.new.items
@@ -240,8 +244,11 @@ fn push_each_matched<'q, 'i: 'q, T: Matching>(
     matching: &mut T,
     into: &mut Vec<Question<'q, 'i>>,
 ) -> Result<(), AllocError>
-    requires { AreNumbered (T.matches matching.old).pattern nodes.now }
+    requires known { AreNumbered (T.matches matching.old).pattern nodes.now }
+    requires asked { MayMatchNames (T.matches matching.old)
+        (patterns_of nodes.now) (listed members.now) }
     ensures same { OnOk result (T.matches matching.new ≡ T.matches matching.old) }
+    ensures stays { OnErr result (T.matches matching.new ≡ T.matches matching.old) }
     ensures put { OnOk result (InEach (T.matches matching.old)
         (λ m. (k : List ℕ) → Puts (name_at k (map by_pattern nodes.now)) into.old.items into.new.items
         (map alone (flat_map (λ p. matching_of m k p (listed members.now)) (map by_pattern nodes.now))))) }
@@ -259,8 +266,11 @@ pub(crate) fn push_matching<'q, 'i: 'q, T: Matching>(
     matching: &mut T,
     into: &mut Vec<Question<'q, 'i>>,
 ) -> Result<(), AllocError>
-    requires { AreNumbered (T.matches matching.old).pattern nodes.now }
+    requires known { AreNumbered (T.matches matching.old).pattern nodes.now }
+    requires asked { MayMatchNames (T.matches matching.old)
+        (patterns_of nodes.now) (members_of (value_at place)) }
     ensures same { OnOk result (T.matches matching.new ≡ T.matches matching.old) }
+    ensures stays { OnErr result (T.matches matching.new ≡ T.matches matching.old) }
     ensures put { OnOk result (InEach (T.matches matching.old)
         (λ m. (k : List ℕ) → Puts (name_at k (map by_pattern nodes.now)) into.old.items into.new.items
         (map alone (each_matching m k (value_at place.entry) (map by_pattern nodes.now))))) }
@@ -278,8 +288,11 @@ fn push_others_of<'q, 'i: 'q, T: Matching>(
     matching: &mut T,
     into: &mut Vec<Question<'q, 'i>>,
 ) -> Result<(), AllocError>
-    requires { AllNumbered (T.matches matching.old).pattern declared.now.patterns.items }
+    requires known { AllNumbered (T.matches matching.old).pattern declared.now.patterns.items }
+    requires asked { MayMatchNames (T.matches matching.old)
+        (declared_by declared.now).patterns (listed members.now) }
     ensures same { OnOk result (T.matches matching.new ≡ T.matches matching.old) }
+    ensures stays { OnErr result (T.matches matching.new ≡ T.matches matching.old) }
     ensures put { OnOk result (InEach (T.matches matching.old)
         (λ m. (k : List ℕ) → Puts (whole_at k) into.old.items into.new.items
         (map alone (each_member k node (others_among m (declared_by declared.now) (listed members.now)))))) }
@@ -307,8 +320,11 @@ pub(crate) fn push_others<'q, 'i: 'q, T: Matching>(
     matching: &mut T,
     into: &mut Vec<Question<'q, 'i>>,
 ) -> Result<(), AllocError>
-    requires { AllNumbered (T.matches matching.old).pattern declared.now.patterns.items }
+    requires known { AllNumbered (T.matches matching.old).pattern declared.now.patterns.items }
+    requires asked { MayMatchNames (T.matches matching.old)
+        (declared_by declared.now).patterns (members_of (value_at place)) }
     ensures same { OnOk result (T.matches matching.new ≡ T.matches matching.old) }
+    ensures stays { OnErr result (T.matches matching.new ≡ T.matches matching.old) }
     ensures put { OnOk result (InEach (T.matches matching.old)
         (λ m. (k : List ℕ) → Puts (whole_at k) into.old.items into.new.items
         (map alone (each_member k node (other_members m (declared_by declared.now) (value_at place.entry)))))) }

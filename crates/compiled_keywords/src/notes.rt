@@ -1,5 +1,5 @@
 //! What compiled keywords tell of a value itself.
-ghost use Rattle.std.specs.Prelude.{◌≡◌, ◌∷◌, [], ℕ, List, Bool, OnOk, map, string_bytes, codes};
+ghost use Rattle.std.specs.Prelude.{◌≡◌, ◌∷◌, [], ℕ, List, Bool, OnOk, OnErr, map, string_bytes, codes};
 ghost use Rattle.std.specs.List.{flat_map};
 ghost use Rattle.serde_json.specs.Find.{get};
 ghost use Rattle.serde_json.specs.View.{view};
@@ -10,6 +10,7 @@ ghost use Rattle.schema_meaning.specs.Keywords.{unless, wrong as found_wrong};
 ghost use Rattle.schema_engine.specs.Matches.{InEach};
 ghost use Rattle.assertions.specs.Shapes.{assertion_of as plain_of};
 ghost use Rattle.assertions.specs.Wrong.{kind_of, note_of, notes_of};
+ghost use Rattle.compiled_keywords.specs.Asked.{MayMatchText};
 ghost use Rattle.compiled_keywords.specs.Owned.{needed_by, depending, text_of, IsNumbered};
 ghost use Rattle.compiled_keywords.specs.Shapes.{assertion_of};
 ghost use Rattle.compiled_keywords.specs.Told.{TellsEach, TellsUnder, lacking};
@@ -288,8 +289,11 @@ pub(crate) fn tell_pattern<'o, T: Matching>(
     matching: &mut T,
     observer: &mut Observer<'o>,
 ) -> Result<(), AllocError>
-    requires { IsNumbered (T.matches matching.old).pattern pattern.now }
+    requires known { IsNumbered (T.matches matching.old).pattern pattern.now }
+    requires asked { MayMatchText (T.matches matching.old)
+        (text_of pattern.now) (view situation.now.value.now) }
     ensures same { OnOk result (T.matches matching.new ≡ T.matches matching.old) }
+    ensures stays { OnErr result (T.matches matching.new ≡ T.matches matching.old) }
     ensures told { OnOk result (InEach (T.matches matching.old)
         (λ m. TellsEach situation.now (codes "pattern")
         (found_wrong m (asserted (text_of pattern.now))

@@ -1,11 +1,12 @@
 //! Texts and members' names that patterns match.
-ghost use Rattle.std.specs.Prelude.{◌≡◌, OnOk, IfOk, map};
+ghost use Rattle.std.specs.Prelude.{◌≡◌, [], ◌∷◌, OnOk, OnErr, IfOk, map};
 ghost use Rattle.std.specs.List.{list_any};
 ghost use Rattle.json_values.specs.Patterns.{matched};
 ghost use Rattle.schema_meaning.specs.Keywords.{text_is};
 ghost use Rattle.schema_meaning.specs.Questions.{is_declared as is_among};
 ghost use Rattle.schema_engine.specs.Matches.{InEach};
 ghost use Rattle.schema_engine.specs.Places.{value_at};
+ghost use Rattle.compiled_keywords.specs.Asked.{MayMatchText, MayMatchEach};
 ghost use Rattle.compiled_keywords.specs.Owned.{text_of, declared_by, IsNumbered, AllNumbered};
 
 use crate::asks::Declared;
@@ -25,8 +26,10 @@ pub(crate) fn is_matched<T: Matching>(
     place: Place<'_>,
     matching: &mut T,
 ) -> Result<bool, AllocError>
-    requires { IsNumbered (T.matches matching.old).pattern pattern.now }
+    requires known { IsNumbered (T.matches matching.old).pattern pattern.now }
+    requires asked { MayMatchText (T.matches matching.old) (text_of pattern.now) (value_at place) }
     ensures same { OnOk result (T.matches matching.new ≡ T.matches matching.old) }
+    ensures stays { OnErr result (T.matches matching.new ≡ T.matches matching.old) }
     ensures read { IfOk result (λ b. InEach (T.matches matching.old)
         (λ m. b ≡ text_is (matched m (text_of pattern.now)) (value_at place.entry))) }
 {
@@ -44,8 +47,11 @@ fn is_matched_by<T: Matching>(
     name: &str,
     matching: &mut T,
 ) -> Result<bool, AllocError>
-    requires { AllNumbered (T.matches matching.old).pattern patterns.now }
+    requires known { AllNumbered (T.matches matching.old).pattern patterns.now }
+    requires asked { MayMatchEach (T.matches matching.old)
+        (map text_of patterns.now) (name.now ∷ []) }
     ensures same { OnOk result (T.matches matching.new ≡ T.matches matching.old) }
+    ensures stays { OnErr result (T.matches matching.new ≡ T.matches matching.old) }
     ensures read { IfOk result (λ b. InEach (T.matches matching.old)
         (λ m. b ≡ list_any (λ p. matched m p name.now) (map text_of patterns.now))) }
 {
@@ -67,8 +73,11 @@ pub(crate) fn is_declared<T: Matching>(
     name: &str,
     matching: &mut T,
 ) -> Result<bool, AllocError>
-    requires { AllNumbered (T.matches matching.old).pattern declared.now.patterns.items }
+    requires known { AllNumbered (T.matches matching.old).pattern declared.now.patterns.items }
+    requires asked { MayMatchEach (T.matches matching.old)
+        (declared_by declared.now).patterns (name.now ∷ []) }
     ensures same { OnOk result (T.matches matching.new ≡ T.matches matching.old) }
+    ensures stays { OnErr result (T.matches matching.new ≡ T.matches matching.old) }
     ensures read { IfOk result (λ b. InEach (T.matches matching.old)
         (λ m. b ≡ is_among m (declared_by declared.now) name.now)) }
 {

@@ -1,5 +1,5 @@
 //! The one fault of a compiled keyword that says nothing of the answers.
-ghost use Rattle.std.specs.Prelude.{◌≡◌, OnOk, IfOk, map, string_bytes};
+ghost use Rattle.std.specs.Prelude.{◌≡◌, OnOk, OnErr, IfOk, map, string_bytes};
 ghost use Rattle.serde_json.specs.View.{view};
 ghost use Rattle.schema_meaning.specs.Keywords.{first_value};
 ghost use Rattle.schema_meaning.specs.Questions.{members_of, other_members};
@@ -7,6 +7,7 @@ ghost use Rattle.schema_reports.specs.Kinds.{StandsFor};
 ghost use Rattle.schema_engine.specs.Matches.{InEach};
 ghost use Rattle.schema_engine.specs.Refusals.{IsNote};
 ghost use Rattle.applicators.specs.Forms.{kind_in, value_in};
+ghost use Rattle.compiled_keywords.specs.Asked.{MayMatchNames, MayMatchIn};
 ghost use Rattle.compiled_keywords.specs.Forms.{form_of};
 ghost use Rattle.compiled_keywords.specs.Members.{listed, others_among};
 ghost use Rattle.compiled_keywords.specs.Owned.{declared_by, AllNumbered};
@@ -48,8 +49,11 @@ fn undeclared_among<T: Matching>(
     members: &Map<String, Value>,
     matching: &mut T,
 ) -> Result<Vec<String>, AllocError>
-    requires { AllNumbered (T.matches matching.old).pattern declared.now.patterns.items }
+    requires known { AllNumbered (T.matches matching.old).pattern declared.now.patterns.items }
+    requires asked { MayMatchNames (T.matches matching.old)
+        (declared_by declared.now).patterns (listed members.now) }
     ensures same { OnOk result (T.matches matching.new ≡ T.matches matching.old) }
+    ensures stays { OnErr result (T.matches matching.new ≡ T.matches matching.old) }
     ensures listed { IfOk result (λ names. InEach (T.matches matching.old)
         (λ m. map string_bytes names.items ≡ map (λ x. x.0)
         (others_among m (declared_by declared.now) (listed members.now)))) }
@@ -70,8 +74,11 @@ fn undeclared<T: Matching>(
     value: &Value,
     matching: &mut T,
 ) -> Result<Vec<String>, AllocError>
-    requires { AllNumbered (T.matches matching.old).pattern declared.now.patterns.items }
+    requires known { AllNumbered (T.matches matching.old).pattern declared.now.patterns.items }
+    requires asked { MayMatchNames (T.matches matching.old)
+        (declared_by declared.now).patterns (members_of (view value.now)) }
     ensures same { OnOk result (T.matches matching.new ≡ T.matches matching.old) }
+    ensures stays { OnErr result (T.matches matching.new ≡ T.matches matching.old) }
     ensures listed { IfOk result (λ names. InEach (T.matches matching.old)
         (λ m. map string_bytes names.items ≡ map (λ x. x.0)
         (other_members m (declared_by declared.now) (view value.now)))) }
@@ -87,8 +94,11 @@ fn kind_of<'o, T: Matching>(
     situation: &Situation<'_, 'o>,
     matching: &mut T,
 ) -> Result<ValidationErrorKind<'o>, AllocError>
-    requires { KnowsAsked asks.now (T.matches matching.old).pattern }
+    requires known { KnowsAsked asks.now (T.matches matching.old).pattern }
+    requires asked { MayMatchIn (T.matches matching.old)
+        (form_of asks.now) (view situation.now.value.now) }
     ensures same { OnOk result (T.matches matching.new ≡ T.matches matching.old) }
+    ensures stays { OnErr result (T.matches matching.new ≡ T.matches matching.old) }
     ensures stands { IfOk result (λ k. InEach (T.matches matching.old)
         (λ m. StandsFor k (kind_in m (form_of asks.now) (view situation.now.value.now)))) }
 {
@@ -124,8 +134,11 @@ pub(crate) fn reason_of<'o, T: Matching>(
     situation: &Situation<'_, 'o>,
     matching: &mut T,
 ) -> Result<Reason<'o>, AllocError>
-    requires { KnowsAsked asks.now (T.matches matching.old).pattern }
+    requires known { KnowsAsked asks.now (T.matches matching.old).pattern }
+    requires asked { MayMatchIn (T.matches matching.old)
+        (form_of asks.now) (view situation.now.value.now) }
     ensures same { OnOk result (T.matches matching.new ≡ T.matches matching.old) }
+    ensures stays { OnErr result (T.matches matching.new ≡ T.matches matching.old) }
     ensures noted { IfOk result (λ r. InEach (T.matches matching.old) (λ m. IsNote r (record {
       kind = kind_in m (form_of asks.now) (view situation.now.value.now);
       value = value_in (form_of asks.now) (view situation.now.value.now);

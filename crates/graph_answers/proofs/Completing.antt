@@ -5,9 +5,9 @@ use Rattle.schema_patterns.specs.Compiled.{found_by}
 use Rattle.schema_patterns.specs.Tables.{pattern_for}
 use Rattle.schema_patterns.specs.declared.compiled.CompiledPattern.{CompiledPattern}
 use Rattle.schema_patterns.specs.declared.table.PatternTable.{PatternTable}
-use Rattle.schema_engine.specs.Matches.{Answers, InEach, completed, known_or}
+use Rattle.schema_engine.specs.Matches.{Answers, Matches, Start, InEach, completed, known_or}
 use Rattle.graph_answers.specs.Tables.{AreForms}
-use Rattle.graph_answers.specs.Completions.{found_in, table_finds, assumed_in, matches_with}
+use Rattle.graph_answers.specs.Completions.{found_in, table_finds, assumed_in, matches_with, asked_from}
 use Rattle.graph_answers.specs.declared.assumed.AssumedMatch.{AssumedMatch}
 
 same_some : (x y : Bool) → Some x ≡ Some y → x ≡ y
@@ -15,6 +15,15 @@ same_some x y h = cc
 
 no_some : (x : Bool) → None ≡ Some x → ⊥
 no_some x h = cc
+
+-- which matches may be asked for is nothing that is known of them
+pub same_completed : (s : Start) (m : Matches) (rest : Answers) → completed (asked_from s m) rest ≡ completed m rest
+unfolding completed
+same_completed s m rest = refl
+
+pub read_from : (s : Start) (m : Matches) (b : Bool) (pattern text : List ℕ) → InEach m (λ reads. b ≡ matched reads pattern text) → InEach (asked_from s m) (λ reads. b ≡ matched reads pattern text)
+unfolding completed
+read_from s m b pattern text read rest = read rest
 
 module _ {M : Type 0} (finds : M → List ℕ → Option Bool) (table : PatternTable M) (assumed : List AssumedMatch) where
   -- what is known is read so in each completion

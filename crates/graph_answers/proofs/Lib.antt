@@ -8,4 +8,5 @@ pub mod Joined
 pub mod Completing
 pub mod RunLemmas
 pub mod RunCounts
+pub mod Chains
 pub mod RunVerdicts

@@ -5,12 +5,15 @@ use Rattle.std.proofs.lemmas.Slice.Eq.{bytes_eq-Decides}
 use Rattle.json_values.specs.Patterns.{or_else}
 use Rattle.schema_meaning.specs.Members.{In, first, later}
 use Rattle.schema_patterns.specs.declared.table.PatternTable.{PatternTable}
-use Rattle.schema_engine.specs.Matches.{Matches}
+use Rattle.std.proofs.Math.Logic.{∥∥₁_map}
+use Rattle.schema_engine.specs.Led.{AsksFor, MayMatch}
+use Rattle.schema_engine.specs.Matches.{Matches, Start, completed, none_matched}
 use Rattle.reading_laws.specs.Keys.{Distinct}
 use Rattle.reading_laws.proofs.Counting.{distinct-behind}
 use Rattle.reading_laws.proofs.Elements.{in_front}
-use Rattle.graph_answers.specs.Completions.{table_finds, assumed_in, is_of, matches_with}
-use Rattle.graph_answers.specs.Runs.{IsTurned, AreOpen, AreSixOpen}
+use Rattle.graph_answers.specs.Completions.{table_finds, assumed_in, is_of, matches_with, asked_from, IsStop}
+use Rattle.graph_answers.specs.Runs.{IsTurned, IsAskedFor, IsOpen, AreOpen, AreSixOpen}
+use Rattle.graph_answers.proofs.RunLemmas.{without}
 use Rattle.graph_answers.specs.declared.assumed.AssumedMatch.{AssumedMatch}
 
 -- ---- how many runs are to come
@@ -143,39 +146,39 @@ not_met (a ∷ more) pattern text none i = by_test (is_of a pattern text) refl n
     by_test false is nothing (inl e) further = (let same = is_itself a pattern text e in cc)
     by_test false is nothing (inr j) further = further nothing j
 
-module _ (m : Matches) where
+module _ (m : Matches) (s : Start) where
   distinct_front : {A : Type 0} (xs ys : List A) → Distinct (xs ++ ys) → Distinct xs
   distinct_front [] ys d = tt
   distinct_front (x ∷ xs) ys d = (λ i. d.0 (in_front x xs ys i), distinct_front xs ys d.1)
 
-  open_front : (xs ys : List (List ℕ × List ℕ)) → AreOpen m (xs ++ ys) → AreOpen m xs
+  open_front : (xs ys : List (List ℕ × List ℕ)) → AreOpen m s (xs ++ ys) → AreOpen m s xs
   open_front xs ys o = record {
     apart = distinct_front xs ys o.apart;
     each = λ pattern text i. o.each pattern text (in_front (pattern, text) xs ys i);
   }
 
-  open_behind : (xs : List (List ℕ × List ℕ)) (pattern text : List ℕ) → AreOpen m xs → (In (match_with pattern text) xs → ⊥) → m.known pattern text ≡ None → AreOpen m (xs ++ match_with pattern text ∷ [])
-  open_behind xs pattern text o new none = record {
+  open_behind : (xs : List (List ℕ × List ℕ)) (pattern text : List ℕ) → AreOpen m s xs → (In (match_with pattern text) xs → ⊥) → IsOpen m s pattern text → AreOpen m s (xs ++ match_with pattern text ∷ [])
+  open_behind xs pattern text o new one = record {
     apart = distinct-behind xs (pattern, text) o.apart new;
-    each = λ p t i. elim (in_last xs i) [ inl e ↦ (ap (λ x. m.known x.0 x.1) e ∙ none) | inr j ↦ o.each p t j ];
+    each = λ p t i. elim (in_last xs i) [ inl e ↦ subst (λ x. IsOpen m s x.0 x.1) (sym e) one | inr j ↦ o.each p t j ];
   }
 
 -- ---- runs, one after another
 
 -- so many runs were made, and no more than 63 are made in all
-pub record AreFew (m : Matches) (made : ℕ) (xs : List AssumedMatch) : Type 0 where
+pub record AreFew (m : Matches) (s : Start) (made : ℕ) (xs : List AssumedMatch) : Type 0 where
   pub few : length xs ≤ 5
   pub runs : made + to_come xs ≤ 63
-  pub are_open : AreOpen m (met xs)
+  pub are_open : AreOpen m s (met xs)
 
-pub record Counts (m : Matches) (made : ℕ) (xs : List AssumedMatch) : Type 0 where
-  pub either : AreSixOpen m ⊎ AreFew m made xs
+pub record Counts (m : Matches) (s : Start) (made : ℕ) (xs : List AssumedMatch) : Type 0 where
+  pub either : AreSixOpen m s ⊎ AreFew m s made xs
 
-pub begun : (m : Matches) → Counts m 0 []
-begun m = record { either = inr (record { few = omega arith; runs = omega arith; are_open = record { apart = tt; each = λ pattern text i. elim i [ ] } }) }
+pub begun : (m : Matches) (s : Start) → Counts m s 0 []
+begun m s = record { either = inr (record { few = omega arith; runs = omega arith; are_open = record { apart = tt; each = λ pattern text i. elim i [ ] } }) }
 
-pub at_the_end : (m : Matches) (made : ℕ) (xs : List AssumedMatch) → 64 ≤ made → Counts m made xs → AreSixOpen m
-at_the_end m made xs many c = elim c.either [
+pub at_the_end : (m : Matches) (s : Start) (made : ℕ) (xs : List AssumedMatch) → 64 ≤ made → Counts m s made xs → AreSixOpen m s
+at_the_end m s made xs many c = elim c.either [
   | inl six ↦ six
   | inr few ↦ absurd (let runs = few.runs in omega (arith, runs))
 ]
@@ -189,17 +192,29 @@ below_five (suc (suc (suc (suc zero)))) h = inl (omega arith)
 below_five (suc (suc (suc (suc (suc zero))))) h = inr refl
 below_five (suc (suc (suc (suc (suc (suc n)))))) h = absurd (omega arith)
 
-module _ {M : Type 0} (finds : M → List ℕ → Option Bool) (table : PatternTable M) where
-  open_in : (xs : List AssumedMatch) (a : AssumedMatch) → (matches_with finds table xs).known (string_bytes a.pattern) (string_bytes a.text) ≡ None
-      → AreOpen (matches_with finds table []) (met xs) → AreOpen (matches_with finds table []) (met (xs ++ a ∷ []))
-  open_in xs a none o =
-      let both = both_none (table_finds finds table (string_bytes a.pattern) (string_bytes a.text)) (assumed_in xs (string_bytes a.pattern) (string_bytes a.text)) none in
-      subst (AreOpen (matches_with finds table [])) (sym (map-append match_of xs (a ∷ [])))
-      (open_behind (matches_with finds table []) (met xs) (string_bytes a.pattern) (string_bytes a.text) o (not_met xs (string_bytes a.pattern) (string_bytes a.text) both.1) (ap (λ f. or_else f None) both.0))
+module _ {M : Type 0} (finds : M → List ℕ → Option Bool) (table : PatternTable M) (s : Start) where
+  abbrev base : Matches
+  base = matches_with finds table []
+
+  -- a run by what is assumed is one of the runs by nothing
+  asked_at_all : (xs : List AssumedMatch) (pattern text : List ℕ) → MayMatch (asked_from s (matches_with finds table xs)) pattern text → IsAskedFor base s pattern text
+  unfolding completed
+  asked_at_all xs pattern text asks = (
+    completed (matches_with finds table xs) none_matched,
+    subst (λ reads. AsksFor reads s pattern text) (without finds table xs none_matched) (asks none_matched),
+  )
+
+  open_in : (xs : List AssumedMatch) (a : AssumedMatch) → IsStop (asked_from s (matches_with finds table xs)) (string_bytes a.pattern) (string_bytes a.text)
+      → AreOpen base s (met xs) → AreOpen base s (met (xs ++ a ∷ []))
+  open_in xs a stop o =
+      let both = both_none (table_finds finds table (string_bytes a.pattern) (string_bytes a.text)) (assumed_in xs (string_bytes a.pattern) (string_bytes a.text)) stop.unknown in
+      subst (AreOpen base s) (sym (map-append match_of xs (a ∷ [])))
+      (open_behind base s (met xs) (string_bytes a.pattern) (string_bytes a.text) o (not_met xs (string_bytes a.pattern) (string_bytes a.text) both.1)
+      (record { unknown = ap (λ f. or_else f None) both.0; asked = ∥∥₁_map stop.asked (asked_at_all xs (string_bytes a.pattern) (string_bytes a.text)) }))
 
   -- a run was stopped at a match of which no is assumed now
-  pub once_stopped : (made : ℕ) (xs : List AssumedMatch) (a : AssumedMatch) → a.is_match ≡ false → (matches_with finds table xs).known (string_bytes a.pattern) (string_bytes a.text) ≡ None
-      → Counts (matches_with finds table []) made xs → Counts (matches_with finds table []) (made + 1) (xs ++ a ∷ [])
+  pub once_stopped : (made : ℕ) (xs : List AssumedMatch) (a : AssumedMatch) → a.is_match ≡ false → IsStop (asked_from s (matches_with finds table xs)) (string_bytes a.pattern) (string_bytes a.text)
+      → Counts base s made xs → Counts base s (made + 1) (xs ++ a ∷ [])
   once_stopped made xs a is_no none c = elim c.either [
     | inl six ↦ record { either = inl six }
     | inr few ↦ by_length few (below_five (length xs) few.few)
@@ -208,7 +223,7 @@ module _ {M : Type 0} (finds : M → List ℕ → Option Bool) (table : PatternT
       longer : length (xs ++ a ∷ []) ≡ suc (length xs)
       longer = (let l = length-append xs (a ∷ []) in omega (arith, l))
 
-      by_length : AreFew (matches_with finds table []) made xs → (length xs < 5) ⊎ (length xs ≡ 5) → Counts (matches_with finds table []) (made + 1) (xs ++ a ∷ [])
+      by_length : AreFew base s made xs → (length xs < 5) ⊎ (length xs ≡ 5) → Counts base s (made + 1) (xs ++ a ∷ [])
       by_length few (inl below) = record {
         either = inr (record {
           few = (let l = longer in omega (arith, l, below));
@@ -253,8 +268,8 @@ turned_by old left rest new last is is_no so g = record {
 }
 
 -- a run answered, and yes is assumed in the place of the last no
-pub once_turned : (m : Matches) (made : ℕ) (old new : List AssumedMatch) → IsTurned old new → Counts m made old → Counts m (made + 1) new
-once_turned m made old new t c = elim c.either [
+pub once_turned : (m : Matches) (s : Start) (made : ℕ) (old new : List AssumedMatch) → IsTurned old new → Counts m s made old → Counts m s (made + 1) new
+once_turned m s made old new t c = elim c.either [
   | inl six ↦ record { either = inl six }
   | inr few ↦ record { either = inr (turned few) }
 ]
@@ -271,9 +286,9 @@ once_turned m made old new t c = elim c.either [
         ∙ sym (append_assoc (met t.before) of_last (met t.behind))
         ∙ ap (λ xs. xs ++ met t.behind) (sym (map-append match_of t.before (turned_one ∷ [])) ∙ sym (ap met t.is))
 
-    turned : AreFew m made old → AreFew m (made + 1) new
+    turned : AreFew m s made old → AreFew m s (made + 1) new
     turned few = record {
       few = (let was = ap length t.was in let is = ap length t.is in let l = length-append t.before (t.last ∷ t.behind) in let n = length-append t.before (turned_one ∷ []) in let h = few.few in omega (arith, was, is, l, n, h));
       runs = (let was = ap to_come t.was in let is = ap to_come t.is in let after = after_yes t.before t.behind t.last turned_one t.was_no refl t.all_yes in let runs = few.runs in omega (arith, was, is, after, runs));
-      are_open = open_front m (met new) (met t.behind) (subst (AreOpen m) front few.are_open);
+      are_open = open_front m s (met new) (met t.behind) (subst (AreOpen m s) front few.are_open);
     }

@@ -11,6 +11,7 @@ use Rattle.graph_answers.specs.Completions.{matches_with}
 use Rattle.graph_answers.specs.Runs.{verdict_in, IsDecision, IsVerdictOf}
 use Rattle.graph_answers.specs.declared.runs.Decision.{Decision}
 use Rattle.graph_answers.specs.declared.runs.Decision.TheVariants as decision
+use Rattle.graph_answers.proofs.Chains.{none_of_six}
 use Rattle.graph_answers.proofs.Joined.{told_by_other}
 use Rattle.graph_answers.proofs.TableReads.{same_in_each}
 
@@ -25,4 +26,4 @@ module _ {K M : Type 0} (shape : K → Shape ℕ) (finds : M → List ℕ → Op
   pub verdict_of : (a : Decision) → IsDecision shape nodes start d (matches_with finds table []) a → IsVerdictOf shape finds nodes table start d a
   verdict_of decision.Accepted accepts = subst (IsVerdict shape finds nodes table start d) (accepts none_matched) (in_each none_matched)
   verdict_of decision.Refused refuses = subst (IsVerdict shape finds nodes table start d) refuses.1 (in_each refuses.0)
-  verdict_of decision.Undecided u = tt
+  verdict_of decision.Undecided six = λ docs makes matches root h. none_of_six shape finds nodes table start d docs makes matches root h six

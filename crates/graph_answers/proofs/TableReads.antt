@@ -85,7 +85,7 @@ module _ {M : Type 0} (finds : M → List ℕ → Option Bool) (table : PatternT
       sym (ap is_yes (made.each p at.0 at.1 t ∙ is)) ∙ reads_found (forms_of_made finished made) p t at.0 at.1
 
   -- it is what such a pattern finds
-  found_known : (finished : List ℕ → List ℕ → Option Bool) → AreMadeBy finds finished table → (p t : List ℕ) (b : Bool) → is_listed p (texts_of_table table) ≡ true → known finished p t ≡ Some b
+  pub found_known : (finished : List ℕ → List ℕ → Option Bool) → AreMadeBy finds finished table → (p t : List ℕ) (b : Bool) → is_listed p (texts_of_table table) ≡ true → known finished p t ≡ Some b
       → (c : CompiledPattern M) × (pattern_for table p ≡ Some c) × (found_by finds c t ≡ Some b)
   found_known finished made p t b among is = let at = held table.patterns.entries p among in (at.0, at.1, made.each p at.0 at.1 t ∙ is)
 

@@ -7,11 +7,15 @@ use Rattle.schema_meaning.specs.Keywords.{Shape}
 use Rattle.schema_meaning.specs.Readings.{verdicts}
 use Rattle.schema_meaning.specs.Cut.{cut}
 use Rattle.schema_engine.specs.Graphs.{reading_of}
-use Rattle.schema_engine.specs.Matches.{Answers, Matches, InEach, completed}
+use Rattle.schema_definitions.specs.Bearers.{Documents}
+use Rattle.schema_definitions.specs.Sites.{Site}
+use Rattle.schema_engine.specs.Led.{AsksFor}
+use Rattle.schema_engine.specs.Matches.{Answers, Matches, Start, InEach, completed}
 use Rattle.schema_engine.specs.declared.node.Node.{Node}
 use Rattle.schema_patterns.specs.declared.table.PatternTable.{PatternTable}
 use Rattle.reading_laws.specs.Keys.{Distinct}
-use Rattle.graph_answers.specs.Answers.{keys_below, IsVerdict}
+use Rattle.graph_answers.specs.Answers.{keys_below, IsDecided, IsVerdict}
+use Rattle.graph_answers.specs.Completions.{start_at, asked_from, IsStop}
 use Rattle.graph_answers.specs.declared.assumed.AssumedMatch.{AssumedMatch}
 use Rattle.graph_answers.specs.declared.runs.Decision.{Decision}
 use Rattle.graph_answers.specs.declared.runs.Decision.TheVariants as decision
@@ -57,15 +61,24 @@ pub record IsTurned (old new : List AssumedMatch) : Type 0 where
 
 -- ---- matches that stay unfinished
 
--- different matches, each of a pattern with a text, of which nothing is known
-pub record AreOpen (m : Matches) (found : List (List ℕ × List ℕ)) : Type 0 where
-  pub apart : Distinct found
-  pub each : (pattern text : List ℕ) → In (pattern, text) found → m.known pattern text ≡ None
+-- in some completion questions from the start on ask for it
+abbrev pub IsAskedFor : Matches → Start → List ℕ → List ℕ → Type 0
+IsAskedFor m s pattern text = (rest : Answers) × AsksFor (completed m rest) s pattern text
 
-pub record AreSixOpen (m : Matches) : Type 0 where
+-- a match of a pattern with a text that is asked for, and of which nothing is known
+pub record IsOpen (m : Matches) (s : Start) (pattern text : List ℕ) : Type 0 where
+  pub unknown : m.known pattern text ≡ None
+  pub asked : ∥ IsAskedFor m s pattern text ∥₁
+
+-- different ones
+pub record AreOpen (m : Matches) (s : Start) (found : List (List ℕ × List ℕ)) : Type 0 where
+  pub apart : Distinct found
+  pub each : (pattern text : List ℕ) → In (pattern, text) found → IsOpen m s pattern text
+
+pub record AreSixOpen (m : Matches) (s : Start) : Type 0 where
   pub found : List (List ℕ × List ℕ)
   pub six : length found ≡ 6
-  pub are_open : AreOpen m found
+  pub are_open : AreOpen m s found
 
 -- ---- verdicts
 
@@ -74,19 +87,23 @@ module _ {K : Type 0} (shape : K → Shape ℕ) (nodes : List (Node K)) (start :
   unfoldable pub verdict_in : Answers → Bool
   verdict_in reads = cut verdicts (reading_of shape reads nodes) (keys_below (length nodes) d) [] start (whole d)
 
-  -- a run that was not stopped has the verdict of each completion, and one that was is at a match of which nothing is known
+  abbrev begin : Start
+  begin = start_at shape nodes start d
+
+  -- a run that was not stopped has the verdict of each completion, and one that was is at a match that is asked for, and of which nothing is known
   abbrev pub IsRun : Matches → Run → Type 0
   IsRun m (run.Answered b) = InEach m (λ reads. b ≡ verdict_in reads)
-  IsRun m (run.Stopped one) = m.known (string_bytes one.pattern) (string_bytes one.text) ≡ None
+  IsRun m (run.Stopped one) = IsStop (asked_from begin m) (string_bytes one.pattern) (string_bytes one.text)
 
-  -- every completion accepts, or one refuses, or there are six matches of which nothing is known
+  -- every completion accepts, or one refuses, or there are six matches that the value asks for and of which nothing is known
   abbrev pub IsDecision : Matches → Decision → Type 0
   IsDecision m decision.Accepted = InEach m (λ reads. verdict_in reads ≡ true)
   IsDecision m decision.Refused = (rest : Answers) × (verdict_in (completed m rest) ≡ false)
-  IsDecision m decision.Undecided = AreSixOpen m
+  IsDecision m decision.Undecided = AreSixOpen m begin
 
--- it is the verdict of documents that the graph means, where each match that the value asks for is finished
+-- It is the verdict of documents that the graph means, where each match that the value asks for is finished: then it is never undecided.
 abbrev pub IsVerdictOf : {K M : Type 0} → (K → Shape ℕ) → (M → List ℕ → Option Bool) → List (Node K) → PatternTable M → ℕ → Data → Decision → Type 0
 IsVerdictOf shape finds nodes table start d decision.Accepted = IsVerdict shape finds nodes table start d true
 IsVerdictOf shape finds nodes table start d decision.Refused = IsVerdict shape finds nodes table start d false
-IsVerdictOf shape finds nodes table start d decision.Undecided = Unit {0}
+IsVerdictOf shape finds nodes table start d decision.Undecided = (docs : Documents) (makes : List ℕ → Bool) (matches : List ℕ → List ℕ → Bool) (root : Site)
+    → IsDecided shape finds nodes table start d docs makes matches root → ⊥

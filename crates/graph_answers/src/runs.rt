@@ -1,17 +1,17 @@
 //! Verdicts that hold however the matches that stay unfinished are answered.
-ghost use Rattle.std.specs.Prelude.{◌≡◌, ◌<◌, ◌&&◌, [], length, IfOk, true, None, string_bytes};
+ghost use Rattle.std.specs.Prelude.{◌≡◌, ◌<◌, ◌&&◌, [], length, IfOk, true};
 ghost use Rattle.serde_json.specs.View.{view};
 ghost use Rattle.schema_engine.specs.Matches.{Answers};
-ghost use Rattle.graph_answers.specs.Completions.{table_finds, assumed_in, matches_with};
+ghost use Rattle.graph_answers.specs.Completions.{matches_with};
 ghost use Rattle.graph_answers.specs.Linking.{KnowsTable};
 ghost use Rattle.graph_answers.specs.Runs.{is_behind, is_left, IsRun, IsTurned, IsDecision, IsVerdictOf};
 ghost use Rattle.graph_answers.specs.Tables.{AreForms};
 
-use crate::assumed::{Assumed, AssumedMatch, UnfinishedMatch, answer_in};
+use crate::assumed::{Assumed, AssumedMatch, UnfinishedMatch};
 use schema_engine::accepts::accepts;
 use schema_engine::graph::Graph;
 use schema_engine::validate::Validate;
-use schema_patterns::{MatchAnswer, PatternMatcher, PatternTable};
+use schema_patterns::{PatternMatcher, PatternTable};
 use serde_json::Value;
 use std::alloc::{AllocError, Global};
 
@@ -25,7 +25,7 @@ pub enum Decision {
     Accepted,
     /// It is refused, if they are answered in some way.
     Refused,
-    /// That took more runs than are made: at least six matches stay unfinished.
+    /// That took more runs than are made: at least six matches that the value asks for stay unfinished.
     Undecided,
 }
 
@@ -36,27 +36,7 @@ pub(crate) enum Run {
     Stopped(UnfinishedMatch),
 }
 
-// Whether a match is neither finished nor assumed. It asks the table's pattern once more.
-fn is_open<M: PatternMatcher>(
-    table: &PatternTable<M>,
-    assumed: &[AssumedMatch],
-    stopped: &UnfinishedMatch,
-) -> bool
-    ensures found { result ≡ true → table_finds M.finds table.now (string_bytes stopped.now.pattern)
-        (string_bytes stopped.now.text) ≡ None }
-    ensures assumed { result ≡ true → assumed_in assumed.now (string_bytes stopped.now.pattern)
-        (string_bytes stopped.now.text) ≡ None }
-{
-    let text = stopped.text.as_str();
-    let Some(compiled) = table.get(stopped.pattern.as_str()) else {
-        return false;
-    };
-    match compiled.is_match(text) {
-        MatchAnswer::Unfinished => answer_in(assumed, stopped.pattern.as_str(), text).is_none(),
-        MatchAnswer::Yes | MatchAnswer::No | MatchAnswer::NoMemory => false,
-    }
-}
-
+// What a run gives by what is assumed.
 fn run_once<K: Validate, M: PatternMatcher>(
     alloc: Global,
     graph: &Graph<K>,
@@ -71,13 +51,13 @@ fn run_once<K: Validate, M: PatternMatcher>(
     ensures { IfOk result (IsRun K.shape graph.now.nodes.items start (view value.now)
         (matches_with M.finds table.now assumed.now)) }
 {
-    let mut matching = Assumed::new(alloc, table, assumed);
+    let mut matching = Assumed::new(alloc, graph, start, value, table, assumed);
     let mut questions = Vec::new(alloc);
     match accepts(graph, start, value, &mut matching, &mut questions) {
         Ok(verdict) => Ok(Run::Answered(verdict)),
         Err(error) => match matching.into_stopped() {
-            Some(stopped) if is_open(table, assumed, &stopped) => Ok(Run::Stopped(stopped)),
-            _ => Err(error),
+            Some(stopped) => Ok(Run::Stopped(stopped)),
+            None => Err(error),
         },
     }
 }

@@ -10,6 +10,7 @@ use Rattle.schema_meaning.specs.Readings.{Reading}
 use Rattle.schema_engine.specs.declared.node.Node.{Node}
 use Rattle.schema_engine.specs.declared.place.Place.{Place}
 use Rattle.schema_engine.specs.Asking.{item_call, item_calls}
+use Rattle.schema_engine.specs.Matches.{Matches}
 use Rattle.schema_engine.specs.Questions.{call}
 use Rattle.schema_engine.specs.Rules.{all_beside}
 use Rattle.schema_engine.specs.Verdicts.{Setting, Fits, Tells, asked_in, MayAsk, EachMayAsk}
@@ -29,14 +30,14 @@ next_item n i vs v high is =
     ap (λ ws. item_calls n i (items_view ws)) (drop_more vs i v high ∙ ap (λ w. w ∷ drop (i + 1) vs) (sym is))
     ∙ ap (λ j. item_call n i (view v) ∷ item_calls n j (items_view (drop (i + 1) vs))) (one_more i)
 
-module _ {K : Type 0} (nodes : List (Node K)) (rank : ℕ) (d : Data) (n i : ℕ) (vs : List Value) (v : Value) (high : i < length vs) (is : v ≡ get_or vs i v) where
-  asked_next : EachMayAsk nodes rank d (item_calls n i (items_view (drop i vs))) → EachMayAsk nodes rank d (item_call n i (view v) ∷ item_calls n (i + 1) (items_view (drop (i + 1) vs)))
-  asked_next may = subst (EachMayAsk nodes rank d) (next_item n i vs v high is) may
+module _ {K : Type 0} {m : Matches} (nodes : List (Node K)) (rank : ℕ) (d : Data) (n i : ℕ) (vs : List Value) (v : Value) (high : i < length vs) (is : v ≡ get_or vs i v) where
+  asked_next : EachMayAsk m nodes rank d (item_calls n i (items_view (drop i vs))) → EachMayAsk m nodes rank d (item_call n i (view v) ∷ item_calls n (i + 1) (items_view (drop (i + 1) vs)))
+  asked_next may = subst (EachMayAsk m nodes rank d) (next_item n i vs v high is) may
 
-  pub may_ask_item : EachMayAsk nodes rank d (item_calls n i (items_view (drop i vs))) → MayAsk nodes rank d (item_call n i (view v))
+  pub may_ask_item : EachMayAsk m nodes rank d (item_calls n i (items_view (drop i vs))) → MayAsk m nodes rank d (item_call n i (view v))
   may_ask_item may = (asked_next may).each (item_call n i (view v)) first
 
-  pub may_ask_items : EachMayAsk nodes rank d (item_calls n i (items_view (drop i vs))) → EachMayAsk nodes rank d (item_calls n (i + 1) (items_view (drop (i + 1) vs)))
+  pub may_ask_items : EachMayAsk m nodes rank d (item_calls n i (items_view (drop i vs))) → EachMayAsk m nodes rank d (item_calls n (i + 1) (items_view (drop (i + 1) vs)))
   may_ask_items may = record { each = λ c j. (asked_next may).each c (later j) }
 
 module _ (r : Reading ℕ) (p : Place) (progress : List ℕ) (enough n start : ℕ) (vs : List Value) where

@@ -1,10 +1,11 @@
 -- The steps of the engine.
-use Rattle.std.proofs.Common.{◌≡◌, ◌<◌, ◌≤◌, ◌+◌, ℕ, zero, suc, List, [], ◌∷◌, Bool, true, false, ◌&&◌, map, drop, length, get_or, refl, sym, ap, ◌∙◌, subst, arith, add-one}
+use Rattle.std.proofs.Common.{◌≡◌, ◌<◌, ◌≤◌, ◌+◌, ℕ, zero, suc, List, [], ◌∷◌, Bool, true, false, ◌&&◌, map, drop, length, get_or, Option, Some, None, IfSome, refl, sym, ap, ◌∙◌, subst, arith, add-one}
 use Rattle.std.proofs.lemmas.List.{drop_more, drop_all}
 use Rattle.std.proofs.lemmas.Option.{slice_get_read}
 use Rattle.serde_json.specs.Data.{Data}
 use Rattle.schema_meaning.specs.Members.{In, first, later, all_true}
-use Rattle.schema_meaning.specs.Places.{stay}
+use Rattle.schema_meaning.specs.Places.{stay, value_after}
+use Rattle.schema_meaning.specs.Matches.{match_sites}
 use Rattle.schema_meaning.specs.Questions.{Question}
 use Rattle.schema_meaning.specs.Rules.{Rule, every, together, each_named, some_branch, one_branch, refusal, counted, conditional, asks, accepts, consequents}
 use Rattle.schema_meaning.specs.Keywords.{Shape, rule}
@@ -14,6 +15,8 @@ use Rattle.schema_engine.specs.declared.node.Node.{Node}
 use Rattle.schema_engine.specs.declared.place.Place.{Place}
 use Rattle.schema_engine.specs.declared.place.Question as code
 use Rattle.schema_engine.specs.declared.combination.Combination.{Combination}
+use Rattle.schema_engine.specs.Led.{IsLed, goes_on, LedFrom, LedTo, AskedFrom, MayAskFor, HasKeywords, AreReady}
+use Rattle.schema_engine.specs.Matches.{Answers, Matches, Start, completed, none_matched}
 use Rattle.schema_engine.specs.Places.{value_at}
 use Rattle.schema_engine.specs.Progress.{is_among}
 use Rattle.schema_engine.specs.Questions.{Call, call, call_of}
@@ -59,12 +62,12 @@ map_map f g (x ∷ xs) = ap (λ ys. f (g x) ∷ ys) (map_map f g xs)
 
 -- ---- what may be asked
 
-module _ {K : Type 0} (nodes : List (Node K)) (rank : ℕ) (d : Data) where
-  pub may_ask_one : (start i : ℕ) (qs : List code.Question) (q : code.Question) → EachMayAsk nodes rank d (map call_of (drop start qs)) → start ≤ i → i < length qs → q ≡ get_or qs i q
-      → MayAsk nodes rank d (call_of q)
+module _ {K : Type 0} {m : Matches} (nodes : List (Node K)) (rank : ℕ) (d : Data) where
+  pub may_ask_one : (start i : ℕ) (qs : List code.Question) (q : code.Question) → EachMayAsk m nodes rank d (map call_of (drop start qs)) → start ≤ i → i < length qs → q ≡ get_or qs i q
+      → MayAsk m nodes rank d (call_of q)
   may_ask_one start i qs q may low high is = may.each (call_of q) (in_map call_of q (drop start qs) (in_drop start i qs q low high is))
 
-  pub may_ask_rest : (start : ℕ) (qs : List code.Question) → EachMayAsk nodes rank d (map call_of (drop start qs)) → EachMayAsk nodes rank d (map call_of (drop (start + 1) qs))
+  pub may_ask_rest : (start : ℕ) (qs : List code.Question) → EachMayAsk m nodes rank d (map call_of (drop start qs)) → EachMayAsk m nodes rank d (map call_of (drop (start + 1) qs))
   may_ask_rest start qs may = record { each = λ c i. may.each c (in_mapped call_of (drop (start + 1) qs) (drop start qs) (λ q j. in_dropped start qs q (rw add-one at j)) c i) }
 
 -- each is a question of the rule
@@ -96,19 +99,44 @@ all_asked (counted least most qs) c i = asked_plain (counted least most qs) true
 all_asked (conditional q cs) c first = record { question = q; asked = first; node = refl; step = refl; follows = refl }
 all_asked (conditional q cs) c (later i) = asked_beside (conditional q cs) cs (λ p j. later j) c i
 
-pub each_may_ask : {K : Type 0} (shape : K → Shape ℕ) (nodes : List (Node K)) (n : ℕ) (k : K) (matches : List ℕ → List ℕ → Bool) (d : Data) → IsSound shape nodes → In k (keywords_at nodes n)
-    → EachMayAsk nodes (rank_at nodes n) d (questions_of (rule matches d (shape k)))
-each_may_ask shape nodes n k matches d sound stands = record {
-  each = λ c i.
-      (let a = all_asked (rule matches d (shape k)) c i in
-      let here = inside matches d (shape k) a.question a.asked in
-      record {
-        below = rw a.node (sound.below n k a.question.follows a.question.site stands here.leads);
-        falls = λ g. rw a.node (sound.falls n k a.question.site stands (subst (λ f. In a.question.site (leads_of f (shape k))) (sym a.follows ∙ g) here.leads));
-        stays = λ g. a.step ∙ here.stays (sym a.follows ∙ g);
-        down = rw a.step here.down;
-      });
-}
+-- ---- where questions lead
+
+module _ {K : Type 0} (knows : K → (ℕ → List ℕ) → Type 0) (shape : K → Shape ℕ) (nodes : List (Node K)) (n : ℕ) (k : K) (m : Matches) (d : Data)
+    (ready : AreReady knows shape m nodes) (led : LedTo m n d) (stands : In k (keywords_at nodes n)) where
+  asks_for : (pattern text : List ℕ) → In (pattern, text) (match_sites d (shape k)) → (o : Option Start) → IfSome o (LedFrom m n d)
+      → IfSome o (HasKeywords shape nodes) → IfSome o (AskedFrom m pattern text)
+  asks_for pattern text i None l a = tt
+  asks_for pattern text i (Some s) l a =
+      λ rest. record { node = n; value = d; led = l rest; keyword = shape k; stands = a n k stands; asked = i }
+
+  pub may_ask_for : MayAskFor m (shape k) d
+  may_ask_for = record { each = λ pattern text i. asks_for pattern text i m.from led ready.asks }
+
+  goes_to : (c : Call) → ((rest : Answers) → In c (questions_of (rule (completed m rest) d (shape k)))) → (o : Option Start)
+      → IfSome o (LedFrom m n d) → IfSome o (HasKeywords shape nodes) → IfSome o (LedFrom m c.node (value_after d c.step))
+  goes_to c i None l a = tt
+  goes_to c i (Some s) l a = λ rest.
+      (let reads = completed m rest in
+      let one = all_asked (rule reads d (shape k)) c (i rest) in
+      subst (λ e. IsLed reads s c.node (value_after d e)) (sym one.step)
+      (subst (λ e. IsLed reads s e (value_after d one.question.step)) (sym one.node) (goes_on (l rest) (shape k) one.question (a n k stands) one.asked)))
+
+  -- calls that the rule asks, however what is not known is answered
+  pub each_may_ask : IsSound shape nodes → (cs : List Call) → ((rest : Answers) → cs ≡ questions_of (rule (completed m rest) d (shape k)))
+      → EachMayAsk m nodes (rank_at nodes n) d cs
+  each_may_ask sound cs is = record {
+    each = λ c i.
+        (let reads = completed m none_matched in
+        let a = all_asked (rule reads d (shape k)) c (subst (In c) (is none_matched) i) in
+        let here = inside reads d (shape k) a.question a.asked in
+        record {
+          below = rw a.node (sound.below n k a.question.follows a.question.site stands here.leads);
+          falls = λ g. rw a.node (sound.falls n k a.question.site stands (subst (λ f. In a.question.site (leads_of f (shape k))) (sym a.follows ∙ g) here.leads));
+          stays = λ g. a.step ∙ here.stays (sym a.follows ∙ g);
+          down = rw a.step here.down;
+          led = goes_to c (λ rest. subst (In c) (is rest) i) m.from led ready.asks;
+        });
+  }
 
 -- ---- the keywords of a node
 

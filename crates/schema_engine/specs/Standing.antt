@@ -17,7 +17,10 @@ use Rattle.schema_engine.specs.declared.validate.Validate.{Ghosts}
 use Rattle.schema_engine.specs.Places.{value_at}
 use Rattle.schema_engine.specs.Progress.{numbers_in}
 use Rattle.schema_engine.specs.Graphs.{path_at, rank_at}
-use Rattle.schema_engine.specs.Verdicts.{Setting, size}
+use Rattle.schema_engine.specs.Led.{LedTo}
+use Rattle.schema_engine.specs.Matches.{Matches}
+use Rattle.schema_engine.specs.Questions.{Call}
+use Rattle.schema_engine.specs.Verdicts.{Setting, size, MayAsk, EachMayAsk}
 use Rattle.schema_engine.specs.Faults.{Stand, Hearing, asked_faults}
 
 module _ {K : Type 0} {G : Ghosts K} where
@@ -40,6 +43,17 @@ module _ {K : Type 0} {G : Ghosts K} where
   -- how deep is enough there
   abbrev pub size_of : Here K G → ℕ
   size_of h = size (nodes_of h) (value_at h.place) (numbers_in h.progress.now) (rank_at (nodes_of h) h.node)
+
+  -- what may be asked there
+  abbrev pub MayAskAt : Matches → Here K G → Call → Type 0
+  MayAskAt m h c = MayAsk m (nodes_of h) (rank_at (nodes_of h) h.node) (value_at h.place) c
+
+  abbrev pub EachMayAskAt : Matches → Here K G → List Call → Type 0
+  EachMayAskAt m h cs = EachMayAsk m (nodes_of h) (rank_at (nodes_of h) h.node) (value_at h.place) cs
+
+  -- questions lead there
+  abbrev pub LedHere : Matches → Here K G → Type 0
+  LedHere m h = LedTo m h.node (value_at h.place)
 
   -- the observer hears what is told there
   abbrev pub HearsAt : There K G → (Setting → Faults) → Observer → Observer → Type 0

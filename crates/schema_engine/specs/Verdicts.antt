@@ -3,13 +3,15 @@ use Rattle.std.specs.Prelude.{◌≡◌, ◌<◌, ◌≤◌, ◌+◌, ◌*◌, �
 use Rattle.serde_json.specs.Data.{Data, depth}
 use Rattle.json_values.specs.Parts.{Part}
 use Rattle.schema_meaning.specs.Members.{In}
-use Rattle.schema_meaning.specs.Places.{Spot, Key, Step, stay, to_item, to_member, to_name}
+use Rattle.schema_meaning.specs.Places.{Spot, Key, Step, stay, to_item, to_member, to_name, value_after}
 use Rattle.schema_meaning.specs.Rules.{Rule, asks, accepts}
 use Rattle.schema_meaning.specs.Readings.{Reading, verdicts}
 use Rattle.schema_meaning.specs.Cut.{cut_asked, cut_within, is_in_progress}
 use Rattle.schema_engine.specs.declared.node.Node.{Node}
 use Rattle.schema_engine.specs.declared.place.Place.{Place}
 use Rattle.schema_engine.specs.Graphs.{place_of, rank_at, highest}
+use Rattle.schema_engine.specs.Led.{LedTo}
+use Rattle.schema_engine.specs.Matches.{Matches}
 use Rattle.schema_engine.specs.Places.{value_at, called_at}
 use Rattle.schema_engine.specs.Progress.{is_among, left_below}
 use Rattle.schema_engine.specs.Questions.{Call, question_of}
@@ -78,11 +80,12 @@ GoesDown d (to_member k e) = depth e < depth d
 GoesDown d (to_name k) = 0 < depth d
 
 -- a question of a keyword of a node of that rank, at that value
-pub record MayAsk {K : Type 0} (nodes : List (Node K)) (rank : ℕ) (d : Data) (c : Call) : Type 0 where
+pub record MayAsk {K : Type 0} (m : Matches) (nodes : List (Node K)) (rank : ℕ) (d : Data) (c : Call) : Type 0 where
   pub below : c.node < length nodes
   pub falls : c.follows ≡ false → rank_at nodes c.node < rank
   pub stays : c.follows ≡ true → c.step ≡ stay
   pub down : GoesDown d c.step
+  pub led : LedTo m c.node (value_after d c.step)
 
-pub record EachMayAsk {K : Type 0} (nodes : List (Node K)) (rank : ℕ) (d : Data) (calls : List Call) : Type 0 where
-  pub each : (c : Call) → In c calls → MayAsk nodes rank d c
+pub record EachMayAsk {K : Type 0} (m : Matches) (nodes : List (Node K)) (rank : ℕ) (d : Data) (calls : List Call) : Type 0 where
+  pub each : (c : Call) → In c calls → MayAsk m nodes rank d c

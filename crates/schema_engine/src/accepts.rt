@@ -1,10 +1,11 @@
 //! Whether a compiled schema accepts a value.
-ghost use Rattle.std.specs.Prelude.{◌≡◌, ◌<◌, ℕ, List, [], Bool, Some, length, OnOk, IfOk};
+ghost use Rattle.std.specs.Prelude.{◌≡◌, ◌<◌, ℕ, List, [], Bool, Some, length, OnOk, OnErr, IfOk};
 ghost use Rattle.serde_json.specs.View.{view};
 ghost use Rattle.schema_meaning.specs.Places.{Key, whole};
 ghost use Rattle.schema_meaning.specs.Readings.{Reading, verdicts, unfolded};
 ghost use Rattle.schema_meaning.specs.Cut.{cut, AreAll};
 ghost use Rattle.schema_engine.specs.Graphs.{reading_of, IsReadingOf, AreKnown};
+ghost use Rattle.schema_engine.specs.Led.{BeginAt};
 ghost use Rattle.schema_engine.specs.Matches.{InEach};
 
 use crate::graph::Graph;
@@ -33,7 +34,9 @@ pub fn accepts<'q, 'i: 'q, K: Validate, T: Matching>(
 ) -> Result<bool, AllocError>
     requires known { AreKnown K.knows (T.matches matching.old).pattern graph.now.nodes.items }
     requires there { node < length graph.now.nodes.items }
+    requires begin { BeginAt K.shape (T.matches matching.old) graph.now.nodes.items node (view value.now) }
     ensures matches { OnOk result (T.matches matching.new ≡ T.matches matching.old) }
+    ensures stays { OnErr result (T.matches matching.new ≡ T.matches matching.old) }
     ensures questions { OnOk result (questions.new.items ≡ questions.old.items) }
     ensures cut { IfOk result (λ b. InEach (T.matches matching.old) (λ m.
         let r = reading_of K.shape m graph.now.nodes.items in

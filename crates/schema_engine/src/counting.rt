@@ -1,12 +1,13 @@
 //! How many questions are answered yes.
-ghost use Rattle.std.specs.Prelude.{◌≡◌, ◌<◌, ◌≤◌, ◌+◌, ℕ, map, drop, OnOk, IfOk};
+ghost use Rattle.std.specs.Prelude.{◌≡◌, ◌<◌, ◌≤◌, ◌+◌, ℕ, map, drop, OnOk, OnErr, IfOk};
 ghost use Rattle.schema_meaning.specs.Members.{count_true};
 ghost use Rattle.schema_engine.specs.Places.{value_at};
 ghost use Rattle.schema_engine.specs.Progress.{numbers_in};
 ghost use Rattle.schema_engine.specs.Questions.{call_of};
-ghost use Rattle.schema_engine.specs.Graphs.{rank_at, reading_of, AreKnown};
-ghost use Rattle.schema_engine.specs.Standing.{nodes_of, size_of};
-ghost use Rattle.schema_engine.specs.Verdicts.{asked_in, Counts, EachMayAsk};
+ghost use Rattle.schema_engine.specs.Graphs.{reading_of};
+ghost use Rattle.schema_engine.specs.Standing.{size_of, EachMayAskAt};
+ghost use Rattle.schema_engine.specs.Verdicts.{asked_in, Counts};
+ghost use Rattle.schema_engine.specs.Led.{AreReady};
 ghost use Rattle.schema_engine.specs.Matches.{InEach};
 
 use crate::here::Here;
@@ -23,11 +24,11 @@ pub(crate) fn count_accepted<'q, 'i: 'q, K: Validate, T: Matching>(
     matching: &mut T,
     questions: &mut Vec<Question<'q, 'i>>,
 ) -> Result<usize, AllocError>
-    requires known { AreKnown K.knows (T.matches matching.old).pattern here.now.graph.now.nodes.items }
-    requires asked { EachMayAsk here.now.graph.now.nodes.items
-        (rank_at here.now.graph.now.nodes.items here.now.node) (value_at here.now.place)
+    requires known { AreReady K.knows K.shape (T.matches matching.old) here.now.graph.now.nodes.items }
+    requires asked { EachMayAskAt (T.matches matching.old) here.now
         (map call_of (drop start questions.old.items)) }
     ensures matches { OnOk result (T.matches matching.new ≡ T.matches matching.old) }
+    ensures stays { OnErr result (T.matches matching.new ≡ T.matches matching.old) }
     ensures questions { OnOk result (questions.new.items ≡ questions.old.items) }
     ensures counted { IfOk result (λ b. InEach (T.matches matching.old) (λ m.
         let r = reading_of K.shape m here.now.graph.now.nodes.items in

@@ -1,8 +1,9 @@
 //! What a compiled schema tells of a value.
-ghost use Rattle.std.specs.Prelude.{◌≡◌, ◌<◌, ℕ, List, [], length, OnOk};
+ghost use Rattle.std.specs.Prelude.{◌≡◌, ◌<◌, ℕ, List, [], length, OnOk, OnErr};
 ghost use Rattle.serde_json.specs.View.{view};
 ghost use Rattle.schema_engine.specs.Graphs.{AreKnown};
 ghost use Rattle.schema_engine.specs.Told.{TellsCut, TellsDecided};
+ghost use Rattle.schema_engine.specs.Led.{BeginAt};
 ghost use Rattle.schema_engine.specs.Matches.{InEach};
 
 use crate::graph::Graph;
@@ -34,7 +35,9 @@ pub fn tell<'q, 'i: 'q, K: Validate, T: Matching>(
 ) -> Result<(), AllocError>
     requires known { AreKnown K.knows (T.matches matching.old).pattern graph.now.nodes.items }
     requires there { node < length graph.now.nodes.items }
+    requires begin { BeginAt K.shape (T.matches matching.old) graph.now.nodes.items node (view value.now) }
     ensures matches { OnOk result (T.matches matching.new ≡ T.matches matching.old) }
+    ensures stays { OnErr result (T.matches matching.new ≡ T.matches matching.old) }
     ensures questions { OnOk result (questions.new.items ≡ questions.old.items) }
     ensures cut { OnOk result (InEach (T.matches matching.old) (λ m.
         TellsCut K.shape m graph.now.nodes.items node (view value.now) observer.old observer.new)) }

@@ -1,5 +1,6 @@
 //! The faults of a compiled schema.
-ghost use Rattle.std.specs.Prelude.{◌≡◌, ◌<◌, ◌≤◌, ◌++◌, ℕ, suc, true, false, map, drop, length, OnOk, IfOk};
+ghost use Rattle.std.specs.Prelude.{◌≡◌, ◌<◌, ◌≤◌, ◌++◌, ℕ, suc, true, false, map, drop, length, OnOk, OnErr, IfOk};
+ghost use Rattle.serde_json.specs.Data.{string};
 ghost use Rattle.serde_json.specs.View.{view};
 ghost use Rattle.schema_meaning.specs.Members.{In};
 ghost use Rattle.schema_meaning.specs.Places.{stay, to_name};
@@ -9,13 +10,13 @@ ghost use Rattle.schema_engine.specs.Places.{value_at, step_of};
 ghost use Rattle.schema_engine.specs.Questions.{call_of};
 ghost use Rattle.schema_engine.specs.Refusals.{has_one_fault};
 ghost use Rattle.schema_engine.specs.Rules.{combination_of};
-ghost use Rattle.schema_engine.specs.Graphs.{keywords_at, path_at, rank_at, reading_of, AreKnown};
-ghost use Rattle.schema_engine.specs.Verdicts.{GoesDown, MayAsk, EachMayAsk};
+ghost use Rattle.schema_engine.specs.Graphs.{keywords_at, path_at, rank_at, reading_of};
+ghost use Rattle.schema_engine.specs.Led.{LedTo, AreReady};
 ghost use Rattle.schema_engine.specs.Faults.{node_faults, rule_faults, one_told, question_faults};
 ghost use Rattle.schema_engine.specs.Faults.{faults_beside, faults_by_first, faults_of_object, AreAsked};
 ghost use Rattle.schema_engine.specs.Faults.{AreErrorsOf, Hearing};
 ghost use Rattle.schema_engine.specs.Standing.{nodes_of, size_at, size_of, stand_in, stand_of, stand_of_name};
-ghost use Rattle.schema_engine.specs.Standing.{HearsAt, HearsOf, IsThere};
+ghost use Rattle.schema_engine.specs.Standing.{HearsAt, HearsOf, IsThere, LedHere, MayAskAt, EachMayAskAt};
 ghost use Rattle.schema_engine.specs.Matches.{InEach};
 
 use crate::combination::Combination;
@@ -46,10 +47,12 @@ pub(crate) fn tell_value<'q, 'i: 'q, K: Validate, T: Matching>(
     questions: &mut Vec<Question<'q, 'i>>,
     observer: &mut Observer<'i>,
 ) -> Result<(), AllocError>
-    requires known { AreKnown K.knows (T.matches matching.old).pattern graph.now.nodes.items }
+    requires known { AreReady K.knows K.shape (T.matches matching.old) graph.now.nodes.items }
     requires there { node < length graph.now.nodes.items }
     requires path { situation.schema.now ≡ path_at graph.now.nodes.items node }
+    requires led { LedTo (T.matches matching.old) node (view situation.value.now) }
     ensures matches { OnOk result (T.matches matching.new ≡ T.matches matching.old) }
+    ensures stays { OnErr result (T.matches matching.new ≡ T.matches matching.old) }
     ensures questions { OnOk result (questions.new.items ≡ questions.old.items) }
     ensures heard { let nodes = graph.now.nodes.items in OnOk result (InEach (T.matches matching.old) (λ m.
         let r = reading_of K.shape m nodes in
@@ -76,10 +79,12 @@ fn tell_node<'q, 'i: 'q, K: Validate, T: Matching>(
     questions: &mut Vec<Question<'q, 'i>>,
     observer: &mut Observer<'i>,
 ) -> Result<(), AllocError>
-    requires known { AreKnown K.knows (T.matches matching.old).pattern (nodes_of there.now.here) }
+    requires known { AreReady K.knows K.shape (T.matches matching.old) (nodes_of there.now.here) }
     requires right { IsThere there.now }
     requires there { there.now.here.node < length (nodes_of there.now.here) }
+    requires led { LedHere (T.matches matching.old) there.now.here }
     ensures matches { OnOk result (T.matches matching.new ≡ T.matches matching.old) }
+    ensures stays { OnErr result (T.matches matching.new ≡ T.matches matching.old) }
     ensures questions { OnOk result (questions.new.items ≡ questions.old.items) }
     ensures heard { OnOk result (InEach (T.matches matching.old) (λ m.
         let r = reading_of K.shape m (nodes_of there.now.here) in
@@ -104,10 +109,12 @@ fn tell_keyword<'q, 'i: 'q, K: Validate, T: Matching>(
     questions: &mut Vec<Question<'q, 'i>>,
     observer: &mut Observer<'i>,
 ) -> Result<(), AllocError>
-    requires known { AreKnown K.knows (T.matches matching.old).pattern (nodes_of there.now.here) }
+    requires known { AreReady K.knows K.shape (T.matches matching.old) (nodes_of there.now.here) }
     requires right { IsThere there.now }
     requires stands { In keyword.now (keywords_at (nodes_of there.now.here) there.now.here.node) }
+    requires led { LedHere (T.matches matching.old) there.now.here }
     ensures matches { OnOk result (T.matches matching.new ≡ T.matches matching.old) }
+    ensures stays { OnErr result (T.matches matching.new ≡ T.matches matching.old) }
     ensures questions { OnOk result (questions.new.items ≡ questions.old.items) }
     ensures heard { OnOk result (InEach (T.matches matching.old) (λ m.
         let r = reading_of K.shape m (nodes_of there.now.here) in
@@ -131,13 +138,15 @@ fn tell_by_rule<'q, 'i: 'q, K: Validate, T: Matching>(
     questions: &mut Vec<Question<'q, 'i>>,
     observer: &mut Observer<'i>,
 ) -> Result<(), AllocError>
-    requires known { AreKnown K.knows (T.matches matching.old).pattern (nodes_of there.now.here) }
+    requires known { AreReady K.knows K.shape (T.matches matching.old) (nodes_of there.now.here) }
     requires right { IsThere there.now }
     requires stands { In keyword.now (keywords_at (nodes_of there.now.here) there.now.here.node) }
+    requires led { LedHere (T.matches matching.old) there.now.here }
     requires asked { InEach (T.matches matching.old)
         (λ m. AreAsked (K.added keyword.now) (rule m (value_at there.now.here.place) (K.shape keyword.now))
         (drop start questions.old.items)) }
     ensures matches { OnOk result (T.matches matching.new ≡ T.matches matching.old) }
+    ensures stays { OnErr result (T.matches matching.new ≡ T.matches matching.old) }
     ensures questions { OnOk result (questions.new.items ≡ questions.old.items) }
     ensures heard { OnOk result (InEach (T.matches matching.old) (λ m.
         let r = reading_of K.shape m (nodes_of there.now.here) in
@@ -179,11 +188,12 @@ fn tell_each<'q, 'i: 'q, K: Validate, T: Matching>(
     questions: &mut Vec<Question<'q, 'i>>,
     observer: &mut Observer<'i>,
 ) -> Result<(), AllocError>
-    requires known { AreKnown K.knows (T.matches matching.old).pattern (nodes_of there.now.here) }
+    requires known { AreReady K.knows K.shape (T.matches matching.old) (nodes_of there.now.here) }
     requires right { IsThere there.now }
-    requires asked { EachMayAsk (nodes_of there.now.here) (rank_at (nodes_of there.now.here) there.now.here.node)
-        (value_at there.now.here.place) (map call_of (drop start questions.old.items)) }
+    requires asked { EachMayAskAt (T.matches matching.old) there.now.here
+        (map call_of (drop start questions.old.items)) }
     ensures matches { OnOk result (T.matches matching.new ≡ T.matches matching.old) }
+    ensures stays { OnErr result (T.matches matching.new ≡ T.matches matching.old) }
     ensures questions { OnOk result (questions.new.items ≡ questions.old.items) }
     ensures heard { OnOk result (InEach (T.matches matching.old) (λ m.
         let r = reading_of K.shape m (nodes_of there.now.here) in
@@ -214,11 +224,12 @@ fn tell_conditional<'q, 'i: 'q, K: Validate, T: Matching>(
     questions: &mut Vec<Question<'q, 'i>>,
     observer: &mut Observer<'i>,
 ) -> Result<(), AllocError>
-    requires known { AreKnown K.knows (T.matches matching.old).pattern (nodes_of there.now.here) }
+    requires known { AreReady K.knows K.shape (T.matches matching.old) (nodes_of there.now.here) }
     requires right { IsThere there.now }
-    requires asked { EachMayAsk (nodes_of there.now.here) (rank_at (nodes_of there.now.here) there.now.here.node)
-        (value_at there.now.here.place) (map call_of (drop start questions.old.items)) }
+    requires asked { EachMayAskAt (T.matches matching.old) there.now.here
+        (map call_of (drop start questions.old.items)) }
     ensures matches { OnOk result (T.matches matching.new ≡ T.matches matching.old) }
+    ensures stays { OnErr result (T.matches matching.new ≡ T.matches matching.old) }
     ensures questions { OnOk result (questions.new.items ≡ questions.old.items) }
     ensures heard { OnOk result (InEach (T.matches matching.old) (λ m.
         let r = reading_of K.shape m (nodes_of there.now.here) in
@@ -251,11 +262,12 @@ fn tell_named<'q, 'i: 'q, K: Validate, T: Matching>(
     questions: &mut Vec<Question<'q, 'i>>,
     observer: &mut Observer<'i>,
 ) -> Result<(), AllocError>
-    requires known { AreKnown K.knows (T.matches matching.old).pattern (nodes_of there.now.here) }
+    requires known { AreReady K.knows K.shape (T.matches matching.old) (nodes_of there.now.here) }
     requires right { IsThere there.now }
-    requires asked { EachMayAsk (nodes_of there.now.here) (rank_at (nodes_of there.now.here) there.now.here.node)
-        (value_at there.now.here.place) (map call_of (drop start questions.old.items)) }
+    requires asked { EachMayAskAt (T.matches matching.old) there.now.here
+        (map call_of (drop start questions.old.items)) }
     ensures matches { OnOk result (T.matches matching.new ≡ T.matches matching.old) }
+    ensures stays { OnErr result (T.matches matching.new ≡ T.matches matching.old) }
     ensures questions { OnOk result (questions.new.items ≡ questions.old.items) }
     ensures heard { OnOk result (InEach (T.matches matching.old) (λ m.
         let r = reading_of K.shape m (nodes_of there.now.here) in
@@ -287,9 +299,10 @@ fn tell_combined<'q, 'i: 'q, K: Validate, T: Matching>(
     questions: &mut Vec<Question<'q, 'i>>,
     observer: &mut Observer<'i>,
 ) -> Result<(), AllocError>
-    requires known { AreKnown K.knows (T.matches matching.old).pattern (nodes_of there.now.here) }
+    requires known { AreReady K.knows K.shape (T.matches matching.old) (nodes_of there.now.here) }
     requires right { IsThere there.now }
     requires stands { In keyword.now (keywords_at (nodes_of there.now.here) there.now.here.node) }
+    requires led { LedHere (T.matches matching.old) there.now.here }
     requires combination { InEach (T.matches matching.old)
         (λ m. combination ≡ combination_of (rule m (value_at there.now.here.place) (K.shape keyword.now))) }
     requires once { has_one_fault combination ≡ true }
@@ -297,6 +310,7 @@ fn tell_combined<'q, 'i: 'q, K: Validate, T: Matching>(
         (λ m. AreAsked (K.added keyword.now) (rule m (value_at there.now.here.place) (K.shape keyword.now))
         (drop start questions.old.items)) }
     ensures matches { OnOk result (T.matches matching.new ≡ T.matches matching.old) }
+    ensures stays { OnErr result (T.matches matching.new ≡ T.matches matching.old) }
     ensures questions { OnOk result (questions.new.items ≡ questions.old.items) }
     ensures heard { OnOk result (InEach (T.matches matching.old) (λ m.
         let r = reading_of K.shape m (nodes_of there.now.here) in
@@ -331,9 +345,10 @@ fn tell_refusal<'q, 'i: 'q, K: Validate, T: Matching>(
     questions: &mut Vec<Question<'q, 'i>>,
     observer: &mut Observer<'i>,
 ) -> Result<(), AllocError>
-    requires known { AreKnown K.knows (T.matches matching.old).pattern (nodes_of there.now.here) }
+    requires known { AreReady K.knows K.shape (T.matches matching.old) (nodes_of there.now.here) }
     requires right { IsThere there.now }
     requires stands { In keyword.now (keywords_at (nodes_of there.now.here) there.now.here.node) }
+    requires led { LedHere (T.matches matching.old) there.now.here }
     requires combination { InEach (T.matches matching.old)
         (λ m. combination ≡ combination_of (rule m (value_at there.now.here.place) (K.shape keyword.now))) }
     requires once { has_one_fault combination ≡ true }
@@ -341,6 +356,7 @@ fn tell_refusal<'q, 'i: 'q, K: Validate, T: Matching>(
         (λ m. AreAsked (K.added keyword.now) (rule m (value_at there.now.here.place) (K.shape keyword.now))
         (drop start questions.old.items)) }
     ensures matches { OnOk result (T.matches matching.new ≡ T.matches matching.old) }
+    ensures stays { OnErr result (T.matches matching.new ≡ T.matches matching.old) }
     ensures questions { OnOk result (questions.new.items ≡ questions.old.items) }
     ensures heard { OnOk result (InEach (T.matches matching.old) (λ m.
         let r = reading_of K.shape m (nodes_of there.now.here) in
@@ -391,11 +407,12 @@ fn tell_branches<'q, 'i: 'q, K: Validate, T: Matching>(
     matching: &mut T,
     questions: &mut Vec<Question<'q, 'i>>,
 ) -> Result<Vec<Vec<ValidationError<'i>>>, AllocError>
-    requires known { AreKnown K.knows (T.matches matching.old).pattern (nodes_of there.now.here) }
+    requires known { AreReady K.knows K.shape (T.matches matching.old) (nodes_of there.now.here) }
     requires right { IsThere there.now }
-    requires asked { EachMayAsk (nodes_of there.now.here) (rank_at (nodes_of there.now.here) there.now.here.node)
-        (value_at there.now.here.place) (map call_of (drop start questions.old.items)) }
+    requires asked { EachMayAskAt (T.matches matching.old) there.now.here
+        (map call_of (drop start questions.old.items)) }
     ensures matches { OnOk result (T.matches matching.new ≡ T.matches matching.old) }
+    ensures stays { OnErr result (T.matches matching.new ≡ T.matches matching.old) }
     ensures questions { OnOk result (questions.new.items ≡ questions.old.items) }
     ensures branches { IfOk result (λ context. InEach (T.matches matching.old) (λ m.
         let r = reading_of K.shape m (nodes_of there.now.here) in
@@ -424,11 +441,11 @@ fn tell_question<'q, 'i: 'q, K: Validate, T: Matching>(
     questions: &mut Vec<Question<'q, 'i>>,
     observer: &mut Observer<'i>,
 ) -> Result<(), AllocError>
-    requires known { AreKnown K.knows (T.matches matching.old).pattern (nodes_of there.now.here) }
+    requires known { AreReady K.knows K.shape (T.matches matching.old) (nodes_of there.now.here) }
     requires right { IsThere there.now }
-    requires asked { MayAsk (nodes_of there.now.here) (rank_at (nodes_of there.now.here) there.now.here.node)
-        (value_at there.now.here.place) (call_of question) }
+    requires asked { MayAskAt (T.matches matching.old) there.now.here (call_of question) }
     ensures matches { OnOk result (T.matches matching.new ≡ T.matches matching.old) }
+    ensures stays { OnErr result (T.matches matching.new ≡ T.matches matching.old) }
     ensures questions { OnOk result (questions.new.items ≡ questions.old.items) }
     ensures heard { OnOk result (InEach (T.matches matching.old) (λ m.
         let r = reading_of K.shape m (nodes_of there.now.here) in
@@ -463,11 +480,11 @@ fn tell_step<'q, 'i: 'q, 'e, K: Validate, T: Matching>(
     questions: &mut Vec<Question<'q, 'i>>,
     observer: &mut Observer<'i>,
 ) -> Result<(), AllocError>
-    requires known { AreKnown K.knows (T.matches matching.old).pattern (nodes_of there.now.here) }
+    requires known { AreReady K.knows K.shape (T.matches matching.old) (nodes_of there.now.here) }
     requires right { IsThere there.now }
-    requires asked { MayAsk (nodes_of there.now.here) (rank_at (nodes_of there.now.here) there.now.here.node)
-        (value_at there.now.here.place) (call_of question) }
+    requires asked { MayAskAt (T.matches matching.old) there.now.here (call_of question) }
     ensures matches { OnOk result (T.matches matching.new ≡ T.matches matching.old) }
+    ensures stays { OnErr result (T.matches matching.new ≡ T.matches matching.old) }
     ensures questions { OnOk result (questions.new.items ≡ questions.old.items) }
     ensures heard { OnOk result (InEach (T.matches matching.old) (λ m.
         let r = reading_of K.shape m (nodes_of there.now.here) in
@@ -522,11 +539,13 @@ fn tell_inside<'q, 'i: 'q, 'e, K: Validate, T: Matching>(
     questions: &mut Vec<Question<'q, 'i>>,
     observer: &mut Observer<'i>,
 ) -> Result<(), AllocError>
-    requires known { AreKnown K.knows (T.matches matching.old).pattern (nodes_of there.now.here) }
+    requires known { AreReady K.knows K.shape (T.matches matching.old) (nodes_of there.now.here) }
     requires right { IsThere there.now }
     requires there { node < length (nodes_of there.now.here) }
     requires falls { rank_at (nodes_of there.now.here) node < rank_at (nodes_of there.now.here) there.now.here.node }
+    requires led { LedTo (T.matches matching.old) node (value_at there.now.here.place) }
     ensures matches { OnOk result (T.matches matching.new ≡ T.matches matching.old) }
+    ensures stays { OnErr result (T.matches matching.new ≡ T.matches matching.old) }
     ensures questions { OnOk result (questions.new.items ≡ questions.old.items) }
     ensures heard { OnOk result (InEach (T.matches matching.old) (λ m.
         let r = reading_of K.shape m (nodes_of there.now.here) in
@@ -560,10 +579,12 @@ fn tell_target<'q, 'i: 'q, 'e, K: Validate, T: Matching>(
     questions: &mut Vec<Question<'q, 'i>>,
     observer: &mut Observer<'i>,
 ) -> Result<(), AllocError>
-    requires known { AreKnown K.knows (T.matches matching.old).pattern (nodes_of there.now.here) }
+    requires known { AreReady K.knows K.shape (T.matches matching.old) (nodes_of there.now.here) }
     requires right { IsThere there.now }
     requires there { target < length (nodes_of there.now.here) }
+    requires led { LedTo (T.matches matching.old) target (value_at there.now.here.place) }
     ensures matches { OnOk result (T.matches matching.new ≡ T.matches matching.old) }
+    ensures stays { OnErr result (T.matches matching.new ≡ T.matches matching.old) }
     ensures questions { OnOk result (questions.new.items ≡ questions.old.items) }
     ensures heard { OnOk result (InEach (T.matches matching.old) (λ m.
         let r = reading_of K.shape m (nodes_of there.now.here) in
@@ -601,10 +622,12 @@ fn tell_name<'q, 'i: 'q, K: Validate, T: Matching>(
     matching: &mut T,
     observer: &mut Observer<'i>,
 ) -> Result<(), AllocError>
-    requires known { AreKnown K.knows (T.matches matching.old).pattern graph.now.nodes.items }
+    requires known { AreReady K.knows K.shape (T.matches matching.old) graph.now.nodes.items }
     requires there { node < length graph.now.nodes.items }
     requires path { object.schema.now ≡ path_at graph.now.nodes.items node }
+    requires led { LedTo (T.matches matching.old) node (string name.now) }
     ensures matches { OnOk result (T.matches matching.new ≡ T.matches matching.old) }
+    ensures stays { OnErr result (T.matches matching.new ≡ T.matches matching.old) }
     ensures heard { let nodes = graph.now.nodes.items in OnOk result (InEach (T.matches matching.old) (λ m.
         let r = reading_of K.shape m nodes in
         Hearing (stand_of_name name.entry object.entry)

@@ -1,5 +1,5 @@
 //! What the engine asks of a keyword.
-ghost use Rattle.std.specs.Prelude.{◌≡◌, ℕ, List, Bool, OnOk, IfOk};
+ghost use Rattle.std.specs.Prelude.{◌≡◌, ℕ, List, Bool, OnOk, OnErr, IfOk};
 ghost use Rattle.serde_json.specs.Data.{Data};
 ghost use Rattle.serde_json.specs.View.{view};
 ghost use Rattle.json_values.specs.Parts.{Part};
@@ -12,6 +12,7 @@ ghost use Rattle.schema_engine.specs.Questions.{Pushes, PushesAsked};
 ghost use Rattle.schema_engine.specs.Refusals.{IsReason, IsRefusedUnder};
 ghost use Rattle.schema_engine.specs.Rules.{combination_of, is_right, questions_of};
 ghost use Rattle.schema_engine.specs.Situations.{TellsNotes};
+ghost use Rattle.schema_engine.specs.Led.{MayAskFor};
 ghost use Rattle.schema_engine.specs.Matches.{InEach};
 
 use crate::asking::Asking;
@@ -56,8 +57,10 @@ pub trait Validate: Drop {
         place: Place<'_>,
         matching: &mut T,
     ) -> Result<bool, AllocError>
-        requires { knows self.now (T.matches matching.old).pattern }
+        requires known { knows self.now (T.matches matching.old).pattern }
+        requires asked { MayAskFor (T.matches matching.old) (shape self.now) (value_at place) }
         ensures same { OnOk result (T.matches matching.new ≡ T.matches matching.old) }
+        ensures stays { OnErr result (T.matches matching.new ≡ T.matches matching.old) }
         ensures right { IfOk result (λ b. InEach (T.matches matching.old) (λ m.
             b ≡ is_right (rule m (value_at place.entry) (shape self.now)))) };
 
@@ -72,8 +75,10 @@ pub trait Validate: Drop {
         matching: &mut T,
         into: &mut Vec<Question<'q, 'i>>,
     ) -> Result<(), AllocError>
-        requires { knows self.now (T.matches matching.old).pattern }
+        requires known { knows self.now (T.matches matching.old).pattern }
+        requires asked { MayAskFor (T.matches matching.old) (shape self.now) (value_at place) }
         ensures same { OnOk result (T.matches matching.new ≡ T.matches matching.old) }
+        ensures stays { OnErr result (T.matches matching.new ≡ T.matches matching.old) }
         ensures pushed { OnOk result (InEach (T.matches matching.old) (λ m.
             Pushes into.old.items into.new.items (questions_of (rule m (value_at place.entry) (shape self.now))))) }
         ensures asked { OnOk result (InEach (T.matches matching.old) (λ m.
@@ -100,8 +105,10 @@ pub trait Validate: Drop {
         matching: &mut T,
         observer: &mut Observer<'o>,
     ) -> Result<(), AllocError>
-        requires { knows self.now (T.matches matching.old).pattern }
+        requires known { knows self.now (T.matches matching.old).pattern }
+        requires asked { MayAskFor (T.matches matching.old) (shape self.now) (view situation.now.value.now) }
         ensures same { OnOk result (T.matches matching.new ≡ T.matches matching.old) }
+        ensures stays { OnErr result (T.matches matching.new ≡ T.matches matching.old) }
         ensures told { OnOk result (InEach (T.matches matching.old) (λ m.
             TellsNotes situation.now (rule m (view situation.now.value.now) (shape self.now)) observer.old observer.new)) };
 
@@ -115,8 +122,10 @@ pub trait Validate: Drop {
         situation: &Situation<'_, 'o>,
         matching: &mut T,
     ) -> Result<Reason<'o>, AllocError>
-        requires { knows self.now (T.matches matching.old).pattern }
+        requires known { knows self.now (T.matches matching.old).pattern }
+        requires asked { MayAskFor (T.matches matching.old) (shape self.now) (view situation.now.value.now) }
         ensures same { OnOk result (T.matches matching.new ≡ T.matches matching.old) }
+        ensures stays { OnErr result (T.matches matching.new ≡ T.matches matching.old) }
         ensures stated { IfOk result (λ b. InEach (T.matches matching.old) (λ m.
             IsReason (rule m (view situation.now.value.now) (shape self.now)) (view situation.now.value.now) b)) };
 }

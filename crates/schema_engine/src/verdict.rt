@@ -1,5 +1,5 @@
 //! The verdict of a compiled schema.
-ghost use Rattle.std.specs.Prelude.{◌≡◌, ◌<◌, ◌≤◌, ◌+◌, ℕ, suc, true, map, drop, length, OnOk, IfOk};
+ghost use Rattle.std.specs.Prelude.{◌≡◌, ◌<◌, ◌≤◌, ◌+◌, ℕ, suc, true, map, drop, length, OnOk, OnErr, IfOk};
 ghost use Rattle.serde_json.specs.View.{items_view};
 ghost use Rattle.schema_meaning.specs.Members.{In, count_true};
 ghost use Rattle.schema_meaning.specs.Places.{stay};
@@ -9,8 +9,10 @@ ghost use Rattle.schema_engine.specs.Progress.{numbers_in};
 ghost use Rattle.schema_engine.specs.Questions.{call_of};
 ghost use Rattle.schema_engine.specs.Asking.{item_calls};
 ghost use Rattle.schema_engine.specs.Rules.{is_counted, is_right, all_beside, chosen_by_first, combined};
-ghost use Rattle.schema_engine.specs.Graphs.{keywords_at, rank_at, reading_of, AreKnown};
-ghost use Rattle.schema_engine.specs.Verdicts.{node_in, asked_in, rule_in, size, Tells, TellsFrom, MayAsk, EachMayAsk};
+ghost use Rattle.schema_engine.specs.Graphs.{keywords_at, rank_at, reading_of};
+ghost use Rattle.schema_engine.specs.Verdicts.{node_in, asked_in, rule_in, size, Tells, TellsFrom};
+ghost use Rattle.schema_engine.specs.Led.{LedTo, AreReady};
+ghost use Rattle.schema_engine.specs.Standing.{LedHere, MayAskAt, EachMayAskAt};
 ghost use Rattle.schema_engine.specs.Matches.{InEach};
 
 use crate::asking::Asking;
@@ -39,9 +41,11 @@ pub fn accepts_node<'q, 'i: 'q, K: Validate, T: Matching>(
     matching: &mut T,
     questions: &mut Vec<Question<'q, 'i>>,
 ) -> Result<bool, AllocError>
-    requires known { AreKnown K.knows (T.matches matching.old).pattern graph.now.nodes.items }
+    requires known { AreReady K.knows K.shape (T.matches matching.old) graph.now.nodes.items }
     requires there { node < length graph.now.nodes.items }
+    requires led { LedTo (T.matches matching.old) node (value_at place) }
     ensures matches { OnOk result (T.matches matching.new ≡ T.matches matching.old) }
+    ensures stays { OnErr result (T.matches matching.new ≡ T.matches matching.old) }
     ensures questions { OnOk result (questions.new.items ≡ questions.old.items) }
     ensures verdict { let nodes = graph.now.nodes.items in IfOk result (λ b. InEach (T.matches matching.old) (λ m.
         let r = reading_of K.shape m nodes in
@@ -75,11 +79,13 @@ fn accepts_keyword<'q, 'i: 'q, K: Validate, T: Matching>(
     matching: &mut T,
     questions: &mut Vec<Question<'q, 'i>>,
 ) -> Result<bool, AllocError>
-    requires known { AreKnown K.knows (T.matches matching.old).pattern here.now.graph.now.nodes.items }
+    requires known { AreReady K.knows K.shape (T.matches matching.old) here.now.graph.now.nodes.items }
     requires stands { In keyword.now (keywords_at here.now.graph.now.nodes.items here.now.node) }
+    requires led { LedHere (T.matches matching.old) here.now }
     requires right { InEach (T.matches matching.old)
         (λ m. is_right (rule m (value_at here.now.place) (K.shape keyword.now)) ≡ true) }
     ensures matches { OnOk result (T.matches matching.new ≡ T.matches matching.old) }
+    ensures stays { OnErr result (T.matches matching.new ≡ T.matches matching.old) }
     ensures questions { OnOk result (questions.new.items ≡ questions.old.items) }
     ensures verdict { let nodes = here.now.graph.now.nodes.items in IfOk result (λ b. InEach (T.matches matching.old) (λ m.
         TellsFrom nodes here.now.node here.now.place (numbers_in here.now.progress.now)
@@ -103,11 +109,13 @@ fn accepts_listed<'q, 'i: 'q, K: Validate, T: Matching>(
     matching: &mut T,
     questions: &mut Vec<Question<'q, 'i>>,
 ) -> Result<bool, AllocError>
-    requires known { AreKnown K.knows (T.matches matching.old).pattern here.now.graph.now.nodes.items }
+    requires known { AreReady K.knows K.shape (T.matches matching.old) here.now.graph.now.nodes.items }
     requires stands { In keyword.now (keywords_at here.now.graph.now.nodes.items here.now.node) }
+    requires led { LedHere (T.matches matching.old) here.now }
     requires right { InEach (T.matches matching.old)
         (λ m. is_right (rule m (value_at here.now.place) (K.shape keyword.now)) ≡ true) }
     ensures matches { OnOk result (T.matches matching.new ≡ T.matches matching.old) }
+    ensures stays { OnErr result (T.matches matching.new ≡ T.matches matching.old) }
     ensures questions { OnOk result (questions.new.items ≡ questions.old.items) }
     ensures verdict { let nodes = here.now.graph.now.nodes.items in IfOk result (λ b. InEach (T.matches matching.old) (λ m.
         TellsFrom nodes here.now.node here.now.place (numbers_in here.now.progress.now)
@@ -131,11 +139,11 @@ fn accepts_items<'q, 'i: 'q, K: Validate, T: Matching>(
     matching: &mut T,
     questions: &mut Vec<Question<'q, 'i>>,
 ) -> Result<bool, AllocError>
-    requires known { AreKnown K.knows (T.matches matching.old).pattern here.now.graph.now.nodes.items }
-    requires asked { EachMayAsk here.now.graph.now.nodes.items
-        (rank_at here.now.graph.now.nodes.items here.now.node) (value_at here.now.place)
+    requires known { AreReady K.knows K.shape (T.matches matching.old) here.now.graph.now.nodes.items }
+    requires asked { EachMayAskAt (T.matches matching.old) here.now
         (item_calls node start (items_view (drop start items.now))) }
     ensures matches { OnOk result (T.matches matching.new ≡ T.matches matching.old) }
+    ensures stays { OnErr result (T.matches matching.new ≡ T.matches matching.old) }
     ensures questions { OnOk result (questions.new.items ≡ questions.old.items) }
     ensures verdict { let nodes = here.now.graph.now.nodes.items in IfOk result (λ b. InEach (T.matches matching.old) (λ m.
         let r = reading_of K.shape m nodes in
@@ -170,11 +178,11 @@ pub(crate) fn accepts_combined<'q, 'i: 'q, K: Validate, T: Matching>(
     matching: &mut T,
     questions: &mut Vec<Question<'q, 'i>>,
 ) -> Result<bool, AllocError>
-    requires known { AreKnown K.knows (T.matches matching.old).pattern here.now.graph.now.nodes.items }
-    requires asked { EachMayAsk here.now.graph.now.nodes.items
-        (rank_at here.now.graph.now.nodes.items here.now.node) (value_at here.now.place)
+    requires known { AreReady K.knows K.shape (T.matches matching.old) here.now.graph.now.nodes.items }
+    requires asked { EachMayAskAt (T.matches matching.old) here.now
         (map call_of (drop start questions.old.items)) }
     ensures matches { OnOk result (T.matches matching.new ≡ T.matches matching.old) }
+    ensures stays { OnErr result (T.matches matching.new ≡ T.matches matching.old) }
     ensures questions { OnOk result (questions.new.items ≡ questions.old.items) }
     ensures verdict { let nodes = here.now.graph.now.nodes.items in IfOk result (λ b. InEach (T.matches matching.old) (λ m.
         let r = reading_of K.shape m nodes in
@@ -204,11 +212,11 @@ fn accepts_each<'q, 'i: 'q, K: Validate, T: Matching>(
     matching: &mut T,
     questions: &mut Vec<Question<'q, 'i>>,
 ) -> Result<bool, AllocError>
-    requires known { AreKnown K.knows (T.matches matching.old).pattern here.now.graph.now.nodes.items }
-    requires asked { EachMayAsk here.now.graph.now.nodes.items
-        (rank_at here.now.graph.now.nodes.items here.now.node) (value_at here.now.place)
+    requires known { AreReady K.knows K.shape (T.matches matching.old) here.now.graph.now.nodes.items }
+    requires asked { EachMayAskAt (T.matches matching.old) here.now
         (map call_of (drop start questions.old.items)) }
     ensures matches { OnOk result (T.matches matching.new ≡ T.matches matching.old) }
+    ensures stays { OnErr result (T.matches matching.new ≡ T.matches matching.old) }
     ensures questions { OnOk result (questions.new.items ≡ questions.old.items) }
     ensures verdict { let nodes = here.now.graph.now.nodes.items in IfOk result (λ b. InEach (T.matches matching.old) (λ m.
         let r = reading_of K.shape m nodes in
@@ -237,11 +245,11 @@ fn accepts_counted<'q, 'i: 'q, K: Validate, T: Matching>(
     matching: &mut T,
     questions: &mut Vec<Question<'q, 'i>>,
 ) -> Result<bool, AllocError>
-    requires known { AreKnown K.knows (T.matches matching.old).pattern here.now.graph.now.nodes.items }
-    requires asked { EachMayAsk here.now.graph.now.nodes.items
-        (rank_at here.now.graph.now.nodes.items here.now.node) (value_at here.now.place)
+    requires known { AreReady K.knows K.shape (T.matches matching.old) here.now.graph.now.nodes.items }
+    requires asked { EachMayAskAt (T.matches matching.old) here.now
         (map call_of (drop start questions.old.items)) }
     ensures matches { OnOk result (T.matches matching.new ≡ T.matches matching.old) }
+    ensures stays { OnErr result (T.matches matching.new ≡ T.matches matching.old) }
     ensures questions { OnOk result (questions.new.items ≡ questions.old.items) }
     ensures verdict { let nodes = here.now.graph.now.nodes.items in IfOk result (λ b. InEach (T.matches matching.old) (λ m.
         let r = reading_of K.shape m nodes in
@@ -271,11 +279,11 @@ fn accepts_conditional<'q, 'i: 'q, K: Validate, T: Matching>(
     matching: &mut T,
     questions: &mut Vec<Question<'q, 'i>>,
 ) -> Result<bool, AllocError>
-    requires known { AreKnown K.knows (T.matches matching.old).pattern here.now.graph.now.nodes.items }
-    requires asked { EachMayAsk here.now.graph.now.nodes.items
-        (rank_at here.now.graph.now.nodes.items here.now.node) (value_at here.now.place)
+    requires known { AreReady K.knows K.shape (T.matches matching.old) here.now.graph.now.nodes.items }
+    requires asked { EachMayAskAt (T.matches matching.old) here.now
         (map call_of (drop start questions.old.items)) }
     ensures matches { OnOk result (T.matches matching.new ≡ T.matches matching.old) }
+    ensures stays { OnErr result (T.matches matching.new ≡ T.matches matching.old) }
     ensures questions { OnOk result (questions.new.items ≡ questions.old.items) }
     ensures verdict { let nodes = here.now.graph.now.nodes.items in IfOk result (λ b. InEach (T.matches matching.old) (λ m.
         let r = reading_of K.shape m nodes in
@@ -298,10 +306,10 @@ pub(crate) fn accepts_question<'q, 'i: 'q, K: Validate, T: Matching>(
     matching: &mut T,
     questions: &mut Vec<Question<'q, 'i>>,
 ) -> Result<bool, AllocError>
-    requires known { AreKnown K.knows (T.matches matching.old).pattern here.now.graph.now.nodes.items }
-    requires asked { MayAsk here.now.graph.now.nodes.items (rank_at here.now.graph.now.nodes.items here.now.node)
-        (value_at here.now.place) (call_of question) }
+    requires known { AreReady K.knows K.shape (T.matches matching.old) here.now.graph.now.nodes.items }
+    requires asked { MayAskAt (T.matches matching.old) here.now (call_of question) }
     ensures matches { OnOk result (T.matches matching.new ≡ T.matches matching.old) }
+    ensures stays { OnErr result (T.matches matching.new ≡ T.matches matching.old) }
     ensures questions { OnOk result (questions.new.items ≡ questions.old.items) }
     ensures verdict { let nodes = here.now.graph.now.nodes.items in IfOk result (λ b. InEach (T.matches matching.old) (λ m.
         let r = reading_of K.shape m nodes in
@@ -359,9 +367,11 @@ fn accepts_target<'q, 'i: 'q, K: Validate, T: Matching>(
     matching: &mut T,
     questions: &mut Vec<Question<'q, 'i>>,
 ) -> Result<bool, AllocError>
-    requires known { AreKnown K.knows (T.matches matching.old).pattern here.now.graph.now.nodes.items }
+    requires known { AreReady K.knows K.shape (T.matches matching.old) here.now.graph.now.nodes.items }
     requires there { target < length here.now.graph.now.nodes.items }
+    requires led { LedTo (T.matches matching.old) target (value_at here.now.place) }
     ensures matches { OnOk result (T.matches matching.new ≡ T.matches matching.old) }
+    ensures stays { OnErr result (T.matches matching.new ≡ T.matches matching.old) }
     ensures questions { OnOk result (questions.new.items ≡ questions.old.items) }
     ensures verdict { let nodes = here.now.graph.now.nodes.items in IfOk result (λ b. InEach (T.matches matching.old) (λ m.
         let r = reading_of K.shape m nodes in

@@ -52,7 +52,7 @@ module _ {M : Type 0} (finds : M → List ℕ → Option Bool) (p : Patterns) (r
   pub decided_as : (a : Decision) → IsVerdictOf shape_of finds nodes table start d a → IsDecidedAs p r d a
   decided_as decision.Accepted h = verdict_answered true h
   decided_as decision.Refused h = verdict_answered false h
-  decided_as decision.Undecided h = tt
+  decided_as decision.Undecided h = λ matches target found finish straight. h r.documents p.makes matches (site_of_root r target) (decided matches target found finish straight)
 
   module _ (faults : graph.AreFaults shape_of finds nodes table start d) where
     those : (matches : List ℕ → List ℕ → Bool) (target : Target) → Finds r target → Finish p r matches target d → (ComesBack p r matches target d → ⊥)

@@ -25,7 +25,10 @@ pub struct Checker<'v> {
     /// The validator as which it answers.
     pub validator: &'v Validator,
     kept: Kept<'v>,
-    ghost meant: { matches_of finds_by_regex kept.table.now ≡ matches_of finds_by_regex validator.now.schemas.value.table },
+    ghost pattern: { (matches_of finds_by_regex kept.table.now).pattern
+        ≡ (matches_of finds_by_regex validator.now.schemas.value.table).pattern },
+    ghost known: { (matches_of finds_by_regex kept.table.now).known
+        ≡ (matches_of finds_by_regex validator.now.schemas.value.table).known },
 }
 
 // What is kept where nothing is, and no room is taken for more.

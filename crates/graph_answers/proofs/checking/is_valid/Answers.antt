@@ -7,6 +7,7 @@ use Rattle.schema_meaning.specs.Keywords.{Shape}
 use Rattle.schema_meaning.specs.Places.{Key, whole}
 use Rattle.schema_meaning.specs.Readings.{verdicts}
 use Rattle.schema_engine.specs.Graphs.{reading_of, AreKnown}
+use Rattle.schema_engine.specs.Led.{BeginAt}
 use Rattle.schema_engine.specs.Matches.{Answers, Matches, completed, InEach, none_matched}
 use Rattle.schema_engine.specs.declared.node.Node.{Node}
 use Rattle.schema_patterns.specs.declared.table.PatternTable.{PatternTable}
@@ -30,6 +31,7 @@ pub accepts-requires : goal.accepts-requires
 accepts-requires g c = record {
   known = subst (λ (m : Matches). AreKnown g.K.Validate.knows m.pattern c.args.graph.now.nodes.items) (sym c.requires.meant) c.requires.known;
   there = c.requires.there;
+  begin = subst (λ (m : Matches). BeginAt g.K.Validate.shape m c.args.graph.now.nodes.items c.args.start (view c.args.value.now)) (sym c.requires.meant) tt;
 }
 
 pub returns-clause-cut : goal.returns-clause-cut

@@ -8,6 +8,7 @@ use Rattle.schema_reports.specs.declared.observer.Observer.{Observer}
 use Rattle.schema_patterns.specs.declared.table.PatternTable.{PatternTable}
 use Rattle.schema_engine.specs.declared.node.Node.{Node}
 use Rattle.schema_engine.specs.Graphs.{IsSound, AreKnown}
+use Rattle.schema_engine.specs.Led.{BeginAt}
 use Rattle.schema_engine.specs.Matches.{Matches, completed, none_matched}
 use Rattle.schema_engine.specs.Hearing.{HearsMore}
 use Rattle.schema_engine.specs.Told.{TellsCut}
@@ -25,6 +26,7 @@ pub tell-requires : goal.tell-requires
 tell-requires g c = record {
   known = subst (λ (m : Matches). AreKnown g.K.Validate.knows m.pattern c.args.graph.now.nodes.items) (sym c.requires.meant) c.requires.known;
   there = c.requires.there;
+  begin = subst (λ (m : Matches). BeginAt g.K.Validate.shape m c.args.graph.now.nodes.items c.args.start (view c.args.value.now)) (sym c.requires.meant) tt;
 }
 
 pub returns-clause-cut : goal.returns-clause-cut

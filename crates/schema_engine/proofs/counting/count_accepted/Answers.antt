@@ -17,7 +17,8 @@ accepts_question-requires-clause-asked g c =
     let h = c.args.here.now in
     let nodes = h.graph.now.nodes.items in
     let l = c.loop-index in
-    let asked = subst (λ qs. EachMayAsk nodes (rank_at nodes h.node) (value_at h.place) (map call_of (drop c.args.start qs))) (sym l.invariant.questions) c.requires.asked in
+    let asked = subst (λ m. EachMayAsk m nodes (rank_at nodes h.node) (value_at h.place) (map call_of (drop c.args.start l.questions.items))) (sym l.invariant.matches)
+    (subst (λ qs. EachMayAsk (g.T.Matching.matches c.args.matching.now) nodes (rank_at nodes h.node) (value_at h.place) (map call_of (drop c.args.start qs))) (sym l.invariant.questions) c.requires.asked) in
     let short : l.index < length l.questions.items = (let e = ap length l.invariant.questions in omega arith) in
     may_ask_one nodes _ _ c.args.start l.index l.questions.items c.index-question.result.now asked (omega arith) short c.index-question.ensures
 

@@ -1,5 +1,6 @@
 use Rattle.std.proofs.Common.{rules, ◌≡◌, ◌≤◌, ◌∙◌, length, true, false, sym, subst, arith}
 use Rattle.schema_meaning.specs.Keywords.{rule}
+use Rattle.schema_engine.specs.Led.{MayAskFor}
 use Rattle.schema_engine.specs.Matches.{Answers, Matches, completed}
 use Rattle.schema_engine.specs.Places.{value_at}
 use Rattle.schema_engine.specs.Rules.{is_right}
@@ -11,8 +12,11 @@ pub accepts_itself-requires : goal.accepts_itself-requires
 accepts_itself-requires g c =
     let l = c.loop-keyword in
     let k = c.keyword-item.result in
-    subst (λ (m : Matches). g.K.Validate.knows k m.pattern) (sym l.invariant.matches)
-    (c.requires.known k (keyword_stands l.keyword-index c.args.keywords.now k c.loop-keyword-test.true c.keyword-item.is))
+    let stands = keyword_stands l.keyword-index c.args.keywords.now k c.loop-keyword-test.true c.keyword-item.is in
+    record {
+      known = subst (λ (m : Matches). g.K.Validate.knows k m.pattern) (sym l.invariant.matches) (c.requires.known k stands);
+      asked = subst (λ (m : Matches). MayAskFor m (g.K.Validate.shape k) (value_at c.args.place)) (sym l.invariant.matches) (c.requires.asked k stands);
+    }
 
 pub loop-keyword-preserved : goal.loop-keyword-preserved
 loop-keyword-preserved g c =

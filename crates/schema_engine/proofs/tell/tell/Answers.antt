@@ -1,7 +1,17 @@
 use Rattle.std.proofs.Common.{sym, refl}
 use Rattle.std.proofs.lemmas.Result.{on_ok_weaker}
 use Rattle.schema_engine.proofs.ToldFaults.{tells_cut, tells_decided}
+use Rattle.serde_json.specs.View.{view}
+use Rattle.schema_engine.proofs.Beginning.{ready_at, led_at}
 use Rattle.schema_engine.proofs.tell.tell.Goals as goal
+
+pub tell_value-requires-clause-known : goal.tell_value-requires-clause-known
+tell_value-requires-clause-known g c =
+    ready_at g.K.Validate.knows g.K.Validate.shape c.args.graph.now.nodes.items c.args.node _ (view c.args.value.now) c.requires.known c.requires.begin
+
+pub tell_value-requires-clause-led : goal.tell_value-requires-clause-led
+tell_value-requires-clause-led g c =
+    led_at g.K.Validate.knows g.K.Validate.shape c.args.graph.now.nodes.items c.args.node _ (view c.args.value.now) c.requires.begin
 
 pub returns-clause-cut : goal.returns-clause-cut
 returns-clause-cut g c =

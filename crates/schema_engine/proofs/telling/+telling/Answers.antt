@@ -6,7 +6,7 @@ use Rattle.serde_json.specs.declared.value.Value.{the_lemmas}
 use Rattle.serde_json.specs.declared.value.Value.TheVariants as json
 use Rattle.json_values.specs.Parts.{name, index}
 use Rattle.schema_meaning.specs.Members.{In}
-use Rattle.schema_meaning.specs.Places.{stay}
+use Rattle.schema_meaning.specs.Places.{stay, value_after}
 use Rattle.schema_meaning.specs.Keywords.{rule}
 use Rattle.location_texts.specs.Locations.{location_of}
 use Rattle.schema_reports.specs.declared.kind.ValidationErrorKind.TheVariants as kind
@@ -24,7 +24,8 @@ use Rattle.schema_engine.specs.Questions.{call_of, question_by}
 use Rattle.schema_engine.specs.Refusals.{own_notes, has_one_fault, IsReason}
 use Rattle.schema_engine.specs.Situations.{spot_in}
 use Rattle.schema_engine.specs.Rules.{combination_of}
-use Rattle.schema_engine.specs.Graphs.{keywords_at, path_at, rank_at, reading_of, AreKnown}
+use Rattle.schema_engine.specs.Graphs.{keywords_at, path_at, rank_at, reading_of}
+use Rattle.schema_engine.specs.Led.{LedTo, AreReady}
 use Rattle.schema_engine.specs.Verdicts.{EachMayAsk, GoesDown, size}
 use Rattle.schema_engine.specs.Faults.{AreAsked, AreErrorsOf, Hearing, node_faults, rule_faults, one_told, question_faults, faults_beside}
 use Rattle.schema_engine.specs.Standing.{size_of, stand_of, HearsAt}
@@ -36,7 +37,7 @@ use Rattle.schema_engine.proofs.RefusalFaults.{some_told, one_branch_told, count
 use Rattle.schema_engine.proofs.RuleFaults.{one_is_right}
 use Rattle.schema_engine.proofs.Sizes.{size_inside, size_down, size_target}
 use Rattle.schema_engine.proofs.StepFaults.{leads_inside, leads_to_item, leads_to_member, leads_to_name, follows_none, hears_as, step_heard, back_heard, target_heard}
-use Rattle.schema_engine.proofs.Steps.{may_ask_one, may_ask_rest, each_may_ask, keywords_here, keyword_stands, keyword_told}
+use Rattle.schema_engine.proofs.Steps.{may_ask_one, may_ask_rest, may_ask_for, each_may_ask, keywords_here, keyword_stands, keyword_told}
 use Rattle.schema_engine.proofs.ToTell.{all_to_tell, settled_to_tell}
 use Rattle.schema_engine.proofs.telling.+telling.Goals as goal
 
@@ -44,7 +45,7 @@ use Rattle.schema_engine.proofs.telling.+telling.Goals as goal
 
 pub tell_value-tell_node-requires : goal.tell_value-tell_node-requires
 tell_value-tell_node-requires g t c κs within =
-    (omega arith, (within.0, (within.1, (c.requires.known, (record { value = refl; path = c.requires.path }, c.requires.there)))))
+    (omega arith, (within.0, (within.1, (c.requires.known, (record { value = refl; path = c.requires.path }, (c.requires.there, c.requires.led))))))
 
 -- ---- a node
 
@@ -64,10 +65,13 @@ tell_node-tell_keyword-requires g t c κs within =
         (
           within.1,
           (
-            subst (λ m. AreKnown g.K.Validate.knows m.pattern nodes) (sym l.invariant.matches) c.requires.known,
+            subst (λ m. AreReady g.K.Validate.knows g.K.Validate.shape m nodes) (sym l.invariant.matches) c.requires.known,
             (
               c.requires.right,
-              subst (In c.keyword-item.result) (sym here) (keyword_stands l.keyword-index c.deref-keyword-items.result.now c.keyword-item.result c.loop-keyword-test.true c.keyword-item.is),
+              (
+                subst (In c.keyword-item.result) (sym here) (keyword_stands l.keyword-index c.deref-keyword-items.result.now c.keyword-item.result c.loop-keyword-test.true c.keyword-item.is),
+                subst (λ m. LedTo m h.node (value_at h.place)) (sym l.invariant.matches) c.requires.led,
+              ),
             ),
           ),
         ),
@@ -118,6 +122,15 @@ tell_node-returns-clause-heard g t c =
 
 -- ---- a keyword
 
+pub tell_keyword-questions-requires : goal.tell_keyword-questions-requires
+tell_keyword-questions-requires g t c =
+    let h = c.args.there.now.here in
+    let k = c.args.keyword.now in
+    record {
+      known = c.requires.known.known.each h.node k c.requires.stands;
+      asked = may_ask_for g.K.Validate.knows g.K.Validate.shape h.graph.now.nodes.items h.node k _ (value_at h.place) c.requires.known c.requires.led c.requires.stands;
+    }
+
 pub tell_keyword-tell_by_rule-requires : goal.tell_keyword-tell_by_rule-requires
 tell_keyword-tell_by_rule-requires g t c κs within =
     let h = c.args.there.now.here in
@@ -136,12 +149,15 @@ tell_keyword-tell_by_rule-requires g t c κs within =
         (
           within.1,
           (
-            subst (λ m. AreKnown g.K.Validate.knows m.pattern nodes) (sym same) c.requires.known,
+            subst (λ m. AreReady g.K.Validate.knows g.K.Validate.shape m nodes) (sym same) c.requires.known,
             (
               c.requires.right,
               (
                 c.requires.stands,
-                λ rest. subst (λ (m : Matches). AreAsked (g.K.Validate.added k) (rule (completed m rest) (value_at h.place) (g.K.Validate.shape k)) (drop c.len-start.result now)) (sym same) (asked rest),
+                (
+                  subst (λ m. LedTo m h.node (value_at h.place)) (sym same) c.requires.led,
+                  λ rest. subst (λ (m : Matches). AreAsked (g.K.Validate.added k) (rule (completed m rest) (value_at h.place) (g.K.Validate.shape k)) (drop c.len-start.result now)) (sym same) (asked rest),
+                ),
               ),
             ),
           ),
@@ -172,11 +188,12 @@ tell_by_rule-tell_each-requires g t c κs within =
         (
           within.1,
           (
-            subst (λ m. AreKnown g.K.Validate.knows m.pattern nodes) (sym same) c.requires.known,
+            subst (λ m. AreReady g.K.Validate.knows g.K.Validate.shape m nodes) (sym same) c.requires.known,
             (
               c.requires.right,
-              subst (EachMayAsk nodes (rank_at nodes h.node) (value_at h.place)) (sym (c.requires.asked none_matched).calls)
-                  (each_may_ask g.K.Validate.shape nodes h.node k _ (value_at h.place) h.graph.now.sound c.requires.stands),
+              subst (λ m. EachMayAsk m nodes (rank_at nodes h.node) (value_at h.place) (map call_of (drop c.args.start c.args.questions.now.items))) (sym same)
+                  (each_may_ask g.K.Validate.knows g.K.Validate.shape nodes h.node k (g.T.Matching.matches c.args.matching.now) (value_at h.place) c.requires.known c.requires.led c.requires.stands h.graph.now.sound
+                  (map call_of (drop c.args.start c.args.questions.now.items)) (λ rest. (c.requires.asked rest).calls)),
             ),
           ),
         ),
@@ -197,8 +214,8 @@ tell_by_rule-tell_named-requires g t c κs within =
             c.requires.known,
             (
               c.requires.right,
-              subst (EachMayAsk nodes (rank_at nodes h.node) (value_at h.place)) (sym (c.requires.asked none_matched).calls)
-                  (each_may_ask g.K.Validate.shape nodes h.node k _ (value_at h.place) h.graph.now.sound c.requires.stands),
+              each_may_ask g.K.Validate.knows g.K.Validate.shape nodes h.node k (g.T.Matching.matches c.args.matching.now) (value_at h.place) c.requires.known c.requires.led c.requires.stands h.graph.now.sound
+                  (map call_of (drop c.args.start c.args.questions.now.items)) (λ rest. (c.requires.asked rest).calls),
             ),
           ),
         ),
@@ -219,8 +236,8 @@ tell_by_rule-tell_conditional-requires g t c κs within =
             c.requires.known,
             (
               c.requires.right,
-              subst (EachMayAsk nodes (rank_at nodes h.node) (value_at h.place)) (sym (c.requires.asked none_matched).calls)
-                  (each_may_ask g.K.Validate.shape nodes h.node k _ (value_at h.place) h.graph.now.sound c.requires.stands),
+              each_may_ask g.K.Validate.knows g.K.Validate.shape nodes h.node k (g.T.Matching.matches c.args.matching.now) (value_at h.place) c.requires.known c.requires.led c.requires.stands h.graph.now.sound
+                  (map call_of (drop c.args.start c.args.questions.now.items)) (λ rest. (c.requires.asked rest).calls),
             ),
           ),
         ),
@@ -241,8 +258,11 @@ tell_by_rule-tell_combined-requires g t c κs within = (
           (
             c.requires.stands,
             (
-              (λ rest. c.combination-combination.ensures _),
-              (one_of_others c.combination-combination.result c.in_default.not-Every c.in_default.not-EachNamed c.in_default.not-Conditional, c.requires.asked),
+              c.requires.led,
+              (
+                (λ rest. c.combination-combination.ensures _),
+                (one_of_others c.combination-combination.result c.in_default.not-Every c.in_default.not-EachNamed c.in_default.not-Conditional, c.requires.asked),
+              ),
             ),
           ),
         ),
@@ -307,7 +327,8 @@ tell_each-tell_question-requires g t c κs within =
     let h = c.args.there.now.here in
     let nodes = h.graph.now.nodes.items in
     let l = c.loop-index in
-    let asked = subst (λ qs. EachMayAsk nodes (rank_at nodes h.node) (value_at h.place) (map call_of (drop c.args.start qs))) (sym l.invariant.questions) c.requires.asked in
+    let asked = subst (λ m. EachMayAsk m nodes (rank_at nodes h.node) (value_at h.place) (map call_of (drop c.args.start l.questions.items))) (sym l.invariant.matches)
+    (subst (λ qs. EachMayAsk (g.T.Matching.matches c.args.matching.now) nodes (rank_at nodes h.node) (value_at h.place) (map call_of (drop c.args.start qs))) (sym l.invariant.questions) c.requires.asked) in
     let short : l.index < length l.questions.items = (let e = ap length l.invariant.questions in omega arith) in (
       omega arith,
       (
@@ -315,7 +336,7 @@ tell_each-tell_question-requires g t c κs within =
         (
           within.1,
           (
-            subst (λ m. AreKnown g.K.Validate.knows m.pattern nodes) (sym l.invariant.matches) c.requires.known,
+            subst (λ m. AreReady g.K.Validate.knows g.K.Validate.shape m nodes) (sym l.invariant.matches) c.requires.known,
             (c.requires.right, may_ask_one nodes _ _ c.args.start l.index l.questions.items c.index-question.result.now asked (omega arith) short c.index-question.ensures),
           ),
         ),
@@ -357,11 +378,12 @@ tell_conditional-tell_each-requires g t c κs within =
         (
           within.1,
           (
-            subst (λ m. AreKnown g.K.Validate.knows m.pattern nodes) (sym c.in_ok-answer.ensures.matches) c.requires.known,
+            subst (λ m. AreReady g.K.Validate.knows g.K.Validate.shape m nodes) (sym c.in_ok-answer.ensures.matches) c.requires.known,
             (
               c.requires.right,
-              subst (λ qs. EachMayAsk nodes (rank_at nodes h.node) (value_at h.place) (map call_of (drop (c.args.start + 1) qs))) (sym same)
-                  (may_ask_rest nodes (rank_at nodes h.node) (value_at h.place) c.args.start c.args.questions.now.items c.requires.asked),
+              subst (λ qs. EachMayAsk (g.T.Matching.matches c.accepts_question.new.matching) nodes (rank_at nodes h.node) (value_at h.place) (map call_of (drop (c.args.start + 1) qs))) (sym same)
+                  (may_ask_rest nodes (rank_at nodes h.node) (value_at h.place) c.args.start c.args.questions.now.items
+                  (subst (λ m. EachMayAsk m nodes (rank_at nodes h.node) (value_at h.place) (map call_of (drop c.args.start c.args.questions.now.items))) (sym c.in_ok-answer.ensures.matches) c.requires.asked)),
             ),
           ),
         ),
@@ -401,7 +423,8 @@ tell_named-tell_question-requires g t c κs within =
     let h = c.args.there.now.here in
     let nodes = h.graph.now.nodes.items in
     let l = c.loop-index in
-    let asked = subst (λ qs. EachMayAsk nodes (rank_at nodes h.node) (value_at h.place) (map call_of (drop c.args.start qs))) (sym l.invariant.questions) c.requires.asked in
+    let asked = subst (λ m. EachMayAsk m nodes (rank_at nodes h.node) (value_at h.place) (map call_of (drop c.args.start l.questions.items))) (sym l.invariant.matches)
+    (subst (λ qs. EachMayAsk (g.T.Matching.matches c.args.matching.now) nodes (rank_at nodes h.node) (value_at h.place) (map call_of (drop c.args.start qs))) (sym l.invariant.questions) c.requires.asked) in
     let short : l.index < length l.questions.items = (let e = ap length l.invariant.questions in omega arith) in (
       omega arith,
       (
@@ -409,7 +432,7 @@ tell_named-tell_question-requires g t c κs within =
         (
           within.1,
           (
-            subst (λ m. AreKnown g.K.Validate.knows m.pattern nodes) (sym l.invariant.matches) c.requires.known,
+            subst (λ m. AreReady g.K.Validate.knows g.K.Validate.shape m nodes) (sym l.invariant.matches) c.requires.known,
             (c.requires.right, may_ask_one nodes _ _ c.args.start l.index l.questions.items c.index-question.result.now asked (omega arith) short c.index-question.ensures),
           ),
         ),
@@ -455,8 +478,8 @@ tell_combined-accepts_combined-requires g t c =
     let k = c.args.keyword.now in
     record {
       known = c.requires.known;
-      asked = subst (EachMayAsk nodes (rank_at nodes h.node) (value_at h.place)) (sym (c.requires.asked none_matched).calls)
-          (each_may_ask g.K.Validate.shape nodes h.node k _ (value_at h.place) h.graph.now.sound c.requires.stands);
+      asked = each_may_ask g.K.Validate.knows g.K.Validate.shape nodes h.node k (g.T.Matching.matches c.args.matching.now) (value_at h.place) c.requires.known c.requires.led c.requires.stands h.graph.now.sound
+          (map call_of (drop c.args.start c.args.questions.now.items)) (λ rest. (c.requires.asked rest).calls);
     }
 
 pub tell_combined-tell_refusal-requires : goal.tell_combined-tell_refusal-requires
@@ -471,17 +494,20 @@ tell_combined-tell_refusal-requires g t c κs within =
         (
           within.1,
           (
-            subst (λ m. AreKnown g.K.Validate.knows m.pattern nodes) (sym same) c.requires.known,
+            subst (λ m. AreReady g.K.Validate.knows g.K.Validate.shape m nodes) (sym same) c.requires.known,
             (
               c.requires.right,
               (
                 c.requires.stands,
                 (
-                  (λ rest. subst (λ (m : Matches). c.args.combination ≡ combination_of (rule (completed m rest) (value_at h.place) (g.K.Validate.shape k))) (sym same) (c.requires.combination rest)),
+                  subst (λ m. LedTo m h.node (value_at h.place)) (sym same) c.requires.led,
                   (
-                    c.requires.once,
-                    λ rest. subst (λ qs. AreAsked (g.K.Validate.added k) (rule (completed (g.T.Matching.matches c.accepts_combined.new.matching) rest) (value_at h.place) (g.K.Validate.shape k)) (drop c.args.start qs)) (sym c.in_ok-accepts_combined.ensures.questions)
-                        (subst (λ (m : Matches). AreAsked (g.K.Validate.added k) (rule (completed m rest) (value_at h.place) (g.K.Validate.shape k)) (drop c.args.start c.args.questions.now.items)) (sym same) (c.requires.asked rest)),
+                    (λ rest. subst (λ (m : Matches). c.args.combination ≡ combination_of (rule (completed m rest) (value_at h.place) (g.K.Validate.shape k))) (sym same) (c.requires.combination rest)),
+                    (
+                      c.requires.once,
+                      λ rest. subst (λ qs. AreAsked (g.K.Validate.added k) (rule (completed (g.T.Matching.matches c.accepts_combined.new.matching) rest) (value_at h.place) (g.K.Validate.shape k)) (drop c.args.start qs)) (sym c.in_ok-accepts_combined.ensures.questions)
+                          (subst (λ (m : Matches). AreAsked (g.K.Validate.added k) (rule (completed m rest) (value_at h.place) (g.K.Validate.shape k)) (drop c.args.start c.args.questions.now.items)) (sym same) (c.requires.asked rest)),
+                    ),
                   ),
                 ),
               ),
@@ -543,8 +569,8 @@ tell_refusal-tell_branches-requires g t c κs within =
             c.requires.known,
             (
               c.requires.right,
-              subst (EachMayAsk nodes (rank_at nodes h.node) (value_at h.place)) (sym (c.requires.asked none_matched).calls)
-                  (each_may_ask g.K.Validate.shape nodes h.node k _ (value_at h.place) h.graph.now.sound c.requires.stands),
+              each_may_ask g.K.Validate.knows g.K.Validate.shape nodes h.node k (g.T.Matching.matches c.args.matching.now) (value_at h.place) c.requires.known c.requires.led c.requires.stands h.graph.now.sound
+                  (map call_of (drop c.args.start c.args.questions.now.items)) (λ rest. (c.requires.asked rest).calls),
             ),
           ),
         ),
@@ -562,12 +588,13 @@ tell_refusal-tell_branches-requires-in-OneBranch g t c κs within =
         (
           within.1,
           (
-            subst (λ m. AreKnown g.K.Validate.knows m.pattern nodes) (sym c.in_ok-accepted-in-OneBranch.ensures.matches) c.requires.known,
+            subst (λ m. AreReady g.K.Validate.knows g.K.Validate.shape m nodes) (sym c.in_ok-accepted-in-OneBranch.ensures.matches) c.requires.known,
             (
               c.requires.right,
-              subst (λ qs. EachMayAsk nodes (rank_at nodes h.node) (value_at h.place) (map call_of (drop c.args.start qs))) (sym c.in_ok-accepted-in-OneBranch.ensures.questions)
-                  (subst (EachMayAsk nodes (rank_at nodes h.node) (value_at h.place)) (sym (c.requires.asked none_matched).calls)
-                  (each_may_ask g.K.Validate.shape nodes h.node k _ (value_at h.place) h.graph.now.sound c.requires.stands)),
+              subst (λ qs. EachMayAsk (g.T.Matching.matches c.count_accepted.new.matching) nodes (rank_at nodes h.node) (value_at h.place) (map call_of (drop c.args.start qs))) (sym c.in_ok-accepted-in-OneBranch.ensures.questions)
+                  (subst (λ m. EachMayAsk m nodes (rank_at nodes h.node) (value_at h.place) (map call_of (drop c.args.start c.args.questions.now.items))) (sym c.in_ok-accepted-in-OneBranch.ensures.matches)
+                  (each_may_ask g.K.Validate.knows g.K.Validate.shape nodes h.node k (g.T.Matching.matches c.args.matching.now) (value_at h.place) c.requires.known c.requires.led c.requires.stands h.graph.now.sound
+                  (map call_of (drop c.args.start c.args.questions.now.items)) (λ rest. (c.requires.asked rest).calls))),
             ),
           ),
         ),
@@ -579,16 +606,16 @@ tell_refusal-count_accepted-requires-clause-asked g t c =
     let h = c.args.there.now.here in
     let nodes = h.graph.now.nodes.items in
     let k = c.args.keyword.now in
-    subst (EachMayAsk nodes (rank_at nodes h.node) (value_at h.place)) (sym (c.requires.asked none_matched).calls)
-    (each_may_ask g.K.Validate.shape nodes h.node k _ (value_at h.place) h.graph.now.sound c.requires.stands)
+    each_may_ask g.K.Validate.knows g.K.Validate.shape nodes h.node k (g.T.Matching.matches c.args.matching.now) (value_at h.place) c.requires.known c.requires.led c.requires.stands h.graph.now.sound
+    (map call_of (drop c.args.start c.args.questions.now.items)) (λ rest. (c.requires.asked rest).calls)
 
 pub tell_refusal-count_accepted-requires-in-Counted-clause-asked : goal.tell_refusal-count_accepted-requires-in-Counted-clause-asked
 tell_refusal-count_accepted-requires-in-Counted-clause-asked g t c =
     let h = c.args.there.now.here in
     let nodes = h.graph.now.nodes.items in
     let k = c.args.keyword.now in
-    subst (EachMayAsk nodes (rank_at nodes h.node) (value_at h.place)) (sym (c.requires.asked none_matched).calls)
-    (each_may_ask g.K.Validate.shape nodes h.node k _ (value_at h.place) h.graph.now.sound c.requires.stands)
+    each_may_ask g.K.Validate.knows g.K.Validate.shape nodes h.node k (g.T.Matching.matches c.args.matching.now) (value_at h.place) c.requires.known c.requires.led c.requires.stands h.graph.now.sound
+    (map call_of (drop c.args.start c.args.questions.now.items)) (λ rest. (c.requires.asked rest).calls)
 
 pub tell_refusal-returns-in_ok-context-in-SomeBranch-clause-heard : goal.tell_refusal-returns-in_ok-context-in-SomeBranch-clause-heard
 tell_refusal-returns-in_ok-context-in-SomeBranch-clause-heard g t c =
@@ -657,7 +684,8 @@ tell_branches-tell_question-requires g t c κs within =
     let h = c.args.there.now.here in
     let nodes = h.graph.now.nodes.items in
     let l = c.loop-index in
-    let asked = subst (λ qs. EachMayAsk nodes (rank_at nodes h.node) (value_at h.place) (map call_of (drop c.args.start qs))) (sym l.invariant.questions) c.requires.asked in
+    let asked = subst (λ m. EachMayAsk m nodes (rank_at nodes h.node) (value_at h.place) (map call_of (drop c.args.start l.questions.items))) (sym l.invariant.matches)
+    (subst (λ qs. EachMayAsk (g.T.Matching.matches c.args.matching.now) nodes (rank_at nodes h.node) (value_at h.place) (map call_of (drop c.args.start qs))) (sym l.invariant.questions) c.requires.asked) in
     let short : l.index < length l.questions.items = (let e = ap length l.invariant.questions in omega arith) in (
       omega arith,
       (
@@ -665,7 +693,7 @@ tell_branches-tell_question-requires g t c κs within =
         (
           within.1,
           (
-            subst (λ m. AreKnown g.K.Validate.knows m.pattern nodes) (sym l.invariant.matches) c.requires.known,
+            subst (λ m. AreReady g.K.Validate.knows g.K.Validate.shape m nodes) (sym l.invariant.matches) c.requires.known,
             (c.requires.right, may_ask_one nodes _ _ c.args.start l.index l.questions.items c.index-question.result.now asked (omega arith) short c.index-question.ensures),
           ),
         ),
@@ -732,7 +760,8 @@ tell_step-tell_value-requires g t c κs within =
     let nodes = h.graph.now.nodes.items in
     let P : Asked → Type 0 = λ a. GoesDown (value_at h.place) (step_of a) in
     let falls = size_down nodes (value_at h.place) (view c.in-Item.item.now) (numbers_in h.progress.now) [] (rank_at nodes h.node) c.args.question.node (subst P c.in-Item.is c.requires.asked.down) in
-    (omega arith, (within.0, (within.1, (c.requires.known, (c.requires.asked.below, path_here nodes c.args.question.node _ c.requires.asked.below c.index.ensures)))))
+    let L : Asked → Type 0 = λ a. LedTo (g.T.Matching.matches c.args.matching.now) c.args.question.node (value_after (value_at h.place) (step_of a)) in
+    (omega arith, (within.0, (within.1, (c.requires.known, (c.requires.asked.below, (path_here nodes c.args.question.node _ c.requires.asked.below c.index.ensures, subst L c.in-Item.is c.requires.asked.led))))))
 
 pub tell_step-tell_value-requires-in-Member : goal.tell_step-tell_value-requires-in-Member
 tell_step-tell_value-requires-in-Member g t c κs within =
@@ -740,7 +769,8 @@ tell_step-tell_value-requires-in-Member g t c κs within =
     let nodes = h.graph.now.nodes.items in
     let P : Asked → Type 0 = λ a. GoesDown (value_at h.place) (step_of a) in
     let falls = size_down nodes (value_at h.place) (view c.in-Member.member.now) (numbers_in h.progress.now) [] (rank_at nodes h.node) c.args.question.node (subst P c.in-Member.is c.requires.asked.down) in
-    (omega arith, (within.0, (within.1, (c.requires.known, (c.requires.asked.below, path_here nodes c.args.question.node _ c.requires.asked.below c.index.ensures)))))
+    let L : Asked → Type 0 = λ a. LedTo (g.T.Matching.matches c.args.matching.now) c.args.question.node (value_after (value_at h.place) (step_of a)) in
+    (omega arith, (within.0, (within.1, (c.requires.known, (c.requires.asked.below, (path_here nodes c.args.question.node _ c.requires.asked.below c.index.ensures, subst L c.in-Member.is c.requires.asked.led))))))
 
 pub tell_step-tell_name-requires : goal.tell_step-tell_name-requires
 tell_step-tell_name-requires g t c κs within =
@@ -748,7 +778,8 @@ tell_step-tell_name-requires g t c κs within =
     let nodes = h.graph.now.nodes.items in
     let P : Asked → Type 0 = λ a. GoesDown (value_at h.place) (step_of a) in
     let falls = size_down nodes (value_at h.place) (value_at (place.Name c.in-Name.name)) (numbers_in h.progress.now) [] (rank_at nodes h.node) c.args.question.node (subst P c.in-Name.is c.requires.asked.down) in
-    (omega arith, (within.0, (within.1, (c.requires.known, (c.requires.asked.below, path_here nodes c.args.question.node _ c.requires.asked.below c.index.ensures)))))
+    let L : Asked → Type 0 = λ a. LedTo (g.T.Matching.matches c.args.matching.now) c.args.question.node (value_after (value_at h.place) (step_of a)) in
+    (omega arith, (within.0, (within.1, (c.requires.known, (c.requires.asked.below, (path_here nodes c.args.question.node _ c.requires.asked.below c.index.ensures, subst L c.in-Name.is c.requires.asked.led))))))
 
 pub tell_step-returns-then-question-clause-heard : goal.tell_step-returns-then-question-clause-heard
 tell_step-returns-then-question-clause-heard g t c =
@@ -812,7 +843,7 @@ tell_inside-tell_node-requires g t c κs within =
     let h = c.args.there.now.here in
     let nodes = h.graph.now.nodes.items in
     let falls = size_inside nodes (value_at h.place) (numbers_in h.progress.now) (rank_at nodes h.node) (rank_at nodes c.args.node) c.requires.falls in
-    (omega arith, (within.0, (within.1, (c.requires.known, (record { value = c.requires.right.value; path = path_here nodes c.args.node _ c.requires.there c.index.ensures }, c.requires.there)))))
+    (omega arith, (within.0, (within.1, (c.requires.known, (record { value = c.requires.right.value; path = path_here nodes c.args.node _ c.requires.there c.index.ensures }, (c.requires.there, c.requires.led))))))
 
 pub tell_inside-returns-clause-heard : goal.tell_inside-returns-clause-heard
 tell_inside-returns-clause-heard g t c =
@@ -839,7 +870,7 @@ tell_target-tell_node-requires g t c κs within =
     let enough = size nodes d (numbers_in h.progress.now) (rank_at nodes h.node) in
     let falls = subst (λ ms. size nodes d ms (rank_at nodes c.args.target) < enough) (sym c.enter-entered.ensures)
     (size_target nodes d (numbers_in h.progress.now) (rank_at nodes h.node) c.args.target c.requires.there fresh) in
-    (omega arith, (within.0, (within.1, (c.requires.known, (record { value = c.requires.right.value; path = path_here nodes c.args.target _ c.requires.there c.index.ensures }, c.requires.there)))))
+    (omega arith, (within.0, (within.1, (c.requires.known, (record { value = c.requires.right.value; path = path_here nodes c.args.target _ c.requires.there c.index.ensures }, (c.requires.there, c.requires.led))))))
 
 pub tell_target-returns-clause-heard : goal.tell_target-returns-clause-heard
 tell_target-returns-clause-heard g t c =
@@ -861,13 +892,14 @@ tell_target-returns-clause-heard g t c =
 pub tell_name-tell_node-requires : goal.tell_name-tell_node-requires
 tell_name-tell_node-requires g t c κs within =
     let nodes = c.args.graph.now.nodes.items in
-    let known : AreKnown g.K.Validate.knows (g.T.Matching.matches c.args.matching.now).pattern nodes = first_of (assumption, search rules) in
+    let known : AreReady g.K.Validate.knows g.K.Validate.shape (g.T.Matching.matches c.args.matching.now) nodes = first_of (assumption, search rules) in
+    let led : LedTo (g.T.Matching.matches c.args.matching.now) c.args.node (string c.args.name.now) = first_of (assumption, search rules) in
     let there : c.args.node < length nodes = first_of (assumption, search rules) in
     let path : c.args.object.schema.now ≡ path_at nodes c.args.node = first_of (assumption, search rules) in
     let text = json.String c.in_ok-from_str.field-0 in
     let viewed : view text ≡ string (string_bytes c.in_ok-from_str.field-0) = search (rules, the_lemmas) in
     let is : view text ≡ string c.args.name.now = viewed ∙ ap string c.in_ok-from_str.ensures.ok in
-    (omega (arith, c.requires.1.0), (within.0, (within.1, (known, (record { value = is; path = path }, there)))))
+    (omega (arith, c.requires.1.0), (within.0, (within.1, (known, (record { value = is; path = path }, (there, led))))))
 
 pub tell_name-returns-clause-heard : goal.tell_name-returns-clause-heard
 tell_name-returns-clause-heard g t c =

@@ -3,7 +3,7 @@ use Rattle.std.proofs.lemmas.Result.{IfOk-weaker}
 use Rattle.serde_json.specs.View.{view}
 use Rattle.serde_json.specs.View.{items_view}
 use Rattle.schema_meaning.specs.Members.{In, first, all_true}
-use Rattle.schema_meaning.specs.Places.{Step, stay}
+use Rattle.schema_meaning.specs.Places.{Step, stay, value_after}
 use Rattle.schema_meaning.specs.Keywords.{rule}
 use Rattle.schema_engine.specs.declared.combination.Combination.TheVariants as combination
 use Rattle.schema_engine.specs.declared.place.Asked.{Asked}
@@ -15,14 +15,15 @@ use Rattle.schema_engine.specs.Progress.{numbers_in, is_among}
 use Rattle.schema_engine.specs.Questions.{Call, call_of}
 use Rattle.schema_engine.specs.Asking.{AsksEach, AsksSo, target_call, item_call, item_calls}
 use Rattle.schema_engine.specs.Rules.{all_beside, combined, is_right}
-use Rattle.schema_engine.specs.Graphs.{keywords_at, rank_at, reading_of, AreKnown}
-use Rattle.schema_engine.specs.Verdicts.{Setting, Fits, node_in, asked_in, rule_in, size, Tells, EachMayAsk, GoesDown}
+use Rattle.schema_engine.specs.Graphs.{keywords_at, rank_at, reading_of}
+use Rattle.schema_engine.specs.Led.{LedTo, AreReady}
+use Rattle.schema_engine.specs.Verdicts.{Setting, Fits, node_in, asked_in, rule_in, size, Tells, MayAsk, EachMayAsk, GoesDown}
 use Rattle.schema_engine.proofs.Items.{items_begin, items_yes, items_no, items_end, may_ask_item, may_ask_items}
 use Rattle.schema_engine.proofs.Left.{KeywordsLeft, CountLeft}
 use Rattle.schema_engine.proofs.Loops.{each_yes, each_skipped, each_no, count_yes, count_no, chosen_by, combined_by}
 use Rattle.schema_engine.proofs.Sizes.{size_inside, size_down, size_target}
 use Rattle.schema_engine.proofs.Settings.{stepped, stay_fits, item_fits, member_fits, name_fits}
-use Rattle.schema_engine.proofs.Steps.{may_ask_one, may_ask_rest, each_may_ask, keywords_here, keyword_stands, keywords_yes, node_refuses, node_accepts, node_wrong, each_right, keyword_told, keyword_each, keyword_alone, keyword_targeted, question_told, follows_told, back_told, entered_told}
+use Rattle.schema_engine.proofs.Steps.{may_ask_one, may_ask_rest, may_ask_for, each_may_ask, keywords_here, keyword_stands, keywords_yes, node_refuses, node_accepts, node_wrong, each_right, keyword_told, keyword_each, keyword_alone, keyword_targeted, question_told, follows_told, back_told, entered_told}
 use Rattle.schema_engine.proofs.verdict.+verdict.Goals.{accepts_each-then-question-beside+in_ok-accepts_question+else-not-branch, accepts_each-else-question-beside, accepts_counted-then-branch, accepts_counted-else-branch}
 use Rattle.schema_engine.proofs.verdict.+verdict.Goals as goal
 
@@ -42,7 +43,7 @@ accepts_target-accepts_node-requires g t c κs within =
     let enough = size nodes d progress (rank_at nodes c.args.here.now.node) in
     let falls = subst (λ ms. size nodes d ms (rank_at nodes c.args.target) < enough) (sym c.enter-entered.ensures)
     (size_target nodes d progress (rank_at nodes c.args.here.now.node) c.args.target c.requires.there new) in
-    (omega arith, (within.0, (within.1, (c.requires.known, c.requires.there))))
+    (omega arith, (within.0, (within.1, (c.requires.known, (c.requires.there, c.requires.led)))))
 
 pub accepts_target-returns-clause-verdict : goal.accepts_target-returns-clause-verdict
 accepts_target-returns-clause-verdict g t c =
@@ -82,7 +83,8 @@ accepts_question-accepts_node-requires-in-Item g t c κs within =
     let nodes = c.args.here.now.graph.now.nodes.items in
     let P : Asked → Type 0 = λ a. GoesDown (value_at c.args.here.now.place) (step_of a) in
     let falls = size_down nodes (value_at c.args.here.now.place) (view c.in-Item.item.now) (numbers_in c.args.here.now.progress.now) [] (rank_at nodes c.args.here.now.node) c.args.question.node (subst P c.in-Item.is c.requires.asked.down) in
-    (omega arith, (within.0, (within.1, (c.requires.known, c.requires.asked.below))))
+    let L : Asked → Type 0 = λ a. LedTo (g.T.Matching.matches c.args.matching.now) c.args.question.node (value_after (value_at c.args.here.now.place) (step_of a)) in
+    (omega arith, (within.0, (within.1, (c.requires.known, (c.requires.asked.below, subst L c.in-Item.is c.requires.asked.led)))))
 
 pub accepts_question-accepts_node-requires-in-Member :
     goal.accepts_question-accepts_node-requires-in-Member
@@ -90,7 +92,8 @@ accepts_question-accepts_node-requires-in-Member g t c κs within =
     let nodes = c.args.here.now.graph.now.nodes.items in
     let P : Asked → Type 0 = λ a. GoesDown (value_at c.args.here.now.place) (step_of a) in
     let falls = size_down nodes (value_at c.args.here.now.place) (view c.in-Member.member.now) (numbers_in c.args.here.now.progress.now) [] (rank_at nodes c.args.here.now.node) c.args.question.node (subst P c.in-Member.is c.requires.asked.down) in
-    (omega arith, (within.0, (within.1, (c.requires.known, c.requires.asked.below))))
+    let L : Asked → Type 0 = λ a. LedTo (g.T.Matching.matches c.args.matching.now) c.args.question.node (value_after (value_at c.args.here.now.place) (step_of a)) in
+    (omega arith, (within.0, (within.1, (c.requires.known, (c.requires.asked.below, subst L c.in-Member.is c.requires.asked.led)))))
 
 pub accepts_question-accepts_node-requires-in-Name :
     goal.accepts_question-accepts_node-requires-in-Name
@@ -98,7 +101,8 @@ accepts_question-accepts_node-requires-in-Name g t c κs within =
     let nodes = c.args.here.now.graph.now.nodes.items in
     let P : Asked → Type 0 = λ a. GoesDown (value_at c.args.here.now.place) (step_of a) in
     let falls = size_down nodes (value_at c.args.here.now.place) (value_at (place.Name c.in-Name.name)) (numbers_in c.args.here.now.progress.now) [] (rank_at nodes c.args.here.now.node) c.args.question.node (subst P c.in-Name.is c.requires.asked.down) in
-    (omega arith, (within.0, (within.1, (c.requires.known, c.requires.asked.below))))
+    let L : Asked → Type 0 = λ a. LedTo (g.T.Matching.matches c.args.matching.now) c.args.question.node (value_after (value_at c.args.here.now.place) (step_of a)) in
+    (omega arith, (within.0, (within.1, (c.requires.known, (c.requires.asked.below, subst L c.in-Name.is c.requires.asked.led)))))
 
 -- what is asked a step down follows no reference
 no_reference : (c : Call) → (c.follows ≡ true → c.step ≡ stay) → (c.step ≡ stay → ⊥) → c.follows ≡ false
@@ -188,9 +192,10 @@ accepts_conditional-accepts_each-requires g t c κs within =
         (
           within.1,
           (
-            subst (λ m. AreKnown g.K.Validate.knows m.pattern nodes) (sym matches) c.requires.known,
-            subst (λ qs. EachMayAsk nodes (rank_at nodes c.args.here.now.node) (value_at c.args.here.now.place) (map call_of (drop (c.args.start + 1) qs))) (sym same)
-                (may_ask_rest nodes (rank_at nodes c.args.here.now.node) (value_at c.args.here.now.place) c.args.start c.args.questions.now.items c.requires.asked),
+            subst (λ m. AreReady g.K.Validate.knows g.K.Validate.shape m nodes) (sym matches) c.requires.known,
+            subst (λ qs. EachMayAsk (g.T.Matching.matches c.accepts_question.new.matching) nodes (rank_at nodes c.args.here.now.node) (value_at c.args.here.now.place) (map call_of (drop (c.args.start + 1) qs))) (sym same)
+                (may_ask_rest nodes (rank_at nodes c.args.here.now.node) (value_at c.args.here.now.place) c.args.start c.args.questions.now.items
+                (subst (λ m. EachMayAsk m nodes (rank_at nodes c.args.here.now.node) (value_at c.args.here.now.place) (map call_of (drop c.args.start c.args.questions.now.items))) (sym matches) c.requires.asked)),
           ),
         ),
       ),
@@ -202,7 +207,8 @@ pub accepts_counted-accepts_question-requires : goal.accepts_counted-accepts_que
 accepts_counted-accepts_question-requires g t c κs within =
     let nodes = c.args.here.now.graph.now.nodes.items in
     let l = c.loop-index in
-    let asked = subst (λ qs. EachMayAsk nodes (rank_at nodes c.args.here.now.node) (value_at c.args.here.now.place) (map call_of (drop c.args.start qs))) (sym l.invariant.questions) c.requires.asked in
+    let asked = subst (λ m. EachMayAsk m nodes (rank_at nodes c.args.here.now.node) (value_at c.args.here.now.place) (map call_of (drop c.args.start l.questions.items))) (sym l.invariant.matches)
+    (subst (λ qs. EachMayAsk (g.T.Matching.matches c.args.matching.now) nodes (rank_at nodes c.args.here.now.node) (value_at c.args.here.now.place) (map call_of (drop c.args.start qs))) (sym l.invariant.questions) c.requires.asked) in
     let short : l.index < length l.questions.items = (let e = ap length l.invariant.questions in omega arith) in (
       omega arith,
       (
@@ -210,7 +216,7 @@ accepts_counted-accepts_question-requires g t c κs within =
         (
           within.1,
           (
-            subst (λ m. AreKnown g.K.Validate.knows m.pattern nodes) (sym l.invariant.matches) c.requires.known,
+            subst (λ m. AreReady g.K.Validate.knows g.K.Validate.shape m nodes) (sym l.invariant.matches) c.requires.known,
             may_ask_one nodes _ _ c.args.start l.index l.questions.items c.index-question.result.now asked (omega arith) short c.index-question.ensures,
           ),
         ),
@@ -221,7 +227,8 @@ pub accepts_each-accepts_question-requires : goal.accepts_each-accepts_question-
 accepts_each-accepts_question-requires g t c κs within =
     let nodes = c.args.here.now.graph.now.nodes.items in
     let l = c.loop-index in
-    let asked = subst (λ qs. EachMayAsk nodes (rank_at nodes c.args.here.now.node) (value_at c.args.here.now.place) (map call_of (drop c.args.start qs))) (sym l.invariant.questions) c.requires.asked in
+    let asked = subst (λ m. EachMayAsk m nodes (rank_at nodes c.args.here.now.node) (value_at c.args.here.now.place) (map call_of (drop c.args.start l.questions.items))) (sym l.invariant.matches)
+    (subst (λ qs. EachMayAsk (g.T.Matching.matches c.args.matching.now) nodes (rank_at nodes c.args.here.now.node) (value_at c.args.here.now.place) (map call_of (drop c.args.start qs))) (sym l.invariant.questions) c.requires.asked) in
     let short : l.index < length l.questions.items = (let e = ap length l.invariant.questions in omega arith) in (
       omega arith,
       (
@@ -229,7 +236,7 @@ accepts_each-accepts_question-requires g t c κs within =
         (
           within.1,
           (
-            subst (λ m. AreKnown g.K.Validate.knows m.pattern nodes) (sym l.invariant.matches) c.requires.known,
+            subst (λ m. AreReady g.K.Validate.knows g.K.Validate.shape m nodes) (sym l.invariant.matches) c.requires.known,
             may_ask_one nodes _ _ c.args.start l.index l.questions.items c.index-question.result.now asked (omega arith) short c.index-question.ensures,
           ),
         ),
@@ -242,42 +249,24 @@ pub accepts_keyword-accepts_target-requires : goal.accepts_keyword-accepts_targe
 accepts_keyword-accepts_target-requires g t c κs within =
     let nodes = c.args.here.now.graph.now.nodes.items in
     let d = value_at c.args.here.now.place in
-    let k = rule (completed (g.T.Matching.matches c.args.matching.now) none_matched) d (g.K.Validate.shape c.args.keyword.now) in
-    let asks : AsksEach k (target_call c.in-Target.node ∷ []) = subst (λ a. AsksSo a k) c.in-Target.is (c.asking.ensures _) in
-    let may = each_may_ask g.K.Validate.shape nodes c.args.here.now.node c.args.keyword.now _ d c.args.here.now.graph.now.sound c.requires.stands in (
-      omega arith,
-      (
-        within.0,
-        (
-          within.1,
-          (
-            c.requires.known,
-            ((subst (EachMayAsk nodes (rank_at nodes c.args.here.now.node) d) asks.questions may).each (target_call c.in-Target.node) first).below,
-          ),
-        ),
-      ),
-    )
+    let m = g.T.Matching.matches c.args.matching.now in
+    let k = λ (rest : Answers). rule (completed m rest) d (g.K.Validate.shape c.args.keyword.now) in
+    let asks = λ (rest : Answers). AsksEach.questions (subst (λ a. AsksSo a (k rest)) c.in-Target.is (c.asking.ensures _)) in
+    let may = (each_may_ask g.K.Validate.knows g.K.Validate.shape nodes c.args.here.now.node c.args.keyword.now m d c.requires.known c.requires.led c.requires.stands c.args.here.now.graph.now.sound
+    (target_call c.in-Target.node ∷ []) (λ rest. sym (asks rest))).each (target_call c.in-Target.node) first in
+    (omega arith, (within.0, (within.1, (c.requires.known, (may.below, may.led)))))
 
 pub accepts_keyword-accepts_items-requires : goal.accepts_keyword-accepts_items-requires
 accepts_keyword-accepts_items-requires g t c κs within =
     let nodes = c.args.here.now.graph.now.nodes.items in
     let d = value_at c.args.here.now.place in
-    let k = rule (completed (g.T.Matching.matches c.args.matching.now) none_matched) d (g.K.Validate.shape c.args.keyword.now) in
-    let asks : AsksEach k (item_calls c.in-Items.node c.in-Items.start (items_view (drop c.in-Items.start c.in-Items.items.now))) =
-    subst (λ a. AsksSo a k) c.in-Items.is (c.asking.ensures _) in
-    let may = each_may_ask g.K.Validate.shape nodes c.args.here.now.node c.args.keyword.now _ d c.args.here.now.graph.now.sound c.requires.stands in (
-      omega arith,
-      (
-        within.0,
-        (
-          within.1,
-          (
-            c.requires.known,
-            subst (EachMayAsk nodes (rank_at nodes c.args.here.now.node) d) asks.questions may,
-          ),
-        ),
-      ),
-    )
+    let m = g.T.Matching.matches c.args.matching.now in
+    let k = λ (rest : Answers). rule (completed m rest) d (g.K.Validate.shape c.args.keyword.now) in
+    let calls = item_calls c.in-Items.node c.in-Items.start (items_view (drop c.in-Items.start c.in-Items.items.now)) in
+    let asks = λ (rest : Answers). AsksEach.questions (subst (λ a. AsksSo a (k rest)) c.in-Items.is (c.asking.ensures _)) in
+    let may = each_may_ask g.K.Validate.knows g.K.Validate.shape nodes c.args.here.now.node c.args.keyword.now m d c.requires.known c.requires.led c.requires.stands c.args.here.now.graph.now.sound
+    calls (λ rest. sym (asks rest)) in
+    (omega arith, (within.0, (within.1, (c.requires.known, may))))
 
 pub accepts_keyword-returns-in-Nothing-clause-verdict :
     goal.accepts_keyword-returns-in-Nothing-clause-verdict
@@ -313,22 +302,33 @@ accepts_keyword-returns-in-Items-clause-verdict g t c =
 
 -- ---- one whose questions are listed
 
+pub accepts_listed-questions-requires : goal.accepts_listed-questions-requires
+accepts_listed-questions-requires g t c =
+    let nodes = c.args.here.now.graph.now.nodes.items in
+    let k = c.args.keyword.now in
+    record {
+      known = c.requires.known.known.each c.args.here.now.node k c.requires.stands;
+      asked = may_ask_for g.K.Validate.knows g.K.Validate.shape nodes c.args.here.now.node k _ (value_at c.args.here.now.place) c.requires.known c.requires.led c.requires.stands;
+    }
+
 pub accepts_listed-accepts_combined-requires : goal.accepts_listed-accepts_combined-requires
 accepts_listed-accepts_combined-requires g t c κs within =
     let nodes = c.args.here.now.graph.now.nodes.items in
+    let d = value_at c.args.here.now.place in
     let same = c.in_ok-questions.ensures.same in
-    let pushed = c.in_ok-questions.ensures.pushed none_matched in
     let start : c.len-start.result ≡ length c.args.questions.now.items = omega arith in
-    let asked = ap (λ n. map call_of (drop n c.questions.new.into.items)) start ∙ pushed.pushed in (
+    let now = c.questions.new.into.items in
+    let asked = λ (rest : Answers). ap (λ n. map call_of (drop n now)) start ∙ (c.in_ok-questions.ensures.pushed rest).pushed in
+    let may = each_may_ask g.K.Validate.knows g.K.Validate.shape nodes c.args.here.now.node c.args.keyword.now (g.T.Matching.matches c.args.matching.now) d c.requires.known c.requires.led c.requires.stands c.args.here.now.graph.now.sound
+    (map call_of (drop c.len-start.result now)) asked in (
       omega arith,
       (
         within.0,
         (
           within.1,
           (
-            subst (λ m. AreKnown g.K.Validate.knows m.pattern nodes) (sym same) c.requires.known,
-            subst (EachMayAsk nodes (rank_at nodes c.args.here.now.node) (value_at c.args.here.now.place)) (sym asked)
-                (each_may_ask g.K.Validate.shape nodes c.args.here.now.node c.args.keyword.now _ (value_at c.args.here.now.place) c.args.here.now.graph.now.sound c.requires.stands),
+            subst (λ m. AreReady g.K.Validate.knows g.K.Validate.shape m nodes) (sym same) c.requires.known,
+            subst (λ m. EachMayAsk m nodes (rank_at nodes c.args.here.now.node) d (map call_of (drop c.len-start.result now))) (sym same) may,
           ),
         ),
       ),
@@ -363,8 +363,9 @@ accepts_items-accepts_question-requires g t c κs within =
         (
           within.1,
           (
-            subst (λ m. AreKnown g.K.Validate.knows m.pattern nodes) (sym l.invariant.matches) c.requires.known,
-            may_ask_item nodes _ _ c.args.node l.index c.args.items.now c.index-items-index.result (omega arith) c.index-items-index.is l.invariant.asked,
+            subst (λ m. AreReady g.K.Validate.knows g.K.Validate.shape m nodes) (sym l.invariant.matches) c.requires.known,
+            subst (λ m. MayAsk m nodes (rank_at nodes c.args.here.now.node) (value_at c.args.here.now.place) (item_call c.args.node l.index (view c.index-items-index.result))) (sym l.invariant.matches)
+                (may_ask_item nodes _ _ c.args.node l.index c.args.items.now c.index-items-index.result (omega arith) c.index-items-index.is l.invariant.asked),
           ),
         ),
       ),
@@ -416,7 +417,10 @@ pub accepts_node-accept_itself-requires : goal.accepts_node-accept_itself-requir
 accepts_node-accept_itself-requires g t c =
     let nodes = c.args.graph.now.nodes.items in
     let here = keywords_here nodes c.args.node c.index.result.now c.requires.there c.index.ensures ∙ sym c.as_slice-keywords.ensures.value in
-    record { known = λ k i. c.requires.known.each c.args.node k (subst (In k) (sym here) i) }
+    record {
+      known = λ k i. c.requires.known.known.each c.args.node k (subst (In k) (sym here) i);
+      asked = λ k i. may_ask_for g.K.Validate.knows g.K.Validate.shape nodes c.args.node k _ (value_at c.args.place) c.requires.known c.requires.led (subst (In k) (sym here) i);
+    }
 
 pub accepts_node-returns-then-not-branch-clause-verdict :
     goal.accepts_node-returns-then-not-branch-clause-verdict
@@ -443,11 +447,14 @@ accepts_node-accepts_keyword-requires g t c κs within =
         (
           within.1,
           (
-            subst (λ m. AreKnown g.K.Validate.knows m.pattern nodes) (sym l.invariant.matches) c.requires.known,
+            subst (λ m. AreReady g.K.Validate.knows g.K.Validate.shape m nodes) (sym l.invariant.matches) c.requires.known,
             (
               subst (In c.keyword-item.result) (sym here) stands,
-              λ rest. subst (λ (m : Matches). is_right (rule (completed m rest) (value_at c.args.place) (g.K.Validate.shape c.keyword-item.result)) ≡ true) (sym l.invariant.matches)
-                  (each_right g.K.Validate.shape _ nodes c.args.node c.args.place (numbers_in c.args.progress.now) c.as_slice-keywords.result.now c.keyword-item.result stands (right rest)),
+              (
+                subst (λ m. LedTo m c.args.node (value_at c.args.place)) (sym l.invariant.matches) c.requires.led,
+                λ rest. subst (λ (m : Matches). is_right (rule (completed m rest) (value_at c.args.place) (g.K.Validate.shape c.keyword-item.result)) ≡ true) (sym l.invariant.matches)
+                    (each_right g.K.Validate.shape _ nodes c.args.node c.args.place (numbers_in c.args.progress.now) c.as_slice-keywords.result.now c.keyword-item.result stands (right rest)),
+              ),
             ),
           ),
         ),

@@ -76,6 +76,6 @@ invariant-accepts_items-loop-index g l =
     record {
       matches : g.T.Matching.matches l.matching ≡ entry;
       questions : l.questions.items ≡ l.fn.questions.items;
-      asked : EachMayAsk nodes (rank_at nodes l.here.node) (value_at l.here.place) (item_calls l.node l.index (items_view (drop l.index l.items)));
+      asked : EachMayAsk entry nodes (rank_at nodes l.here.node) (value_at l.here.place) (item_calls l.node l.index (items_view (drop l.index l.items)));
       left : InEach entry (λ m. ItemsLeft (reading_of g.K.Validate.shape m nodes) l.here.place progress (size nodes (value_at l.here.place) progress (rank_at nodes l.here.node)) l.node l.start l.items l.index);
     }
