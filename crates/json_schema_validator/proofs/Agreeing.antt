@@ -36,9 +36,10 @@ use Rattle.schema_registries.specs.declared.documents.Documents.{Documents}
 use Rattle.schema_registries.specs.declared.registry.SharedRegistry.{SharedRegistry}
 use Rattle.schema_registries.specs.declared.registry.SchemaRegistry.{SchemaRegistry}
 use Rattle.moved_documents.specs.Forms.{root_alone, moved_alone, added, by_map, inside, joined}
-use Rattle.moved_documents.specs.Premises.{CanMove}
+use Rattle.moved_documents.specs.Premises.{BornOnce, CanMove}
 use Rattle.moved_documents.proofs.Apart.{uris_apart, bear_apart, added_is_joined}
 use Rattle.moved_documents.proofs.Settled.{stands_alone as left_alone}
+use Rattle.moved_documents.proofs.Told.{once_beside}
 use Rattle.moved_documents.proofs.Retrieved.{wanted_is_added, retrieved_is_added}
 use Rattle.moved_documents.proofs.Law.{inside_is_added}
 use Rattle.moved_documents.proofs.Order.{one_text, moved_text}
@@ -75,7 +76,7 @@ leads p r s = by (lookup r.documents r.base r.reference) refl s.found
     by (Err c) is e = absurd (cc)
 
 pub roots_agree : RootsAgree
-roots_agree m draft whole can p base reference one other d decided text text' h g =
+roots_agree m draft whole can accepted p base reference one other d decided text text' h g =
     let r = root_of (added m) base reference in
     let s = root_of (inside m whole) base reference in
     let from = leads p r one in
@@ -86,7 +87,7 @@ roots_agree m draft whole can p base reference one other d decided text text' h 
     let these = g.1 decided.matches to.target to.finds second.0 second.1 in
     let builds : Builds (added m) p.makes base reference from.target = record { found = from.finds; right = one.right from.target from.finds } in
     let builds_too : Builds (inside m whole) p.makes base reference to.target = record { found = to.finds; right = other.right to.target to.finds } in
-    let law = inside_is_added m draft whole can p.makes base reference from.target to.target builds builds_too decided.matches d in
+    let law = inside_is_added m draft whole can accepted p.makes base reference from.target to.target builds builds_too decided.matches d in
     let texts : faults_text those.faults ≡ faults_text these.faults = law.texts those.faults these.faults those.told these.told in
     let one_line : faults_text h.0 ≡ faults_text g.0 =
     told_text p r decided.matches from.target d h.0 those ∙ texts ∙ sym (told_text p s decided.matches to.target d g.0 these) in
@@ -127,6 +128,11 @@ pub record IsSaid (p : Patterns) (r : Root) (d : Data) (said : List ℕ) : Type 
 said_on : (p : Patterns) (r s : Root) (d : Data) (text : List ℕ) → r ≡ s → IsSound p r → IsTextOf p r d text → IsSaid p s d text
 said_on p r s d text same sound is = subst (λ (x : Root). IsSaid p x d text) same (record { sound = sound; text = is })
 
+-- so with the other document inside, and nothing is wrong with the documents of that form
+record IsSaidInside (p : Patterns) (m : Moving) (whole d : Data) (text : List ℕ) : Type 0 where
+  pub accepted : document_causes (inside (pair_of m) whole) ≡ []
+  pub said : IsSaid p (root_inside m whole) d text
+
 -- the text under one root is one
 said_once : (p : Patterns) (r : Root) (d : Data) (matches : List ℕ → List ℕ → Bool) → IsDecided p matches r d → (text other : List ℕ)
     → IsSaid p r d text → IsSaid p r d other → text ≡ other
@@ -162,16 +168,22 @@ module _ {P R : Type 0} (may_answer : R → List ℕ → Data → Type 0) (may_r
       said_on p (root_on r m.root_uri.now) (root_beside m) d (string_bytes text) same h.is.sound h.is.text
 
   within_is : (whole : Data) (text : String Global) (o : ValidationOptions P R) → AreDefault o → (h : IsWithin p may_answer may_refuse o m d (Ok text)) → h.whole ≡ whole
-      → IsSaid p (root_inside m whole) d (string_bytes text)
+      → IsSaidInside p m whole d (string_bytes text)
   within_is whole text o default h is =
       let r = h.is.registry in
+      let given : List Given = given_under m.root_uri.now h.whole ∷ [] in
       let same : root_on r m.root_uri.now ≡ root_inside m whole =
-      root_is may_answer may_refuse nothing o default (given_under m.root_uri.now h.whole ∷ []) r m.root_uri.now h.is.prepared
+      root_is may_answer may_refuse nothing o default given r m.root_uri.now h.is.prepared
       ∙ ap₂ (λ (w : Data) (base : List ℕ). root_of (inside (pair_of m) w) base m.root_uri.now) is default.base in
-      said_on p (root_on r m.root_uri.now) (root_inside m whole) d (string_bytes text) same h.is.sound h.is.text
+      let documents : documents_in_registry r ≡ inside (pair_of m) whole =
+      given_alone may_answer may_refuse nothing o default given r h.is.prepared ∙ ap (λ (w : Data). inside (pair_of m) w) is in
+      record {
+        accepted = sym (ap (λ (ds : List Document). document_causes ds) documents) ∙ h.is.prepared.documents.own.accepted;
+        said = said_on p (root_on r m.root_uri.now) (root_inside m whole) d (string_bytes text) same h.is.sound h.is.text;
+      }
 
   said_inside : (whole : Data) → joined (pair_of m) ≡ Some whole → (text : String Global) → IsInsideBy p may_answer may_refuse maker m d (Ok text)
-      → IsSaid p (root_inside m whole) d (string_bytes text)
+      → IsSaidInside p m whole d (string_bytes text)
   said_inside whole is text h =
       elim h.is [
         | inl w ↦ within_is whole text h.options h.by.default w (same_Some w.whole whole (sym w.joined ∙ is))
@@ -291,19 +303,21 @@ module _ {P : Type 0} (may_answer : MapRetriever → List ℕ → Data → Type 
           | inr e ↦ said_among (added (pair_of m)) e
         ]
 
-    said_moved : (draft : Draft) (whole : Data) → CanMove (pair_of m) draft whole → IsLeftOut p m → IsSaid p (root_beside m) d (string_bytes text)
-    said_moved draft whole can out = said_out out (bear_apart (pair_of m) draft whole can)
+    said_moved : (draft : Draft) (whole : Data) → CanMove (pair_of m) draft whole → BornOnce (meta (added (pair_of m))) (inside (pair_of m) whole) → IsLeftOut p m
+        → IsSaid p (root_beside m) d (string_bytes text)
+    said_moved draft whole can once out = said_out out (bear_apart (pair_of m) draft whole can once)
 
     said_apart : ShareNone m → IsLeftOut p m → IsSaid p (root_beside m) d (string_bytes text)
     said_apart (inl apart) out = said_out out (λ told. apart)
-    said_apart (inr can) out = said_moved can.0 can.1 can.2 out
+    said_apart (inr can) out = said_moved can.0 can.1 can.2 can.3 out
 
 -- ---- one text
 
-moved_text_is : (p : Patterns) (m : Moving) (d : Data) (may : MayMove p m d) (text other : List ℕ) → IsSaid p (root_beside m) d text → IsSaid p (root_inside m may.whole) d other
+moved_text_is : (p : Patterns) (m : Moving) (d : Data) (may : MayMove p m d) (text other : List ℕ) → IsSaid p (root_beside m) d text → IsSaidInside p m may.whole d other
     → text ≡ other
 moved_text_is p m d may text other h g =
-    roots_agree (pair_of m) may.draft may.whole may.can p (codes "json-schema:///") m.root_uri.now h.sound g.sound d may.decided text other h.text g.text
+    roots_agree (pair_of m) may.draft may.whole may.can g.accepted p (codes "json-schema:///") m.root_uri.now h.sound g.said.sound d may.decided text other h.text
+    g.said.text
 
 are_one : (a b : Result (String Global) BuildError)
     → ((text other : String Global) → a ≡ Ok text → b ≡ Ok other → string_bytes text ≡ string_bytes other) → AreOne a b
@@ -328,13 +342,16 @@ module _ {P R : Type 0} (may_answer : R → List ℕ → Data → Type 0) (may_r
         | inl wanting ↦ said_wanted map_answers map_refuses answers maker p m d text (got text is) wanting
         | inr a ↦ said_apart map_answers map_refuses answers maker p m d text (got text is) a.0 a.1
       ] in
-      let moving : (may : MayMove p m d) → IsWanting m ⊎ IsLeftOut p m → (text : String Global) → r.retrieved ≡ Ok text → IsSaid p (root_beside m) d (string_bytes text) =
-      λ may settled text is.
+      let moving : (may : MayMove p m d) → document_causes (inside (pair_of m) may.whole) ≡ [] → IsWanting m ⊎ IsLeftOut p m → (text : String Global)
+      → r.retrieved ≡ Ok text → IsSaid p (root_beside m) d (string_bytes text) =
+      λ may accepted settled text is.
       elim settled [
         | inl wanting ↦ said_wanted map_answers map_refuses answers maker p m d text (got text is) wanting
-        | inr out ↦ said_moved map_answers map_refuses answers maker p m d text (got text is) may.draft may.whole may.can out
+        | inr out ↦
+            said_moved map_answers map_refuses answers maker p m d text (got text is) may.draft may.whole may.can
+            (once_beside (pair_of m) may.draft may.whole may.can accepted) out
       ] in
-      let within : (may : MayMove p m d) (text : String Global) → r.inside ≡ Ok text → IsSaid p (root_inside m may.whole) d (string_bytes text) =
+      let within : (may : MayMove p m d) (text : String Global) → r.inside ≡ Ok text → IsSaidInside p m may.whole d (string_bytes text) =
       λ may text is.
       said_inside may_answer may_refuse nothing maker p m d may.whole may.can.joined text
       (subst (λ (a : Result (String Global) BuildError). IsInsideBy p may_answer may_refuse maker m d a) is g) in
@@ -344,5 +361,9 @@ module _ {P R : Type 0} (may_answer : R → List ℕ → Data → Type 0) (may_r
             (λ t u a b. moved_text_is p m d may (string_bytes t) (string_bytes u) (beside (uris_apart (pair_of m) may.draft may.whole may.can) t a) (within may u b));
         retrieved = λ apart settled matches decided.
             are_one r.added r.retrieved (λ t u a b. said_once p (root_beside m) d matches decided (string_bytes t) (string_bytes u) (beside apart t a) (asked settled u b));
-        moved = λ settled may. are_one r.retrieved r.inside (λ t u a b. moved_text_is p m d may (string_bytes t) (string_bytes u) (moving may settled t a) (within may u b));
+        moved = λ settled may.
+            are_one r.retrieved r.inside
+            (λ t u a b.
+            let there = within may u b in
+            moved_text_is p m d may (string_bytes t) (string_bytes u) (moving may there.accepted settled t a) there);
       }

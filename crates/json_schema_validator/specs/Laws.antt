@@ -6,7 +6,8 @@ use Rattle.serde_json.specs.View.{view}
 use Rattle.uri_references.specs.Identity.{identity_of}
 use Rattle.schema_drafts.specs.Drafts.{newest}
 use Rattle.schema_drafts.specs.declared.draft.Draft.{Draft}
-use Rattle.schema_definitions.specs.Bearers.{bearer}
+use Rattle.schema_definitions.specs.Bearers.{bearer, meta}
+use Rattle.schema_definitions.specs.DocumentCauses.{document_causes}
 use Rattle.schema_definitions.specs.Lookup.{Target}
 use Rattle.schema_definitions.specs.Rounds.{wants}
 use Rattle.referencing.specs.Built.{first_layer}
@@ -14,7 +15,7 @@ use Rattle.schema_registries.specs.Roots.{Root, Patterns, Finds, IsSound}
 use Rattle.schema_registries.specs.Answers.{Finish, ComesBack}
 use Rattle.added_documents.specs.Added.{IsFree}
 use Rattle.moved_documents.specs.Forms.{Pair, root_alone, moved_alone, added, inside}
-use Rattle.moved_documents.specs.Premises.{CanMove, LeavesOut}
+use Rattle.moved_documents.specs.Premises.{BornOnce, CanMove, LeavesOut}
 use Rattle.schema_validators.specs.Seen.{root_of}
 use Rattle.schema_validators.specs.declared.error.BuildError.{BuildError}
 use Rattle.json_schema_validator.specs.Answers.{IsTextOf}
@@ -31,9 +32,10 @@ pub record AreDecided (p : Patterns) (r s : Root) (d : Data) : Type 0 where
   pub one : IsDecided p matches r d
   pub other : IsDecided p matches s d
 
--- the roots that one reference leads to with a document added, and with it inside
+-- the roots that one reference leads to with a document added, and with it inside, where nothing is wrong with the documents of that form
 abbrev pub RootsAgree : Type 0
-RootsAgree = (m : Pair) (draft : Draft) (whole : Data) → CanMove m draft whole → (p : Patterns) (base reference : List ℕ)
+RootsAgree = (m : Pair) (draft : Draft) (whole : Data) → CanMove m draft whole → document_causes (inside m whole) ≡ []
+    → (p : Patterns) (base reference : List ℕ)
     → IsSound p (root_of (added m) base reference) → IsSound p (root_of (inside m whole) base reference)
     → (d : Data) → AreDecided p (root_of (added m) base reference) (root_of (inside m whole) base reference) d
     → (text other : List ℕ) → IsTextOf p (root_of (added m) base reference) d text → IsTextOf p (root_of (inside m whole) base reference) d other → text ≡ other
@@ -69,9 +71,11 @@ AreApart m = bytes_eq (identity_of m.root_uri.now) (identity_of m.moved_uri.now)
 abbrev pub BearApart : Moving → Type 0
 BearApart m = (uri : List ℕ) → is_some (bearer (root_alone (pair_of m)) uri) ≡ true → IsFree (moved_alone (pair_of m)) (added (pair_of m)) uri
 
--- or the one can be moved into the other, where none is
+-- or the one can be moved into the other, where by what the two tell of meta-schemas nothing is borne twice either: then none is
 abbrev pub ShareNone : Moving → Type 0
-ShareNone m = BearApart m ⊎ ((draft : Draft) × (whole : Data) × CanMove (pair_of m) draft whole)
+ShareNone m =
+    BearApart m
+    ⊎ ((draft : Draft) × (whole : Data) × CanMove (pair_of m) draft whole × BornOnce (meta (added (pair_of m))) (inside (pair_of m) whole))
 
 -- the root by itself wants a document
 abbrev pub IsWanting : Moving → Type 0

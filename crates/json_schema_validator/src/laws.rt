@@ -3,8 +3,8 @@
 
 ghost use Rattle.json_schema_validator.specs.Laws.{RootsAgree};
 
-/// Where one document can be moved into the other, and nothing is wrong with the root in both forms: where the matches that an instance asks for
-/// finish and no references come back, the line texts of its faults are one.
+/// Where one document can be moved into the other, and nothing is wrong with the documents of the form with it inside, nor with the root in both
+/// forms: where the matches that an instance asks for finish and no references come back, the line texts of its faults are one.
 pub fn roots_agree()
     ensures { RootsAgree }
 {}

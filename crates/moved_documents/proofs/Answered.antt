@@ -8,6 +8,7 @@ use Rattle.schema_meaning.specs.Members.{In, first, later, Reordered, nothing_le
 use Rattle.schema_meaning.specs.Keywords.{Shape}
 use Rattle.schema_definitions.specs.Places.{SchemaPlace, entered}
 use Rattle.schema_definitions.specs.Bearers.{Documents, meta}
+use Rattle.schema_definitions.specs.DocumentCauses.{document_causes}
 use Rattle.schema_definitions.specs.Scopes.{entered_scope}
 use Rattle.schema_definitions.specs.Lookup.{Target}
 use Rattle.schema_definitions.specs.Sites.{Site, within, below, target_site, root_site}
@@ -62,7 +63,7 @@ pub record SiteAlike (fresh : List ℕ) (moved : Data) (s t : Site) : Type 0 whe
   pub dialect : s.dialect ≡ t.dialect
   pub schema_path : s.schema_path ≡ t.schema_path
 
-module _ (p : Pair) (draft : Draft) (whole : Data) (can : CanMove p draft whole) (makes : List ℕ → Bool) where
+module _ (p : Pair) (draft : Draft) (whole : Data) (can : CanMove p draft whole) (accepted : document_causes (inside p whole) ≡ []) (makes : List ℕ → Bool) where
   abbrev old : Documents
   old = added p
 
@@ -87,7 +88,7 @@ module _ (p : Pair) (draft : Draft) (whole : Data) (can : CanMove p draft whole)
 
     below_like : (parts : List Part) (d : Data) → Like (below old s parts d) (below new second parts d)
     below_like parts d =
-        subst (λ (x : SchemaPlace). Like (within s parts x) (below new second parts d)) (sym ((tell p draft whole can).entry s.base s.dialect (parts ++ s.path) d))
+        subst (λ (x : SchemaPlace). Like (within s parts x) (below new second parts d)) (sym ((tell p draft whole can accepted).entry s.base s.dialect (parts ++ s.path) d))
         (within_like parts (entered (meta new) s.base s.dialect (parts ++ s.path) d) (entered (meta new) s.base s.dialect (parts ++ path) d)
         (entered_alike p.fresh p.moved can.fresh (told p draft whole can) s.base s.dialect (parts ++ s.path) (parts ++ path) d d unmoved))
 
@@ -103,9 +104,9 @@ module _ (p : Pair) (draft : Draft) (whole : Data) (can : CanMove p draft whole)
     leads_like : LeadAlike old new makes s document path contents Like
     leads_like = record {
       below_alike = below_like;
-      static_alike = λ text x y f g. target_like text x y (static_led p draft whole can s.base text x y f g);
-      dynamic_alike = λ text x y f g. target_like text x y (dynamic_led p draft whole can s.base s.scope text x y f g);
-      recursive_alike = λ text x y f g. target_like text x y (recursive_led p draft whole can s.base s.scope x y f g);
+      static_alike = λ text x y f g. target_like text x y (static_led p draft whole can accepted s.base text x y f g);
+      dynamic_alike = λ text x y f g. target_like text x y (dynamic_led p draft whole can accepted s.base s.scope text x y f g);
+      recursive_alike = λ text x y f g. target_like text x y (recursive_led p draft whole can accepted s.base s.scope x y f g);
     }
 
     keywords_like : Near p.fresh p.moved s.contents contents → NoneWrong (rows_at old makes s) → NoneWrong (rows_at new makes second)

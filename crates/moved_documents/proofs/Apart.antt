@@ -14,14 +14,13 @@ use Rattle.document_laws.proofs.Levels.{root_among}
 use Rattle.document_laws.proofs.TargetPlaces.{PlaceInside, places_inside}
 use Rattle.added_documents.specs.Added.{Joined, neither, one_kept, one_added, EachNamedBy, IsToldAlike, IsFree, LeftAlone}
 use Rattle.added_documents.proofs.Walking.{same_last}
-use Rattle.moved_documents.specs.Forms.{Pair, document_at, root_alone, moved_alone, added}
-use Rattle.moved_documents.specs.Premises.{CanMove}
+use Rattle.moved_documents.specs.Forms.{Pair, document_at, root_alone, moved_alone, added, inside}
+use Rattle.moved_documents.specs.Premises.{BornOnce, CanMove}
 use Rattle.moved_documents.specs.Laws.{RootStandsAlone}
 use Rattle.moved_documents.proofs.Twins.{IsUnder}
 use Rattle.moved_documents.proofs.Roots.{the_root, the_moved, root_is, moved_is, moved_path, nothing_there}
 use Rattle.moved_documents.proofs.Placed.{OfRoot, both_roots, both_below, OfMoved, moved_root, moved_below, root_has, moved_has}
 use Rattle.moved_documents.proofs.Standings.{standing, in_mapped, found_last, root_name, moved_name, root_alike, moved_alike, inside_listed}
-use Rattle.moved_documents.proofs.Told.{told, tell, once}
 use Rattle.moved_documents.proofs.Settled.{stands_alone}
 
 first_or : (a b : Bool) → a ≡ true → (a || b) ≡ true
@@ -41,10 +40,8 @@ place_of document ps s i =
       | inr j ↦ elim j [ ]
     ]
 
-module _ (p : Pair) (draft : Draft) (whole : Data) (can : CanMove p draft whole) where
-  abbrev there : List ℕ → Option Dialect
-  there = told p draft whole can
-
+module _ (p : Pair) (draft : Draft) (whole : Data) (can : CanMove p draft whole) (there : List ℕ → Option Dialect)
+    (once : BornOnce there (inside p whole)) where
   abbrev at : List Part
   at = moved_path p draft whole can there
 
@@ -84,7 +81,7 @@ module _ (p : Pair) (draft : Draft) (whole : Data) (can : CanMove p draft whole)
       let first : bears uri (standing document y.0) ≡ true = sym ((root_alike p draft whole can there x y.0 y.2).bears_alike uri) ∙ e in
       let second : bears uri (standing document w.0) ≡ true = sym ((moved_alike p draft whole can there z w.0 w.2).bears_alike uri) ∙ f in
       let one : standing document y.0 ≡ standing document w.0 =
-      (once p draft whole can).uris uri (standing document y.0) (standing document w.0) (inside_listed p draft whole can there y.0 y.1) (inside_listed p draft whole can there w.0 w.1)
+      once.uris uri (standing document y.0) (standing document w.0) (inside_listed p draft whole can there y.0 y.1) (inside_listed p draft whole can there w.0 w.1)
       first second in
       let path : x.path ≡ w.0.path = same_path x y.0 y.2 ∙ ap (λ (r : Standing). r.place.path) one in
       let u = under z w.0 w.2 in
@@ -100,8 +97,8 @@ module _ (p : Pair) (draft : Draft) (whole : Data) (can : CanMove p draft whole)
       both_places uri x.place z.place x.among z.among (sym (ap (bears uri) x.is) ∙ last.passes) (sym (ap (bears uri) z.is) ∙ other.passes)
 
   -- so their own are two
-  pub uris_apart : bytes_eq p.root_uri p.moved_uri ≡ false
-  uris_apart = by (bytes_eq p.root_uri p.moved_uri) refl
+  own_apart : bytes_eq p.root_uri p.moved_uri ≡ false
+  own_apart = by (bytes_eq p.root_uri p.moved_uri) refl
     where
       by : (b : Bool) → bytes_eq p.root_uri p.moved_uri ≡ b → bytes_eq p.root_uri p.moved_uri ≡ false
       by false is = is
@@ -115,24 +112,28 @@ module _ (p : Pair) (draft : Draft) (whole : Data) (can : CanMove p draft whole)
           (subst (λ (q : SchemaPlace). In q moved_places) moved (root_among there p.moved_uri (by_default p.layer) p.moved))
           (first_or _ _ is) (first_or _ _ ((bytes_eq-Decides p.moved_uri p.moved_uri).1 refl)))
 
-  pub bear_apart : EachNamedBy (IsToldAlike (meta (root_alone p)) (meta (added p))) (root_alone p) → (uri : List ℕ) → is_some (bearer (root_alone p) uri) ≡ true
-      → IsFree (moved_alone p) (added p) uri
-  bear_apart alike uri borne = by (bearer (root_alone p) uri) (last_standing (bears uri) (meta (added p)) (moved_alone p)) refl refl borne
+module _ (p : Pair) (draft : Draft) (whole : Data) (can : CanMove p draft whole) where
+  pub uris_apart : bytes_eq p.root_uri p.moved_uri ≡ false
+  uris_apart = own_apart p draft whole can (meta (inside p whole)) can.once
+
+  pub bear_apart : BornOnce (meta (added p)) (inside p whole)
+      → EachNamedBy (IsToldAlike (meta (root_alone p)) (meta (added p))) (root_alone p) → (uri : List ℕ)
+      → is_some (bearer (root_alone p) uri) ≡ true → IsFree (moved_alone p) (added p) uri
+  bear_apart once alike uri borne = by (bearer (root_alone p) uri) (last_standing (bears uri) (meta (added p)) (moved_alone p)) refl refl borne
     where
       by : (o q : Option Standing) → bearer (root_alone p) uri ≡ o → last_standing (bears uri) (meta (added p)) (moved_alone p) ≡ q → is_some o ≡ true → IsFree (moved_alone p) (added p) uri
       by o None e f some = f
       by None (Some t) e f some = absurd (cc)
       by (Some s) (Some t) e f some =
-          let here : last_standing (bears uri) there (root_alone p) ≡ Some s =
-          sym ((tell p draft whole can).last (bears uri) (root_alone p)) ∙ same_last (meta (root_alone p)) (meta (added p)) (bears uri) (root_alone p) alike ∙ e in
-          let other : last_standing (bears uri) there (moved_alone p) ≡ Some t = sym ((tell p draft whole can).last (bears uri) (moved_alone p)) ∙ f in
-          absurd (both_bear uri s t here other)
+          let here : last_standing (bears uri) (meta (added p)) (root_alone p) ≡ Some s =
+          same_last (meta (root_alone p)) (meta (added p)) (bears uri) (root_alone p) alike ∙ e in
+          absurd (both_bear p draft whole can (meta (added p)) once uri s t here f)
 
 pub added_is_joined : (p : Pair) → Joined (root_alone p) (moved_alone p) (added p)
 added_is_joined p = one_kept (document_at p.layer p.root_uri p.root) (one_added (document_at p.layer p.moved_uri p.moved) neither)
 
 pub root_stands_alone : RootStandsAlone
-root_stands_alone p draft whole can accepted makes base reference root builds out =
+root_stands_alone p draft whole can once accepted makes base reference root builds out =
     let alone : LeftAlone (root_alone p) (moved_alone p) (added p) =
-    record { joined = added_is_joined p; told = out.told; apart = bear_apart p draft whole can out.told } in
+    record { joined = added_is_joined p; told = out.told; apart = bear_apart p draft whole can once out.told } in
     stands_alone (root_alone p) (moved_alone p) (added p) accepted alone makes base reference root builds out.reached

@@ -13,12 +13,12 @@ use Rattle.schema_drafts.specs.declared.draft.Draft.TheVariants.{Draft4, Draft6,
 use Rattle.schema_meaning.specs.Members.{In, first, later}
 use Rattle.schema_definitions.specs.Identifiers.{resolved, anchors}
 use Rattle.schema_definitions.specs.Places.{Dialect, places}
-use Rattle.schema_definitions.specs.Bearers.{standings, bears, bears_anchor, dialects}
+use Rattle.schema_definitions.specs.Bearers.{standings, bears, bears_anchor, meta}
 use Rattle.moved_documents.specs.Forms.{inside}
 use Rattle.moved_documents.specs.Premises.{IsFresh, IsNormal, BornOnce}
 use Rattle.moved_documents.specs.Example.{texts, whole, TextsCanMove}
 
-leaf_fresh : IsFresh (codes "leaf")
+pub leaf_fresh : IsFresh (codes "leaf")
 leaf_fresh Draft4 = refl
 leaf_fresh Draft6 = refl
 leaf_fresh Draft7 = refl
@@ -26,7 +26,7 @@ leaf_fresh Draft201909 = refl
 leaf_fresh Draft202012 = refl
 leaf_fresh Unknown = refl
 
-leaf_normal : IsNormal (codes "http://a.test/leaf.json")
+pub leaf_normal : IsNormal (codes "http://a.test/leaf.json")
 unfolding split is_reference resolve normal remove_dots resolved
 leaf_normal base = refl
 
@@ -86,5 +86,5 @@ texts_can_move = record {
   normal = leaf_normal;
   identified = refl;
   rises = refl;
-  once = λ n. texts_born_once (dialects (inside texts whole) n);
+  once = texts_born_once (meta (inside texts whole));
 }

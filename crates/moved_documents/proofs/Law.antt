@@ -33,10 +33,10 @@ one_answer {S} {A} t r n m s w x y e f =
     sym (decided_stays S A t r n m s w y f) ∙ ap (λ (k : ℕ). told_by t r k s w) more ∙ decided_stays S A t r m n s w x e in cc
 
 pub inside_is_added : InsideIsAdded
-inside_is_added p draft whole can makes base reference root other b c matches d =
+inside_is_added p draft whole can accepted makes base reference root other b c matches d =
     let r = plain (added p) makes matches in
     let u = plain (inside p whole) makes matches in
-    let alike : TargetAlike p.fresh p.moved root other = static_led p draft whole can base reference root other b.found c.found in
+    let alike : TargetAlike p.fresh p.moved root other = static_led p draft whole can accepted base reference root other b.found c.found in
     let site : SiteAlike p.fresh p.moved (root_site root) (root_site other) = record {
       near = alike.contents;
       base = alike.base;
@@ -44,14 +44,14 @@ inside_is_added p draft whole can makes base reference root other b c matches d 
       dialect = alike.dialect;
       schema_path = refl;
     } in
-    let start : Reach p draft whole can makes root other b.right c.right (root_site root) (root_site other) = (site, at_root, at_root) in
-    let related = are_related p draft whole can makes root other b.right c.right matches in
+    let start : Reach p draft whole can accepted makes root other b.right c.right (root_site root) (root_site other) = (site, at_root, at_root) in
+    let related = are_related p draft whole can accepted makes root other b.right c.right matches in
     let told =
-    related_told (Reach p draft whole can makes root other b.right c.right) r u related (root_site root) (root_site other) (whole_value d) start (nested (inside p whole) makes matches)
+    related_told (Reach p draft whole can accepted makes root other b.right c.right) r u related (root_site root) (root_site other) (whole_value d) start (nested (inside p whole) makes matches)
     (root_shallow (inside p whole) makes matches base reference other c.found) in
     record {
-      verdicts = λ n. (related_alike (Reach p draft whole can makes root other b.right c.right) r u related n (root_site root) (root_site other) (whole_value d) start).0;
-      faults = λ n. (related_alike (Reach p draft whole can makes root other b.right c.right) r u related n (root_site root) (root_site other) (whole_value d) start).1;
+      verdicts = λ n. (related_alike (Reach p draft whole can accepted makes root other b.right c.right) r u related n (root_site root) (root_site other) (whole_value d) start).0;
+      faults = λ n. (related_alike (Reach p draft whole can accepted makes root other b.right c.right) r u related n (root_site root) (root_site other) (whole_value d) start).1;
       decided = record { verdict = told.0; faults = told.1 };
       texts = λ fs gs h g.
           let k = told.1 fs h in

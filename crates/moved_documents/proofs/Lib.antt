@@ -7,6 +7,7 @@ pub mod Roots
 pub mod Placed
 pub mod Standings
 pub mod Counted
+pub mod Kept
 pub mod Told
 pub mod Walks
 pub mod Lookups
@@ -18,6 +19,7 @@ pub mod Order
 pub mod Once
 pub mod Law
 pub mod Computed
+pub mod Needed
 pub mod Borne
 pub mod Settled
 pub mod Apart

@@ -11,6 +11,7 @@ use Rattle.schema_definitions.specs.Words.{or, or_else, last_that, has_text, res
 use Rattle.schema_definitions.specs.Identifiers.{resolved, is_name, anchors_by, anchors, dynamic_anchors}
 use Rattle.schema_definitions.specs.Places.{Dialect}
 use Rattle.schema_definitions.specs.Bearers.{Documents, Standing, bears, bears_anchor, bearer_under, bearer, anchored_under, dynamically_anchored}
+use Rattle.schema_definitions.specs.DocumentCauses.{document_causes}
 use Rattle.schema_definitions.specs.Lookup.{LookupCause, unretrievable, invalid_percent_encoding, no_such_anchor, invalid_anchor, invalid_uri, Target, Walk, at_place, walk, ended, behind_first, by_pointer, target_of, by_anchor, by_fragment, lookup_under, lookup}
 use Rattle.schema_definitions.specs.Scopes.{outermost, dynamic_lookup, recurs, end_of_run, recursive_lookup}
 use Rattle.moved_documents.specs.Forms.{Pair, added, inside}
@@ -18,7 +19,7 @@ use Rattle.moved_documents.specs.Premises.{CanMove}
 use Rattle.moved_documents.proofs.Near.{Near}
 use Rattle.moved_documents.proofs.NearTexts.{anchors_near, dynamic_near, recurring_near}
 use Rattle.moved_documents.proofs.Standings.{Alike, BothFound, neither_found, each_found, both_found}
-use Rattle.moved_documents.proofs.Told.{told, tell, once}
+use Rattle.moved_documents.proofs.Told.{told, tell}
 use Rattle.moved_documents.proofs.Walks.{came, WalkAlike, walk_alike}
 
 -- targets that correspond
@@ -57,7 +58,7 @@ last_same : {A : Type 0} (f g : A → Bool) → ((x : A) → f x ≡ g x) → (x
 last_same f g same [] = refl
 last_same f g same (x ∷ xs) = ap₂ (λ o (b : Bool). or_else o (if b then Some x else None)) (last_same f g same xs) (same x)
 
-module _ (p : Pair) (draft : Draft) (whole : Data) (can : CanMove p draft whole) where
+module _ (p : Pair) (draft : Draft) (whole : Data) (can : CanMove p draft whole) (accepted : document_causes (inside p whole) ≡ []) where
   abbrev AlikeHere : Standing → Standing → Type 0
   AlikeHere s t = Alike p.fresh p.moved s t
 
@@ -79,7 +80,7 @@ module _ (p : Pair) (draft : Draft) (whole : Data) (can : CanMove p draft whole)
   Found o q = BothFound p.fresh p.moved o q
 
   bearer_found : (uri : List ℕ) → Found (bearer_under there old uri) (bearer_under there new uri)
-  bearer_found uri = both_found p draft whole can there (bears uri) (λ s t a. a.bears_alike uri) ((once p draft whole can).uris uri)
+  bearer_found uri = both_found p draft whole can there (bears uri) (λ s t a. a.bears_alike uri) (can.once.uris uri)
 
   anchor_alike : (base k : List ℕ) (s t : Standing) → AlikeHere s t → bears_anchor anchors base k s ≡ bears_anchor anchors base k t
   anchor_alike base k s t a =
@@ -94,16 +95,16 @@ module _ (p : Pair) (draft : Draft) (whole : Data) (can : CanMove p draft whole)
       ∙ rw (a.base, a.dialect, a.awaits) refl
 
   anchor_found : (base k : List ℕ) → Found (anchored_under there old base k) (anchored_under there new base k)
-  anchor_found base k = both_found p draft whole can there (bears_anchor anchors base k) (anchor_alike base k) ((once p draft whole can).names base k)
+  anchor_found base k = both_found p draft whole can there (bears_anchor anchors base k) (anchor_alike base k) (can.once.names base k)
 
   dynamic_found : (base k : List ℕ) → Found (dynamically_anchored old base k) (dynamically_anchored new base k)
   dynamic_found base k =
-      subst (λ o. Found o (dynamically_anchored new base k)) (sym ((tell p draft whole can).dynamic old base k))
+      subst (λ o. Found o (dynamically_anchored new base k)) (sym ((tell p draft whole can accepted).dynamic old base k))
       (both_found p draft whole can there (bears_anchor dynamic_anchors base k) (dynamic_anchor_alike base k)
-      (λ s t i j e f. (once p draft whole can).names base k s t i j (dynamic_bears base k s e) (dynamic_bears base k t f)))
+      (λ s t i j e f. can.once.names base k s t i j (dynamic_bears base k s e) (dynamic_bears base k t f)))
 
   borne_found : (uri : List ℕ) → Found (bearer old uri) (bearer new uri)
-  borne_found uri = subst (λ o. Found o (bearer new uri)) (sym ((tell p draft whole can).bearers old uri)) (bearer_found uri)
+  borne_found uri = subst (λ o. Found o (bearer new uri)) (sym ((tell p draft whole can accepted).bearers old uri)) (bearer_found uri)
 
   -- ---- what a place leads to
 
@@ -178,7 +179,7 @@ module _ (p : Pair) (draft : Draft) (whole : Data) (can : CanMove p draft whole)
 
   pub static_led : (base reference : List ℕ) → LedAlike (lookup old base reference) (lookup new base reference)
   static_led base reference =
-      subst (λ r. LedAlike r (lookup new base reference)) (sym ((tell p draft whole can).lookups old base reference)) (under_led base reference)
+      subst (λ r. LedAlike r (lookup new base reference)) (sym ((tell p draft whole can accepted).lookups old base reference)) (under_led base reference)
 
   -- ---- by the dynamic scope
 

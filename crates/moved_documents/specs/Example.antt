@@ -8,10 +8,10 @@ use Rattle.schema_definitions.specs.Bearers.{Layer}
 use Rattle.moved_documents.specs.Forms.{Pair}
 use Rattle.moved_documents.specs.Premises.{CanMove}
 
-abbrev value : List ℕ → Data
+abbrev pub value : List ℕ → Data
 value text = or null (read text)
 
-abbrev layer : Layer
+abbrev pub layer : Layer
 layer = record { number = 0; draft = Draft202012; siblings = false }
 
 -- each item of a list is a text, as the other document says

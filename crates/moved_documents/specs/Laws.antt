@@ -29,9 +29,14 @@ abbrev pub WantedIsAdded : Type 0
 WantedIsAdded = (p : Pair) (rounds : List Documents) → AreRounds (by_map p) (root_alone p) rounds → (wants (root_alone p) ≡ [] → ⊥)
     → wants (gathered (root_alone p) rounds) ≡ [] → gathered (root_alone p) rounds ≡ added p
 
--- where documents name drafts alone, what they bear once they bear once at every stage
+-- where documents name drafts alone, what they bear once they bear once whatever is told of meta-schemas
 abbrev pub OnceIsAlways : Type 0
 OnceIsAlways = (docs : Documents) → EachNamedBy NamesDraft docs → BornOnce (meta docs) docs → (told : List ℕ → Option Dialect) → BornOnce told docs
+
+-- where nothing is wrong with the documents of the form inside, nothing is borne twice there by what the two documents tell either
+abbrev pub OnceBeside : Type 0
+OnceBeside = (p : Pair) (draft : Draft) (whole : Data) → CanMove p draft whole → document_causes (inside p whole) ≡ []
+    → BornOnce (meta (added p)) (inside p whole)
 
 -- what one reading decides of a value, the other does: the same verdict, and the same faults up to order
 pub record DecidesAlike (r u : Reading Site) (s t : Site) (d : Data) : Type 0 where
@@ -49,14 +54,18 @@ pub record AnswersAlike (r u : Reading Site) (s t : Site) (d : Data) : Type 0 wh
   pub decided : DecidesAlike r u s t d
   pub texts : HaveOneText r u s t d
 
--- a root that builds in both forms answers alike, instance paths and evaluation paths of the faults with all the rest of them
+-- where nothing is wrong with the documents of the form inside, a root that builds in both forms answers alike, instance paths and evaluation
+-- paths of the faults with all the rest of them
 abbrev pub InsideIsAdded : Type 0
-InsideIsAdded = (p : Pair) (draft : Draft) (whole : Data) → CanMove p draft whole → (makes : List ℕ → Bool) (base reference : List ℕ) (root other : Target)
+InsideIsAdded = (p : Pair) (draft : Draft) (whole : Data) → CanMove p draft whole → document_causes (inside p whole) ≡ []
+    → (makes : List ℕ → Bool) (base reference : List ℕ) (root other : Target)
     → Builds (added p) makes base reference root → Builds (inside p whole) makes base reference other
     → (matches : List ℕ → List ℕ → Bool) (d : Data) → AnswersAlike (plain (added p) makes matches) (plain (inside p whole) makes matches) (root_site root) (root_site other) d
 
--- a root that builds in its own document, with which nothing is wrong, and leaves the moved one out, stands alone once that is added
+-- a root that builds in its own document, with which nothing is wrong, and leaves the moved one out, stands alone once that is added, where by what
+-- the two documents tell of meta-schemas nothing is borne twice inside either
 abbrev pub RootStandsAlone : Type 0
-RootStandsAlone = (p : Pair) (draft : Draft) (whole : Data) → CanMove p draft whole → document_causes (root_alone p) ≡ []
+RootStandsAlone = (p : Pair) (draft : Draft) (whole : Data) → CanMove p draft whole → BornOnce (meta (added p)) (inside p whole)
+    → document_causes (root_alone p) ≡ []
     → (makes : List ℕ → Bool) (base reference : List ℕ) (root : Target) → Builds (root_alone p) makes base reference root → LeavesOut p makes root
     → StandsAlone (root_alone p) (moved_alone p) (added p) makes base reference root

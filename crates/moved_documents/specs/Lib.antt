@@ -3,3 +3,4 @@ pub mod Joining
 pub mod Premises
 pub mod Laws
 pub mod Example
+pub mod Needed

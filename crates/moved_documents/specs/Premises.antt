@@ -10,7 +10,7 @@ use Rattle.schema_drafts.specs.declared.draft.Draft.TheVariants.{Draft4, Draft6,
 use Rattle.schema_definitions.specs.Words.{text_at}
 use Rattle.schema_definitions.specs.Identifiers.{resolved, identifier, anchors}
 use Rattle.schema_definitions.specs.Places.{Dialect, standard}
-use Rattle.schema_definitions.specs.Bearers.{Documents, Standing, standings, bears, bears_anchor, dialects, meta, bearer}
+use Rattle.schema_definitions.specs.Bearers.{Documents, Standing, standings, bears, bears_anchor, meta, bearer}
 use Rattle.schema_definitions.specs.Lookup.{Target}
 use Rattle.schema_definitions.specs.Sites.{Site, root_site}
 use Rattle.schema_definitions.specs.BuildCauses.{Reached}
@@ -56,8 +56,8 @@ pub record CanMove (p : Pair) (draft : Draft) (whole : Data) : Type 0 where
   pub identified : identifier (standard p.layer.siblings draft) p.moved ≡ Some p.moved_uri
   -- in objects the names rise, as they are kept
   pub rises : rises p.root ≡ true
-  -- at each stage at which the dialects of meta-schemas are told
-  pub once : (n : ℕ) → BornOnce (dialects (inside p whole) n) (inside p whole)
+  -- by what the root with the other inside tells of meta-schemas
+  pub once : BornOnce (meta (inside p whole)) (inside p whole)
 
 -- ---- where the root by itself wants no document, the moved one is not retrieved
 

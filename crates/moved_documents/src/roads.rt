@@ -1,7 +1,9 @@
 //! Whether a document is added beside another, retrieved for it, or moved under a name of its `$defs`.
 
 ghost use Rattle.moved_documents.specs.Example.{TextsCanMove};
-ghost use Rattle.moved_documents.specs.Laws.{InsideIsAdded, OnceIsAlways, RetrievedIsAdded, RootStandsAlone, WantedIsAdded};
+ghost use Rattle.moved_documents.specs.Laws.{InsideIsAdded, OnceBeside, OnceIsAlways};
+ghost use Rattle.moved_documents.specs.Laws.{RetrievedIsAdded, RootStandsAlone, WantedIsAdded};
+ghost use Rattle.moved_documents.specs.Needed.{OnceBesideIsNeeded};
 
 /// Where the moved document alone is answered, what is retrieved for the root is nothing or that document, once: then the documents are those of
 /// the form in which it is added.
@@ -15,13 +17,15 @@ pub fn wanted_is_added()
 {}
 
 /// Where one document can be moved into the other, and the root by itself leaves it out, as its identifiers and meta-schemas are its own: a root
-/// that builds by itself stands alone, so nothing changes where the other is added.
+/// that builds by itself stands alone, so nothing changes where the other is added. It is asked that with the other inside nothing is
+/// borne twice by what the two documents tell of meta-schemas either.
 pub fn root_stands_alone()
     ensures { RootStandsAlone }
 {}
 
-/// Where one document can be moved into the other, a root that builds both with the document added and with it inside answers alike: verdicts
-/// are the same, and so are the faults but for their order, with their instance paths and evaluation paths.
+/// Where one document can be moved into the other, and nothing is wrong with the documents of the form with it inside, a root that builds both
+/// with the document added and with it inside answers alike: verdicts are the same, and so are the faults but for their order, with their
+/// instance paths and evaluation paths.
 pub fn inside_is_added()
     ensures { InsideIsAdded }
 {}
@@ -29,6 +33,18 @@ pub fn inside_is_added()
 /// There is such a pair: a list whose items refer to the other document.
 pub fn texts_can_move()
     ensures { TextsCanMove }
+{}
+
+/// Where one document can be moved into the other, and nothing is wrong with the documents of the form with it inside, nothing is borne twice
+/// there by what the two documents tell of meta-schemas either.
+pub fn once_beside()
+    ensures { OnceBeside }
+{}
+
+/// What that premise of `root_stands_alone` is for, where something is wrong with the documents of the form inside: a pair of which one can be
+/// moved into the other, and yet both bear one URI by what the two tell of meta-schemas.
+pub fn once_beside_is_needed()
+    ensures { OnceBesideIsNeeded }
 {}
 
 /// Where each `$schema` inside documents names a draft, and no URI, and no anchor under one URI, is borne twice by what they tell of meta-schemas,
