@@ -8,7 +8,7 @@ use Rattle.std.proofs.lemmas.Slice.Zip.{length-zip}
 use Rattle.std.proofs.KnownBytes.{Appends-nil}
 use Rattle.line_cuts.specs.declared.report.RunReport.{RunReport}
 use Rattle.schema_registries.specs.Roots.{Patterns, Root}
-use Rattle.answer_checks.specs.Checks.{CheckAnswers, IsCheckerOf, IsPairCheckedBy, IsSaidAt, Listed, pair_bytes, views}
+use Rattle.answer_checks.specs.Checks.{CheckAnswers, IsCheckerOf, IsPairChecked, IsPairCheckedBy, Listed, pair_bytes, views}
 use Rattle.answer_checks.specs.Written.{BreaksChecks, WritesChecks}
 use Rattle.answer_checks.specs.Listing.{ChecksGiven, ChecksTexts}
 use Rattle.answer_checks.specs.declared.checker.AnswerChecker.{AnswerChecker}
@@ -95,13 +95,13 @@ breaks_none R lines before = record {
 
 -- what a checker says is so at each root of which it is one
 module _ {M : Type 0} (finds : M → List ℕ → Option Bool) (checker : AnswerChecker M) (p : Patterns) (r : Root) (of : IsCheckerOf finds p r checker) (lines : List Listed) (before after : Option (List ℕ)) where
-  at_root : (said : List CheckAnswers) (ls : List Listed) → AllZip (IsPairCheckedBy finds checker) ls said → AllZip (IsSaidAt p r) ls said
-  at_root said ls h = zip_weaker (IsPairCheckedBy finds checker) (IsSaidAt p r) (λ x y s sound. s p r of sound) ls said h
+  at_root : (said : List CheckAnswers) (ls : List Listed) → AllZip (IsPairCheckedBy finds checker) ls said → AllZip (IsPairChecked p r) ls said
+  at_root said ls h = zip_weaker (IsPairCheckedBy finds checker) (IsPairChecked p r) (λ x y s. s p r of) ls said h
 
-  pub writes_at : (report : RunReport) → WritesChecks (IsPairCheckedBy finds checker) lines before after report → WritesChecks (IsSaidAt p r) lines before after report
+  pub writes_at : (report : RunReport) → WritesChecks (IsPairCheckedBy finds checker) lines before after report → WritesChecks (IsPairChecked p r) lines before after report
   writes_at report w = record { said = w.said; checked = at_root w.said lines w.checked; appended = w.appended; counted = w.counted; refused = w.refused }
 
-  pub breaks_at : BreaksChecks (IsPairCheckedBy finds checker) lines before after → BreaksChecks (IsSaidAt p r) lines before after
+  pub breaks_at : BreaksChecks (IsPairCheckedBy finds checker) lines before after → BreaksChecks (IsPairChecked p r) lines before after
   breaks_at b = record {
     done = b.done;
     rest = b.rest;

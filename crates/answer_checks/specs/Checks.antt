@@ -11,9 +11,9 @@ use Rattle.answer_checks.specs.Paths.{Paths, paths_in}
 use Rattle.answer_checks.specs.declared.checker.AnswerChecker.{AnswerChecker}
 use Rattle.answer_checks.specs.declared.run.LinePair.{LinePair}
 
--- the answer of a check of two paths
+-- the answer of a check of two paths, at a root that builds
 abbrev pub IsPathChecked : Patterns → Root → Data → Paths → CheckAnswer → Type 0
-IsPathChecked p r d path answer = IsChecked p r d path.0 path.1 answer
+IsPathChecked p r d path answer = IsSound p r → IsChecked p r d path.0 path.1 answer
 
 -- what is said of a line: its answers, or nothing
 abbrev pub CheckAnswers : Type 0
@@ -36,10 +36,6 @@ pair_bytes pair = (pair.instance.now, pair.answers.now)
 abbrev pub IsPairChecked : Patterns → Root → Listed → CheckAnswers → Type 0
 IsPairChecked p r lines answers = ValueChecked p r (line_value lines.0) (paths_in lines.1) answers
 
--- at a root that builds
-abbrev pub IsSaidAt : Patterns → Root → Listed → CheckAnswers → Type 0
-IsSaidAt p r lines answers = IsSound p r → IsPairChecked p r lines answers
-
 -- the bytes that are lent
 abbrev pub views : List (Bor (List ℕ)) → List (List ℕ)
 views texts = map (λ s. s.now) texts
@@ -51,12 +47,14 @@ pub record IsCheckerOf {M : Type 0} (finds : M → List ℕ → Option Bool) (p 
   pub root : root_on checker.registry.now checker.root.now ≡ r
   pub reached : AreReached finds p r checker.patterns
 
--- one answer for each of the paths, at each root that builds of which it is one
+-- one answer for each of the paths, at each root of which it is one
 abbrev pub AreCheckedBy : {M : Type 0} → (M → List ℕ → Option Bool) → AnswerChecker M → Data → List Paths → List CheckAnswer → Type 0
-AreCheckedBy finds checker d paths answers = (p : Patterns) (r : Root) → IsCheckerOf finds p r checker → IsSound p r → AllZip (IsPathChecked p r d) paths answers
+AreCheckedBy finds checker d paths answers =
+    (p : Patterns) (r : Root) → IsCheckerOf finds p r checker → AllZip (IsPathChecked p r d) paths answers
 
 abbrev pub IsLineCheckedBy : {M : Type 0} → (M → List ℕ → Option Bool) → AnswerChecker M → List ℕ → List ℕ → CheckAnswers → Type 0
-IsLineCheckedBy finds checker line listed answers = (p : Patterns) (r : Root) → IsCheckerOf finds p r checker → IsSound p r → IsPairChecked p r (line, listed) answers
+IsLineCheckedBy finds checker line listed answers =
+    (p : Patterns) (r : Root) → IsCheckerOf finds p r checker → IsPairChecked p r (line, listed) answers
 
 abbrev pub IsPairCheckedBy : {M : Type 0} → (M → List ℕ → Option Bool) → AnswerChecker M → Listed → CheckAnswers → Type 0
 IsPairCheckedBy finds checker lines answers = IsLineCheckedBy finds checker lines.0 lines.1 answers

@@ -1,10 +1,12 @@
 //! The faults that a file lists for many instances, checked.
-ghost use Rattle.std.specs.Prelude.{◌≡◌, IfOk, IfErr, map};
+ghost use Rattle.std.specs.Prelude.{◌≡◌, IfOk, IfErr, OnOk, map};
 ghost use Rattle.std.specs.List.{zip};
 ghost use Rattle.line_cuts.specs.Cuts.{bytes_of};
 ghost use Rattle.schema_registries.specs.Roots.{Patterns, Root};
 ghost use Rattle.answer_checks.specs.Checks.{IsCheckerOf, pair_bytes, views};
-ghost use Rattle.answer_checks.specs.Listing.{ChecksGiven, ChecksSource, ChecksTexts, StopsGiven, StopsSource, StopsTexts};
+ghost use Rattle.answer_checks.specs.Listing.{ChecksGiven, ChecksSource, ChecksTexts};
+ghost use Rattle.answer_checks.specs.Listing.{CountsGiven, CountsSource, CountsWrites};
+ghost use Rattle.answer_checks.specs.Listing.{StopsGiven, StopsSource, StopsTexts};
 
 use crate::checker::AnswerChecker;
 use crate::run::{LinePair, check_lines};
@@ -83,8 +85,10 @@ fn check_texts<K: ByteSink, M: PatternMatcher>(
 ) -> Result<RunReport, CheckError>
     ensures ok { IfOk result (λ report. (p : Patterns) (r : Root) → IsCheckerOf M.finds p r checker.now
         → ChecksTexts p r (views texts.now) listed.now (K.contents writer.old) (K.contents writer.new) report) }
+    ensures quiet { OnOk result (K.failures writer.new ≡ K.failures writer.old) }
     ensures stops { IfErr result (λ e. (p : Patterns) (r : Root) → IsCheckerOf M.finds p r checker.now
         → StopsTexts e p r (views texts.now) listed.now (K.contents writer.old) (K.contents writer.new)) }
+    ensures failed { IfErr result (λ e. CountsWrites e (K.failures writer.old) (K.failures writer.new)) }
 {
     let lines = lines_in(alloc, listed)?;
     if texts.len() != lines.len() {
@@ -107,8 +111,10 @@ fn check_each<K: ByteSink, M: PatternMatcher>(
 ) -> Result<RunReport, CheckError>
     ensures ok { IfOk result (λ report. (p : Patterns) (r : Root) → IsCheckerOf M.finds p r checker.now
         → ChecksTexts p r (bytes_of texts.now) listed.now (K.contents writer.old) (K.contents writer.new) report) }
+    ensures quiet { OnOk result (K.failures writer.new ≡ K.failures writer.old) }
     ensures stops { IfErr result (λ e. (p : Patterns) (r : Root) → IsCheckerOf M.finds p r checker.now
         → StopsTexts e p r (bytes_of texts.now) listed.now (K.contents writer.old) (K.contents writer.new)) }
+    ensures failed { IfErr result (λ e. CountsWrites e (K.failures writer.old) (K.failures writer.new)) }
 {
     let bytes = lent(alloc, texts)?;
     check_texts(alloc, checker, listed, bytes.as_slice(), writer)
@@ -125,9 +131,13 @@ fn check_source<S: ByteSource, K: ByteSink, M: PatternMatcher>(
     ensures ok { IfOk result (λ report. (p : Patterns) (r : Root) → IsCheckerOf M.finds p r checker.now
         → ChecksSource p r listed.now (S.remaining reader.old) (S.remaining reader.new) (K.contents writer.old)
         (K.contents writer.new) report) }
+    ensures read_quiet { OnOk result (S.failures reader.new ≡ S.failures reader.old) }
+    ensures write_quiet { OnOk result (K.failures writer.new ≡ K.failures writer.old) }
     ensures stops { IfErr result (λ e. (p : Patterns) (r : Root) → IsCheckerOf M.finds p r checker.now
         → StopsSource e p r listed.now (S.remaining reader.old) (S.remaining reader.new) (K.contents writer.old)
         (K.contents writer.new)) }
+    ensures failed { IfErr result (λ e. CountsSource e (S.failures reader.old) (S.failures reader.new)
+        (K.failures writer.old) (K.failures writer.new)) }
 {
     let input = read_all(alloc, reader)?;
     let texts = lines_in(alloc, input.as_slice())?;
@@ -154,9 +164,13 @@ pub fn check_given<S: ByteSource, K: ByteSink, M: PatternMatcher>(
     ensures ok { IfOk result (λ report. (p : Patterns) (r : Root) → IsCheckerOf M.finds p r checker.now
         → ChecksGiven p r listed.now (bytes_of texts.now) (S.remaining reader.old) (S.remaining reader.new)
         (K.contents writer.old) (K.contents writer.new) report) }
+    ensures read_quiet { OnOk result (S.failures reader.new ≡ S.failures reader.old) }
+    ensures write_quiet { OnOk result (K.failures writer.new ≡ K.failures writer.old) }
     ensures stops { IfErr result (λ e. (p : Patterns) (r : Root) → IsCheckerOf M.finds p r checker.now
         → StopsGiven e p r listed.now (bytes_of texts.now) (S.remaining reader.old) (S.remaining reader.new)
         (K.contents writer.old) (K.contents writer.new)) }
+    ensures failed { IfErr result (λ e. CountsGiven e (bytes_of texts.now) (S.failures reader.old)
+        (S.failures reader.new) (K.failures writer.old) (K.failures writer.new)) }
 {
     if texts.is_empty() {
         check_source(alloc, checker, listed, reader, writer)

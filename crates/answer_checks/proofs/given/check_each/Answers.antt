@@ -1,7 +1,7 @@
 use Rattle.std.proofs.Common.{◌∙◌, IfOk, ap, subst}
 use Rattle.std.proofs.lemmas.Result.{err_from_is_err_and}
 use Rattle.schema_registries.specs.Roots.{Patterns, Root}
-use Rattle.answer_checks.specs.Checks.{IsCheckerOf, IsSaidAt, views}
+use Rattle.answer_checks.specs.Checks.{IsCheckerOf, IsPairChecked, views}
 use Rattle.answer_checks.specs.Listing.{ChecksTexts}
 use Rattle.answer_checks.proofs.Pairing.{breaks_none}
 use Rattle.answer_checks.proofs.given.check_each.Goals as goal
@@ -9,7 +9,7 @@ use Rattle.answer_checks.proofs.given.check_each.Goals as goal
 pub returns-in_err-bytes-clause-stops : goal.returns-in_err-bytes-clause-stops
 returns-in_err-bytes-clause-stops g c =
     let e = err_from_is_err_and c.from_residual.result c.from_residual.ensures.1 in
-    rw (e.1, e.2) (λ p r of. breaks_none (IsSaidAt p r) _ _)
+    rw (e.1, e.2) (λ p r of. breaks_none (IsPairChecked p r) _ _)
 
 pub returns-clause-ok : goal.returns-clause-ok
 returns-clause-ok g c =

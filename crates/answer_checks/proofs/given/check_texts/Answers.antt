@@ -3,7 +3,7 @@ use Rattle.std.specs.List.{zip}
 use Rattle.std.proofs.lemmas.List.{length-map}
 use Rattle.std.proofs.lemmas.Result.{err_from_is_err_and}
 use Rattle.line_cuts.specs.Cuts.{lines_of}
-use Rattle.answer_checks.specs.Checks.{IsPairCheckedBy, IsSaidAt, pair_bytes, views}
+use Rattle.answer_checks.specs.Checks.{IsPairChecked, IsPairCheckedBy, pair_bytes, views}
 use Rattle.answer_checks.specs.Written.{BreaksChecks, WritesChecks}
 use Rattle.answer_checks.proofs.Pairing.{breaks_at, breaks_none, writes_at}
 use Rattle.answer_checks.proofs.given.check_texts.Goals as goal
@@ -11,12 +11,12 @@ use Rattle.answer_checks.proofs.given.check_texts.Goals as goal
 pub returns-in_err-lines-clause-stops : goal.returns-in_err-lines-clause-stops
 returns-in_err-lines-clause-stops g c =
     let e = err_from_is_err_and c.from_residual.result c.from_residual.ensures.1 in
-    rw (e.1, e.2) (λ p r of. breaks_none (IsSaidAt p r) _ _)
+    rw (e.1, e.2) (λ p r of. breaks_none (IsPairChecked p r) _ _)
 
 pub returns-in_err-pairs-clause-stops : goal.returns-in_err-pairs-clause-stops
 returns-in_err-pairs-clause-stops g c =
     let e = err_from_is_err_and c.from_residual-in_err-pairs.result c.from_residual-in_err-pairs.ensures.1 in
-    rw (e.1, e.2) (λ p r of. breaks_none (IsSaidAt p r) _ _)
+    rw (e.1, e.2) (λ p r of. breaks_none (IsPairChecked p r) _ _)
 
 pub returns-in_err-check_lines-clause-stops : goal.returns-in_err-check_lines-clause-stops
 returns-in_err-check_lines-clause-stops g c =
