@@ -118,7 +118,8 @@ pub(crate) fn told(rt: &impl Abort, alloc: Global, case: &str, input: &str) -> S
     told_by(rt, alloc, &subject_of(rt, alloc, case), &value)
 }
 
-fn described(rt: &impl Abort, alloc: Global, error: &ValidationError<'_>) -> String {
+// Its two paths in the schema, the instance and the kind.
+pub(crate) fn described(rt: &impl Abort, alloc: Global, error: &ValidationError<'_>) -> String {
     let schema = error.schema_path().to_pointer(alloc).expect(rt, "memory");
     let evaluation = error
         .evaluation_path()

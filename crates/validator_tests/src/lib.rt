@@ -38,6 +38,8 @@ mod maps;
 #[cfg(test)]
 mod moving;
 #[cfg(test)]
+mod numbers;
+#[cfg(test)]
 mod options;
 #[cfg(test)]
 mod patterns;
