@@ -39,7 +39,7 @@ pub struct Assumed<'v, 'a, K: Validate, M: PatternMatcher> {
     pub value: &'v Value,
     pub table: &'v PatternTable<M>,
     pub assumed: &'a [AssumedMatch],
-    stopped: Option<UnfinishedMatch>,
+    pub stopped: Option<UnfinishedMatch>,
     ghost forms: { AreForms M.finds table.now },
     ghost stop: { ForSome stopped (λ one. IsStop
         (matches_from M.finds table.now assumed.now K.shape graph.now.nodes.items start (view value.now))
@@ -76,7 +76,8 @@ impl<'v, 'a, K: Validate, M: PatternMatcher> Assumed<'v, 'a, K, M> {
 
     /// The match at which it stopped, if it did.
     pub fn into_stopped(self) -> Option<UnfinishedMatch>
-        ensures { IfSome result (λ one. IsStop (matches_from M.finds self.entry.table.now self.entry.assumed.now
+        ensures found { result ≡ self.entry.stopped }
+        ensures stop { IfSome result (λ one. IsStop (matches_from M.finds self.entry.table.now self.entry.assumed.now
             K.shape self.entry.graph.now.nodes.items self.entry.start (view self.entry.value.now))
             (string_bytes one.pattern) (string_bytes one.text)) }
     {

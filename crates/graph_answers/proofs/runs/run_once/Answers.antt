@@ -45,4 +45,4 @@ returns-in-Some g c =
     ∙ ap (λ v. asked_from (start_at shape nodes c.args.start (view v)) (matches_with finds made.table.now made.assumed.now)) e.value
     ∙ ap (λ x. asked_from (start_at shape nodes c.args.start d) (matches_with finds x made.assumed.now)) e.table
     ∙ ap (λ xs. asked_from (start_at shape nodes c.args.start d) (matches_with finds c.args.table.now xs)) e.assumed in
-    subst (λ m. IsStop m p t) (c.in-Err.ensures.stays ∙ is) c.in-Some.ensures
+    subst (λ m. IsStop m p t) (c.in-Err.ensures.stays ∙ is) c.in-Some.ensures.stop
