@@ -7,6 +7,7 @@ ghost use Rattle.serde_json.specs.View.{view, members_view};
 ghost use Rattle.schema_definitions.specs.Rows as rows;
 ghost use Rattle.schema_definitions.specs.Sites.{root_site};
 ghost use Rattle.referencing.specs.Resolved.{documents_in, target_in};
+ghost use Rattle.reading_laws.specs.Keys.{AreWithin};
 ghost use Rattle.reached_sites.specs.Members.{context_in};
 ghost use Rattle.reached_sites.specs.Patterns.{IsFilled};
 ghost use Rattle.reached_sites.specs.Roots.{IsPlaced};
@@ -142,6 +143,8 @@ fn causes_by<'r, P: PatternMaker>(
     requires placed { IsPlaced (documents_in root.now.resolver) (target_in root.now) }
     ensures told { IfOk result (λ v. AreCausesOf (documents_in root.now.resolver) (P.patterns maker.now).makes
         (root_site (target_in root.now)) v.items) }
+    ensures within { OnOk result (AreWithin (documents_in root.now.resolver) (P.patterns maker.now).makes
+        (root_site (target_in root.now) ∷ []) limit) }
     ensures refused { IfErr result (RefusesTelling (documents_in root.now.resolver) (P.patterns maker.now).makes
         (root_site (target_in root.now)) limit) }
 {
@@ -175,6 +178,8 @@ pub fn causes<P: PatternMaker>(
     requires placed { IsPlaced (documents_in root.now.resolver) (target_in root.now) }
     ensures told { IfOk result (λ v. AreCausesOf (documents_in root.now.resolver) (P.patterns maker.now).makes
         (root_site (target_in root.now)) v.items) }
+    ensures within { OnOk result (AreWithin (documents_in root.now.resolver) (P.patterns maker.now).makes
+        (root_site (target_in root.now) ∷ []) limit) }
     ensures refused { IfErr result (RefusesTelling (documents_in root.now.resolver) (P.patterns maker.now).makes
         (root_site (target_in root.now)) limit) }
 {

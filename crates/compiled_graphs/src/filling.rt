@@ -101,7 +101,7 @@ pub(crate) fn compile<M: PatternMatcher>(
     requires { total askings.now ≡ length numbers.now }
     ensures { IfOk result (λ ks. Compiled (texts_of_table table.now) askings.now numbers.now ks.items) }
 {
-    let mut keywords = Vec::new(alloc);
+    let mut keywords = Vec::with_capacity(alloc, askings.len())?;
     let mut rest = numbers;
     for asking in askings {
         match asking {

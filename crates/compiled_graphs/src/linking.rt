@@ -26,7 +26,7 @@ pub(crate) fn link<'r>(
     ensures stand { IfOk result (λ ns. AllZip
         (StandsFor from visits.new.list.items edges.new.items) leads.entry.items ns.items) }
 {
-    let mut numbers = Vec::new(alloc);
+    let mut numbers = Vec::with_capacity(alloc, leads.len())?;
     for lead in leads {
         let to = visits.put(lead)?;
         edges.push(Edge { from, to })?;

@@ -1,25 +1,29 @@
 //! Compiled schemas with the patterns that they ask for.
 
-ghost use Rattle.std.specs.Prelude.{◌≡◌, ◌<◌, [], length, IfOk, OnOk};
+ghost use Rattle.std.specs.Prelude.{◌≡◌, ◌<◌, [], length, true, IfOk, OnOk};
 ghost use Rattle.serde_json.specs.View.{view};
 ghost use Rattle.compiled_keywords.specs.Shapes.{shape_of};
 ghost use Rattle.graph_answers.specs.Answers.{IsAnswer, HearsAnswer, Agree, IsVerdict, IsCertified};
 ghost use Rattle.graph_answers.specs.Answers.{AreFaults, HaveCertificates};
+ghost use Rattle.graph_answers.specs.Certain.{IsAccepting, IsCertain, IsFirst};
+ghost use Rattle.graph_answers.specs.Certain.{AreThoseFaults, HaveThoseCertificates, IsOneOfThose};
 ghost use Rattle.graph_answers.specs.Completions.{matches_with};
 ghost use Rattle.graph_answers.specs.Runs.{IsDecision, IsVerdictOf};
 ghost use Rattle.graph_answers.specs.Tables.{AreForms, matches_of};
+ghost use Rattle.schema_reports.specs.Told.{faults_of, are_proper};
 ghost use Rattle.std.proofs.Props.{props};
 ghost use Rattle.compiled_graphs.specs.Known.{knows_prop};
 ghost use Rattle.compiled_graphs.specs.Linking.{KnowsTable};
 
 use compiled_keywords::keyword::Keyword;
+use graph_answers::certain::{accepts_certain, first_certain, tell_certain};
 use graph_answers::checking;
 use graph_answers::direct::Direct;
 use graph_answers::runs::{Decision, decide};
 use schema_engine::graph::Graph;
 use schema_engine::matching::Matching;
 use schema_patterns::{PatternMatcher, PatternTable};
-use schema_reports::Observer;
+use schema_reports::{Observer, ValidationError};
 use serde_json::Value;
 use std::alloc::{AllocError, Global};
 
@@ -104,6 +108,71 @@ impl<M: PatternMatcher> SchemaGraph<M> {
         ensures verdict { IfOk result (IsVerdictOf shape_of M.finds self.now.graph.nodes.items self.now.table start (view value.now)) }
     {
         decide(alloc, &self.graph, start, &self.table, value)
+    }
+
+    /// Whether a value is accepted from a node on, however its unfinished matches are answered.
+    ///
+    /// # Errors
+    ///
+    /// Where memory was refused.
+    pub fn accepts_certain(
+        &self,
+        alloc: Global,
+        start: usize,
+        value: &Value,
+    ) -> Result<bool, AllocError>
+        requires there { start < length self.now.graph.nodes.items }
+        ensures each { IfOk result (IsAccepting shape_of self.now.graph.nodes.items start (view value.now)
+            (matches_with M.finds self.now.table [])) }
+        ensures verdict { IfOk result (IsVerdict shape_of M.finds self.now.graph.nodes.items self.now.table start
+            (view value.now)) }
+        ensures certified { IfOk result (IsCertified shape_of M.finds self.now.graph.nodes.items self.now.table start
+            (view value.now)) }
+    {
+        accepts_certain(alloc, &self.graph, start, &self.table, value)
+    }
+
+    /// The faults that a value has from a node on, however its unfinished matches are answered; or one `UnfinishedMatch`.
+    ///
+    /// # Errors
+    ///
+    /// Where memory was refused or a count of owners is full.
+    pub fn tell_certain<'i>(
+        &self,
+        alloc: Global,
+        start: usize,
+        value: &'i Value,
+    ) -> Result<Vec<ValidationError<'i>>, AllocError>
+        requires there { start < length self.now.graph.nodes.items }
+        ensures each { IfOk result (λ es. IsCertain shape_of self.now.graph.nodes.items start (view value.now)
+            (matches_with M.finds self.now.table []) (faults_of es.items)) }
+        ensures proper { IfOk result (λ es. are_proper es.items ≡ true) }
+        ensures faults { IfOk result (λ es. AreThoseFaults shape_of M.finds self.now.graph.nodes.items self.now.table
+            start (view value.now) (faults_of es.items)) }
+        ensures certified { IfOk result (λ es. HaveThoseCertificates shape_of M.finds self.now.graph.nodes.items
+            self.now.table start (view value.now) (faults_of es.items)) }
+    {
+        tell_certain(alloc, &self.graph, start, &self.table, value)
+    }
+
+    /// The first of these, if there is any.
+    ///
+    /// # Errors
+    ///
+    /// Where memory was refused or a count of owners is full.
+    pub fn first_certain<'i>(
+        &self,
+        alloc: Global,
+        start: usize,
+        value: &'i Value,
+    ) -> Result<Option<ValidationError<'i>>, AllocError>
+        requires there { start < length self.now.graph.nodes.items }
+        ensures each { IfOk result (IsFirst shape_of self.now.graph.nodes.items start (view value.now)
+            (matches_with M.finds self.now.table [])) }
+        ensures fault { IfOk result (IsOneOfThose shape_of M.finds self.now.graph.nodes.items self.now.table start
+            (view value.now)) }
+    {
+        first_certain(alloc, &self.graph, start, &self.table, value)
     }
 
     /// Tells an observer of the faults of a value from a node on. Where references come back to where they were, the return tells nothing.

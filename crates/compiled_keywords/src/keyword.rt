@@ -243,6 +243,7 @@ impl Validate for Keyword {
                 applicator.combining,
                 accepted,
             ),
+            Keyword::Pattern(_) => "pattern",
             _ => "",
         }
     }

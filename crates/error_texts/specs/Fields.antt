@@ -101,3 +101,4 @@ fields (kind.PropertyNames' p q k v i s e l) = (codes "error", carried_data k i 
 fields (kind.Required property) = only (codes "property") (string (string_bytes property))
 fields (kind.Types names) = only (codes "names") (list_of type_data (names_in names))
 fields kind.UniqueItems = []
+fields (kind.UnfinishedMatch pattern) = only (codes "pattern") (string (string_bytes pattern))

@@ -42,7 +42,9 @@ pub(crate) fn fields_of(alloc: Global, kind: &Kind<'_>) -> Result<Vec<Field>, Al
         | Kind::MinProperties { limit } => only(alloc, "limit", Value::from(*limit)),
         Kind::MultipleOf { multiple_of } => only(alloc, "multiple_of", multiple_of.clone()?),
         Kind::Not { schema } => only(alloc, "schema", schema.clone()?),
-        Kind::Pattern { pattern } => only(alloc, "pattern", Value::String(pattern.clone()?)),
+        Kind::Pattern { pattern } | Kind::UnfinishedMatch { pattern } => {
+            only(alloc, "pattern", Value::String(pattern.clone()?))
+        }
         Kind::PropertyNames { error } => name_fields(alloc, error),
         Kind::Required { property } => only(alloc, "property", Value::String(property.clone()?)),
         Kind::Types { names } => only(alloc, "names", Value::Array(types(alloc, names)?)),

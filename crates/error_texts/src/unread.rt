@@ -7,8 +7,8 @@ ghost use Rattle.error_texts.specs.Unread.{placed_data, unread_data};
 use serde_json::{Value, json};
 use std::alloc::{AllocError, Global};
 
-/// Where a text is no longer JSON: the number of its line, and of a byte in that line, each from 1 on. Where the text ends too early the byte
-/// is the last one, or 0 where the last line is empty, or the quotation mark that has no other.
+/// Where a text is no longer JSON, or a number begins that is not whole: the number of its line, and of a byte in that line, each from 1 on.
+/// Where the text ends too early the byte is the last one, or 0 where the last line is empty, or the quotation mark that has no other.
 #[derive(Clone, Copy, Debug, PartialEq, Eq)]
 pub struct TextPlace {
     pub line: usize,

@@ -10,3 +10,4 @@ pub mod RunLemmas
 pub mod RunCounts
 pub mod Chains
 pub mod RunVerdicts
+pub mod CertainLemmas

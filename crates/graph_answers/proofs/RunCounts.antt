@@ -197,7 +197,7 @@ module _ {M : Type 0} (finds : M → List ℕ → Option Bool) (table : PatternT
   base = matches_with finds table []
 
   -- a run by what is assumed is one of the runs by nothing
-  asked_at_all : (xs : List AssumedMatch) (pattern text : List ℕ) → MayMatch (asked_from s (matches_with finds table xs)) pattern text → IsAskedFor base s pattern text
+  pub asked_at_all : (xs : List AssumedMatch) (pattern text : List ℕ) → MayMatch (asked_from s (matches_with finds table xs)) pattern text → IsAskedFor base s pattern text
   unfolding completed
   asked_at_all xs pattern text asks = (
     completed (matches_with finds table xs) none_matched,

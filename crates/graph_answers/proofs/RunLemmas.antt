@@ -71,7 +71,7 @@ module _ (rest : Answers) where
 
 -- ---- completions
 
-same_answers : (f g : Answers) → ((p t : List ℕ) → f p t ≡ g p t) → f ≡ g
+pub same_answers : (f g : Answers) → ((p t : List ℕ) → f p t ≡ g p t) → f ≡ g
 same_answers f g h = λ i p t. h p t i
 
 both_true : (a b : Bool) → (a && b) ≡ true → (a ≡ true) × (b ≡ true)

@@ -3,3 +3,5 @@ pub mod Completions
 pub mod Linking
 pub mod Answers
 pub mod Runs
+pub mod Certain
+pub mod Seeking

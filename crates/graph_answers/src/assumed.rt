@@ -32,11 +32,11 @@ pub struct UnfinishedMatch {
 /// nothing is assumed either it stops, and remembers which it was. A match may be asked for only where the value asks for it, from a node
 /// of the graph on.
 #[derive(Drop)]
-pub struct Assumed<'v, 'a, K: Validate, M: PatternMatcher> {
+pub struct Assumed<'v, 'd, 'a, K: Validate, M: PatternMatcher> {
     alloc: Global,
     pub graph: &'v Graph<K>,
     pub start: usize,
-    pub value: &'v Value,
+    pub value: &'d Value,
     pub table: &'v PatternTable<M>,
     pub assumed: &'a [AssumedMatch],
     pub stopped: Option<UnfinishedMatch>,
@@ -46,16 +46,16 @@ pub struct Assumed<'v, 'a, K: Validate, M: PatternMatcher> {
         (string_bytes one.pattern) (string_bytes one.text)) },
 }
 
-impl<'v, 'a, K: Validate, M: PatternMatcher> Assumed<'v, 'a, K, M> {
+impl<'v, 'd, 'a, K: Validate, M: PatternMatcher> Assumed<'v, 'd, 'a, K, M> {
     /// Matches of a table's patterns, with what is assumed, for a value and the node of a graph that is asked of it.
     pub fn new(
         alloc: Global,
         graph: &'v Graph<K>,
         start: usize,
-        value: &'v Value,
+        value: &'d Value,
         table: &'v PatternTable<M>,
         assumed: &'a [AssumedMatch],
-    ) -> Assumed<'v, 'a, K, M>
+    ) -> Assumed<'v, 'd, 'a, K, M>
         requires { AreForms M.finds table.now }
         ensures graph { result.graph.now ≡ graph.now }
         ensures start { result.start ≡ start }
@@ -97,7 +97,7 @@ pub(crate) fn answer_in(assumed: &[AssumedMatch], pattern: &str, text: &str) -> 
     None
 }
 
-impl<'v, 'a, K: Validate, M: PatternMatcher> Matching for Assumed<'v, 'a, K, M> {
+impl<'v, 'd, 'a, K: Validate, M: PatternMatcher> Matching for Assumed<'v, 'd, 'a, K, M> {
     ghost matches = { λ a. matches_from M.finds a.table.now a.assumed.now
         K.shape a.graph.now.nodes.items a.start (view a.value.now) };
 

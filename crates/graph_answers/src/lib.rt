@@ -3,7 +3,9 @@
 
 mod answers;
 pub mod assumed;
+pub mod certain;
 pub mod checking;
 pub mod direct;
 pub mod lookup;
 pub mod runs;
+pub mod seeking;

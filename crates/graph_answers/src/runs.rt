@@ -37,7 +37,7 @@ pub(crate) enum Run {
 }
 
 // What a run gives by what is assumed.
-fn run_once<K: Validate, M: PatternMatcher>(
+pub(crate) fn run_once<K: Validate, M: PatternMatcher>(
     alloc: Global,
     graph: &Graph<K>,
     start: usize,
@@ -63,7 +63,7 @@ fn run_once<K: Validate, M: PatternMatcher>(
 }
 
 // Assumes yes of the last match of which no is assumed, and nothing of those behind it; says whether there is one.
-fn turn_last(assumed: &mut Vec<AssumedMatch>) -> Result<bool, AllocError>
+pub(crate) fn turn_last(assumed: &mut Vec<AssumedMatch>) -> Result<bool, AllocError>
     ensures turned { IfOk result (λ turned. turned ≡ true → IsTurned assumed.old.items assumed.new.items) }
     ensures left { IfOk result (λ turned. (rest : Answers)
         → is_behind assumed.old.items rest ≡ (turned && is_left assumed.new.items rest)) }

@@ -6,6 +6,7 @@ use Rattle.std.specs.List.{AllByRecursion}
 use Rattle.std.specs.declared.alloc.Global.{Global}
 use Rattle.serde_json.specs.Data.{Data}
 use Rattle.serde_json.specs.View.{view}
+use Rattle.json_values.specs.Rising.{rises}
 use Rattle.schema_drafts.specs.Drafts.{newest}
 use Rattle.schema_drafts.specs.declared.draft.Draft.{Draft}
 use Rattle.uri_grammar.specs.Parts.{split}
@@ -307,16 +308,16 @@ module _ {P : Type 0} (may_answer : MapRetriever → List ℕ → Data → Type 
         → IsSaid p (root_beside m) d (string_bytes text)
     said_moved draft whole can once out = said_out out (bear_apart (pair_of m) draft whole can once)
 
-    said_apart : ShareNone m → IsLeftOut p m → IsSaid p (root_beside m) d (string_bytes text)
-    said_apart (inl apart) out = said_out out (λ told. apart)
-    said_apart (inr can) out = said_moved can.0 can.1 can.2 can.3 out
+    said_apart : rises (view m.root.now) ≡ true → ShareNone m → IsLeftOut p m → IsSaid p (root_beside m) d (string_bytes text)
+    said_apart rise (inl apart) out = said_out out (λ told. apart)
+    said_apart rise (inr can) out = said_moved can.0 can.1 (can.2 rise) can.3 out
 
 -- ---- one text
 
-moved_text_is : (p : Patterns) (m : Moving) (d : Data) (may : MayMove p m d) (text other : List ℕ) → IsSaid p (root_beside m) d text → IsSaidInside p m may.whole d other
-    → text ≡ other
-moved_text_is p m d may text other h g =
-    roots_agree (pair_of m) may.draft may.whole may.can g.accepted p (codes "json-schema:///") m.root_uri.now h.sound g.said.sound d may.decided text other h.text
+moved_text_is : (p : Patterns) (m : Moving) (d : Data) → rises (view m.root.now) ≡ true → (may : MayMove p m d) (text other : List ℕ) → IsSaid p (root_beside m) d text
+    → IsSaidInside p m may.whole d other → text ≡ other
+moved_text_is p m d rise may text other h g =
+    roots_agree (pair_of m) may.draft may.whole (may.can rise) g.accepted p (codes "json-schema:///") m.root_uri.now h.sound g.said.sound d may.decided text other h.text
     g.said.text
 
 are_one : (a b : Result (String Global) BuildError)
@@ -328,9 +329,9 @@ are_one (Err e) b h = tt
 module _ {P R : Type 0} (may_answer : R → List ℕ → Data → Type 0) (may_refuse : R → List ℕ → Type 0) (nothing : (r : R) (uri : List ℕ) (d : Data) → may_answer r uri d → ⊥)
     (map_answers : MapRetriever → List ℕ → Data → Type 0) (map_refuses : MapRetriever → List ℕ → Type 0)
     (answers : (r : MapRetriever) (q : List ℕ) (d : Data) → map_answers r q d → answer_for r q ≡ Some d) (maker : P) (p : Patterns) (m : Moving) (d : Data) (r : Roads) where
-  pub say_one : IsAddedBy p may_answer may_refuse maker m d r.added → IsRetrievedBy p map_answers map_refuses maker m d r.retrieved
+  pub say_one : rises (view m.root.now) ≡ true → IsAddedBy p may_answer may_refuse maker m d r.added → IsRetrievedBy p map_answers map_refuses maker m d r.retrieved
       → IsInsideBy p may_answer may_refuse maker m d r.inside → SayOne p m d r
-  say_one h k g =
+  say_one rise h k g =
       let beside : AreApart m → (text : String Global) → r.added ≡ Ok text → IsSaid p (root_beside m) d (string_bytes text) =
       λ apart text is.
       said_beside may_answer may_refuse nothing maker p m d apart text (subst (λ (a : Result (String Global) BuildError). IsAddedBy p may_answer may_refuse maker m d a) is h) in
@@ -340,7 +341,7 @@ module _ {P R : Type 0} (may_answer : R → List ℕ → Data → Type 0) (may_r
       λ settled text is.
       elim settled [
         | inl wanting ↦ said_wanted map_answers map_refuses answers maker p m d text (got text is) wanting
-        | inr a ↦ said_apart map_answers map_refuses answers maker p m d text (got text is) a.0 a.1
+        | inr a ↦ said_apart map_answers map_refuses answers maker p m d text (got text is) rise a.0 a.1
       ] in
       let moving : (may : MayMove p m d) → document_causes (inside (pair_of m) may.whole) ≡ [] → IsWanting m ⊎ IsLeftOut p m → (text : String Global)
       → r.retrieved ≡ Ok text → IsSaid p (root_beside m) d (string_bytes text) =
@@ -348,22 +349,22 @@ module _ {P R : Type 0} (may_answer : R → List ℕ → Data → Type 0) (may_r
       elim settled [
         | inl wanting ↦ said_wanted map_answers map_refuses answers maker p m d text (got text is) wanting
         | inr out ↦
-            said_moved map_answers map_refuses answers maker p m d text (got text is) may.draft may.whole may.can
-            (once_beside (pair_of m) may.draft may.whole may.can accepted) out
+            said_moved map_answers map_refuses answers maker p m d text (got text is) may.draft may.whole (may.can rise)
+            (once_beside (pair_of m) may.draft may.whole (may.can rise) accepted) out
       ] in
       let within : (may : MayMove p m d) (text : String Global) → r.inside ≡ Ok text → IsSaidInside p m may.whole d (string_bytes text) =
       λ may text is.
-      said_inside may_answer may_refuse nothing maker p m d may.whole may.can.joined text
+      said_inside may_answer may_refuse nothing maker p m d may.whole (may.can rise).joined text
       (subst (λ (a : Result (String Global) BuildError). IsInsideBy p may_answer may_refuse maker m d a) is g) in
       record {
         inside = λ may.
             are_one r.added r.inside
-            (λ t u a b. moved_text_is p m d may (string_bytes t) (string_bytes u) (beside (uris_apart (pair_of m) may.draft may.whole may.can) t a) (within may u b));
+            (λ t u a b. moved_text_is p m d rise may (string_bytes t) (string_bytes u) (beside (uris_apart (pair_of m) may.draft may.whole (may.can rise)) t a) (within may u b));
         retrieved = λ apart settled matches decided.
             are_one r.added r.retrieved (λ t u a b. said_once p (root_beside m) d matches decided (string_bytes t) (string_bytes u) (beside apart t a) (asked settled u b));
         moved = λ settled may.
             are_one r.retrieved r.inside
             (λ t u a b.
             let there = within may u b in
-            moved_text_is p m d may (string_bytes t) (string_bytes u) (moving may there.accepted settled t a) there);
+            moved_text_is p m d rise may (string_bytes t) (string_bytes u) (moving may there.accepted settled t a) there);
       }

@@ -2,3 +2,5 @@ pub mod Joining
 pub mod Alone
 pub mod Agreeing
 pub mod Forming
+pub mod Bases
+pub mod OneKey

@@ -1,5 +1,5 @@
 -- What the check of faults says of what validators answer.
-use Rattle.std.specs.Prelude.{◌≡◌, ℕ, List, [], ◌∷◌, Bool}
+use Rattle.std.specs.Prelude.{◌≡◌, ◌+◌, ℕ, List, [], ◌∷◌, Bool}
 use Rattle.serde_json.specs.Data.{Data}
 use Rattle.schema_meaning.specs.Faults.{Fault, Faults, none, also, instance_path, evaluation_path}
 use Rattle.schema_definitions.specs.Lookup.{Target}
@@ -22,6 +22,10 @@ WhereStraight p r d T = (matches : List ℕ → List ℕ → Bool) (target : Tar
 abbrev pub each_accepted : Faults → List CheckAnswer
 each_accepted none = []
 each_accepted (also f fs) = Accepted ∷ each_accepted fs
+
+abbrev pub fault_count : Faults → ℕ
+fault_count none = 0
+fault_count (also f fs) = fault_count fs + 1
 
 -- one answer for each of the faults, and where the matches finish and no references come back each accepts
 pub record AreAccepted (p : Patterns) (r : Root) (d : Data) (answers : List CheckAnswer) : Type 0 where

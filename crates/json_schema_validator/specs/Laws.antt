@@ -3,6 +3,7 @@ use Rattle.std.specs.Prelude.{◌≡◌, ◌⊎◌, ℕ, List, [], Bool, true, f
 use Rattle.std.specs.declared.alloc.Global.{Global}
 use Rattle.serde_json.specs.Data.{Data}
 use Rattle.serde_json.specs.View.{view}
+use Rattle.json_values.specs.Rising.{rises}
 use Rattle.uri_references.specs.Identity.{identity_of}
 use Rattle.schema_drafts.specs.Drafts.{newest}
 use Rattle.schema_drafts.specs.declared.draft.Draft.{Draft}
@@ -71,11 +72,15 @@ AreApart m = bytes_eq (identity_of m.root_uri.now) (identity_of m.moved_uri.now)
 abbrev pub BearApart : Moving → Type 0
 BearApart m = (uri : List ℕ) → is_some (bearer (root_alone (pair_of m)) uri) ≡ true → IsFree (moved_alone (pair_of m)) (added (pair_of m)) uri
 
+-- the one can be moved into the other: the names of members rise in each value that is kept, so that is not asked of the root
+abbrev pub CanMoveAsKept : Moving → Draft → Data → Type 0
+CanMoveAsKept m draft whole = rises (view m.root.now) ≡ true → CanMove (pair_of m) draft whole
+
 -- or the one can be moved into the other, where by what the two tell of meta-schemas nothing is borne twice either: then none is
 abbrev pub ShareNone : Moving → Type 0
 ShareNone m =
     BearApart m
-    ⊎ ((draft : Draft) × (whole : Data) × CanMove (pair_of m) draft whole × BornOnce (meta (added (pair_of m))) (inside (pair_of m) whole))
+    ⊎ ((draft : Draft) × (whole : Data) × CanMoveAsKept m draft whole × BornOnce (meta (added (pair_of m))) (inside (pair_of m) whole))
 
 -- the root by itself wants a document
 abbrev pub IsWanting : Moving → Type 0
@@ -89,7 +94,7 @@ IsLeftOut p m = (root : Target) → Finds (root_by_itself m) root → LeavesOut 
 pub record MayMove (p : Patterns) (m : Moving) (d : Data) : Type 0 where
   pub draft : Draft
   pub whole : Data
-  pub can : CanMove (pair_of m) draft whole
+  pub can : CanMoveAsKept m draft whole
   pub decided : AreDecided p (root_beside m) (root_inside m whole) d
 
 -- two texts are one, where there are two

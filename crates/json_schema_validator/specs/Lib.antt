@@ -4,3 +4,5 @@ pub mod Answers
 pub mod Rooms
 pub mod Roads
 pub mod Laws
+pub mod Bases
+pub mod OneKey

@@ -1,6 +1,8 @@
 //! What validators answer, held against the check of faults.
+//!
+//! The validator's matches are asked for anew, and one that stays unfinished counts as none.
 
-ghost use Rattle.std.specs.Prelude.{◌≡◌, IfOk, IfSome, true, false, is_none, option_copied};
+ghost use Rattle.std.specs.Prelude.{◌≡◌, IfOk, IfSome, true, false, length, is_none, option_copied};
 ghost use Rattle.serde_json.specs.View.{view};
 ghost use Rattle.schema_reports.specs.Left.{errors_left};
 ghost use Rattle.schema_reports.specs.Told.{fault_of, faults_of};
@@ -10,8 +12,9 @@ ghost use Rattle.schema_registries.specs.Certified.{HasCertificate, HaveCertific
 ghost use Rattle.fault_checks.specs.Checked.{AreReadIn, IsChecked};
 ghost use Rattle.schema_validators.specs.Calls.{IsVerdictOf};
 ghost use Rattle.schema_validators.specs.Made.{IsMadeBy};
-ghost use Rattle.schema_validators.specs.Told.{verdict_by};
-ghost use Rattle.json_schema_validator.specs.Joined.{IsFaultChecked, WhereStraight, AreAccepted, each_accepted};
+ghost use Rattle.schema_validators.specs.Told.{faults_by, verdict_by};
+ghost use Rattle.json_schema_validator.specs.Joined.{IsFaultChecked, WhereStraight, AreAccepted};
+ghost use Rattle.json_schema_validator.specs.Joined.{each_accepted, fault_count};
 
 use fault_checks::checking::{CheckAnswer, FaultPath, check_by, check_fault};
 use fault_checks::reading::{ReadMatches, read_matches};
@@ -81,7 +84,8 @@ fn check_each(
     value: &Value,
     errors: ErrorIterator<'_>,
 ) -> Result<Vec<CheckAnswer>, AllocError>
-    ensures { IfOk result (λ v. (p : Patterns)
+    ensures count { IfOk result (λ v. length v.items ≡ fault_count (faults_of (errors_left errors.entry))) }
+    ensures accepted { IfOk result (λ v. (p : Patterns)
         → AreReadIn p (root_on registry.now root.now) (view value.now) (option_copied matches.entry)
         → IsSound p (root_on registry.now root.now)
         → HaveCertificates p (root_on registry.now root.now) (view value.now) (faults_of
@@ -97,7 +101,7 @@ fn check_each(
     Ok(answers)
 }
 
-/// What `check_fault` says of each fault of a value that `iter_errors` gives, in that order.
+/// What `check_fault` says of each fault of a value that `errors_by` gives, in that order: one answer for each.
 ///
 /// The registry, the reference and the maker are those that the validator was built by. Where every match that the value asks for
 /// finishes and no references come back, each is accepted. The patterns are made and their matches read once for all faults.
@@ -114,16 +118,19 @@ pub fn check_errors<M: PatternMatcher, P: PatternMaker>(
     value: &Value,
 ) -> Result<Vec<CheckAnswer>, AllocError>
     requires whole { only_whole (view value.now) ≡ true }
+    ensures cut { IfOk result (λ v.
+        length v.items ≡ fault_count (faults_by validator.now (view value.now))) }
     ensures accepted { IfOk result (λ v. IsMadeBy (P.patterns maker.now)
         (root_on registry.now root.now) validator.now
         → AreAccepted (P.patterns maker.now) (root_on registry.now root.now) (view value.now) v.items) }
 {
-    let errors = validator.iter_errors(value)?;
+    let mut direct = validator.direct();
+    let errors = validator.errors_by(&mut direct, value)?;
     let matches = read_matches(alloc, registry, root, maker, value)?;
     check_each(alloc, registry, root, matches.as_ref(), value, errors)
 }
 
-/// What `check_fault` says of the fault of a value that `validate` gives, and nothing of a valid value.
+/// What `check_fault` says of the first fault of a value that `errors_by` gives, and nothing of a valid value.
 ///
 /// The registry, the reference and the maker are those that the validator was built by. Where every match that the value asks for
 /// finishes and no references come back, it is accepted.
@@ -147,16 +154,18 @@ pub fn check_first<M: PatternMatcher, P: PatternMaker>(
         → WhereStraight (P.patterns maker.now) (root_on registry.now root.now) (view value.now) (a
         ≡ CheckAnswer.Accepted))) }
 {
-    match validator.validate(value)? {
-        Ok(()) => Ok(None),
-        Err(error) => {
+    let mut direct = validator.direct();
+    let mut errors = validator.errors_by(&mut direct, value)?;
+    match errors.next() {
+        None => Ok(None),
+        Some(error) => {
             let answer = check_error(alloc, registry, root, maker, value, &error)?;
             Ok(Some(answer))
         }
     }
 }
 
-/// What `check_fault` says of two paths, and `is_valid` of the value.
+/// What `check_fault` says of two paths, and `is_valid_by` of the value.
 ///
 /// The registry, the reference and the maker are those that the validator was built by. Where every match that the value asks for
 /// finishes, no references come back and the paths are accepted, the value is not valid.
@@ -185,6 +194,7 @@ pub fn check_path<M: PatternMatcher, P: PatternMaker>(
         → WhereStraight (P.patterns maker.now) (root_on registry.now root.now) (view value.now) (both.1 ≡ false)) }
 {
     let answer = check_fault(alloc, registry, root, maker, value, path)?;
-    let verdict = validator.is_valid(value)?;
+    let mut direct = validator.direct();
+    let verdict = validator.is_valid_by(&mut direct, value)?;
     Ok((answer, verdict))
 }

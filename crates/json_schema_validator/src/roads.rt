@@ -18,6 +18,7 @@ use schema_registries::{Documents, Retrieve};
 use schema_validators::{BuildError, ValidationOptions, Validator};
 use serde_json::Value;
 use std::alloc::{AllocError, Global};
+use value_checks::rising::names_rise;
 
 /// A root and a document that is to be moved, each with the text that it is added under, and the name that the second is put under.
 #[derive(Drop)]
@@ -147,6 +148,7 @@ pub fn same_on_three_roads<P: PatternMaker + Drop>(
         (P.patterns maker) ⟦<DefaultRetriever as Retrieve>⟧.may_answer ⟦<DefaultRetriever as Retrieve>⟧.may_refuse maker moving.now (view instance.now) r.inside) }
     ensures same { IfOk result (SayOne (P.patterns maker) moving.now (view instance.now)) }
 {
+    names_rise(moving.root);
     let options = Validator::options(alloc)?.with_pattern_maker(maker);
     let added = added(alloc, &options, moving, instance)?;
     let inside = inside(alloc, &options, moving, instance)?;

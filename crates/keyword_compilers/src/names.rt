@@ -67,7 +67,7 @@ pub(crate) fn needed(
 fn names_of(alloc: Global, schemas: &Map<String, Value>) -> Result<Vec<String>, AllocError>
     ensures { IfOk result (λ v. map string_bytes v.items ≡ member_names (members_view schemas.now.entries)) }
 {
-    let mut names = Vec::new(alloc);
+    let mut names = Vec::with_capacity(alloc, schemas.len())?;
     for (name, _) in schemas.iter() {
         names.push(name.clone()?)?;
     }
@@ -101,7 +101,7 @@ pub(crate) fn named_nodes(
 ) -> Result<Vec<NamedNode>, AllocError>
     ensures { IfOk result (λ v. map named v.items ≡ beside (member_names (members_view schemas.now.entries)) nodes.now) }
 {
-    let mut found = Vec::new(alloc);
+    let mut found = Vec::with_capacity(alloc, schemas.len())?;
     let mut left = nodes;
     for (name, _) in schemas.iter() {
         found.push(NamedNode {

@@ -9,6 +9,7 @@ mod formed_runs;
 mod reading;
 mod reasons;
 mod running;
+mod text_places;
 
 pub use counts::LineCounts;
 pub use faults::write_faults;

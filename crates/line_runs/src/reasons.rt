@@ -1,20 +1,17 @@
 //! Why a text is no value.
 
+use crate::text_places::{DEEPEST, no_utf8_at, number_at, too_deep_at};
 use error_texts::TextPlace;
 use schema_registries::numbers::has_only_whole;
 use schema_registries::other_number;
 use serde_json::error::Category;
 use serde_json::{Error, Value};
 use std::alloc::{AllocError, Global};
-use std::str;
 
 /// What is said of a JSON text with another number.
 const OTHER_NUMBER: &str = "a number is no whole number of 64 bits";
 
-/// How many levels of lists and objects are read.
-const DEEPEST: usize = 127;
-
-/// Why a text is no value, and where it is no longer JSON.
+/// Why a text is no value, and where it is no longer JSON, or has another number.
 #[derive(Debug, Drop)]
 pub(crate) struct Reason {
     pub(crate) text: String,
@@ -24,26 +21,29 @@ pub(crate) struct Reason {
 /// What is wrong with a text that is no value: its first fault as JSON with its place, or its first number that is not whole.
 pub(crate) fn reason_of(alloc: Global, text: &[u8]) -> Result<Reason, AllocError> {
     match Value::from_slice(alloc, text) {
-        Ok(value) => Ok(Reason {
-            text: of_number(alloc, &value)?,
-            place: None,
-        }),
+        Ok(value) => of_number(alloc, text, &value),
         Err(error) => of_error(alloc, text, &error),
     }
 }
 
-// The first number that is no whole number of 64 bits, and where it stands.
-fn of_number(alloc: Global, value: &Value) -> Result<String, AllocError> {
+// The first number that is no whole number of 64 bits, and where it stands in the value and in the text.
+fn of_number(alloc: Global, text: &[u8], value: &Value) -> Result<Reason, AllocError> {
     let is_whole = has_only_whole(value);
     if is_whole {
-        return String::from_str(alloc, OTHER_NUMBER);
+        return Ok(Reason {
+            text: String::from_str(alloc, OTHER_NUMBER)?,
+            place: None,
+        });
     }
     let path = other_number(alloc, value)?;
-    let number = path.find_in(value).unwrap_or(value);
-    if path.is_root() {
-        return format!(in alloc; "{OTHER_NUMBER}: {number}");
-    }
-    format!(in alloc; "{OTHER_NUMBER}: {number} at '{path}'")
+    let number = path.find_in(value).unwrap_or(value).to_string(alloc)?;
+    let place = number_at(alloc, text, number.as_str())?;
+    let text = if path.is_root() {
+        format!(in alloc; "{OTHER_NUMBER}: {number}")?
+    } else {
+        format!(in alloc; "{OTHER_NUMBER}: {number} at '{path}'")?
+    };
+    Ok(Reason { text, place })
 }
 
 fn of_error(alloc: Global, text: &[u8], error: &Error) -> Result<Reason, AllocError> {
@@ -85,64 +85,4 @@ fn place_of(error: &Error) -> Option<TextPlace> {
             column: error.column(),
         }),
     }
-}
-
-// Where the first byte stands that is no UTF-8.
-fn no_utf8_at(text: &[u8]) -> Option<TextPlace> {
-    let Err(error) = str::from_utf8(text) else {
-        return None;
-    };
-    let mut place = TextPlace { line: 1, column: 1 };
-    for byte in text.iter().take(error.valid_up_to()) {
-        place = behind(place, *byte);
-    }
-    Some(place)
-}
-
-// The place behind a byte.
-fn behind(place: TextPlace, byte: u8) -> TextPlace {
-    if byte == b'\n' {
-        TextPlace {
-            line: place.line.saturating_add(1),
-            column: 1,
-        }
-    } else {
-        TextPlace {
-            line: place.line,
-            column: place.column.saturating_add(1),
-        }
-    }
-}
-
-// Where a byte of a JSON text stands.
-#[derive(Clone, Copy, PartialEq, Eq)]
-enum Within {
-    Values,
-    Text,
-    Escape,
-}
-
-// Where the first bracket stands that nests a text deeper than is read.
-fn too_deep_at(text: &[u8]) -> Option<TextPlace> {
-    let mut place = TextPlace { line: 1, column: 1 };
-    let mut within = Within::Values;
-    let mut depth: usize = 0;
-    for byte in text {
-        match (within, *byte) {
-            (Within::Escape, _) => within = Within::Text,
-            (Within::Text, b'\\') => within = Within::Escape,
-            (Within::Text, b'"') => within = Within::Values,
-            (Within::Values, b'"') => within = Within::Text,
-            (Within::Values, b'[' | b'{') => {
-                if depth == DEEPEST {
-                    return Some(place);
-                }
-                depth = depth.saturating_add(1);
-            }
-            (Within::Values, b']' | b'}') => depth = depth.saturating_sub(1),
-            _ => {}
-        }
-        place = behind(place, *byte);
-    }
-    None
 }

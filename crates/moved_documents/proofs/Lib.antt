@@ -19,7 +19,9 @@ pub mod Order
 pub mod Once
 pub mod Law
 pub mod Computed
+pub mod Clashes
 pub mod Needed
+pub mod LeftBehind
 pub mod Borne
 pub mod Settled
 pub mod Apart

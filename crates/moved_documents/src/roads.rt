@@ -3,7 +3,7 @@
 ghost use Rattle.moved_documents.specs.Example.{TextsCanMove};
 ghost use Rattle.moved_documents.specs.Laws.{InsideIsAdded, OnceBeside, OnceIsAlways};
 ghost use Rattle.moved_documents.specs.Laws.{RetrievedIsAdded, RootStandsAlone, WantedIsAdded};
-ghost use Rattle.moved_documents.specs.Needed.{OnceBesideIsNeeded};
+ghost use Rattle.moved_documents.specs.Needed.{LeavesOutIsNeeded, OnceBesideIsNeeded};
 
 /// Where the moved document alone is answered, what is retrieved for the root is nothing or that document, once: then the documents are those of
 /// the form in which it is added.
@@ -45,6 +45,12 @@ pub fn once_beside()
 /// moved into the other, and yet both bear one URI by what the two tell of meta-schemas.
 pub fn once_beside_is_needed()
     ensures { OnceBesideIsNeeded }
+{}
+
+/// What the premise is for that the root by itself wants a document or leaves the moved one out: two pairs of which one can be moved into the
+/// other, and nothing is wrong in any form, and yet the root by itself, which wants no document, has another verdict.
+pub fn leaves_out_is_needed()
+    ensures { LeavesOutIsNeeded }
 {}
 
 /// Where each `$schema` inside documents names a draft, and no URI, and no anchor under one URI, is borne twice by what they tell of meta-schemas,

@@ -90,6 +90,15 @@ const OTHER_NUMBERS: [Row; 3] = [
     ),
 ];
 
+// What is said of it where the output is for people.
+const DESCRIBED: [Row; 1] = [(
+    &["plain.json", "--check", "typed", "--output", "text"],
+    "1\n1\n",
+    r"3  answers refused: lines of typed: 1, instances: 2
+  the file has a line for each instance, in their order
+",
+)];
+
 const UNREAD: [Row; 5] = [
     (
         &["plain.json", "--check", "absent"],
@@ -121,6 +130,7 @@ const UNREAD: [Row; 5] = [
 #[test]
 fn refused(rt: HostRuntime) {
     assert_outcomes(&rt, rt.alloc(), &SOUND, &OTHER_NUMBERS);
+    assert_outcomes(&rt, rt.alloc(), &SOUND, &DESCRIBED);
     assert_outcomes(&rt, rt.alloc(), &SOUND, &UNREAD);
 }
 

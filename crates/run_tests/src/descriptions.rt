@@ -107,7 +107,7 @@ const DOCUMENTS: [Row; 7] = [
     ),
 ];
 
-const BUILDS: [Row; 14] = [
+const BUILDS: [Row; 19] = [
     (
         &["wrong.json", "--output", "text"],
         "1\n",
@@ -125,34 +125,95 @@ const BUILDS: [Row; 14] = [
             "text",
         ],
         "1\n",
-        r"2  build refused: Resource 'http://a.test/leaf.json' is not present and retrieving it failed
-  The documents are refused: the document 'http://a.test/leaf.json' is not present
+        r#"2  build refused: Resource 'http://a.test/leaf.json' is not present and retrieving it failed
+  in the file 'root.json' at '/items/$ref': The reference "leaf.json" is refused: the document 'http://a.test/leaf.json' is not present
   the documents at hand are
     'http://a.test/root.json' in the file 'root.json'
     'u:other' in the file 'plain.json'
-",
+"#,
+    ),
+    (
+        &[
+            "root.json",
+            "u:x=true.json",
+            "U:x=plain.json",
+            "--base",
+            "http://a.test/root.json",
+            "--meta",
+            "meta.json",
+            "--output",
+            "text",
+        ],
+        "1\n",
+        r#"2  warning: document 'U:x' in the file 'plain.json' replaces the one in the file 'true.json'
+build refused: Resource 'http://a.test/leaf.json' is not present and retrieving it failed
+  in the file 'root.json' at '/items/$ref': The reference "leaf.json" is refused: the document 'http://a.test/leaf.json' is not present
+  the documents at hand are
+    'http://a.test/root.json' in the file 'root.json'
+    'U:x' in the file 'plain.json'
+    those of the file 'meta.json'
+"#,
     ),
     (
         &["own.json", "--output", "text"],
         "1\n",
-        r"2  build refused: Unknown meta-schema 'http://a.test/m2'
-  The documents are refused: the meta-schema 'http://a.test/m2' is not known
+        r#"2  build refused: Unknown meta-schema 'http://a.test/m2'
+  in the file 'own.json' at '/$schema': The reference "http://a.test/m2" is refused: the meta-schema 'http://a.test/m2' is not known
   a file with a list of meta-schemas is given by --meta
-",
+"#,
+    ),
+    (
+        &["lost.json", "u:c=own.json", "--output", "text"],
+        "1\n",
+        r#"2  build refused: Resource 'u:a' is not present and retrieving it failed
+  in the file 'lost.json' at '/allOf/0/$ref': The reference "u:a" is refused: the document 'u:a' is not present
+  in the file 'lost.json' at '/allOf/1/$ref': The reference "u:b#/x" is refused: the document 'u:b' is not present
+  in the file 'own.json' at '/$schema': The reference "http://a.test/m2" is refused: the meta-schema 'http://a.test/m2' is not known
+  the documents at hand are
+    'json-schema:///' in the file 'lost.json'
+    'u:c' in the file 'own.json'
+  a file with a list of meta-schemas is given by --meta
+"#,
+    ),
+    (
+        &["lost.json", "--meta", "led.json", "--output", "json"],
+        "1\n",
+        r#"2  build refused: Resource 'u:b' is not present and retrieving it failed
+  in the file 'led.json' at 'http://a.test/m8#/$ref': The reference "u:b" is refused: the document 'u:b' is not present
+  the documents at hand are
+    'json-schema:///' in the file 'lost.json'
+    those of the file 'led.json'
+"#,
     ),
     (
         &["refused.json", "--meta", "meta.json", "--output", "json"],
         "1\n",
         r#"2  build refused: Schema refused by its meta-schema at '/type', '/properties/type/type'
-  in the file 'refused.json' at '/type': ["string"] is not of type string
+  in the file 'refused.json' at '/type': The meta-schema refuses it by '/properties/type/type': ["string"] is not of type string
 "#,
     ),
     (
         &["loose.json", "--meta", "strict.json", "--output", "text"],
         "1\n",
         r#"2  build refused: Schema refused by its meta-schema at '/type', '/properties/type/type'
-  in the file 'loose.json' at '/type': ["string"] is not of type string
-  in the file 'loose.json': {"$schema":"http://a.test/m3","type":["string"]} has no member of the required name "description"
+  in the file 'loose.json' at '/type': The meta-schema refuses it by '/properties/type/type': ["string"] is not of type string
+  in the file 'loose.json': The meta-schema refuses it by '/required': {"$schema":"http://a.test/m3","type":["string"]} has no member of the required name "description"
+"#,
+    ),
+    (
+        &[
+            "plain.json",
+            "json-schema:///=loose.json",
+            "--meta",
+            "strict.json",
+            "--output",
+            "text",
+        ],
+        "1\n",
+        r#"2  warning: document 'json-schema:///' in the file 'loose.json' replaces the one in the file 'plain.json'
+build refused: Schema refused by its meta-schema at '/type', '/properties/type/type'
+  in the file 'loose.json' at '/type': The meta-schema refuses it by '/properties/type/type': ["string"] is not of type string
+  in the file 'loose.json': The meta-schema refuses it by '/required': {"$schema":"http://a.test/m3","type":["string"]} has no member of the required name "description"
 "#,
     ),
     (
@@ -160,7 +221,7 @@ const BUILDS: [Row; 14] = [
         "1\n",
         r#"2  build refused: Keyword value at 'json-schema:///#/minItems': expected count
   in the file 'looser.json' at '/minItems': Expected count, found "1"
-  in the file 'looser.json': {"$schema":"http://a.test/m3","minItems":"1"} has no member of the required name "description"
+  in the file 'looser.json': The meta-schema refuses it by '/required': {"$schema":"http://a.test/m3","minItems":"1"} has no member of the required name "description"
 "#,
     ),
     (
@@ -169,6 +230,11 @@ const BUILDS: [Row; 14] = [
         r##"2  build refused: Pointer '/$defs/none' does not exist
   in the file 'nowhere.json' at '/$ref': The reference "#/$defs/none" is refused: nothing stands at the pointer '/$defs/none'
 "##,
+    ),
+    (
+        &["anchor.json", "--output", "text"],
+        "1\n",
+        "2  build refused: Anchor 'a\nb' does not exist\n  in the file 'anchor.json' at '/$ref': The reference \"#a\\nb\" is refused: no schema there has the anchor 'a\nb'\n",
     ),
     (
         &["several.json", "--output", "text"],
@@ -219,11 +285,11 @@ const BUILDS: [Row; 14] = [
             "text",
         ],
         "1\n",
-        r"2  build refused: Resource 'http://a.test/leaf.json' is not present and retrieving it failed
-  The documents are refused: the document 'http://a.test/leaf.json' is not present
+        r#"2  build refused: Resource 'http://a.test/leaf.json' is not present and retrieving it failed
+  in the file 'root.json' at '/items/$ref': The reference "leaf.json" is refused: the document 'http://a.test/leaf.json' is not present
   the documents at hand are
     'http://a.test/root.json' in the file 'root.json'
-",
+"#,
     ),
     (
         &["several.json"],

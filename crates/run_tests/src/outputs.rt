@@ -14,7 +14,7 @@ const OBJECTS: [Row; 3] = [
 {"errors":[{"description":"1 is not of type string","evaluation_path":"/type","instance_path":"","keyword_location":"json-schema:///#/type","kind":"Types","names":["string"],"schema_path":"/type"}],"valid":false}
 {"column":0,"line":1,"reason":"EOF while parsing at line 1 column 0","valid":null}
 {"column":1,"line":1,"reason":"EOF while parsing at line 1 column 1","valid":null}
-{"reason":"a number is no whole number of 64 bits: 1.5","valid":null}
+{"column":1,"line":1,"reason":"a number is no whole number of 64 bits: 1.5","valid":null}
  "#,
     ),
     (&["plain.json", "--output", "json"], "", "0  "),
@@ -53,10 +53,42 @@ const REASONS: [Row; 2] = [
 {"column":2,"line":1,"reason":"no UTF-8 at line 1 column 2","valid":null}
 {"column":1,"line":1,"reason":"EOF while parsing at line 1 column 1","valid":null}
 {"column":128,"line":1,"reason":"nested deeper than 127 at line 1 column 128","valid":null}
-{"reason":"a number is no whole number of 64 bits: 1.5 at '/a/0'","valid":null}
+{"column":7,"line":1,"reason":"a number is no whole number of 64 bits: 1.5 at '/a/0'","valid":null}
  "#,
     ),
 ];
+
+// A number that is no whole one of 64 bits stands where its text begins. What is in a text, or is a part of another number, is none.
+const OTHER_NUMBERS: [Row; 2] = [
+    (
+        &["plain.json", "--output", "json"],
+        "[\"1.5 \\\" 1.5\",11.5,true,1, 1.5]\n{\"a\":[1,-0.5e1]}\n[0,-0.0]\n",
+        r#"1 {"column":15,"line":1,"reason":"a number is no whole number of 64 bits: 11.5 at '/1'","valid":null}
+{"column":9,"line":1,"reason":"a number is no whole number of 64 bits: -5.0 at '/a/1'","valid":null}
+{"column":4,"line":1,"reason":"a number is no whole number of 64 bits: -0.0 at '/1'","valid":null}
+ "#,
+    ),
+    (
+        &["plain.json", "--output", "json", "--instance", "lines.json"],
+        "",
+        r#"1 {"column":5,"line":3,"reason":"a number is no whole number of 64 bits: 2.5 at '/2'","valid":null}
+ "#,
+    ),
+];
+
+// For people a reason stands behind the number of its line.
+const SAID: [Row; 1] = [(
+    &["plain.json", "--output", "text"],
+    "[1,]\n{\"a\" 1}\n1e999\n[\"a\nno JSON\n1.5\n",
+    r"1 1: invalid JSON at line 1 column 4
+2: invalid JSON at line 1 column 6
+3: number out of range at line 1 column 5
+4: EOF while parsing at line 1 column 2
+5: invalid JSON at line 1 column 1
+6: a number is no whole number of 64 bits: 1.5
+ lines: 6, valid: 0, not valid: 0, not read: 6
+",
+)];
 
 // Of several faults each has its object. The paths of a fault in another document begin there, and its evaluation path at the first.
 // A fault of several schemas has those of each.
@@ -87,6 +119,7 @@ const LINKED_OBJECTS: [Row; 2] = [
 fn objects(rt: HostRuntime) {
     assert_outcomes(&rt, rt.alloc(), &SOUND, &OBJECTS);
     assert_outcomes(&rt, rt.alloc(), &SOUND, &REASONS);
+    assert_outcomes(&rt, rt.alloc(), &SOUND, &OTHER_NUMBERS);
     assert_outcomes(&rt, rt.alloc(), &SOUND, &LINKED_OBJECTS);
 }
 
@@ -172,6 +205,7 @@ empty.json: EOF while parsing at line 1 column 0
 #[test]
 fn sentences(rt: HostRuntime) {
     assert_outcomes(&rt, rt.alloc(), &SOUND, &SENTENCES);
+    assert_outcomes(&rt, rt.alloc(), &SOUND, &SAID);
     assert_outcomes(&rt, rt.alloc(), &SOUND, &LINKED_SENTENCES);
 }
 

@@ -63,7 +63,7 @@ build refused: Document 'u:x' is no JSON text
     ),
 ];
 
-const UNKNOWN: [Row; 4] = [
+const UNKNOWN: [Row; 6] = [
     (
         &["typos.json", "--output", "text"],
         "1\n",
@@ -89,6 +89,33 @@ lines: 1, valid: 1, not valid: 0, not read: 0
         r#"0  warning: document 'U:x' in the file 'beside.json' replaces the one in the file 'typos.json'
 warning: keyword "$anchors" in the file 'old.json' at '/items/0/$anchors' is unknown to draft 7
 "#,
+    ),
+    (
+        &[
+            "old.json",
+            "--draft",
+            "7",
+            "--meta",
+            "noted.json",
+            "--output",
+            "json",
+        ],
+        "",
+        r#"0  warning: keyword "$anchors" in the file 'old.json' at '/items/0/$anchors' is unknown to draft 7
+warning: keyword "nmae" in the file 'noted.json' at 'http://a.test/m7#/nmae' is unknown to draft 7
+"#,
+    ),
+    (
+        &[
+            "plain.json",
+            "http://a.test/m7=true.json",
+            "--meta",
+            "noted.json",
+            "--output",
+            "json",
+        ],
+        "",
+        "0  ",
     ),
     (
         &["wrong.json", "u:y=old.json", "--output", "text"],

@@ -46,7 +46,13 @@ const STRICT: &str =
 const NESTED: &str =
     "[[[[[[[[[[[[[[[[[[[[[[[[[[[[[[[[[[[[[[[[[[[[[[[[[[[[[[[[[[[[[[[[[[[[[[[[[[[[[[[[[[[[[[[[[[[[[[[[[[[[[[[[[[[[[[[[[[[[[[[[[[[[[[[[";
 
-const FILES: [(&str, &str); 37] = [
+// A meta-schema with a name that is no keyword.
+const NOTED: &str = "[{\"$id\":\"http://a.test/m7\",\"nmae\":1}]";
+
+// Two references to documents that are not there.
+const LOST: &str = "{\"allOf\":[{\"$ref\":\"u:a\"},{\"$ref\":\"u:b#/x\"}]}";
+
+const FILES: [(&str, &str); 42] = [
     ("root.json", ROOT),
     ("leaf.json", LEAF),
     ("plain.json", "{\"type\":\"string\"}"),
@@ -101,6 +107,14 @@ const FILES: [(&str, &str); 37] = [
     ),
     ("left.json", "{\"items\":{\"unevaluatedItems\":false}}"),
     ("one.json", "{\"oneOf\":[{\"minimum\":2},{\"maximum\":4}]}"),
+    ("noted.json", NOTED),
+    ("lost.json", LOST),
+    (
+        "led.json",
+        "[{\"$id\":\"http://a.test/m8\",\"$ref\":\"u:b\"}]",
+    ),
+    ("lines.json", "[\n  12,\n  1,2.5\n]\n"),
+    ("anchor.json", "{\"$ref\":\"#a\\nb\"}"),
     (
         "old.json",
         "{\"items\":[{\"$anchors\":1}],\"additionalItems\":false}",

@@ -45,6 +45,7 @@ abbrev mutual
   kind_of (kind.Required property) = told.Required (string_bytes property)
   kind_of (kind.Types names) = told.Types (names_in names)
   kind_of kind.UniqueItems = told.UniqueItems
+  kind_of (kind.UnfinishedMatch pattern) = told.UnfinishedMatch (string_bytes pattern)
 
   pub context_branches : ErrorContext → told.Branches
   context_branches (ErrorContext' shape all) = row_branches all
@@ -137,3 +138,4 @@ kind_name (kind.PropertyNames' p q k v i s e l) = codes "PropertyNames"
 kind_name (kind.Required property) = codes "Required"
 kind_name (kind.Types names) = codes "Types"
 kind_name kind.UniqueItems = codes "UniqueItems"
+kind_name (kind.UnfinishedMatch pattern) = codes "UnfinishedMatch"

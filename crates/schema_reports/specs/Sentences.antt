@@ -41,6 +41,7 @@ said (kind.PropertyNames' p q k v i s e l) = codes " has a name that is refused:
 said (kind.Required property) = codes " has no member of the required name "
 said (kind.Types names) = codes " is not of type "
 said kind.UniqueItems = codes " has items that are equal"
+said (kind.UnfinishedMatch pattern) = codes " goes by a match that stays unfinished, of the pattern "
 
 -- names with commas between
 abbrev pub more_names : List (List ℕ) → List Phrase
@@ -95,6 +96,7 @@ named (kind.PropertyNames' p q k v i s e l) = value (value_in v) ∷ words (said
 named (kind.Required property) = name (string_bytes property) ∷ []
 named (kind.Types names) = types_listed (names_in names)
 named kind.UniqueItems = []
+named (kind.UnfinishedMatch pattern) = name (string_bytes pattern) ∷ []
 
 -- the value, what is said of it, and what the kind carries
 abbrev pub sentence_of : ValidationError → List Phrase

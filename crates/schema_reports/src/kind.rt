@@ -63,6 +63,8 @@ pub enum ValidationErrorKind<'i> {
     Types { names: TypeNames },
     /// Two items of the list are equal.
     UniqueItems,
+    /// A match of the pattern stays unfinished, and whether the value is refused goes by it.
+    UnfinishedMatch { pattern: String },
 }
 
 impl ValidationErrorKind<'_> {
@@ -99,6 +101,7 @@ impl ValidationErrorKind<'_> {
             ValidationErrorKind::Required { .. } => "Required",
             ValidationErrorKind::Types { .. } => "Types",
             ValidationErrorKind::UniqueItems => "UniqueItems",
+            ValidationErrorKind::UnfinishedMatch { .. } => "UnfinishedMatch",
         }
     }
 }

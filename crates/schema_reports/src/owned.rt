@@ -88,6 +88,7 @@ fn owned_kind<'o>(alloc: Global, kind: Kind<'_>) -> Result<Kind<'o>, AllocError>
         Kind::Required { property } => Ok(Kind::Required { property }),
         Kind::Types { names } => Ok(Kind::Types { names }),
         Kind::UniqueItems => Ok(Kind::UniqueItems),
+        Kind::UnfinishedMatch { pattern } => Ok(Kind::UnfinishedMatch { pattern }),
     }
 }
 

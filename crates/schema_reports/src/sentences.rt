@@ -54,6 +54,7 @@ fn said(kind: &Kind<'_>) -> &'static str
         Kind::Required { .. } => " has no member of the required name ",
         Kind::Types { .. } => " is not of type ",
         Kind::UniqueItems => " has items that are equal",
+        Kind::UnfinishedMatch { .. } => " goes by a match that stays unfinished, of the pattern ",
     }
 }
 
@@ -83,9 +84,9 @@ fn push_named<'e>(phrases: &mut Vec<Phrase<'e>>, kind: &'e Kind<'_>) -> Result<(
         | Kind::MinItems { limit }
         | Kind::MinLength { limit }
         | Kind::MinProperties { limit } => push(phrases, Phrase::Count(*limit)),
-        Kind::Pattern { pattern: name } | Kind::Required { property: name } => {
-            push(phrases, Phrase::Name(name.as_str()))
-        }
+        Kind::Pattern { pattern: name }
+        | Kind::Required { property: name }
+        | Kind::UnfinishedMatch { pattern: name } => push(phrases, Phrase::Name(name.as_str())),
         Kind::PropertyNames { error } => {
             push(phrases, Phrase::Value(error.instance.value()))?;
             push(phrases, Phrase::Words(said(&error.kind)))?;

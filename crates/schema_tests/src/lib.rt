@@ -36,6 +36,8 @@ mod retrievers;
 #[cfg(test)]
 mod rows;
 #[cfg(test)]
+mod sameness;
+#[cfg(test)]
 mod sentences;
 #[cfg(test)]
 mod tables;

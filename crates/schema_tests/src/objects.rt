@@ -18,7 +18,7 @@ const COMMON: [&str; 6] = [
 ];
 
 // A kind, what it carries, and what its object has beside what every object has.
-const FIELDS: [(&str, &str, &str); 25] = [
+const FIELDS: [(&str, &str, &str); 26] = [
     ("AdditionalItems", "null", ""),
     (
         "AdditionalProperties",
@@ -60,6 +60,7 @@ const FIELDS: [(&str, &str, &str); 25] = [
         r#" names=["string","null","array"]"#,
     ),
     ("UniqueItems", "null", ""),
+    ("UnfinishedMatch", r#""(?<=ab)c""#, r#" pattern="(?<=ab)c""#),
 ];
 
 fn written(rt: &impl Abort, alloc: Global, errors: Vec<ValidationError<'_>>) -> String {

@@ -8,7 +8,7 @@ use std::alloc::Global;
 use std::process::Abort;
 
 // A kind, the value that is refused, what the kind carries, and the sentence.
-const SENTENCES: [(&str, &str, &str, &str); 24] = [
+const SENTENCES: [(&str, &str, &str, &str); 25] = [
     (
         "AdditionalItems",
         "[1,2]",
@@ -133,6 +133,12 @@ const SENTENCES: [(&str, &str, &str, &str); 24] = [
         "null",
         "[1,1] has items that are equal",
     ),
+    (
+        "UnfinishedMatch",
+        r#""abc""#,
+        r#""(?<=ab)c""#,
+        r#""abc" goes by a match that stays unfinished, of the pattern "(?<=ab)c""#,
+    ),
 ];
 
 fn text_of(rt: &impl Abort, alloc: Global, value: &Value) -> String {
@@ -207,6 +213,9 @@ pub(crate) fn kind_of<'v>(
         }
         "Required" => Kind::Required {
             property: text_of(rt, alloc, carried),
+        },
+        "UnfinishedMatch" => Kind::UnfinishedMatch {
+            pattern: text_of(rt, alloc, carried),
         },
         "Types" => Kind::Types {
             names: read(alloc, carried)

@@ -28,10 +28,13 @@ some_none None h = absurd (cc h)
 some_none (Some none) h = refl
 some_none (Some (also f fs)) h = absurd (cc h)
 
-pub accepts_none : {M : Type 0} {G : Ghosts M} (v : Validator M G) (d : Data) → verdict_by v d ≡ true → faults_by v d ≡ none
+-- there are no faults just where the verdict is yes
+pub agree_by : {M : Type 0} {G : Ghosts M} (v : Validator M G) (d : Data) → is_none (faults_by v d) ≡ verdict_by v d
 unfolding answer_by
-accepts_none {G = G} v d h =
-    none_there (faults_by v d) (cut_agrees ℕ (reading_of shape_of (table_reads G.finds (table_in v)) (nodes_in v)) (keys_below (length (nodes_in v)) d) [] v.start (whole d) ∙ h)
+agree_by {G = G} v d = cut_agrees ℕ (reading_of shape_of (table_reads G.finds (table_in v)) (nodes_in v)) (keys_below (length (nodes_in v)) d) [] v.start (whole d)
+
+pub accepts_none : {M : Type 0} {G : Ghosts M} (v : Validator M G) (d : Data) → verdict_by v d ≡ true → faults_by v d ≡ none
+accepts_none v d h = none_there (faults_by v d) (agree_by v d ∙ h)
 
 pub accepted_none : (p : Patterns) (r : Root) (d : Data) → IsAnswer verdicts p r d true → AreFaults p r d none
 accepted_none p r d answer matches target found finish straight =

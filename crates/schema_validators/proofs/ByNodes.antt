@@ -16,6 +16,7 @@ use Rattle.compiled_keywords.specs.declared.keyword.Keyword.{Keyword}
 use Rattle.compiled_keywords.specs.Shapes.{shape_of}
 use Rattle.graph_answers.specs.Answers as graph
 use Rattle.graph_answers.specs.Answers.{answer_by, IsDecided, IsVerdict}
+use Rattle.graph_answers.specs.Certain.{AreThoseFaults, HaveThoseCertificates}
 use Rattle.graph_answers.specs.Runs.{IsVerdictOf}
 use Rattle.graph_answers.specs.declared.runs.Decision.{Decision}
 use Rattle.graph_answers.specs.declared.runs.Decision.TheVariants as decision
@@ -89,6 +90,35 @@ module _ {M : Type 0} (finds : M → List ℕ → Option Bool) (p : Patterns) (r
 
     pub faults_certified : (fs : Faults) → fs ≡ answer_by shape_of finds nodes table start d bags → HaveCertificates p r d fs
     faults_certified fs is f told = fault_certified f (subst (Told f) is told)
+
+  -- of faults that are those of the documents
+  module _ (fs : Faults) (told : AreThoseFaults shape_of finds nodes table start d fs) where
+    pub faults_told : AreFaults p r d fs
+    faults_told matches target found finish straight =
+        let are = told r.documents p.makes matches (site_of_root r target) (decided matches target found finish straight) in
+        record { faults = are.faults; told = are.told; same = are.same }
+
+    pub verdict_told : (b : Bool) → b ≡ is_none fs → IsAnswer verdicts p r d b
+    verdict_told b is matches target found finish straight =
+        let are = faults_told matches target found finish straight in
+        let same = is ∙ none_same are.same ∙ moved_none are.faults in
+        record {
+          unfoldings = are.told.unfoldings;
+          is = sym (told_agrees (plain r.documents p.makes matches) are.told.unfoldings (site_of_root r target) (whole d)) ∙ ap (option_map is_none) are.told.is ∙ ap Some (sym same);
+        }
+
+    pub fault_told : (f : Fault) → Told f fs → IsFault p r d f
+    fault_told f among matches target found finish straight = record { faults = fs; those = faults_told matches target found finish straight; told = among }
+
+  module _ (fs : Faults) (certified : HaveThoseCertificates shape_of finds nodes table start d fs) where
+    pub certificates_told : HaveCertificates p r d fs
+    certificates_told f among matches target found finish straight = record {
+      instance_path = instance_path f;
+      evaluation_path = evaluation_path f;
+      chain = certified r.documents p.makes matches (site_of_root r target) (decided matches target found finish straight) f among;
+      instance_text = refl;
+      evaluation_text = refl;
+    }
 
 -- of one error, if any is told
 module _ (fs : Faults) (P : Fault → Type 0) (each : (f : Fault) → Told f fs → P f) where

@@ -3,11 +3,10 @@ use Rattle.std.proofs.Common.{◌≡◌, List, true, Result, Ok, Err, is_ok, fal
 use Rattle.schema_meaning.specs.Faults.{Fault, Faults, none, also, is_none, Told}
 use Rattle.schema_engine.specs.Hearing.{HearsMore}
 use Rattle.schema_reports.specs.Told.{fault_of, faults_of, error_is_proper, are_proper, AreAll}
-use Rattle.schema_reports.specs.Stands.{first_stands, all_stand}
+use Rattle.schema_reports.specs.Stands.{all_stand}
 use Rattle.schema_reports.specs.declared.error.ValidationError.{ValidationError}
 use Rattle.schema_reports.specs.declared.observer.Observation.TheVariants as kept
 use Rattle.schema_reports.specs.declared.observer.Observer.TheVariants as observers
-use Rattle.schema_reports.specs.declared.first_fault.FirstFault.{FirstFault}
 use Rattle.schema_reports.specs.declared.all_faults.AllFaults.{AllFaults}
 use Rattle.schema_validators.specs.Heard.{SaysOne}
 
@@ -28,11 +27,7 @@ module _ {T : Type 0} (fs : Faults) where
   says_proper (Ok y) says = tt
   says_proper (Err e) says = says.proper
 
--- of each observer that heard of none before
-pub first_says : {T : Type 0} (fs : Faults) (old new : FirstFault) → first_stands old none → HearsMore fs (observers.First old) (observers.First new)
-    → (x : Result T ValidationError) → ((gs : Faults) → first_stands new gs → SaysOne x gs) → SaysOne x fs
-first_says fs old new before h x says = says fs (h.heard kept.First none before)
-
+-- one that heard of none before
 pub all_say : (fs : Faults) (old new : AllFaults) → all_stand old none → HearsMore fs (observers.All old) (observers.All new)
     → (es : List ValidationError) → ((gs : Faults) → all_stand new gs → AreAll es gs) → AreAll es fs
 all_say fs old new before h es says = says fs (h.heard kept.All none before)

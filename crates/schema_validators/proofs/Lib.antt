@@ -14,3 +14,4 @@ pub mod Placing
 pub mod Entries
 pub mod Rooting
 mod Causing
+mod AbsentLemmas

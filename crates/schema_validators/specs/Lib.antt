@@ -24,3 +24,4 @@ pub mod Described
 pub mod Caused
 pub mod AllTold
 pub mod Unknown
+pub mod Absent

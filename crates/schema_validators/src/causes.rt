@@ -1,7 +1,8 @@
 //! All that is wrong with a root.
 
-ghost use Rattle.std.specs.Prelude.{IfOk, IfErr};
+ghost use Rattle.std.specs.Prelude.{IfOk, IfErr, OnOk};
 ghost use Rattle.schema_registries.specs.Roots.{root_on};
+ghost use Rattle.schema_validators.specs.Counted.{IsWithin};
 ghost use Rattle.schema_validators.specs.Caused.{ListsCauses, NoneWhereSound, RefusesListing};
 
 use crate::error::BuildError;
@@ -25,6 +26,7 @@ pub(crate) fn causes_at<P: PatternMaker>(
 ) -> Result<Vec<BuildCause>, BuildError>
     ensures listed { IfOk result (λ v. ListsCauses (P.patterns maker.now) (root_on registry.now root.now) v.items) }
     ensures sound { IfOk result (λ v. NoneWhereSound (P.patterns maker.now) (root_on registry.now root.now) v.items) }
+    ensures within { OnOk result (IsWithin (P.patterns maker.now) node_limit (root_on registry.now root.now)) }
     ensures refused { IfErr result (RefusesListing (P.patterns maker.now) node_limit (root_on registry.now root.now)) }
 {
     let own = registry.own();

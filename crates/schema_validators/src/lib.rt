@@ -4,6 +4,7 @@
 //! each at a root that a reference leads to.
 #![tactic(auto)]
 
+mod absent;
 mod agreement;
 mod building;
 mod causes;

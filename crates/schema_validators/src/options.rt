@@ -1,6 +1,7 @@
 //! How validators are built.
 
 ghost use Rattle.std.specs.Prelude.{◌≡◌, ◌⊎◌, [], IfOk, IfErr, OnOk, codes, None, Some, false};
+ghost use Rattle.std.specs.List.{AllZip};
 ghost use Rattle.schema_drafts.specs.Drafts as drafts;
 ghost use Rattle.schema_definitions.specs.Lookup.{Target};
 ghost use Rattle.document_sources.specs.Causes.{IsMemory};
@@ -9,6 +10,7 @@ ghost use Rattle.schema_registries.specs.Passed.{RefusesRegistry};
 ghost use Rattle.schema_registries.specs.Retrieval.{IsPrepared};
 ghost use Rattle.schema_registries.specs.Seen.{documents_given, documents_shared, retrieved_shared, siblings_shared};
 ghost use Rattle.schema_registries.specs.Roots.{Finds, root_on};
+ghost use Rattle.schema_validators.specs.Absent.{NamesAbsent, absent_given};
 ghost use Rattle.schema_validators.specs.Counted.{IsWithin};
 ghost use Rattle.schema_validators.specs.Made.{IsMadeBy};
 ghost use Rattle.schema_validators.specs.Asked.{IsMet};
@@ -19,6 +21,7 @@ ghost use Rattle.schema_validators.specs.Mapped.{IsMapBuilt, RefusesMapping};
 ghost use Rattle.schema_validators.specs.AllTold.{TellsIn, RefusesTelling};
 ghost use Rattle.schema_validators.specs.Caused.{ListsCauses, NoneWhereSound, RefusesListing};
 
+use crate::absent::{absent_alone, absent_beside};
 use crate::causes::causes_at;
 use crate::error::BuildError;
 use crate::mapping::map_at;
@@ -26,6 +29,7 @@ use crate::meta_faults::tell_by_meta_schema;
 use crate::meta_schema::ask_meta_schema;
 use crate::validator::Validator;
 use crate::validator_map::ValidatorMap;
+use document_sources::layer::Layer;
 use reached_sites::Error;
 use reached_sites::cause::BuildCause;
 use regex_patterns::RegexMaker;
@@ -237,6 +241,33 @@ impl<P: Drop, R: Drop> ValidationOptions<P, R> {
             meta_schemas: self.meta_schemas,
         }
     }
+
+    /// Each `$ref` and each `$schema` of documents that leads to what is not at hand, as a cause with its place, its text and what `prepare`
+    /// names where nobody gives it, in the order in which they are met. Those of the meta-schemas are looked at first, by themselves, and
+    /// where they have none those of the documents and of the meta-schemas together. No document is asked of the retriever, and what it
+    /// would give is not looked at.
+    ///
+    /// It costs about what `prepare` costs where nothing is retrieved, and for each reference to a URI that no schema place bears a look
+    /// through the URIs of all documents.
+    ///
+    /// # Errors
+    ///
+    /// Where memory was refused, or a count of owners or of layers is full.
+    pub fn absent_in(&self, documents: &Documents) -> Result<Vec<BuildCause>, AllocError>
+        ensures listed { IfOk result (λ v. AllZip NamesAbsent (absent_given
+            (meta_schemas_given self.now) (layer_by self.now) (documents_given documents.now)) v.items) }
+    {
+        let (alloc, given) = (self.alloc, documents.list().documents());
+        let layer = Layer {
+            number: 0,
+            draft: self.draft,
+            siblings: self.siblings,
+        };
+        match &self.meta_schemas {
+            None => absent_alone(alloc, layer, given),
+            Some(metas) => absent_beside(alloc, layer, metas.list().documents(), given),
+        }
+    }
 }
 
 impl<P: PatternMaker + Drop, R: Drop> ValidationOptions<P, R> {
@@ -295,6 +326,8 @@ impl<P: PatternMaker + Drop, R: Drop> ValidationOptions<P, R> {
             (root_on registry.now root.now) v.items) }
         ensures sound { IfOk result (λ v. NoneWhereSound (P.patterns self.now.maker)
             (root_on registry.now root.now) v.items) }
+        ensures within { OnOk result (IsWithin (P.patterns self.now.maker) self.now.node_limit
+            (root_on registry.now root.now)) }
         ensures refused { IfErr result (RefusesListing (P.patterns self.now.maker) self.now.node_limit
             (root_on registry.now root.now)) }
     {

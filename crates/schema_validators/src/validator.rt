@@ -5,7 +5,7 @@ ghost use Rattle.serde_json.specs.View.{view};
 ghost use Rattle.schema_drafts.specs.Drafts as drafts;
 ghost use Rattle.schema_meaning.specs.Faults.{Faults, Told, is_none};
 ghost use Rattle.schema_reports.specs.Left.{errors_left};
-ghost use Rattle.schema_reports.specs.Stands.{first_stands};
+ghost use Rattle.schema_reports.specs.Stands.{is_one_of};
 ghost use Rattle.schema_reports.specs.Told.{fault_of, faults_of, error_is_proper, are_proper};
 ghost use Rattle.schema_validators.specs.Heard.{SaysOne};
 ghost use Rattle.schema_validators.specs.Meant.{AreOfSome};
@@ -23,7 +23,7 @@ use schema_drafts::draft::Draft;
 use schema_engine::matching::Matching;
 use schema_patterns::{PatternMaker, PatternMatcher, PatternTable};
 use schema_registries::{DefaultRetriever, Documents, Retrieve, has_only_whole, other_number};
-use schema_reports::{AllFaults, ErrorIterator, FirstFault, Observer, ValidationError};
+use schema_reports::{AllFaults, ErrorIterator, Observer, ValidationError};
 use serde_json::Value;
 use std::alloc::{AllocError, Global};
 use std::rc::Rc;
@@ -67,6 +67,7 @@ impl<M: PatternMatcher> Validator<M> {
     ghost use Rattle.schema_validators.specs.Seen.{nodes_in, table_in};
     ghost use Rattle.schema_validators.specs.Told.{verdict_by, faults_by};
     ghost use Rattle.schema_validators.specs.ByNodes.{HearsBy, AreFaultsBy, HaveCertificatesBy, Decides};
+    ghost use Rattle.schema_validators.specs.ByNodes.{AcceptsBy, TellsBy, SaysFirstBy, HasOpenBy};
 
     /// A validator of a schema by a maker of patterns, and by the options that stand until it is said otherwise: the schema is the document
     /// at the base URI, and the root of validation.
@@ -106,23 +107,25 @@ impl<M: PatternMatcher> Validator<M> {
         self.draft
     }
 
-    /// Whether a value is valid.
+    /// Whether a value is valid: however the matches that stay unfinished are answered.
     ///
     /// Its numbers are whole numbers of 64 bits, as `has_only_whole` tells; `check_json` tests that by itself. It stops as soon as that is
     /// decided, and takes no memory but for one stack of questions. A value at which references come back to where they were is read as
-    /// the cut reading does: the return is accepted.
+    /// the cut reading does: the return is accepted. Where a match stays unfinished there are up to 64 runs more, by what is assumed of such
+    /// matches; a value that is not decided by them is not accepted.
     ///
     /// # Errors
     ///
     /// Where memory was refused.
     pub fn is_valid(&self, value: &Value) -> Result<bool, AllocError>
         requires whole { only_whole (view value.now) ≡ true }
-        ensures cut { IfOk result (λ b. b ≡ verdict_by self.now (view value.now)) }
+        ensures each { IfOk result (AcceptsBy self.now (view value.now)) }
+        ensures cut { IfOk result (λ b. (HasOpenBy self.now (view value.now) → ⊥)
+            → b ≡ verdict_by self.now (view value.now)) }
         ensures verdict { IfOk result (IsVerdictOf self.now (view value.now)) }
         ensures certified { IfOk result (IsCertifiedOf self.now (view value.now)) }
     {
-        let mut matching = self.direct();
-        self.is_valid_by(&mut matching, value)
+        self.schemas.accepts_certain(self.alloc, self.start, value)
     }
 
     /// What is decided of a value, some of whose matches may stay unfinished: whether it is accepted however they are answered.
@@ -177,10 +180,11 @@ impl<M: PatternMatcher> Validator<M> {
             .is_valid_by(self.alloc, self.start, matching, value)
     }
 
-    /// Nothing where a value is valid, and else one of its faults: the first that is met.
+    /// Nothing where a value is valid, and else one of its faults: the first that is met of those that it has however the matches that stay
+    /// unfinished are answered; or, where there is none known, an `UnfinishedMatch`.
     ///
     /// Its numbers are whole numbers of 64 bits, as `has_only_whole` tells. It stops at the first fault, and the paths are written out for
-    /// that one alone.
+    /// that one alone. Where a match stays unfinished it costs what `iter_errors` costs.
     ///
     /// # Errors
     ///
@@ -190,8 +194,11 @@ impl<M: PatternMatcher> Validator<M> {
         value: &'i Value,
     ) -> Result<Result<(), ValidationError<'i>>, AllocError>
         requires whole { only_whole (view value.now) ≡ true }
-        ensures cut { IfOk result (λ answer. is_ok answer ≡ verdict_by self.now (view value.now)) }
-        ensures one { IfOk result (λ answer. IfErr answer (λ e. Told (fault_of e) (faults_by self.now (view value.now)))) }
+        ensures each { IfOk result (SaysFirstBy self.now (view value.now)) }
+        ensures cut { IfOk result (λ answer. (HasOpenBy self.now (view value.now) → ⊥)
+            → is_ok answer ≡ verdict_by self.now (view value.now)) }
+        ensures one { IfOk result (λ answer. (HasOpenBy self.now (view value.now) → ⊥)
+            → IfErr answer (λ e. Told (fault_of e) (faults_by self.now (view value.now)))) }
         ensures verdict { IfOk result (λ answer. IsVerdictOf self.now (view value.now) (is_ok answer)) }
         ensures fault { IfOk result (λ answer. IfErr answer (λ e. IsFaultOf self.now (view value.now) (fault_of e))) }
         ensures proper { IfOk result (λ answer. IfErr answer (λ e. error_is_proper e ≡ true)) }
@@ -206,40 +213,19 @@ impl<M: PatternMatcher> Validator<M> {
         &self,
         value: &'i Value,
     ) -> Result<Result<(), ValidationError<'i>>, AllocError>
-        ensures cut { IfOk result (λ answer. is_ok answer ≡ verdict_by self.now (view value.now)) }
-        ensures one { IfOk result (λ answer. IfErr answer (λ e. Told (fault_of e) (faults_by self.now (view value.now)))) }
+        ensures each { IfOk result (SaysFirstBy self.now (view value.now)) }
+        ensures cut { IfOk result (λ answer. (HasOpenBy self.now (view value.now) → ⊥)
+            → is_ok answer ≡ verdict_by self.now (view value.now)) }
+        ensures one { IfOk result (λ answer. (HasOpenBy self.now (view value.now) → ⊥)
+            → IfErr answer (λ e. Told (fault_of e) (faults_by self.now (view value.now)))) }
         ensures verdict { IfOk result (λ answer. IsVerdictOf self.now (view value.now) (is_ok answer)) }
         ensures fault { IfOk result (λ answer. IfErr answer (λ e. IsFaultOf self.now (view value.now) (fault_of e))) }
         ensures proper { IfOk result (λ answer. IfErr answer (λ e. error_is_proper e ≡ true)) }
         ensures certified { IfOk result (λ answer. IfErr answer (λ e. HasCertificateOf self.now (view value.now)
             (fault_of e))) }
     {
-        let mut matching = self.direct();
-        self.first_fault_by(&mut matching, value)
-    }
-
-    // The same by whoever answers the matches.
-    pub(crate) fn first_fault_by<'i, T: Matching>(
-        &self,
-        matching: &mut T,
-        value: &'i Value,
-    ) -> Result<Result<(), ValidationError<'i>>, AllocError>
-        requires meant { T.matches matching.old ≡ matches_of M.finds (table_in self.now) }
-        ensures matches { OnOk result (T.matches matching.new ≡ T.matches matching.old) }
-        ensures cut { IfOk result (λ answer. is_ok answer ≡ verdict_by self.now (view value.now)) }
-        ensures one { IfOk result (λ answer. IfErr answer (λ e. Told (fault_of e) (faults_by self.now (view value.now)))) }
-        ensures verdict { IfOk result (λ answer. IsVerdictOf self.now (view value.now) (is_ok answer)) }
-        ensures fault { IfOk result (λ answer. IfErr answer (λ e. IsFaultOf self.now (view value.now) (fault_of e))) }
-        ensures proper { IfOk result (λ answer. IfErr answer (λ e. error_is_proper e ≡ true)) }
-        ensures certified { IfOk result (λ answer. IfErr answer (λ e. HasCertificateOf self.now (view value.now)
-            (fault_of e))) }
-    {
-        let observer = self.told(matching, value, Observer::First(FirstFault::new()))?;
-        match observer {
-            Observer::First(first) => Ok(refused(first)),
-            Observer::Verdict(_verdict) => unreachable!(),
-            Observer::All(_all) => unreachable!(),
-        }
+        let first = self.schemas.first_certain(self.alloc, self.start, value)?;
+        Ok(refused(first))
     }
 
     /// What `validate` says of a value that may have other numbers than whole ones of 64 bits.
@@ -255,8 +241,11 @@ impl<M: PatternMatcher> Validator<M> {
         value: &'i Value,
     ) -> Result<Result<(), ValidationError<'i>>, NumberError>
         ensures whole { OnOk result (only_whole (view value.now) ≡ true) }
-        ensures cut { IfOk result (λ answer. is_ok answer ≡ verdict_by self.now (view value.now)) }
-        ensures one { IfOk result (λ answer. IfErr answer (λ e. Told (fault_of e) (faults_by self.now (view value.now)))) }
+        ensures each { IfOk result (SaysFirstBy self.now (view value.now)) }
+        ensures cut { IfOk result (λ answer. (HasOpenBy self.now (view value.now) → ⊥)
+            → is_ok answer ≡ verdict_by self.now (view value.now)) }
+        ensures one { IfOk result (λ answer. (HasOpenBy self.now (view value.now) → ⊥)
+            → IfErr answer (λ e. Told (fault_of e) (faults_by self.now (view value.now)))) }
         ensures verdict { IfOk result (λ answer. IsVerdictOf self.now (view value.now) (is_ok answer)) }
         ensures fault { IfOk result (λ answer. IfErr answer (λ e. IsFaultOf self.now (view value.now) (fault_of e))) }
         ensures proper { IfOk result (λ answer. IfErr answer (λ e. error_is_proper e ≡ true)) }
@@ -272,18 +261,22 @@ impl<M: PatternMatcher> Validator<M> {
         Ok(self.first_fault(value)?)
     }
 
-    /// The faults of a value, in the order in which they are met.
+    /// The faults of a value, in the order in which they are met: those that it has however the matches that stay unfinished are answered; or,
+    /// where it is not accepted by each answer and no such fault is known, one `UnfinishedMatch` alone.
     ///
     /// Its numbers are whole numbers of 64 bits, as `has_only_whole` tells. All faults are gathered before the first is given, each with its
     /// three paths written out. Each application of `required` at the root, below keywords that tell what their subschemas tell, and below the
-    /// `then` or `else` that is asked, tells each name that it lists and the value lacks.
+    /// `then` or `else` that is asked, tells each name that it lists and the value lacks. Where a match stays unfinished there are up to
+    /// 64 runs more for the verdict, and 64 for the faults.
     ///
     /// # Errors
     ///
     /// Where memory was refused or a count of owners is full.
     pub fn iter_errors<'i>(&self, value: &'i Value) -> Result<ErrorIterator<'i>, AllocError>
         requires whole { only_whole (view value.now) ≡ true }
-        ensures cut { IfOk result (λ errors. faults_of (errors_left errors) ≡ faults_by self.now (view value.now)) }
+        ensures each { IfOk result (λ errors. TellsBy self.now (view value.now) (faults_of (errors_left errors))) }
+        ensures cut { IfOk result (λ errors. (HasOpenBy self.now (view value.now) → ⊥)
+            → faults_of (errors_left errors) ≡ faults_by self.now (view value.now)) }
         ensures agree { OnOk result (is_none (faults_by self.now (view value.now)) ≡ verdict_by self.now (view value.now)) }
         ensures faults { IfOk result (λ errors. AreFaultsOf self.now (view value.now) (faults_of (errors_left errors))) }
         ensures proper { IfOk result (λ errors. are_proper (errors_left errors) ≡ true) }
@@ -292,8 +285,7 @@ impl<M: PatternMatcher> Validator<M> {
         ensures missing { IfOk result (λ errors. TellsMissingOf self.now (view value.now) (faults_of
             (errors_left errors))) }
     {
-        let mut matching = self.direct();
-        self.errors_by(&mut matching, value)
+        self.all_faults(value)
     }
 
     /// The faults of a value, in the order in which they are met, by whoever answers the matches of this validator's patterns. Its numbers are
@@ -324,16 +316,21 @@ impl<M: PatternMatcher> Validator<M> {
 
     // All faults of any value that the JSON reader gives.
     pub(crate) fn all_faults<'i>(&self, value: &'i Value) -> Result<ErrorIterator<'i>, AllocError>
+        ensures each { IfOk result (λ errors. TellsBy self.now (view value.now) (faults_of (errors_left errors))) }
         ensures verdict { IfOk result (λ errors. IsVerdictOf self.now (view value.now) (is_none (faults_of
             (errors_left errors)))) }
         ensures faults { IfOk result (λ errors. AreFaultsOf self.now (view value.now) (faults_of (errors_left errors))) }
         ensures proper { IfOk result (λ errors. are_proper (errors_left errors) ≡ true) }
+        ensures certified { IfOk result (λ errors. HaveCertificatesOf self.now (view value.now) (faults_of
+            (errors_left errors))) }
+        ensures missing { IfOk result (λ errors. TellsMissingOf self.now (view value.now) (faults_of
+            (errors_left errors))) }
     {
-        let mut matching = self.direct();
-        self.all_faults_by(&mut matching, value)
+        let errors = self.schemas.tell_certain(self.alloc, self.start, value)?;
+        Ok(ErrorIterator::of(errors))
     }
 
-    // The same by whoever answers the matches.
+    // All faults by whoever answers the matches; one that stays unfinished is read as that one reads it.
     fn all_faults_by<'i, T: Matching>(
         &self,
         matching: &mut T,
@@ -380,11 +377,11 @@ impl<M: PatternMatcher> Validator<M> {
     }
 }
 
-// The error that was kept, if any was.
-fn refused<'i>(first: FirstFault<'i>) -> Result<(), ValidationError<'i>>
-    ensures { (fs : Faults) → first_stands first.entry fs → SaysOne result fs }
+// The error, if there is one.
+fn refused<'i>(first: Option<ValidationError<'i>>) -> Result<(), ValidationError<'i>>
+    ensures { (fs : Faults) → is_one_of first.entry fs → SaysOne result fs }
 {
-    match first.into_error() {
+    match first {
         Some(error) => Err(error),
         None => Ok(()),
     }

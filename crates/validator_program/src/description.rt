@@ -1,6 +1,6 @@
 //! What is said of a refusal behind its text: the file and the place, and what could be given in place of what was.
 
-use crate::documents::cut;
+use crate::documents::{documents_at_hand, given_documents, last_under};
 use crate::fault::ProgramFault;
 use crate::preparing::DEFAULT_BASE;
 use line_runs::{BuildError, DocumentError};
@@ -8,8 +8,9 @@ use program_inputs::ProgramWords;
 use schema_reports::ValidationError;
 use schema_validators::{BuildCause, Error as ReferenceError, SchemaPlace};
 use std::alloc::{AllocError, Global};
-use uri_references::error::Error as UriReferenceError;
-use uri_references::uri::from_str;
+
+/// How many lines the file of `--check` has to have.
+const COUNT: &str = "  the file has a line for each instance, in their order\n";
 
 /// What a further document looks like.
 const FURTHER: &str = "  a further document is given as URI=FILE\n";
@@ -42,8 +43,9 @@ pub(crate) fn description(
         ProgramFault::File { name } => String::from_str(alloc, of_file(words, name)),
         ProgramFault::Base(_) => String::from_str(alloc, BASE),
         ProgramFault::Document(error) => of_document(alloc, words, error),
-        ProgramFault::Build(error) => of_build(alloc, words, error),
+        ProgramFault::Build(error) => of_error(alloc, words, error),
         ProgramFault::Schema { error, causes } => of_schema(alloc, words, error, causes),
+        ProgramFault::Count { .. } => String::from_str(alloc, COUNT),
         _ => Ok(String::new(alloc)),
     }
 }
@@ -56,7 +58,8 @@ fn of_file(words: &ProgramWords<'_>, name: &str) -> &'static str {
     }
 }
 
-// All that is wrong with a schema. Where it is none of the schema's own, as where its meta-schema is not read, the error that is known.
+// All that is wrong with a schema, or with documents together, and then what may help. Where it is none of the schema's own, as where its
+// meta-schema is not read, the error that is known.
 fn of_schema(
     alloc: Global,
     words: &ProgramWords<'_>,
@@ -64,13 +67,28 @@ fn of_schema(
     causes: &[BuildError],
 ) -> Result<String, AllocError> {
     if causes.is_empty() {
-        return of_build(alloc, words, error);
+        return of_error(alloc, words, error);
     }
     let mut text = String::new(alloc);
+    let mut lacking = Lacking::default();
     for cause in causes {
         let lines = of_build(alloc, words, cause)?;
         text.push_str(lines.as_str())?;
+        lacking = lacking.or(lacking_by(cause));
     }
+    let more = help(alloc, words, lacking)?;
+    text.push_str(more.as_str())?;
+    Ok(text)
+}
+
+fn of_error(
+    alloc: Global,
+    words: &ProgramWords<'_>,
+    error: &BuildError,
+) -> Result<String, AllocError> {
+    let mut text = of_build(alloc, words, error)?;
+    let more = help(alloc, words, lacking_by(error))?;
+    text.push_str(more.as_str())?;
     Ok(text)
 }
 
@@ -113,15 +131,18 @@ fn of_build(
 ) -> Result<String, AllocError> {
     match error {
         BuildError::Document(error) => of_document(alloc, words, error),
-        BuildError::Registry(reference) | BuildError::Root(reference) => {
+        BuildError::Registry(ReferenceError::CircularMetaschema { uri }) => {
             let mut text = line_of(alloc, error.description(alloc)?.as_str())?;
-            let more = of_reference(alloc, words, reference)?;
-            text.push_str(more.as_str())?;
+            let line = where_given(alloc, words, uri.as_str())?;
+            text.push_str(line.as_str())?;
             Ok(text)
+        }
+        BuildError::Registry(_) | BuildError::Root(_) => {
+            line_of(alloc, error.description(alloc)?.as_str())
         }
         BuildError::Schema(cause) => {
             let said = error.description(alloc)?;
-            of_cause(alloc, words, cause, first_line(said.as_str()))
+            of_cause(alloc, words, cause, said.as_str())
         }
         BuildError::MetaSchema(error) => of_fault(alloc, words, error),
         BuildError::Memory => Ok(String::new(alloc)),
@@ -132,19 +153,14 @@ fn of_cause(
     alloc: Global,
     words: &ProgramWords<'_>,
     cause: &BuildCause,
-    sentence: &str,
+    description: &str,
 ) -> Result<String, AllocError> {
     match cause {
         BuildCause::KeywordValue { place, .. }
         | BuildCause::BadPattern { place, .. }
-        | BuildCause::Unevaluated { place } => at_place(alloc, words, place, sentence),
-        BuildCause::Reference { place, error, .. } => {
-            let mut text = at_place(alloc, words, place, sentence)?;
-            let more = of_reference(alloc, words, error)?;
-            text.push_str(more.as_str())?;
-            Ok(text)
-        }
-        BuildCause::NodeLimit { .. } => line_of(alloc, sentence),
+        | BuildCause::Unevaluated { place }
+        | BuildCause::Reference { place, .. } => at_place(alloc, words, place, description),
+        BuildCause::NodeLimit { .. } => line_of(alloc, description),
         BuildCause::Memory => Ok(String::new(alloc)),
     }
 }
@@ -154,38 +170,79 @@ fn line_of(alloc: Global, sentence: &str) -> Result<String, AllocError> {
     format!(in alloc; "  {sentence}\n")
 }
 
-// What may help where a reference leads nowhere. Its own text says the rest.
-fn of_reference(
-    alloc: Global,
-    words: &ProgramWords<'_>,
-    error: &ReferenceError,
-) -> Result<String, AllocError> {
-    match error {
-        ReferenceError::Unretrievable { .. } => at_hand(alloc, words),
-        ReferenceError::UnknownSpecification { .. } => String::from_str(alloc, META_SCHEMAS),
-        ReferenceError::CircularMetaschema { uri } => where_given(alloc, words, uri.as_str()),
-        _ => Ok(String::new(alloc)),
+// Whether documents, and whether meta-schemas, are referred to that are not at hand.
+#[derive(Clone, Copy, Default)]
+struct Lacking {
+    documents: bool,
+    meta_schemas: bool,
+}
+
+impl Lacking {
+    fn or(self, other: Lacking) -> Lacking {
+        Lacking {
+            documents: self.documents || other.documents,
+            meta_schemas: self.meta_schemas || other.meta_schemas,
+        }
     }
 }
 
-// Why the meta-schema refuses the schema.
+fn lacking_by(error: &BuildError) -> Lacking {
+    match error {
+        BuildError::Registry(reference)
+        | BuildError::Root(reference)
+        | BuildError::Schema(
+            BuildCause::Reference {
+                error: reference,
+                ..
+            },
+        ) => Lacking {
+            documents: matches!(reference, ReferenceError::Unretrievable { .. }),
+            meta_schemas: matches!(reference, ReferenceError::UnknownSpecification { .. }),
+        },
+        _ => Lacking::default(),
+    }
+}
+
+// What may help: which documents are at hand, and how meta-schemas are given.
+fn help(alloc: Global, words: &ProgramWords<'_>, lacking: Lacking) -> Result<String, AllocError> {
+    let mut text = String::new(alloc);
+    if lacking.documents {
+        let lines = at_hand(alloc, words)?;
+        text.push_str(lines.as_str())?;
+    }
+    if lacking.meta_schemas {
+        text.push_str(META_SCHEMAS)?;
+    }
+    Ok(text)
+}
+
+// Why the meta-schema refuses the schema, which is the last document under the base.
 fn of_fault(
     alloc: Global,
     words: &ProgramWords<'_>,
     error: &ValidationError<'_>,
 ) -> Result<String, AllocError> {
     let place = error.instance_path().to_pointer(alloc)?;
+    let road = error.evaluation_path().to_pointer(alloc)?;
     let sentence = error.description(alloc)?;
-    at_path(alloc, words.schema, place.as_str(), sentence.as_str())
+    let said = format!(in alloc; "The meta-schema refuses it by '{road}': {sentence}")?;
+    let base = words.base.unwrap_or(DEFAULT_BASE);
+    let file = file_of(alloc, words, base)?.unwrap_or(words.schema);
+    at_path(alloc, file, place.as_str(), said.as_str())
 }
 
+// The file of a place, and what a description says of it before its last line, which names the place.
 fn at_place(
     alloc: Global,
     words: &ProgramWords<'_>,
     place: &SchemaPlace,
-    sentence: &str,
+    description: &str,
 ) -> Result<String, AllocError> {
     let path = place.path.to_pointer(alloc)?;
+    let line = format!(in alloc; "\n  at '{place}'")?;
+    let sentence = description
+        .strip_suffix(line.as_str())
+        .unwrap_or(description);
     in_file(
         alloc,
         words,
@@ -231,28 +288,17 @@ fn at_path(alloc: Global, file: &str, path: &str, sentence: &str) -> Result<Stri
     format!(in alloc; "  in the file '{file}' at '{path}': {sentence}\n")
 }
 
-// The first line of a description, which is a sentence. A place stands behind it.
-fn first_line(description: &str) -> &str {
-    match description.split_once('\n') {
-        Some((sentence, _)) => sentence,
-        None => description,
-    }
-}
-
-// The documents that were given, a line each.
+// The documents at hand, a line each, and where there are meta-schemas.
 fn at_hand(alloc: Global, words: &ProgramWords<'_>) -> Result<String, AllocError> {
-    let base = words.base.unwrap_or(DEFAULT_BASE);
-    let file = words.schema;
-    let mut text = format!(in alloc;
-        "  the documents at hand are\n    '{base}' in the file '{file}'\n"
-    )?;
-    for word in words.files.iter() {
-        if let Some(further) = cut(word) {
-            let uri = further.uri;
-            let file = further.file;
-            let line = format!(in alloc; "    '{uri}' in the file '{file}'\n")?;
-            text.push_str(line.as_str())?;
-        }
+    let mut text = String::from_str(alloc, "  the documents at hand are\n")?;
+    for document in documents_at_hand(alloc, words)? {
+        let (uri, file) = (document.uri, document.file);
+        let line = format!(in alloc; "    '{uri}' in the file '{file}'\n")?;
+        text.push_str(line.as_str())?;
+    }
+    if let Some(file) = words.meta {
+        let line = format!(in alloc; "    those of the file '{file}'\n")?;
+        text.push_str(line.as_str())?;
     }
     Ok(text)
 }
@@ -263,25 +309,6 @@ fn file_of<'a>(
     words: &ProgramWords<'a>,
     uri: &str,
 ) -> Result<Option<&'a str>, AllocError> {
-    let mut found = None;
-    if is_under(alloc, words.base.unwrap_or(DEFAULT_BASE), uri)? {
-        found = Some(words.schema);
-    }
-    for word in words.files.iter() {
-        if let Some(further) = cut(word) {
-            if is_under(alloc, further.uri, uri)? {
-                found = Some(further.file);
-            }
-        }
-    }
-    Ok(found)
-}
-
-/// Whether a word names a URI in its normal form.
-pub(crate) fn is_under(alloc: Global, word: &str, uri: &str) -> Result<bool, AllocError> {
-    match from_str(alloc, word) {
-        Ok(read) => Ok(read.as_str() == uri),
-        Err(UriReferenceError::InvalidUri(_)) => Ok(false),
-        Err(UriReferenceError::Memory) => Err(AllocError),
-    }
+    let given = given_documents(alloc, words)?;
+    last_under(alloc, given.as_slice(), uri)
 }

@@ -7,10 +7,13 @@ ghost use Rattle.schema_registries.specs.Seen.{documents_given};
 ghost use Rattle.validator_program.specs.Given.{AddsFile, AddsFiles, AreCut, MayHold, pair_of};
 
 use crate::fault::ProgramFault;
+use crate::preparing::DEFAULT_BASE;
 use line_runs::{Documents, RunError};
-use program_inputs::{FileError, SchemaFiles};
-use std::alloc::Global;
+use program_inputs::{FileError, ProgramWords, SchemaFiles};
+use std::alloc::{AllocError, Global};
 use std::str;
+use uri_references::error::Error as UriReferenceError;
+use uri_references::uri::{Uri, from_str};
 
 /// A further document: its URI, and the file that holds it.
 #[derive(Clone, Copy, Debug)]
@@ -124,4 +127,69 @@ pub(crate) fn read_documents<'a, F: SchemaFiles>(
         add_file(alloc, files, &mut documents, pair.uri, pair.file)?;
     }
     Ok(documents)
+}
+
+/// The documents that the words name, the schema first.
+pub(crate) fn given_documents<'a>(
+    alloc: Global,
+    words: &ProgramWords<'a>,
+) -> Result<Vec<Further<'a>>, AllocError> {
+    let mut given = Vec::new(alloc);
+    given.push(Further {
+        uri: words.base.unwrap_or(DEFAULT_BASE),
+        file: words.schema,
+    })?;
+    for word in words.files.iter() {
+        if let Some(further) = cut(word) {
+            given.push(further)?;
+        }
+    }
+    Ok(given)
+}
+
+/// Those of them that no later one replaces.
+pub(crate) fn documents_at_hand<'a>(
+    alloc: Global,
+    words: &ProgramWords<'a>,
+) -> Result<Vec<Further<'a>>, AllocError> {
+    let mut at_hand = Vec::new(alloc);
+    for document in given_documents(alloc, words)?.into_iter().rev() {
+        if last_under(alloc, at_hand.as_slice(), document.uri)?.is_none() {
+            at_hand.push(document)?;
+        }
+    }
+    at_hand.reverse();
+    Ok(at_hand)
+}
+
+/// The file of the last of some documents under a URI.
+pub(crate) fn last_under<'a>(
+    alloc: Global,
+    documents: &[Further<'a>],
+    uri: &str,
+) -> Result<Option<&'a str>, AllocError> {
+    let mut last = None;
+    for document in documents {
+        if is_same(alloc, document.uri, uri)? {
+            last = Some(document.file);
+        }
+    }
+    Ok(last)
+}
+
+// Whether two words name one URI in its normal form.
+fn is_same(alloc: Global, left: &str, right: &str) -> Result<bool, AllocError> {
+    match (known_uri(alloc, left)?, known_uri(alloc, right)?) {
+        (Some(left), Some(right)) => Ok(left.as_str() == right.as_str()),
+        _ => Ok(false),
+    }
+}
+
+/// The URI that a word names, in its normal form, if it names one.
+pub(crate) fn known_uri(alloc: Global, word: &str) -> Result<Option<Uri>, AllocError> {
+    match from_str(alloc, word) {
+        Ok(uri) => Ok(Some(uri)),
+        Err(UriReferenceError::InvalidUri(_)) => Ok(None),
+        Err(UriReferenceError::Memory) => Err(AllocError),
+    }
 }

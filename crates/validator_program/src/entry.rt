@@ -42,7 +42,7 @@ const NO_MEMORY: &str = "No memory\n";
 /// base, SCHEMA, the further files in their order, the build, the file to be checked, the files of instances, and the lines. A write to `faults` that fails changes nothing.
 ///
 /// Where sentences or objects are written, `faults` is told before all else of each document that replaces another under its URI, and once
-/// the documents are read of each member of their schemas whose name is no keyword of the draft there.
+/// the documents are read of each member of their schemas, and of those of the meta-schemas, whose name is no keyword of the draft there.
 pub fn program<'a, F: SchemaFiles, S: ByteSource, K: ByteSink, T: ByteSink>(
     alloc: Global,
     words: &'a [&'a str],

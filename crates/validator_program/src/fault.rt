@@ -48,7 +48,7 @@ pub(crate) enum ProgramFault<'a> {
     /// The documents together, or the schema.
     #[error("build refused: {0}")]
     Build(BuildError),
-    /// The schema, by the first of its causes, or a fault that its meta-schema tells, with all of them.
+    /// The documents or the schema, by the first of their causes, or a fault that its meta-schema tells, with all of them.
     #[error("build refused: {error}")]
     Schema {
         error: BuildError,

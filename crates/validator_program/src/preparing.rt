@@ -20,6 +20,7 @@ use line_cuts::ByteSink;
 use line_runs::{BuildError, Documents, Draft, ValidationOptions, Validator};
 use program_inputs::{ProgramWords, SchemaFiles};
 use schema_registries::SchemaRegistry;
+use schema_validators::Error;
 use std::alloc::{AllocError, Global};
 use uri_references::uri::{Uri, from_str};
 
@@ -158,9 +159,47 @@ pub(crate) fn prepare_documents<'a, F: SchemaFiles, T: ByteSink>(
     )?;
     let meta_schemas = read_meta(alloc, files, layer, words.meta)?;
     let options = options_of(alloc, layer, base, meta_schemas)?;
-    let registry = options.prepare(&documents)?;
+    let registry = match options.prepare(&documents) {
+        Ok(registry) => registry,
+        Err(error) => return Err(unprepared(alloc, words, &options, &documents, error)),
+    };
     warn_of_keywords(alloc, words, &registry, faults);
     Ok(PreparedDocuments { options, registry })
+}
+
+// Each reference of the documents to what is not at hand, as an error of its own; nothing where memory is out.
+fn all_absent(
+    alloc: Global,
+    options: &ValidationOptions,
+    documents: &Documents,
+) -> Option<Vec<BuildError>> {
+    let mut errors = Vec::new(alloc);
+    for cause in options.absent_in(documents).ok()? {
+        errors.push(BuildError::Schema(cause)).ok()?;
+    }
+    Some(errors)
+}
+
+// The fault of documents that are refused together: where more is said than its text, and one that they refer to is not at hand, with each
+// reference to such a one.
+fn unprepared<'a>(
+    alloc: Global,
+    words: &ProgramWords<'a>,
+    options: &ValidationOptions,
+    documents: &Documents,
+    error: BuildError,
+) -> ProgramFault<'a> {
+    let is_absent = matches!(
+        error,
+        BuildError::Registry(Error::Unretrievable { .. } | Error::UnknownSpecification { .. })
+    );
+    if !(says_more(words) && is_absent) {
+        return ProgramFault::from(error);
+    }
+    match all_absent(alloc, options, documents) {
+        Some(causes) => ProgramFault::Schema { error, causes },
+        None => ProgramFault::from(error),
+    }
 }
 
 // All that is wrong with the schema, each cause as an error of its own, and then all that its meta-schema finds wrong, if that is read;

@@ -23,13 +23,16 @@
 //   within NUMBER           the same with no value, by that limit of schema nodes
 //   causes                  all that is wrong with the root, or why that is not listed
 //   refusals                all that the meta-schema of the root finds wrong with it, or why that is not told
+//   absent                  the references of the documents to what is not at hand
 //   unknown URI             the names in a document that are no keywords
 //   alone VALUE             the same, of a document by itself, without options
 //   scripted VALUE          the faults by the script's patterns, or why there is no validator
+//   assumed VALUE           the same with the three paths and the kind of each, on which the observers agree
 //   decided VALUE           what is decided by the script's patterns, or why there is no validator
 //   keys                    the pointers of the map of validators, or why there is none
 //   has <POINTER>           whether the map has it
 //   at <POINTER> VALUE      the faults by the map's validator there
+use crate::assuming::assumed;
 use crate::maps::map_answer;
 use crate::patterns::{decided, scripted};
 use crate::{answers, listing};
@@ -61,10 +64,12 @@ fn answer(rt: &impl Abort, alloc: Global, case: &str, word: &str, input: &str) -
         "within" => answers::within(rt, alloc, case, input),
         "causes" => listing::causes(rt, alloc, case),
         "refusals" => listing::refusals(rt, alloc, case),
+        "absent" => listing::absent(rt, alloc, case),
         "unknown" => listing::unknown(rt, alloc, case, input),
         "alone" => answers::alone(rt, alloc, case, input),
         "decided" => decided(rt, alloc, case, input),
         "scripted" => scripted(rt, alloc, case, input),
+        "assumed" => assumed(rt, alloc, case, input),
         _ => map_answer(rt, alloc, case, word, input),
     }
 }

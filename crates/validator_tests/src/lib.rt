@@ -10,6 +10,8 @@ mod applying;
 #[cfg(test)]
 mod asking;
 #[cfg(test)]
+mod assuming;
+#[cfg(test)]
 mod building;
 #[cfg(test)]
 mod cases;

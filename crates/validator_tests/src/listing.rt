@@ -2,7 +2,7 @@
 use crate::answers::why;
 use crate::cases::assert_cases;
 use crate::given::{documents_of, options_of, setting};
-use json_schema_validator::{UnknownKeyword, unknown_keywords};
+use json_schema_validator::{BuildCause, UnknownKeyword, unknown_keywords};
 use std::alloc::Global;
 use std::process::Abort;
 use uri_references::uri::from_str;
@@ -27,6 +27,31 @@ pub(crate) fn causes(rt: &impl Abort, alloc: Global, case: &str) -> String {
     for cause in causes.as_slice() {
         let between = if text.is_empty() { "" } else { "; " };
         write!(text, "{between}{cause}").expect(rt, "memory");
+    }
+    or_none(rt, alloc, text)
+}
+
+fn write_absent(rt: &impl Abort, text: &mut String, cause: &BuildCause) {
+    let between = if text.is_empty() { "" } else { "; " };
+    match cause {
+        BuildCause::Reference {
+            place,
+            reference,
+            error,
+        } => write!(text, "{between}{reference} at {place}: {error}").expect(rt, "memory"),
+        _ => write!(text, "{between}{cause}").expect(rt, "memory"),
+    }
+}
+
+// The references of the documents to what is not at hand.
+pub(crate) fn absent(rt: &impl Abort, alloc: Global, case: &str) -> String {
+    let documents = documents_of(rt, alloc, case, "document <");
+    let causes = options_of(rt, alloc, case)
+        .absent_in(&documents)
+        .expect(rt, "memory");
+    let mut text = String::new(alloc);
+    for cause in causes.as_slice() {
+        write_absent(rt, &mut text, cause);
     }
     or_none(rt, alloc, text)
 }
@@ -124,6 +149,30 @@ document <http://a.test/r> true
 refusals => Pointer '/none' does not exist
 "##;
 
+// Each place by itself, of what nobody is asked for. Meta-schemas are looked at by themselves first, since they are prepared so.
+const ABSENT: &str = r##"
+document <http://a.test/r> {"$ref":"#/$defs/a","$defs":{"a":{"$ref":"s#/x"},"b":{"$id":"b","$schema":"http://a.test/m"},"c":{"$ref":"t"},"d":{"$ref":"s"}}}
+document <http://a.test/t> {"$ref":"b"}
+absent => s#/x at http://a.test/r#/$defs/a/$ref: Resource 'http://a.test/s' is not present and retrieving it failed; http://a.test/m at http://a.test/r#/$defs/b/$schema: Unknown meta-schema 'http://a.test/m'; s at http://a.test/r#/$defs/d/$ref: Resource 'http://a.test/s' is not present and retrieving it failed; b at http://a.test/t#/$ref: Resource 'http://a.test/b' is not present and retrieving it failed
+
+document <http://a.test/r> {"$ref":"t","$dynamicRef":"s"}
+document <http://a.test/t> {"$id":"u","$ref":"u"}
+absent => none
+
+retrieved <http://a.test/s> true
+document <http://a.test/r> {"$ref":"s"}
+absent => s at http://a.test/r#/$ref: Resource 'http://a.test/s' is not present and retrieving it failed
+
+meta <http://a.test/m> {"$ref":"n"}
+document <http://a.test/n> true
+document <http://a.test/r> {"$ref":"s"}
+absent => n at http://a.test/m#/$ref: Resource 'http://a.test/n' is not present and retrieving it failed
+
+meta <http://a.test/m> {"required":["b"]}
+document <http://a.test/r> {"$schema":"http://a.test/m","$ref":"s","items":{"$ref":"m"}}
+absent => s at http://a.test/r#/$ref: Resource 'http://a.test/s' is not present and retrieving it failed
+"##;
+
 // By the draft of each schema, whatever a name begins with; nothing of what is no schema, nor of names that only tell something.
 const UNKNOWN: &str = r##"
 document <http://a.test/r> {"nmae":1,"x-a":1,"title":"t","default":{"nmae":1},"enum":[{"nmae":1}],"properties":{"nmae":{"additionalItems":false}}}
@@ -156,4 +205,9 @@ fn all_refusals(rt: HostRuntime) {
 #[test]
 fn unknown_names(rt: HostRuntime) {
     assert_cases(&rt, rt.alloc(), AT_R, UNKNOWN);
+}
+
+#[test]
+fn all_absent(rt: HostRuntime) {
+    assert_cases(&rt, rt.alloc(), AT_R, ABSENT);
 }

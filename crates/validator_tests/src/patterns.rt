@@ -15,7 +15,7 @@ use std::alloc::Global;
 use std::cell::Cell;
 use std::process::Abort;
 
-fn script_of(rt: &impl Abort, alloc: Global, case: &str) -> ScriptedMaker {
+pub(crate) fn script_of(rt: &impl Abort, alloc: Global, case: &str) -> ScriptedMaker {
     let mut maker = ScriptedMaker::new(alloc);
     if let Some(pattern) = setting(case, "refuse ") {
         maker.refuse(alloc, pattern).expect(rt, "memory");

@@ -9,7 +9,7 @@ use Rattle.compiled_graphs.proofs.filling.compile.Goals.{in-Never+in_ok-push-in-
 use Rattle.compiled_graphs.proofs.filling.compile.Goals as goal
 
 pub loop-asking-init : goal.loop-asking-init
-loop-asking-init g c = rw c.new-keywords.ensures.items (record { whole = λ ks made. made; counts = c.requires })
+loop-asking-init g c = rw c.in_ok-keywords.ensures.items (record { whole = λ ks made. made; counts = c.requires })
 
 pub split_at-requires : goal.split_at-requires
 split_at-requires g c =

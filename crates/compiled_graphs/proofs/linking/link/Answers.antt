@@ -8,7 +8,7 @@ use Rattle.compiled_graphs.proofs.linking.link.Goals as goal
 
 pub loop-lead-init : goal.loop-lead-init
 loop-lead-init c =
-    linking-begins c.args.from c.args.visits.now.list.items (into_iter_items c.into_iter-lead-iterator.result) c.args.edges.now.items c.new-numbers.result.items c.new-numbers.ensures.items
+    linking-begins c.args.from c.args.visits.now.list.items (into_iter_items c.into_iter-lead-iterator.result) c.args.edges.now.items c.in_ok-numbers.numbers.items c.in_ok-numbers.ensures.items
 
 pub loop-lead-preserved : goal.loop-lead-preserved
 loop-lead-preserved c =

@@ -1,26 +1,39 @@
-use Rattle.std.proofs.Common.{◌≡◌, IfErr, is_ok, subst}
+use Rattle.std.proofs.Common.{◌≡◌, ◌∙◌, sym, ap, subst}
 use Rattle.serde_json.specs.View.{view}
+use Rattle.schema_meaning.specs.Faults.{is_none}
 use Rattle.schema_meaning.specs.Readings.{verdicts}
-use Rattle.schema_reports.specs.Told.{fault_of}
-use Rattle.schema_registries.specs.Roots.{Root, Patterns, root_on}
+use Rattle.schema_reports.specs.Left.{errors_left}
+use Rattle.schema_reports.specs.Told.{fault_of, faults_of}
+use Rattle.schema_registries.specs.Roots.{root_on}
 use Rattle.schema_registries.specs.Answers.{IsAnswer}
-use Rattle.schema_registries.specs.Certified.{HasCertificate}
-use Rattle.schema_validators.specs.Made.{IsMadeBy}
-use Rattle.schema_validators.specs.Told.{verdict_by}
+use Rattle.schema_registries.specs.Certified.{HaveCertificates}
+use Rattle.json_schema_validator.proofs.Joining.{first_certified, verdict_told}
 use Rattle.json_schema_validator.proofs.checking.check_first.Goals as goal
 
-pub returns-in_ok-answer-in-Err-clause-accepted : goal.returns-in_ok-answer-in-Err-clause-accepted
-returns-in_ok-answer-in-Err-clause-accepted g c = λ made.
-    let p = g.P.PatternMaker.patterns c.args.maker.now in
-    let v = c.args.validator.now in
+pub returns-in-None-clause-cut : goal.returns-in-None-clause-cut
+returns-in-None-clause-cut g c =
+    ap (λ es. is_none (faults_of es)) (sym c.in-None.ensures.steps.0) ∙ ap is_none c.in_ok-errors.ensures.cut ∙ c.in_ok-errors.ensures.agree
+
+pub returns-in-None-clause-verdict : goal.returns-in-None-clause-verdict
+returns-in-None-clause-verdict g c = λ p r made.
     let d = view c.args.value.now in
-    let one = subst (λ x. IfErr x (λ e. (q : Patterns) (s : Root) → IsMadeBy q s v → HasCertificate q s d (fault_of e))) c.in-Err.is c.in_ok-validate.ensures.certified in
-    c.in_ok-answer-in-Err.ensures.accepted made.sound (one p (root_on c.args.registry.now c.args.root.now) made)
+    subst (λ es. IsAnswer verdicts p r d (is_none (faults_of es))) c.in-None.ensures.steps.0
+    (verdict_told p r d (faults_of (errors_left c.in_ok-errors.errors)) (c.in_ok-errors.ensures.faults p r made))
 
-pub returns-in_ok-answer-in-Err-clause-verdict : goal.returns-in_ok-answer-in-Err-clause-verdict
-returns-in_ok-answer-in-Err-clause-verdict g c = λ p r made.
-    subst (λ x. IsAnswer verdicts p r (view c.args.value.now) (is_ok x)) c.in-Err.is (c.in_ok-validate.ensures.verdict p r made)
+pub returns-clause-cut : goal.returns-clause-cut
+returns-clause-cut g c =
+    ap (λ es. is_none (faults_of es)) (sym c.in-Some.ensures.steps) ∙ ap is_none c.in_ok-errors.ensures.cut ∙ c.in_ok-errors.ensures.agree
 
-pub returns-in_ok-answer-in-Err-clause-cut : goal.returns-in_ok-answer-in-Err-clause-cut
-returns-in_ok-answer-in-Err-clause-cut g c =
-    subst (λ x. is_ok x ≡ verdict_by c.args.validator.now (view c.args.value.now)) c.in-Err.is c.in_ok-validate.ensures.cut
+pub returns-clause-verdict : goal.returns-clause-verdict
+returns-clause-verdict g c = λ p r made.
+    let d = view c.args.value.now in
+    subst (λ es. IsAnswer verdicts p r d (is_none (faults_of es))) c.in-Some.ensures.steps
+    (verdict_told p r d (faults_of (errors_left c.in_ok-errors.errors)) (c.in_ok-errors.ensures.faults p r made))
+
+pub returns-clause-accepted : goal.returns-clause-accepted
+returns-clause-accepted g c = λ made.
+    let p = g.P.PatternMaker.patterns c.args.maker.now in
+    let r = root_on c.args.registry.now c.args.root.now in
+    let d = view c.args.value.now in
+    let all = subst (λ es. HaveCertificates p r d (faults_of es)) c.in-Some.ensures.steps (c.in_ok-errors.ensures.certified p r made) in
+    c.in_ok-answer-in-Some.ensures.accepted made.sound (first_certified p r d (fault_of c.in-Some.error) _ all)

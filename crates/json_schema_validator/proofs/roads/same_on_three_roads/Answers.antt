@@ -45,5 +45,5 @@ returns-clause-inside g c =
 
 pub returns-clause-same : goal.returns-clause-same
 returns-clause-same g c =
-    say_one _ _ (λ r uri d a. a) _ _ (λ r q d a. a) c.args.maker _ c.args.moving.now (view c.args.instance.now) _ (returns-clause-added g c) (returns-clause-retrieved g c)
+    say_one _ _ (λ r uri d a. a) _ _ (λ r q d a. a) c.args.maker _ c.args.moving.now (view c.args.instance.now) _ c.names_rise.ensures (returns-clause-added g c) (returns-clause-retrieved g c)
     (returns-clause-inside g c)

@@ -6,7 +6,7 @@ use Rattle.reached_sites.specs.Passed.{documents_in, base_of, target_in}
 use Rattle.schema_registries.specs.Seen.{documents_shared, documents_in_registry}
 use Rattle.schema_registries.specs.Roots.{Root, root_on}
 use Rattle.document_laws.specs.TargetLaws.{are_apart, contents_rise, by_reference}
-use Rattle.schema_validators.proofs.Placing.{one_root}
+use Rattle.schema_validators.proofs.Placing.{within_there, one_root}
 use Rattle.schema_validators.proofs.Causing.{lists_there, none_there, refuses_there}
 use Rattle.schema_validators.proofs.causes.causes_at.Goals as goal
 
@@ -51,6 +51,20 @@ returns-in-Ok-causes-clause-sound g c =
     let there : own ≡ documents_in_registry c.args.registry.now = c.in-Ok.ensures.documents ∙ c.in_ok-resolver.ensures.documents ∙ c.registry.ensures.documents ∙ ap documents_shared c.own-own.ensures in
     let found = subst (λ ds. lookup ds (base_of resolver) c.args.root.now ≡ Ok t) (sym c.in-Ok.ensures.documents) c.in-Ok.ensures.ok in
     none_there own (base_of resolver) c.args.root.now t found p _ c.in-Ok-causes.ensures.told _ (one_root there (c.in_ok-resolver.ensures.base ∙ c.in_ok-clone.ensures.cases ∙ c.base.ensures) refl)
+
+pub returns-in-Ok-causes-clause-within : goal.returns-in-Ok-causes-clause-within
+returns-in-Ok-causes-clause-within g c =
+    let p = g.P.PatternMaker.patterns c.args.maker.now in
+    let resolver = c.in_ok-resolver.resolver in
+    let own = documents_in c.in-Ok.found.resolver in
+    let t = target_in c.in-Ok.found in
+    let here : own ≡ documents_shared c.own-own.result.now = c.in-Ok.ensures.documents ∙ c.in_ok-resolver.ensures.documents ∙ c.registry.ensures.documents in
+    let there : own ≡ documents_in_registry c.args.registry.now = here ∙ ap documents_shared c.own-own.ensures in
+    let found = subst (λ ds. lookup ds (base_of resolver) c.args.root.now ≡ Ok t) (sym c.in-Ok.ensures.documents) c.in-Ok.ensures.ok in
+    let apart = ap are_apart here ∙ c.documents_are_apart.ensures in
+    let rise = ap (list_all contents_rise) (here ∙ sym c.registry-2.ensures.documents) ∙ c.names_rise.ensures in
+    within_there own (base_of resolver) c.args.root.now t found apart rise p c.args.node_limit (λ placed. c.in-Ok-causes.ensures.within) _
+    (one_root there (c.in_ok-resolver.ensures.base ∙ c.in_ok-clone.ensures.cases ∙ c.base.ensures) refl)
 
 pub returns-clause-refused : goal.returns-clause-refused
 returns-clause-refused g c =

@@ -20,10 +20,10 @@ returns-clause-prepared g c =
     let pairs = map pair_of c.in_ok-further.further.items in
     let words = c.args.words.now in
     let held = g.F.SchemaFiles.held c.args.files.now in
-    let registry = c.in_ok-registry.registry in
+    let registry = c.in-Ok.registry in
     let root = root_on registry [] in
     let options = c.in_ok-options.ensures in
-    let prepared = c.in_ok-registry.ensures.prepared in
+    let prepared = c.in-Ok.ensures.prepared in
     let is_first : layer_by o ≡ first = rw (options.draft, options.siblings, of_layer.number) refl in
     let alone = stays_alone _ _ o given registry (λ r uri d a. a) prepared metas first options.meta_schemas is_first in
     record {
