@@ -9,9 +9,8 @@ ghost use Rattle.answer_checks.specs.Paths.{path_bytes};
 use crate::paths::{listed_value, paths_of};
 use fault_checks::checking::{CheckAnswer, FaultPath, check_by};
 use fault_checks::reading::{matches_by, read_patterns};
-use line_runs::line_value;
 use schema_patterns::{PatternMaker, PatternMatcher, PatternTable};
-use schema_registries::SchemaRegistry;
+use schema_registries::{SchemaRegistry, line_value};
 use serde_json::Value;
 use std::alloc::{AllocError, Global};
 

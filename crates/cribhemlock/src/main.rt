@@ -1,6 +1,9 @@
 //! Checks lines or files of JSON against a JSON Schema; `--help` lists its words.
 #![tactic(auto)]
 
+#[cfg(test)]
+mod tests;
+
 use line_cuts::{OverRead, OverWrite, WatchedSource};
 use program_inputs::{ProgramWords, SystemFiles};
 use std::alloc::{AllocError, Global};

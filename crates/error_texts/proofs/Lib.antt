@@ -1,2 +1,5 @@
 mod ObjectLemmas
 mod Lines
+mod Orders
+mod Sorting
+mod Listed

@@ -1,11 +1,13 @@
-//! What is told of a value whether it is accepted, and of each error, in words: JSON objects, and lines for people.
+//! What is told of a value whether it is accepted, and of each error: pairs of pointers, JSON objects, and lines for people.
 #![tactic(auto)]
 
+mod faults;
 mod fields;
 mod objects;
 mod sentences;
 mod unread;
 
+pub use faults::write_faults;
 pub use objects::{is_accepted_line, write_accepted, write_refused};
 pub use sentences::{write_reason, write_sentences};
 pub use unread::{TextPlace, write_unread};

@@ -8,7 +8,7 @@ ghost use Rattle.schema_validators.specs.Passed.{Root, Patterns};
 ghost use Rattle.schema_validators.specs.Made.{IsMadeBy};
 ghost use Rattle.json_schema_validator.specs.Answers.{IsTextOf, IsAnswered};
 
-use line_runs::write_faults;
+use error_texts::write_faults;
 use schema_patterns::{PatternMaker, PatternMatcher};
 use schema_registries::{Documents, Retrieve};
 use schema_validators::{BuildError, ValidationOptions, Validator};

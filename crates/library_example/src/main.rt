@@ -3,6 +3,8 @@
 #![tactic(auto)]
 
 mod moving;
+#[cfg(test)]
+mod tests;
 
 ghost use Rattle.std.specs.Prelude.{◌≡◌, true};
 ghost use Rattle.serde_json.specs.View.{view};

@@ -1,7 +1,3 @@
-mod Values
-mod Orders
-mod Sorting
-mod Listed
 mod Ends
 mod Others
 mod Starting

@@ -12,11 +12,11 @@ ghost use Rattle.line_runs.specs.Runs.{IsLineTextBy};
 
 use crate::counts::{LineCounts, LineVerdict};
 use crate::form::LineForm;
-use crate::line_value;
 use line_cuts::LineAnswers;
 use regex_patterns::kept::Kept;
 use schema_engine::matching::Matching;
 use schema_patterns::PatternMatcher;
+use schema_registries::line_value;
 use schema_validators::Validator;
 use serde_json::Value;
 use std::alloc::{AllocError, Global};

@@ -5,10 +5,10 @@ ghost use Rattle.schema_reports.specs.Left.{errors_left};
 ghost use Rattle.schema_reports.specs.Told.{faults_of, are_proper};
 ghost use Rattle.line_runs.specs.Forms.{Tells, TellsNone, end_of, refuses_in};
 
-use crate::faults::write_faults;
 use crate::reasons::reason_of;
 use error_texts::{
-    is_accepted_line, write_accepted, write_reason, write_refused, write_sentences, write_unread,
+    is_accepted_line, write_accepted, write_faults, write_reason, write_refused, write_sentences,
+    write_unread,
 };
 use schema_reports::ErrorIterator;
 use std::alloc::{AllocError, Global};

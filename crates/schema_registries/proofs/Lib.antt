@@ -9,3 +9,4 @@ mod Levels
 mod Children
 pub mod Distinct
 mod PlacesFound
+mod Values

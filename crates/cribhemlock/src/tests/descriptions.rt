@@ -1,0 +1,306 @@
+// What is said of refusals where the output is for people.
+use crate::tests::whole::{Row, SOUND, assert_outcomes};
+
+const WORDS: [Row; 6] = [
+    (
+        &["plain.json", "u:x", "--output", "text"],
+        "1\n",
+        r"2  words refused: u:x
+  a further document is given as URI=FILE
+",
+    ),
+    (
+        &["plain.json", "--draft", "5", "--output", "json"],
+        "1\n",
+        r"2  words refused: --draft 5
+  the drafts are 4, 6, 7, 2019-09 and 2020-12
+",
+    ),
+    (
+        &["absent", "--output", "text"],
+        "1\n",
+        r"2  file refused: absent
+  it is not there, is not read, or holds something else than is asked of it
+",
+    ),
+    (
+        &["own.json", "--meta", "nameless.json", "--output", "json"],
+        "1\n",
+        r"2  file refused: nameless.json
+  it is not there, is not read, or is no JSON list of schemas with an identifier each
+",
+    ),
+    (
+        &["absent", "--base", "%", "--output", "text"],
+        "1\n",
+        r"2  build refused: Invalid URI '%'
+  the URI of the schema's own file is given by --base
+",
+    ),
+    (
+        &["plain.json", "u:x", "--output", "none"],
+        "1\n",
+        "2  words refused: u:x\n",
+    ),
+];
+
+const DOCUMENTS: [Row; 7] = [
+    (
+        &["plain.json", "u:x=none", "--output", "text"],
+        "1\n",
+        r"2  build refused: Document 'u:x' is no JSON text
+  in the file 'none': it is no JSON text, from line 1, column 1 on
+",
+    ),
+    (
+        &["half", "--output", "json"],
+        "1\n",
+        r"2  build refused: Number at 'json-schema:///#' is no whole number of 64 bits
+  in the file 'half': 1.5 is no whole number from -2^63 to 2^64-1
+",
+    ),
+    (
+        &[
+            "plain.json",
+            "HTTP://a.test/%7ex=deep.json",
+            "--output",
+            "text",
+        ],
+        "1\n",
+        r"2  build refused: Number at 'http://a.test/~x#/a/0' is no whole number of 64 bits
+  in the file 'deep.json' at '/a/0': 1.5 is no whole number from -2^63 to 2^64-1
+",
+    ),
+    (
+        &["plain.json", "--meta", "broken.json", "--output", "text"],
+        "1\n",
+        r"2  build refused: Number at 'http://a.test/m6#/a' is no whole number of 64 bits
+  in the file 'broken.json' at 'http://a.test/m6#/a': 0.5 is no whole number from -2^63 to 2^64-1
+",
+    ),
+    (
+        &["plain.json", "u:x#a=true.json", "--output", "text"],
+        "1\n",
+        r"2  build refused: Invalid URI 'u:x#a'
+  The text 'u:x#a' is no URI of a document
+",
+    ),
+    (
+        &["astray.json", "--output", "text"],
+        "1\n",
+        r"2  build refused: Invalid URI '%'
+  The documents are refused: '%' is no URI reference taken here
+",
+    ),
+    (
+        &[
+            "plain.json",
+            "http://a.test/c=circle.json",
+            "--output",
+            "json",
+        ],
+        "1\n",
+        r"2  build refused: Circular meta-schema 'http://a.test/c'
+  The documents are refused: the meta-schema 'http://a.test/c' waits for itself
+  'http://a.test/c' is in the file 'circle.json'
+",
+    ),
+];
+
+const BUILDS: [Row; 19] = [
+    (
+        &["wrong.json", "--output", "text"],
+        "1\n",
+        r"2  build refused: Keyword value at 'json-schema:///#/type': expected type name
+  in the file 'wrong.json' at '/type': Expected type name, found 5
+",
+    ),
+    (
+        &[
+            "root.json",
+            "u:other=plain.json",
+            "--base",
+            "http://a.test/root.json",
+            "--output",
+            "text",
+        ],
+        "1\n",
+        r#"2  build refused: Resource 'http://a.test/leaf.json' is not present and retrieving it failed
+  in the file 'root.json' at '/items/$ref': The reference "leaf.json" is refused: the document 'http://a.test/leaf.json' is not present
+  the documents at hand are
+    'http://a.test/root.json' in the file 'root.json'
+    'u:other' in the file 'plain.json'
+"#,
+    ),
+    (
+        &[
+            "root.json",
+            "u:x=true.json",
+            "U:x=plain.json",
+            "--base",
+            "http://a.test/root.json",
+            "--meta",
+            "meta.json",
+            "--output",
+            "text",
+        ],
+        "1\n",
+        r#"2  warning: document 'U:x' in the file 'plain.json' replaces the one in the file 'true.json'
+build refused: Resource 'http://a.test/leaf.json' is not present and retrieving it failed
+  in the file 'root.json' at '/items/$ref': The reference "leaf.json" is refused: the document 'http://a.test/leaf.json' is not present
+  the documents at hand are
+    'http://a.test/root.json' in the file 'root.json'
+    'U:x' in the file 'plain.json'
+    those of the file 'meta.json'
+"#,
+    ),
+    (
+        &["own.json", "--output", "text"],
+        "1\n",
+        r#"2  build refused: Unknown meta-schema 'http://a.test/m2'
+  in the file 'own.json' at '/$schema': The reference "http://a.test/m2" is refused: the meta-schema 'http://a.test/m2' is not known
+  a file with a list of meta-schemas is given by --meta
+"#,
+    ),
+    (
+        &["lost.json", "u:c=own.json", "--output", "text"],
+        "1\n",
+        r#"2  build refused: Resource 'u:a' is not present and retrieving it failed
+  in the file 'lost.json' at '/allOf/0/$ref': The reference "u:a" is refused: the document 'u:a' is not present
+  in the file 'lost.json' at '/allOf/1/$ref': The reference "u:b#/x" is refused: the document 'u:b' is not present
+  in the file 'own.json' at '/$schema': The reference "http://a.test/m2" is refused: the meta-schema 'http://a.test/m2' is not known
+  the documents at hand are
+    'json-schema:///' in the file 'lost.json'
+    'u:c' in the file 'own.json'
+  a file with a list of meta-schemas is given by --meta
+"#,
+    ),
+    (
+        &["lost.json", "--meta", "led.json", "--output", "json"],
+        "1\n",
+        r#"2  build refused: Resource 'u:b' is not present and retrieving it failed
+  in the file 'led.json' at 'http://a.test/m8#/$ref': The reference "u:b" is refused: the document 'u:b' is not present
+  the documents at hand are
+    'json-schema:///' in the file 'lost.json'
+    those of the file 'led.json'
+"#,
+    ),
+    (
+        &["refused.json", "--meta", "meta.json", "--output", "json"],
+        "1\n",
+        r#"2  build refused: Schema refused by its meta-schema at '/type', '/properties/type/type'
+  in the file 'refused.json' at '/type': The meta-schema refuses it by '/properties/type/type': ["string"] is not of type string
+"#,
+    ),
+    (
+        &["loose.json", "--meta", "strict.json", "--output", "text"],
+        "1\n",
+        r#"2  build refused: Schema refused by its meta-schema at '/type', '/properties/type/type'
+  in the file 'loose.json' at '/type': The meta-schema refuses it by '/properties/type/type': ["string"] is not of type string
+  in the file 'loose.json': The meta-schema refuses it by '/required': {"$schema":"http://a.test/m3","type":["string"]} has no member of the required name "description"
+"#,
+    ),
+    (
+        &[
+            "plain.json",
+            "json-schema:///=loose.json",
+            "--meta",
+            "strict.json",
+            "--output",
+            "text",
+        ],
+        "1\n",
+        r#"2  warning: document 'json-schema:///' in the file 'loose.json' replaces the one in the file 'plain.json'
+build refused: Schema refused by its meta-schema at '/type', '/properties/type/type'
+  in the file 'loose.json' at '/type': The meta-schema refuses it by '/properties/type/type': ["string"] is not of type string
+  in the file 'loose.json': The meta-schema refuses it by '/required': {"$schema":"http://a.test/m3","type":["string"]} has no member of the required name "description"
+"#,
+    ),
+    (
+        &["looser.json", "--meta", "strict.json", "--output", "json"],
+        "1\n",
+        r#"2  build refused: Keyword value at 'json-schema:///#/minItems': expected count
+  in the file 'looser.json' at '/minItems': Expected count, found "1"
+  in the file 'looser.json': The meta-schema refuses it by '/required': {"$schema":"http://a.test/m3","minItems":"1"} has no member of the required name "description"
+"#,
+    ),
+    (
+        &["nowhere.json", "--output", "text"],
+        "1\n",
+        r##"2  build refused: Pointer '/$defs/none' does not exist
+  in the file 'nowhere.json' at '/$ref': The reference "#/$defs/none" is refused: nothing stands at the pointer '/$defs/none'
+"##,
+    ),
+    (
+        &["anchor.json", "--output", "text"],
+        "1\n",
+        "2  build refused: Anchor 'a\nb' does not exist\n  in the file 'anchor.json' at '/$ref': The reference \"#a\\nb\" is refused: no schema there has the anchor 'a\nb'\n",
+    ),
+    (
+        &["several.json", "--output", "text"],
+        "1\n",
+        r#"2  build refused: Keyword value at 'json-schema:///#/minItems': expected count
+  in the file 'several.json' at '/minItems': Expected count, found "1"
+  in the file 'several.json' at '/type': Expected type name, found 5
+  in the file 'several.json' at '/properties/a/maxItems': Expected count, found -1
+  in the file 'several.json' at '/properties/a/pattern': The pattern "(" is refused
+"#,
+    ),
+    (
+        &["mended.json", "--meta", "bad.json", "--output", "text"],
+        "1\n",
+        r"2  build refused: Keyword value at 'http://a.test/m5#/type': expected type name
+  in the file 'bad.json' at 'http://a.test/m5#/type': Expected type name, found 5
+",
+    ),
+    (
+        &["left.json", "--output", "json"],
+        "1\n",
+        r"2  build refused: Keyword at 'json-schema:///#/items/unevaluatedItems' is left out
+  in the file 'left.json' at '/items/unevaluatedItems': The keyword is left out by this library
+",
+    ),
+    (
+        &["plain.json", "--instance", "absent", "--output", "text"],
+        "1\n",
+        r"2  file refused: absent
+  it is not there, is not read, or holds something else than is asked of it
+",
+    ),
+    (
+        &["plain.json", "--check", "absent", "--output", "json"],
+        "1\n",
+        r"2  file refused: absent
+  it is not there, is not read, or holds something else than is asked of it
+",
+    ),
+    (
+        &[
+            "root.json",
+            "--check",
+            "right",
+            "--base",
+            "http://a.test/root.json",
+            "--output",
+            "text",
+        ],
+        "1\n",
+        r#"2  build refused: Resource 'http://a.test/leaf.json' is not present and retrieving it failed
+  in the file 'root.json' at '/items/$ref': The reference "leaf.json" is refused: the document 'http://a.test/leaf.json' is not present
+  the documents at hand are
+    'http://a.test/root.json' in the file 'root.json'
+"#,
+    ),
+    (
+        &["several.json"],
+        "1\n",
+        "2  build refused: Keyword value at 'json-schema:///#/minItems': expected count\n",
+    ),
+];
+
+#[test]
+fn said_of_refusals(rt: HostRuntime) {
+    assert_outcomes(&rt, rt.alloc(), &SOUND, &WORDS);
+    assert_outcomes(&rt, rt.alloc(), &SOUND, &DOCUMENTS);
+    assert_outcomes(&rt, rt.alloc(), &SOUND, &BUILDS);
+}

@@ -1,0 +1,81 @@
+//! The text of a value's faults.
+ghost use Rattle.std.specs.Prelude.{◌≡◌, ◌++◌, map, reverse, string_bytes, IfOk, OnOk, OnErr};
+ghost use Rattle.json_values.specs.Pointers.{pointer_text};
+ghost use Rattle.serde_json.specs.Data.{array};
+ghost use Rattle.serde_json.specs.View.{view};
+ghost use Rattle.schema_definitions.specs.Lines.{paths_of, in_order, pairs_data, faults_text};
+ghost use Rattle.schema_reports.specs.Left.{errors_left};
+ghost use Rattle.schema_reports.specs.Told.{faults_of};
+ghost use Rattle.error_texts.specs.Pairs.{pair_bytes, pair_data};
+
+use schema_reports::ErrorIterator;
+use schema_steps::Path;
+use serde_json::Value;
+use std::alloc::{AllocError, Global};
+
+/// Appends where errors stand: a JSON list, with no space, of a pair for each error, of its path in the instance and its evaluation path as
+/// pointers' texts. The pairs are in the order of their bytes, by the first text and then by the second.
+///
+/// It sorts the pairs, and writes the list as a text of its own before it appends it. The error comes where memory was refused; the text is
+/// then as it was.
+pub fn write_faults(
+    alloc: Global,
+    errors: ErrorIterator<'_>,
+    text: &mut String,
+) -> Result<(), AllocError>
+    ensures ok { OnOk result (string_bytes text.new ≡ string_bytes text.old
+        ++ faults_text (faults_of (errors_left errors.entry))) }
+    ensures unchanged { OnErr result (string_bytes text.new ≡ string_bytes text.old) }
+{
+    let pairs = pairs_in_order(alloc, errors)?;
+    let written = pairs_value(alloc, pairs)?.to_string(alloc)?;
+    text.push_str(written.as_str())
+}
+
+fn pairs_in_order(
+    alloc: Global,
+    errors: ErrorIterator<'_>,
+) -> Result<Vec<(String, String)>, AllocError>
+    ensures { IfOk result (λ v. map pair_bytes v.items ≡ in_order (paths_of (faults_of (errors_left errors.entry)))) }
+{
+    let mut pairs = path_pairs(alloc, errors)?;
+    pairs.sort()?;
+    Ok(pairs)
+}
+
+// A path as a pointer's text. Most are no longer than the room that is taken at first.
+fn pointer_of(alloc: Global, path: &Path) -> Result<String, AllocError>
+    ensures { IfOk result (λ text. string_bytes text ≡ pointer_text (reverse path.now)) }
+{
+    let mut text = String::with_capacity(alloc, 64)?;
+    path.write_to(&mut text)?;
+    Ok(text)
+}
+
+fn path_pairs(alloc: Global, errors: ErrorIterator<'_>) -> Result<Vec<(String, String)>, AllocError>
+    ensures { IfOk result (λ v. map pair_bytes v.items ≡ paths_of (faults_of (errors_left errors.entry))) }
+{
+    let mut pairs = Vec::new(alloc);
+    for error in errors {
+        let instance = pointer_of(alloc, error.instance_path())?;
+        let evaluation = pointer_of(alloc, error.evaluation_path())?;
+        pairs.push((instance, evaluation))?;
+    }
+    Ok(pairs)
+}
+
+fn pairs_value(alloc: Global, pairs: Vec<(String, String)>) -> Result<Value, AllocError>
+    ensures { IfOk result (λ v. view v ≡ array (pairs_data (map pair_bytes pairs.items))) }
+{
+    let mut values = Vec::new(alloc);
+    for (instance, evaluation) in pairs {
+        values.push(pair_value(alloc, instance, evaluation)?)?;
+    }
+    Ok(Value::Array(values))
+}
+
+fn pair_value(alloc: Global, instance: String, evaluation: String) -> Result<Value, AllocError>
+    ensures { IfOk result (λ v. view v ≡ pair_data (string_bytes instance, string_bytes evaluation)) }
+{
+    Ok(Value::Array(vec![in alloc; Value::String(instance), Value::String(evaluation)]?))
+}

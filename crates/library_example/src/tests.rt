@@ -1,0 +1,29 @@
+//! Tests of validators built from documents, and of keywords by them.
+
+mod agreeing;
+mod answers;
+mod applying;
+mod asking;
+mod assuming;
+mod building;
+mod cases;
+mod describing;
+mod dialects;
+mod drafts;
+mod faults;
+mod given;
+mod keeping;
+mod keywords;
+mod layers;
+mod limits;
+mod listing;
+mod maps;
+mod moving;
+mod numbers;
+mod options;
+mod patterns;
+mod reached;
+mod references;
+mod retrieving;
+mod siblings;
+mod taking;

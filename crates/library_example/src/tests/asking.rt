@@ -1,0 +1,129 @@
+// What is asked of a value, and no more: a matcher counts its texts; and values at which references come back.
+
+ghost use Rattle.std.specs.Prelude.{Some, true};
+
+use crate::tests::answers::{assert_agreed, faults};
+use crate::tests::given::json;
+use json_schema_validator::{MatchAnswer, PatternError, PatternMaker, RegexMaker, Validator};
+use schema_patterns::PatternMatcher;
+use serde_json::Value;
+use std::alloc::Global;
+use std::cell::Cell;
+use std::process::Abort;
+
+// Matches every text, and counts how often it is asked.
+#[derive(Drop)]
+struct Counting<'c> {
+    asked: &'c Cell<u32>,
+}
+
+impl PatternMatcher for Counting<'_> {
+    ghost finds = { λ _ _. Some true };
+
+    fn is_match(&self, _text: &str) -> MatchAnswer {
+        self.asked.set(self.asked.get().wrapping_add(1));
+        MatchAnswer::Yes
+    }
+}
+
+impl<'c> PatternMaker for Counting<'c> {
+    type Matcher = Counting<'c>;
+
+    ghost patterns = { λ _. record { makes = λ _. true; finished = λ _ _. Some true } };
+
+    fn make(&self, _alloc: Global, _pattern: &str) -> Result<Counting<'c>, PatternError> {
+        Ok(Counting { asked: self.asked })
+    }
+}
+
+// How many matches a verdict asks.
+fn asked_by(rt: &impl Abort, alloc: Global, schema: &str, input: &str) -> u32 {
+    let asked = Cell::new(0);
+    let schema = Value::from_str(alloc, schema).expect(rt, "JSON");
+    let validator = Validator::new(alloc, schema, Counting { asked: &asked }).expect(
+        rt,
+        "a validator",
+    );
+    let value = json(rt, alloc, input);
+    validator.is_valid(&value).expect(rt, "memory");
+    asked.get()
+}
+
+// A schema, a value, and how many matches its verdict asks.
+const ASKED: [(&str, &str, u32); 8] = [
+    (
+        r#"{"anyOf":[{"pattern":"a+"},{"pattern":"b+"}]}"#,
+        r#""x""#,
+        1,
+    ),
+    (
+        r#"{"allOf":[{"pattern":"a+"},{"pattern":"b+"}]}"#,
+        r#""x""#,
+        2,
+    ),
+    (
+        r#"{"oneOf":[{"pattern":"a+"},{"pattern":"b+"},{"pattern":"c+"}]}"#,
+        r#""x""#,
+        2,
+    ),
+    (r#"{"contains":{"pattern":"a+"}}"#, r#"["x","y","z"]"#, 1),
+    (
+        r#"{"contains":{"pattern":"a+"},"maxContains":2}"#,
+        r#"["x","y","z","w"]"#,
+        3,
+    ),
+    (
+        r#"{"if":{"pattern":"a+"},"then":{"pattern":"b+"},"else":{"pattern":"c+"}}"#,
+        r#""x""#,
+        2,
+    ),
+    (r#"{"items":{"pattern":"a+"}}"#, "[1,2]", 0),
+    (
+        r#"{"not":{"pattern":"a+"},"items":{"pattern":"b+"}}"#,
+        r#""x""#,
+        1,
+    ),
+];
+
+#[test]
+fn no_more_than_decides(rt: HostRuntime) {
+    let alloc = rt.alloc();
+    for (schema, input, want) in &ASKED {
+        let asked = asked_by(&rt, alloc, schema, input);
+        assert_eq!(rt; asked, *want, "{schema}");
+    }
+}
+
+// The faults of a value, on which all observers have to agree.
+fn observed(rt: &impl Abort, alloc: Global, schema: &str, input: &str) -> String {
+    let schema = Value::from_str(alloc, schema).expect(rt, "JSON");
+    let validator = Validator::new(alloc, schema, RegexMaker).expect(rt, "a validator");
+    let value = json(rt, alloc, input);
+    let text = faults(
+        rt,
+        alloc,
+        validator.iter_errors(&value).expect(rt, "memory"),
+    );
+    assert_agreed(rt, &validator, &value, text.as_str() == "valid");
+    text
+}
+
+// Where references come back, the return is accepted.
+const CIRCLES: [(&str, &str); 4] = [
+    (r##"{"$ref":"#"}"##, "valid"),
+    (r##"{"not":{"$ref":"#"}}"##, "valid"),
+    (r##"{"anyOf":[{"$ref":"#"},false]}"##, "valid"),
+    (
+        r##"{"$ref":"#/$defs/a","$defs":{"a":{"$ref":"#/$defs/b","minimum":2},"b":{"$ref":"#/$defs/a","maximum":0}}}"##,
+        "# #/$ref/$ref/maximum, # #/$ref/minimum",
+    ),
+];
+
+#[test]
+fn returns_are_accepted(rt: HostRuntime) {
+    let alloc = rt.alloc();
+    for (schema, want) in &CIRCLES {
+        let found = observed(&rt, alloc, schema, "1");
+        assert_eq!(rt; found.as_str(), *want, "{schema}");
+    }
+}
