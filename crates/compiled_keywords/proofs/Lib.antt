@@ -1,4 +1,3 @@
-pub mod CopyLemmas
 pub mod Searching
 pub mod Collected
 pub mod RuleLemmas

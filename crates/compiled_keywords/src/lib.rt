@@ -9,7 +9,6 @@ pub mod assertion;
 pub mod checked;
 mod entries;
 pub mod keyword;
-mod kinds;
 pub mod leads;
 mod members;
 pub mod names;

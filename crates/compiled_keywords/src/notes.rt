@@ -16,11 +16,11 @@ ghost use Rattle.compiled_keywords.specs.Shapes.{assertion_of};
 ghost use Rattle.compiled_keywords.specs.Told.{TellsEach, TellsUnder, lacking};
 
 use crate::assertion::{Assertion, lacks};
-use crate::kinds::kind_of_wrong;
 use crate::patterns::is_matched;
 use crate::subschemas::{Dependency, NamedDependency, NeededNames, Pattern};
 use assertions::assertion as plain;
 use assertions::assertion::Wrong;
+use error_kinds::kind_of_wrong;
 use schema_engine::matching::Matching;
 use schema_engine::place::Place;
 use schema_engine::situation::Situation;

@@ -12,7 +12,7 @@ use Rattle.schema_definitions.specs.Bearers.{Documents}
 use Rattle.schema_definitions.specs.Plain.{plain}
 use Rattle.schema_definitions.specs.Sites.{Site}
 use Rattle.schema_patterns.specs.declared.table.PatternTable.{PatternTable}
-use Rattle.error_sameness.specs.Floats.{fault_has_float}
+use Rattle.error_kinds.specs.Floats.{fault_has_float}
 use Rattle.schema_reports.specs.Stands.{is_one_of}
 use Rattle.schema_reports.specs.Told.{fault_of, fault_kind, faults_of, error_is_proper, are_proper}
 use Rattle.schema_reports.specs.declared.error.ValidationError.{ValidationError}

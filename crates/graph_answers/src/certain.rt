@@ -2,7 +2,7 @@
 ghost use Rattle.std.specs.Prelude.{◌≡◌, ◌<◌, [], length, true, false, IfOk, IfSome, string_bytes};
 ghost use Rattle.serde_json.specs.View.{view};
 ghost use Rattle.schema_meaning.specs.Faults.{Fault, Told};
-ghost use Rattle.error_sameness.specs.Floats.{fault_has_float};
+ghost use Rattle.error_kinds.specs.Floats.{fault_has_float};
 ghost use Rattle.schema_reports.specs.Stands.{is_one_of};
 ghost use Rattle.schema_reports.specs.Told.{faults_of, are_proper};
 ghost use Rattle.graph_answers.specs.Answers.{IsVerdict, IsCertified};
@@ -16,7 +16,7 @@ ghost use Rattle.graph_answers.specs.Tables.{AreForms};
 use crate::assumed::{Assumed, AssumedMatch, UnfinishedMatch};
 use crate::runs::{Decision, RUNS, Run, decide, run_once, turn_last};
 use crate::seeking::{Stand, seek};
-use error_sameness::keep_shared;
+use error_kinds::keep_shared;
 use schema_engine::graph::Graph;
 use schema_engine::tell::tell;
 use schema_engine::validate::Validate;

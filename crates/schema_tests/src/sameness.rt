@@ -1,6 +1,6 @@
 // Which errors tell one fault.
 use crate::sentences::{at_root, kind_of};
-use error_sameness::{is_same, keep_shared};
+use error_kinds::{is_same, keep_shared};
 use schema_reports::{ErrorContext, ValidationError, ValidationErrorKind as Kind};
 use serde_json::Value;
 use std::alloc::Global;

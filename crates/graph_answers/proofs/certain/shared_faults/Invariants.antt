@@ -1,7 +1,7 @@
 use Rattle.std.proofs.Common.{◌≡◌, [], true, false, IfSome}
 use Rattle.serde_json.specs.View.{view}
 use Rattle.schema_meaning.specs.Faults.{Fault, Told}
-use Rattle.error_sameness.specs.Floats.{fault_has_float}
+use Rattle.error_kinds.specs.Floats.{fault_has_float}
 use Rattle.schema_reports.specs.Told.{are_proper}
 use Rattle.schema_engine.specs.Matches.{Answers, InEach, completed}
 use Rattle.graph_answers.specs.Certain.{faults_in}
