@@ -3,6 +3,7 @@
 ghost use Rattle.std.specs.Prelude.{◌≡◌, ◌∷◌, ◌++◌, [], map, IfOk, OnOk};
 ghost use Rattle.serde_json.specs.Data.{Data};
 ghost use Rattle.serde_json.specs.View.{view};
+ghost use Rattle.json_values.specs.Parts.{name as name_part};
 ghost use Rattle.document_index.specs.Seen.{name_of};
 ghost use Rattle.referencing.specs.Resolved.{documents_in, target_in};
 ghost use Rattle.schema_definitions.specs.Sites as sites;
@@ -39,6 +40,34 @@ fn push_at<'r>(
     Ok(())
 }
 
+// Where a subschema is, given the point of the value of some keyword of its schema.
+fn point_in(
+    alloc: Global,
+    visit: &Visit<'_>,
+    keyword: &str,
+    value: &Waypoint,
+    subschema: &Subschema<'_>,
+) -> Result<Waypoint, AllocError>
+    requires document { name_of value.now.place.document ≡ name_of visit.now.point.place.document }
+    requires path { value.now.place.path ≡ name_part keyword.now ∷ visit.now.point.place.path }
+    requires road { value.now.schema_path.steps ≡ name_part keyword.now ∷ visit.now.point.schema_path.steps }
+    ensures document { IfOk result (λ p. name_of p.place.document ≡ name_of visit.now.point.place.document) }
+    ensures path { IfOk result (λ p. p.place.path ≡ applied.added_at subschema.now.keyword.now subschema.now.entry
+        ++ visit.now.point.place.path) }
+    ensures road { IfOk result (λ p. p.schema_path.steps
+        ≡ spelled (applied.added_at subschema.now.keyword.now subschema.now.entry)
+        ++ visit.now.point.schema_path.steps) }
+{
+    if subschema.keyword != keyword {
+        return point_of(alloc, visit, subschema);
+    }
+    match subschema.entry {
+        Entry::Whole => value.shared(),
+        Entry::Name(name) => value.member(alloc, name),
+        Entry::Index(index) => value.item(alloc, index),
+    }
+}
+
 // Where a subschema is.
 fn point_of(
     alloc: Global,
@@ -60,6 +89,7 @@ fn point_of(
     }
 }
 
+// The visits of subschemas. Most stand in the value of one keyword, whose point is made once.
 fn push_subschemas<'r>(
     alloc: Global,
     visit: &Visit<'r>,
@@ -69,8 +99,12 @@ fn push_subschemas<'r>(
     ensures { OnOk result (Adds (documents_in visit.now.site.resolver) leads.old.items leads.new.items
         (map (applied.place_of (sites.below (documents_at visit.now.site) (site_of visit.now))) found.now)) }
 {
+    let Some(first) = found.first() else {
+        return Ok(());
+    };
+    let value = visit.point.member(alloc, first.keyword)?;
     for subschema in found {
-        let point = point_of(alloc, visit, subschema)?;
+        let point = point_in(alloc, visit, first.keyword, &value, subschema)?;
         leads.push(visit.below(alloc, point, subschema.schema)?)?;
     }
     Ok(())

@@ -2,6 +2,7 @@
 
 ghost use Rattle.std.specs.Prelude.{◌≡◌, ◌∷◌, Some, IfOk};
 ghost use Rattle.std.specs.Bool.{Decides};
+ghost use Rattle.std.specs.Rc.{rc_str_bytes};
 ghost use Rattle.json_values.specs.Parts.{name as name_part, index as index_part};
 ghost use Rattle.document_index.specs.Seen.{name_of};
 ghost use Rattle.referencing.specs.Resolved.{target_in};
@@ -9,9 +10,10 @@ ghost use Rattle.reached_sites.specs.Places.{place_in, shown};
 
 use document_index::document::DocumentName;
 use referencing::Resolved;
-use schema_steps::Path;
+use schema_steps::{Path, Step};
 use std::alloc::{AllocError, Global};
 use std::fmt;
+use std::rc::RcStr;
 
 /// A place of a document: its name and a path in it. It is printed as the document's URI, `#` and the path as a pointer.
 #[derive(Debug, Drop)]
@@ -66,9 +68,21 @@ impl SchemaPlace {
         ensures document { IfOk result (λ p. name_of p.document ≡ name_of self.now.document) }
         ensures path { IfOk result (λ p. p.path ≡ name_part name.now ∷ self.now.path) }
     {
+        self.named(alloc, RcStr::from_str(alloc, name)?)
+    }
+
+    /// The place of a member by its name, which is not copied.
+    ///
+    /// # Errors
+    ///
+    /// Where memory was refused or a count of owners is full.
+    pub fn named(&self, alloc: Global, name: RcStr) -> Result<SchemaPlace, AllocError>
+        ensures document { IfOk result (λ p. name_of p.document ≡ name_of self.now.document) }
+        ensures path { IfOk result (λ p. p.path ≡ name_part (rc_str_bytes name) ∷ self.now.path) }
+    {
         Ok(SchemaPlace {
             document: self.document.clone()?,
-            path: self.path.push_name(alloc, name)?,
+            path: self.path.push(alloc, Step::Name(name))?,
         })
     }
 

@@ -2,6 +2,7 @@
 
 ghost use Rattle.std.specs.Prelude.{◌≡◌, ◌∷◌, [], true, IfOk};
 ghost use Rattle.std.specs.Bool.{Decides};
+ghost use Rattle.std.specs.Rc.{rc_str_bytes};
 ghost use Rattle.json_values.specs.Parts.{name as name_part, index as index_part};
 ghost use Rattle.schema_definitions.specs.Sites.{path_of_reference};
 ghost use Rattle.schema_reports.specs.Readable.{reads_as_path};
@@ -10,6 +11,7 @@ ghost use Rattle.reading_laws.specs.Spelled.{by_name, spelled};
 use schema_reports::Reference;
 use schema_steps::{Path, Step};
 use std::alloc::{AllocError, Global};
+use std::rc::RcStr;
 
 /// The path to a schema from the root, or from the reference that was followed last. Its steps are names alone, as those of a pointer
 /// are: an item's index is the name of its digits.
@@ -51,8 +53,19 @@ impl SchemaPath {
     pub fn member(&self, alloc: Global, name: &str) -> Result<SchemaPath, AllocError>
         ensures { IfOk result (λ p. p.steps ≡ name_part name.now ∷ self.now.steps) }
     {
+        self.named(alloc, RcStr::from_str(alloc, name)?)
+    }
+
+    /// The path of a member by its name, which is not copied.
+    ///
+    /// # Errors
+    ///
+    /// Where memory was refused or a count of owners is full.
+    pub fn named(&self, alloc: Global, name: RcStr) -> Result<SchemaPath, AllocError>
+        ensures { IfOk result (λ p. p.steps ≡ name_part (rc_str_bytes name) ∷ self.now.steps) }
+    {
         Ok(SchemaPath {
-            steps: self.steps.push_name(alloc, name)?,
+            steps: self.steps.push(alloc, Step::Name(name))?,
         })
     }
 

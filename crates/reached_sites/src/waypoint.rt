@@ -14,6 +14,7 @@ use crate::place::SchemaPlace;
 use crate::schema_path::SchemaPath;
 use referencing::Resolved;
 use std::alloc::{AllocError, Global};
+use std::rc::RcStr;
 
 /// A place of a document with the schema path by which a walk comes there.
 #[derive(Drop)]
@@ -60,7 +61,7 @@ impl Waypoint {
         })
     }
 
-    /// That of a member.
+    /// That of a member. Place and schema path share its name.
     ///
     /// # Errors
     ///
@@ -70,9 +71,10 @@ impl Waypoint {
         ensures path { IfOk result (λ p. p.place.path ≡ name_part name.now ∷ self.now.place.path) }
         ensures road { IfOk result (λ p. p.schema_path.steps ≡ name_part name.now ∷ self.now.schema_path.steps) }
     {
+        let name = RcStr::from_str(alloc, name)?;
         Ok(Waypoint {
-            place: self.place.member(alloc, name)?,
-            schema_path: self.schema_path.member(alloc, name)?,
+            place: self.place.named(alloc, name.clone()?)?,
+            schema_path: self.schema_path.named(alloc, name)?,
         })
     }
 

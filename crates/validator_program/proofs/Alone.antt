@@ -11,10 +11,8 @@ use Rattle.schema_registries.specs.Passed.{Asking, AnswersNothing}
 use Rattle.schema_registries.specs.Retrieval.{IsPrepared}
 use Rattle.schema_registries.specs.Roots.{Finds, IsSound, root_on}
 use Rattle.schema_registries.specs.Seen.{documents_shared, retrieved_shared, documents_in_registry}
-use Rattle.schema_validators.specs.Counted.{IsWithin}
-use Rattle.schema_validators.specs.Asked.{IsMet}
-use Rattle.schema_validators.specs.Prepared.{layer_by, AreMetaSchemas, AreDocuments, IsRegistry}
 use Rattle.line_runs.specs.Passed.{Root, root_of, asking_by, meta_schemas_given, documents_alone, ValidationOptions}
+use Rattle.line_runs.specs.Passed.{layer_by, AreMetaSchemas, AreDocuments, IsRegistry, IsWithin, IsMet}
 use Rattle.line_runs.proofs.Passed.{documents_stay_alone}
 use Rattle.validator_program.specs.Built.{patterns_of_regex, default_node_limit, HoldsAlone, AreAlone, BuildsWith}
 

@@ -8,9 +8,7 @@ use Rattle.schema_registries.specs.declared.registry.SharedRegistry.{SharedRegis
 use Rattle.schema_registries.specs.Seen.{documents_shared, retrieved_shared}
 use Rattle.schema_registries.specs.Roots.{Finds, IsSound}
 use Rattle.regex_patterns.specs.Searches.{is_regex, searched}
-use Rattle.schema_validators.specs.Counted.{IsWithin}
-use Rattle.schema_validators.specs.Asked.{IsMet}
-use Rattle.line_runs.specs.Passed.{Root, Patterns, root_of, documents_alone}
+use Rattle.line_runs.specs.Passed.{Root, Patterns, root_of, documents_alone, IsWithin, IsMet}
 use Rattle.program_inputs.specs.Held.{Held}
 use Rattle.validator_program.specs.Given.{Words, Pair, AreCut, AddsFiles, base_of, draft_of, MayBeMetaSchemas}
 

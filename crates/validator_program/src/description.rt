@@ -3,10 +3,9 @@
 use crate::documents::{documents_at_hand, given_documents, last_under};
 use crate::fault::ProgramFault;
 use crate::preparing::DEFAULT_BASE;
-use line_runs::{BuildError, DocumentError};
+use line_runs::{BuildCause, BuildError, DocumentError, Error as ReferenceError, SchemaPlace};
 use program_inputs::ProgramWords;
 use schema_reports::ValidationError;
-use schema_validators::{BuildCause, Error as ReferenceError, SchemaPlace};
 use std::alloc::{AllocError, Global};
 
 /// How many lines the file of `--check` has to have.

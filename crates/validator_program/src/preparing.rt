@@ -17,10 +17,9 @@ use crate::refusal::says_more;
 use crate::warnings::warn_of_keywords;
 use document_sources::layer::Layer;
 use line_cuts::ByteSink;
-use line_runs::{BuildError, Documents, Draft, ValidationOptions, Validator};
+use line_runs::{BuildError, Documents, Draft, Error, ValidationOptions, Validator};
 use program_inputs::{ProgramWords, SchemaFiles};
 use schema_registries::SchemaRegistry;
-use schema_validators::Error;
 use std::alloc::{AllocError, Global};
 use uri_references::uri::{Uri, from_str};
 

@@ -5,9 +5,9 @@ use crate::entry::write_text;
 use crate::preparing::word_for;
 use crate::refusal::says_more;
 use line_cuts::ByteSink;
+use line_runs::{UnknownKeyword, unknown_keywords};
 use program_inputs::ProgramWords;
 use schema_registries::SchemaRegistry;
-use schema_validators::{UnknownKeyword, unknown_keywords};
 use serde_json::Value;
 use std::alloc::{AllocError, Global};
 

@@ -3,7 +3,7 @@ use Rattle.std.proofs.Common.{◌≡◌, ◌∙◌, refl, ℕ, List, [], ◌∷�
 use Rattle.clap.specs.Walk.{texts}
 use Rattle.document_sources.specs.Seen.{layer_of}
 use Rattle.schema_registries.specs.Seen.{documents_given}
-use Rattle.schema_validators.specs.Prepared.{layer_by}
+use Rattle.line_runs.specs.Passed.{layer_by}
 use Rattle.schema_registries.specs.Roots.{root_on}
 use Rattle.validator_program.specs.Given.{AreCut, AddsFiles, pair_of}
 use Rattle.validator_program.specs.declared.documents.Further.{Further}
