@@ -29,7 +29,7 @@ use Rattle.schema_reports.specs.declared.observer.Observer.{Observer}
 use Rattle.schema_engine.specs.Graphs.{reading_of, IsSound}
 use Rattle.schema_engine.specs.Hearing.{HearsMore}
 use Rattle.schema_engine.specs.Matches.{Answers, Matches, Start, InEach, completed, known_or, none_matched}
-use Rattle.schema_engine.specs.Told.{TellsCut}
+use Rattle.engine_faults.specs.Told.{TellsCut}
 use Rattle.schema_engine.specs.declared.node.Node.{Node}
 use Rattle.graph_answers.specs.Answers.{keys_below, answer_by, IsDecided, IsVerdict, IsCertified, AreSame}
 use Rattle.graph_answers.specs.Certain.{faults_in, AreShared, HasShared, MayRefuse, IsAccepting, IsCertain, IsUnfinishedOpen, HasOpen, AreThoseFaults, HaveThoseCertificates}

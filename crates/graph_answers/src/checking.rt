@@ -6,10 +6,10 @@ ghost use Rattle.graph_answers.specs.Answers.{AreFaults, HaveCertificates};
 ghost use Rattle.graph_answers.specs.Linking.{KnowsTable};
 ghost use Rattle.graph_answers.specs.Tables.{matches_of};
 
+use engine_faults::tell::tell;
 use schema_engine::accepts::accepts;
 use schema_engine::graph::Graph;
 use schema_engine::matching::Matching;
-use schema_engine::tell::tell;
 use schema_engine::validate::Validate;
 use schema_patterns::{PatternMatcher, PatternTable};
 use schema_reports::Observer;

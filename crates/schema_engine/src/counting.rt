@@ -17,8 +17,10 @@ use crate::validate::Validate;
 use crate::verdict::accepts_question;
 use std::alloc::AllocError;
 
-// How many of the questions from `start` on are answered yes.
-pub(crate) fn count_accepted<'q, 'i: 'q, K: Validate, T: Matching>(
+/// How many of the questions from `start` on are answered yes.
+///
+/// Each is asked once. The error comes where memory was refused or a count of owners is full.
+pub fn count_accepted<'q, 'i: 'q, K: Validate, T: Matching>(
     here: &Here<'q, 'i, '_, K>,
     start: usize,
     matching: &mut T,

@@ -7,9 +7,9 @@ use crate::validate::Validate;
 
 /// A node at a place, and the references in progress there.
 #[derive(Drop)]
-pub(crate) struct Here<'q, 'i, 'p, K: Validate> {
-    pub(crate) graph: &'q Graph<K>,
-    pub(crate) node: usize,
-    pub(crate) place: Place<'i>,
-    pub(crate) progress: &'p Progress<'p>,
+pub struct Here<'q, 'i, 'p, K: Validate> {
+    pub graph: &'q Graph<K>,
+    pub node: usize,
+    pub place: Place<'i>,
+    pub progress: &'p Progress<'p>,
 }

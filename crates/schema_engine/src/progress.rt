@@ -44,8 +44,8 @@ impl<'p> Progress<'p> {
     }
 }
 
-/// Whether a reference to a node is in progress.
-pub(crate) fn is_in_progress(progress: &Progress<'_>, node: usize) -> bool
+/// Whether a reference to a node is in progress. It goes back over those of which the node is between the lowest and the highest.
+pub fn is_in_progress(progress: &Progress<'_>, node: usize) -> bool
     ensures { result ≡ is_among node (numbers_in progress.now) }
 {
     match progress {

@@ -169,9 +169,9 @@ fn accepts_items<'q, 'i: 'q, K: Validate, T: Matching>(
     Ok(true)
 }
 
-// The verdict by the answers to the questions from `start` on.
+/// The verdict by the answers to the questions from `start` on.
 #[cycle(verdict)]
-pub(crate) fn accepts_combined<'q, 'i: 'q, K: Validate, T: Matching>(
+pub fn accepts_combined<'q, 'i: 'q, K: Validate, T: Matching>(
     here: &Here<'q, 'i, '_, K>,
     combination: Combination,
     start: usize,
@@ -298,9 +298,9 @@ fn accepts_conditional<'q, 'i: 'q, K: Validate, T: Matching>(
     accepts_each(here, answer, start + 1, matching, questions)
 }
 
-// The answer to a question.
+/// The answer to a question.
 #[cycle(verdict)]
-pub(crate) fn accepts_question<'q, 'i: 'q, K: Validate, T: Matching>(
+pub fn accepts_question<'q, 'i: 'q, K: Validate, T: Matching>(
     here: &Here<'q, 'i, '_, K>,
     question: Question<'q, 'i>,
     matching: &mut T,

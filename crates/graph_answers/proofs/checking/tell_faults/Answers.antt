@@ -11,7 +11,7 @@ use Rattle.schema_engine.specs.Graphs.{IsSound, AreKnown}
 use Rattle.schema_engine.specs.Led.{BeginAt}
 use Rattle.schema_engine.specs.Matches.{Matches, completed, none_matched}
 use Rattle.schema_engine.specs.Hearing.{HearsMore}
-use Rattle.schema_engine.specs.Told.{TellsCut}
+use Rattle.engine_faults.specs.Told.{TellsCut}
 use Rattle.graph_answers.specs.Answers.{HearsAnswer}
 use Rattle.graph_answers.specs.Tables.{table_reads}
 use Rattle.graph_answers.proofs.TableReads.{reads_in_each}

@@ -1,9 +1,9 @@
 use Rattle.std.proofs.Common.{sym, refl}
 use Rattle.std.proofs.lemmas.Result.{on_ok_weaker}
-use Rattle.schema_engine.proofs.ToldFaults.{tells_cut, tells_decided}
+use Rattle.engine_faults.proofs.ToldFaults.{tells_cut, tells_decided}
 use Rattle.serde_json.specs.View.{view}
 use Rattle.schema_engine.proofs.Beginning.{ready_at, led_at}
-use Rattle.schema_engine.proofs.tell.tell.Goals as goal
+use Rattle.engine_faults.proofs.tell.tell.Goals as goal
 
 pub tell_value-requires-clause-known : goal.tell_value-requires-clause-known
 tell_value-requires-clause-known g c =

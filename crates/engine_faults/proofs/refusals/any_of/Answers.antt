@@ -2,7 +2,7 @@ use Rattle.std.proofs.Common.{◌∙◌, ap}
 use Rattle.schema_meaning.specs.Faults.{AnyOf}
 use Rattle.schema_reports.specs.Told.{branches_in, context_is_proper}
 use Rattle.schema_reports.proofs.KindLemmas.{kind-AnyOf, proper-AnyOf}
-use Rattle.schema_engine.proofs.refusals.any_of.Goals as goal
+use Rattle.engine_faults.proofs.refusals.any_of.Goals as goal
 
 pub returns : goal.returns
 returns c = λ branches are.

@@ -1,12 +1,13 @@
 use Rattle.std.proofs.Common.{◌≡◌, ◌+◌, ◌*◌, drop}
 use Rattle.schema_engine.specs.Matches.{InEach}
 use Rattle.schema_engine.specs.Graphs.{keywords_at, reading_of}
-use Rattle.schema_engine.specs.Faults.{question_faults, faults_beside, faults_of_object}
-use Rattle.schema_engine.specs.Standing.{size_at, size_of, stand_in, stand_of, stand_of_name}
-use Rattle.schema_engine.proofs.NodeFaults.{keywords_faults}
-use Rattle.schema_engine.proofs.QuestionFaults.{BranchesLeft}
-use Rattle.schema_engine.proofs.ToTell.{ToTell}
-use Rattle.schema_engine.proofs.telling.+telling.Given as goal
+use Rattle.engine_faults.specs.Faults.{question_faults, faults_beside, faults_of_object}
+use Rattle.schema_engine.specs.Standing.{size_of}
+use Rattle.engine_faults.specs.Telling.{size_at, stand_in, stand_of, stand_of_name}
+use Rattle.engine_faults.proofs.NodeFaults.{keywords_faults}
+use Rattle.engine_faults.proofs.QuestionFaults.{BranchesLeft}
+use Rattle.engine_faults.proofs.ToTell.{ToTell}
+use Rattle.engine_faults.proofs.telling.+telling.Given as goal
 
 abbrev pub decreases-tell_value : goal.decreases-tell_value
 decreases-tell_value g l = 14 * size_at l.graph.now.nodes.items (stand_in l.situation) l.node + 13

@@ -12,10 +12,10 @@ use Rattle.schema_engine.specs.Hearing.{HearsMore}
 use Rattle.schema_engine.specs.Places.{value_at}
 use Rattle.schema_engine.specs.Graphs.{keywords_at, path_or_root, path_at, reading_of}
 use Rattle.schema_engine.specs.Verdicts.{Setting}
-use Rattle.schema_engine.specs.Faults.{Stand, IsAt, Hearing, node_faults, asked_faults, rule_faults}
+use Rattle.engine_faults.specs.Faults.{Stand, IsAt, Hearing, node_faults, asked_faults, rule_faults}
 use Rattle.schema_engine.proofs.HearsLemmas.{hears_same}
-use Rattle.schema_engine.proofs.ToTell.{ToTell, told_one, none_to_tell}
-use Rattle.schema_engine.proofs.RuleFaults.{map_map}
+use Rattle.engine_faults.proofs.ToTell.{ToTell, told_one, none_to_tell}
+use Rattle.engine_faults.proofs.RuleFaults.{map_map}
 
 pub path_here : {K : Type 0} (nodes : List (Node K)) (n : ℕ) (x : Node K) → n < length nodes → x ≡ get_or nodes n x → x.schema_path ≡ path_at nodes n
 path_here nodes n x there is = sym (ap path_or_root (slice_get_read nodes (length nodes) n x refl there is))

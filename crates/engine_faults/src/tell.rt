@@ -2,16 +2,16 @@
 ghost use Rattle.std.specs.Prelude.{◌≡◌, ◌<◌, ℕ, List, [], length, OnOk, OnErr};
 ghost use Rattle.serde_json.specs.View.{view};
 ghost use Rattle.schema_engine.specs.Graphs.{AreKnown};
-ghost use Rattle.schema_engine.specs.Told.{TellsCut, TellsDecided};
+ghost use Rattle.engine_faults.specs.Told.{TellsCut, TellsDecided};
 ghost use Rattle.schema_engine.specs.Led.{BeginAt};
 ghost use Rattle.schema_engine.specs.Matches.{InEach};
 
-use crate::graph::Graph;
-use crate::matching::Matching;
-use crate::place::Question;
-use crate::situation::Situation;
 use crate::telling::tell_value;
-use crate::validate::Validate;
+use schema_engine::graph::Graph;
+use schema_engine::matching::Matching;
+use schema_engine::place::Question;
+use schema_engine::situation::Situation;
+use schema_engine::validate::Validate;
 use schema_reports::{LazyLocation, Observer};
 use serde_json::Value;
 use std::alloc::{AllocError, Global};

@@ -7,7 +7,7 @@ use Rattle.schema_reports.specs.declared.observer.Observer.{Observer}
 use Rattle.schema_reports.proofs.FaultLemmas.{joined-none, joined-joined}
 use Rattle.schema_engine.specs.Hearing.{HearsMore}
 use Rattle.schema_engine.specs.Verdicts.{Setting}
-use Rattle.schema_engine.specs.Faults.{Stand, IsAt, Hearing}
+use Rattle.engine_faults.specs.Faults.{Stand, IsAt, Hearing}
 use Rattle.schema_engine.proofs.HearsLemmas.{hears_nothing, hears_same, hears_both, hears_settled}
 
 -- of all that is told, what is left to tell

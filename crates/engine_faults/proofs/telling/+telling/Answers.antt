@@ -27,19 +27,20 @@ use Rattle.schema_engine.specs.Rules.{combination_of}
 use Rattle.schema_engine.specs.Graphs.{keywords_at, path_at, rank_at, reading_of}
 use Rattle.schema_engine.specs.Led.{LedTo, AreReady}
 use Rattle.schema_engine.specs.Verdicts.{EachMayAsk, GoesDown, size}
-use Rattle.schema_engine.specs.Faults.{AreAsked, AreErrorsOf, Hearing, node_faults, rule_faults, one_told, question_faults, faults_beside}
-use Rattle.schema_engine.specs.Standing.{size_of, stand_of, HearsAt}
-use Rattle.schema_engine.proofs.KeywordFaults.{one_of_others, every_told, named_told, conditional_told, no_condition, condition_told, combined_accepted, combined_unwanted, combined_told}
+use Rattle.engine_faults.specs.Faults.{AreAsked, AreErrorsOf, Hearing, node_faults, rule_faults, one_told, question_faults, faults_beside}
+use Rattle.schema_engine.specs.Standing.{size_of}
+use Rattle.engine_faults.specs.Telling.{stand_of, HearsAt}
+use Rattle.engine_faults.proofs.KeywordFaults.{one_of_others, every_told, named_told, conditional_told, no_condition, condition_told, combined_accepted, combined_unwanted, combined_told}
 use Rattle.schema_engine.proofs.HearsLemmas.{hears_absorbed}
-use Rattle.schema_engine.proofs.NodeFaults.{path_here, keywords_faults, node_heard, keyword_next, keywords_done}
-use Rattle.schema_engine.proofs.QuestionFaults.{beside_next, beside_skipped, beside_done, named_next, named_done, branches_next, branches_done}
-use Rattle.schema_engine.proofs.RefusalFaults.{some_told, one_branch_told, counted_told, reason_told}
-use Rattle.schema_engine.proofs.RuleFaults.{one_is_right}
+use Rattle.engine_faults.proofs.NodeFaults.{path_here, keywords_faults, node_heard, keyword_next, keywords_done}
+use Rattle.engine_faults.proofs.QuestionFaults.{beside_next, beside_skipped, beside_done, named_next, named_done, branches_next, branches_done}
+use Rattle.engine_faults.proofs.RefusalFaults.{some_told, one_branch_told, counted_told, reason_told}
+use Rattle.engine_faults.proofs.RuleFaults.{one_is_right}
 use Rattle.schema_engine.proofs.Sizes.{size_inside, size_down, size_target}
-use Rattle.schema_engine.proofs.StepFaults.{leads_inside, leads_to_item, leads_to_member, leads_to_name, follows_none, hears_as, step_heard, back_heard, target_heard}
+use Rattle.engine_faults.proofs.StepFaults.{leads_inside, leads_to_item, leads_to_member, leads_to_name, follows_none, hears_as, step_heard, back_heard, target_heard}
 use Rattle.schema_engine.proofs.Steps.{may_ask_one, may_ask_rest, may_ask_for, each_may_ask, keywords_here, keyword_stands, keyword_told}
-use Rattle.schema_engine.proofs.ToTell.{all_to_tell, settled_to_tell}
-use Rattle.schema_engine.proofs.telling.+telling.Goals as goal
+use Rattle.engine_faults.proofs.ToTell.{all_to_tell, settled_to_tell}
+use Rattle.engine_faults.proofs.telling.+telling.Goals as goal
 
 -- ---- a value
 

@@ -1,8 +1,8 @@
 //! Where the keywords of a node tell.
 
-use crate::here::Here;
-use crate::situation::Situation;
-use crate::validate::Validate;
+use schema_engine::here::Here;
+use schema_engine::situation::Situation;
+use schema_engine::validate::Validate;
 
 /// A node at a place with the references in progress there, and the roads that led there.
 #[derive(Drop)]

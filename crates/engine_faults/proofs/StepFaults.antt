@@ -10,7 +10,7 @@ use Rattle.schema_meaning.specs.Readings.{Reading}
 use Rattle.schema_meaning.specs.Cut.{cut_unless, is_in_progress}
 use Rattle.schema_reports.specs.declared.observer.Observer.{Observer}
 use Rattle.schema_engine.specs.declared.node.Node.{Node}
-use Rattle.schema_engine.specs.declared.there.There.{There}
+use Rattle.engine_faults.specs.declared.there.There.{There}
 use Rattle.schema_engine.specs.declared.validate.Validate.{Ghosts}
 use Rattle.schema_engine.specs.declared.place.Place.TheVariants as place
 use Rattle.schema_engine.specs.Hearing.{HearsMore}
@@ -18,10 +18,11 @@ use Rattle.schema_engine.specs.Places.{value_at}
 use Rattle.schema_engine.specs.Progress.{is_among}
 use Rattle.schema_engine.specs.Graphs.{reading_of}
 use Rattle.schema_engine.specs.Verdicts.{Setting, GoesDown, key_in}
-use Rattle.schema_engine.specs.Faults.{Stand, IsAt, Hearing, node_faults, asked_faults}
-use Rattle.schema_engine.specs.Standing.{stand_of, size_of, HearsOf}
+use Rattle.engine_faults.specs.Faults.{Stand, IsAt, Hearing, node_faults, asked_faults}
+use Rattle.schema_engine.specs.Standing.{size_of}
+use Rattle.engine_faults.specs.Telling.{stand_of, HearsOf}
 use Rattle.schema_engine.proofs.Settings.{stay_fits, item_fits, member_fits, name_fits, target_fits}
-use Rattle.schema_engine.proofs.ToTell.{hearing_nothing}
+use Rattle.engine_faults.proofs.ToTell.{hearing_nothing}
 
 -- after a step by a question that adds these parts, and inside a target at the same place
 abbrev pub stepped_by : Setting → Step → List Part → Setting

@@ -3,7 +3,7 @@ use Rattle.schema_meaning.specs.Faults.{Branches, OneOfMultipleValid, OneOfNotVa
 use Rattle.schema_meaning.specs.Rules.{one_of_kind}
 use Rattle.schema_reports.specs.Told.{branches_in, context_is_proper}
 use Rattle.schema_reports.proofs.KindLemmas.{kind-OneOfMultipleValid, proper-OneOfMultipleValid, kind-OneOfNotValid, proper-OneOfNotValid}
-use Rattle.schema_engine.proofs.refusals.one_of.Goals as goal
+use Rattle.engine_faults.proofs.refusals.one_of.Goals as goal
 
 several : (n : ℕ) (bs : Branches) → 0 < n → OneOfMultipleValid bs ≡ one_of_kind n bs
 several zero bs h = absurd (omega arith)

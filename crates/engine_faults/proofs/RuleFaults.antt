@@ -16,7 +16,7 @@ use Rattle.schema_engine.specs.Questions.{Call, call, call_of, question_by}
 use Rattle.schema_engine.specs.Refusals.{own_notes, has_one_fault, refused_fault}
 use Rattle.schema_engine.specs.Rules.{combination_of, is_right}
 use Rattle.schema_engine.specs.Verdicts.{Setting, asked_in, rule_in}
-use Rattle.schema_engine.specs.Faults.{asked_faults, rule_faults, question_faults, faults_if, faults_beside, faults_by_first, AreAsked}
+use Rattle.engine_faults.specs.Faults.{asked_faults, rule_faults, question_faults, faults_if, faults_beside, faults_by_first, AreAsked}
 use Rattle.schema_engine.proofs.RuleLemmas.{map_same, asked_call}
 
 pub map_map : {A B C : Type 0} (f : B → C) (g : A → B) (xs : List A) → map f (map g xs) ≡ map (λ x. f (g x)) xs

@@ -18,9 +18,9 @@ use Rattle.schema_reports.proofs.FaultLemmas.{context_longer, object-joined}
 use Rattle.schema_engine.specs.declared.place.Question as code
 use Rattle.schema_engine.specs.Places.{value_at}
 use Rattle.schema_engine.specs.Verdicts.{Setting}
-use Rattle.schema_engine.specs.Faults.{Stand, IsAt, Hearing, AreErrorsOf, faults_if, faults_beside, faults_of_object}
+use Rattle.engine_faults.specs.Faults.{Stand, IsAt, Hearing, AreErrorsOf, faults_if, faults_beside, faults_of_object}
 use Rattle.schema_engine.proofs.HearsLemmas.{hears_same, hears_absorbed}
-use Rattle.schema_engine.proofs.ToTell.{ToTell, told_one, told_no_more, none_to_tell}
+use Rattle.engine_faults.proofs.ToTell.{ToTell, told_one, told_no_more, none_to_tell}
 
 next : (qs : List code.Question) (i : ℕ) (q : code.Question) → i < length qs → q ≡ get_or qs i q → drop i qs ≡ q ∷ drop (i + 1) qs
 next qs i q high is = drop_more qs i q high ∙ ap (λ y. y ∷ drop (i + 1) qs) (sym is)

@@ -28,9 +28,9 @@ use Rattle.schema_engine.specs.Situations.{spot_in, TellsOf}
 use Rattle.schema_engine.specs.Places.{value_at}
 use Rattle.schema_engine.specs.Questions.{call_of}
 use Rattle.schema_engine.specs.Verdicts.{Setting, Counts, asked_in}
-use Rattle.schema_engine.specs.Faults.{Stand, IsAt, Hearing, AreAsked, AreErrorsOf, asked_faults, question_faults, one_told}
+use Rattle.engine_faults.specs.Faults.{Stand, IsAt, Hearing, AreAsked, AreErrorsOf, asked_faults, question_faults, one_told}
 use Rattle.schema_engine.proofs.HearsLemmas.{hears_same}
-use Rattle.schema_engine.proofs.RuleFaults.{asked_answers, count_agrees}
+use Rattle.engine_faults.proofs.RuleFaults.{asked_answers, count_agrees}
 
 -- a keyword's name, the kind and the value are those of the rule's fault
 pub record Refuses (k : Rule ℕ) (d : Data) (answers : List told.Faults) (name : List ℕ) (kind : ValidationErrorKind) (value : Data) : Type 0 where

@@ -19,8 +19,8 @@ use Rattle.schema_engine.specs.declared.place.Place.TheVariants as place
 use Rattle.schema_engine.specs.Graphs.{reading_of, highest, IsSound}
 use Rattle.schema_engine.specs.Hearing.{HearsMore}
 use Rattle.schema_engine.specs.Verdicts.{Fits}
-use Rattle.schema_engine.specs.Faults.{Stand, Hearing, node_faults}
-use Rattle.schema_engine.specs.Told.{TellsCut, TellsDecided}
+use Rattle.engine_faults.specs.Faults.{Stand, Hearing, node_faults}
+use Rattle.engine_faults.specs.Told.{TellsCut, TellsDecided}
 use Rattle.schema_engine.proofs.Answered.{cut_enough}
 use Rattle.schema_engine.proofs.Decided.{cut_where_decided}
 use Rattle.schema_engine.proofs.HearsLemmas.{hears_same}

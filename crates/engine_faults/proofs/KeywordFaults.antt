@@ -20,10 +20,10 @@ use Rattle.schema_engine.specs.Refusals.{own_notes, has_one_fault, refused_fault
 use Rattle.schema_engine.specs.Rules.{combination_of}
 use Rattle.schema_engine.specs.Situations.{spot_in}
 use Rattle.schema_engine.specs.Verdicts.{Setting, Tells, asked_in, rule_in}
-use Rattle.schema_engine.specs.Faults.{Stand, IsAt, Hearing, AreAsked, asked_faults, rule_faults, one_told, question_faults, faults_beside, faults_by_first, faults_of_object}
+use Rattle.engine_faults.specs.Faults.{Stand, IsAt, Hearing, AreAsked, asked_faults, rule_faults, one_told, question_faults, faults_beside, faults_by_first, faults_of_object}
 use Rattle.schema_engine.proofs.HearsLemmas.{hears_same, hears_unwanted, hears_later}
-use Rattle.schema_engine.proofs.RuleFaults.{every_faults, named_faults, conditional_faults, rule_faults-is, one_rule_faults, question_agrees}
-use Rattle.schema_engine.proofs.ToTell.{hearing_same, hearing_both, hearing_nothing}
+use Rattle.engine_faults.proofs.RuleFaults.{every_faults, named_faults, conditional_faults, rule_faults-is, one_rule_faults, question_agrees}
+use Rattle.engine_faults.proofs.ToTell.{hearing_same, hearing_both, hearing_nothing}
 
 -- one of the others has one fault
 pub one_of_others : (c : Combination) → (c ≡ combination.Every → ⊥) → (c ≡ combination.EachNamed → ⊥) → (c ≡ combination.Conditional → ⊥) → has_one_fault c ≡ true

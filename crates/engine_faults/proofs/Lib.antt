@@ -1,0 +1,8 @@
+mod ToTell
+mod RuleFaults
+mod StepFaults
+mod NodeFaults
+mod QuestionFaults
+mod RefusalFaults
+mod ToldFaults
+mod KeywordFaults
