@@ -8,7 +8,6 @@ ghost use Rattle.schema_meaning.specs.Places.{stay};
 ghost use Rattle.schema_engine.specs.Graphs.{keywords_at, AreKnown};
 ghost use Rattle.schema_engine.specs.Led.{LedTo, AreReady, BeginAt};
 ghost use Rattle.schema_engine.specs.Places.{value_at, step_of};
-ghost use Rattle.schema_engine.specs.Progress.{is_among, numbers_in};
 ghost use Rattle.schema_engine.specs.Questions.{call_of};
 ghost use Rattle.graph_answers.specs.Seeking.{nodes_of, LedHere, MayAskAt, EachMayAskAt};
 
@@ -16,7 +15,7 @@ use schema_engine::entry::Entry;
 use schema_engine::graph::Graph;
 use schema_engine::matching::Matching;
 use schema_engine::place::{Asked, Place, Question};
-use schema_engine::progress::Progress;
+use schema_engine::progress::{Progress, is_in_progress};
 use schema_engine::situation::Situation;
 use schema_engine::validate::Validate;
 use schema_reports::{LazyLocation, SchemaLocation};
@@ -303,34 +302,11 @@ fn seek_here<'q, 'i: 'q, K: Validate, T: Matching>(
     if !question.follows {
         return seek_node(graph, node, place, progress, below, matching, questions);
     }
-    if is_entered(progress, node) {
+    if is_in_progress(progress, node) {
         return Ok(None);
     }
     let entered = progress.enter(node);
     seek_node(graph, node, place, &entered, below, matching, questions)
-}
-
-// Whether a reference to a node is in progress.
-fn is_entered(progress: &Progress<'_>, node: usize) -> bool
-    ensures { result ≡ is_among node (numbers_in progress.now) }
-{
-    match progress {
-        Progress::Nothing => false,
-        Progress::Target {
-            node: other,
-            lowest,
-            highest,
-            before,
-        } => {
-            if node < *lowest {
-                return false;
-            }
-            if node > *highest {
-                return false;
-            }
-            node == *other || is_entered(before, node)
-        }
-    }
 }
 
 // Where a keyword of this name stands.

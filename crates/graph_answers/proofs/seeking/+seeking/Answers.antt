@@ -175,7 +175,7 @@ seek_here-seek_node-requires-2 g t c κs within =
     let nodes = nodes_of h in
     let d = value_at h.place in
     let target = c.args.question.node in
-    let fresh : is_among target (numbers_in h.progress.now) ≡ false = sym c.is_entered.ensures ∙ c.if-is_entered.false in
+    let fresh : is_among target (numbers_in h.progress.now) ≡ false = sym c.is_in_progress.ensures ∙ c.if-is_in_progress.false in
     let enough = size nodes d (numbers_in h.progress.now) (rank_at nodes h.node) in
     let falls = subst (λ ms. size nodes d ms (rank_at nodes target) < enough) (sym c.enter-entered.ensures)
     (size_target nodes d (numbers_in h.progress.now) (rank_at nodes h.node) target c.requires.asked.below fresh) in
