@@ -1,6 +1,7 @@
 //! Where the keywords of a schema lead.
 
 ghost use Rattle.std.specs.Prelude.{◌≡◌, ◌∷◌, ◌++◌, [], map, IfOk, OnOk};
+ghost use Rattle.std.specs.Bool.{Decides};
 ghost use Rattle.serde_json.specs.Data.{Data};
 ghost use Rattle.serde_json.specs.View.{view};
 ghost use Rattle.json_values.specs.Parts.{name as name_part};
@@ -40,6 +41,12 @@ fn push_at<'r>(
     Ok(())
 }
 
+fn is_one_keyword(one: &str, other: &str) -> bool
+    ensures { Decides result (one.now ≡ other.now) }
+{
+    one == other
+}
+
 // Where a subschema is, given the point of the value of some keyword of its schema.
 fn point_in(
     alloc: Global,
@@ -58,7 +65,7 @@ fn point_in(
         ≡ spelled (applied.added_at subschema.now.keyword.now subschema.now.entry)
         ++ visit.now.point.schema_path.steps) }
 {
-    if subschema.keyword != keyword {
+    if !is_one_keyword(subschema.keyword, keyword) {
         return point_of(alloc, visit, subschema);
     }
     match subschema.entry {
