@@ -47,6 +47,30 @@ fn is_one_keyword(one: &str, other: &str) -> bool
     one == other
 }
 
+// Where a subschema is, in the value of its keyword.
+fn point_below(
+    alloc: Global,
+    visit: &Visit<'_>,
+    value: &Waypoint,
+    subschema: &Subschema<'_>,
+) -> Result<Waypoint, AllocError>
+    requires document { name_of value.now.place.document ≡ name_of visit.now.point.place.document }
+    requires path { value.now.place.path ≡ name_part subschema.now.keyword.now ∷ visit.now.point.place.path }
+    requires road { value.now.schema_path.steps ≡ name_part subschema.now.keyword.now ∷ visit.now.point.schema_path.steps }
+    ensures document { IfOk result (λ p. name_of p.place.document ≡ name_of visit.now.point.place.document) }
+    ensures path { IfOk result (λ p. p.place.path ≡ applied.added_at subschema.now.keyword.now subschema.now.entry
+        ++ visit.now.point.place.path) }
+    ensures road { IfOk result (λ p. p.schema_path.steps
+        ≡ spelled (applied.added_at subschema.now.keyword.now subschema.now.entry)
+        ++ visit.now.point.schema_path.steps) }
+{
+    match subschema.entry {
+        Entry::Whole => value.shared(),
+        Entry::Name(name) => value.member(alloc, name),
+        Entry::Index(index) => value.item(alloc, index),
+    }
+}
+
 // Where a subschema is, given the point of the value of some keyword of its schema.
 fn point_in(
     alloc: Global,
@@ -65,35 +89,11 @@ fn point_in(
         ≡ spelled (applied.added_at subschema.now.keyword.now subschema.now.entry)
         ++ visit.now.point.schema_path.steps) }
 {
-    if !is_one_keyword(subschema.keyword, keyword) {
-        return point_of(alloc, visit, subschema);
+    if is_one_keyword(keyword, subschema.keyword) {
+        return point_below(alloc, visit, value, subschema);
     }
-    match subschema.entry {
-        Entry::Whole => value.shared(),
-        Entry::Name(name) => value.member(alloc, name),
-        Entry::Index(index) => value.item(alloc, index),
-    }
-}
-
-// Where a subschema is.
-fn point_of(
-    alloc: Global,
-    visit: &Visit<'_>,
-    subschema: &Subschema<'_>,
-) -> Result<Waypoint, AllocError>
-    ensures document { IfOk result (λ p. name_of p.place.document ≡ name_of visit.now.point.place.document) }
-    ensures path { IfOk result (λ p. p.place.path ≡ applied.added_at subschema.now.keyword.now subschema.now.entry
-        ++ visit.now.point.place.path) }
-    ensures road { IfOk result (λ p. p.schema_path.steps
-        ≡ spelled (applied.added_at subschema.now.keyword.now subschema.now.entry)
-        ++ visit.now.point.schema_path.steps) }
-{
-    let point = visit.point.member(alloc, subschema.keyword)?;
-    match subschema.entry {
-        Entry::Whole => Ok(point),
-        Entry::Name(name) => point.member(alloc, name),
-        Entry::Index(index) => point.item(alloc, index),
-    }
+    let other = visit.point.member(alloc, subschema.keyword)?;
+    point_below(alloc, visit, &other, subschema)
 }
 
 // The visits of subschemas. Most stand in the value of one keyword, whose point is made once.
