@@ -4,8 +4,7 @@ use Rattle.std.specs.List.{AllByRecursion}
 use Rattle.std.specs.Str.{is_utf8, chars}
 use Rattle.std.specs.Fmt.{digits}
 use Rattle.serde_json.proofs.OnLiterals.{serde_json_on_literals}
-use Rattle.uri_grammar.specs.Parts.{split}
-use Rattle.uri_grammar.specs.Grammar.{is_reference}
+use Rattle.uri_references.specs.Passed.{is_reference, split}
 use Rattle.uri_references.specs.Resolution.{resolve}
 use Rattle.uri_references.specs.NormalForm.{normal}
 use Rattle.uri_references.specs.Dots.{remove_dots}

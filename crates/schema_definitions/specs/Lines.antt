@@ -8,7 +8,7 @@ use Rattle.serde_json.specs.Data.{Data, string, array, Items, no_items, item}
 use Rattle.serde_json.specs.Read.{read}
 use Rattle.serde_json.specs.Written.{compact_text}
 use Rattle.json_values.specs.Equality.{is_tree}
-use Rattle.uri_grammar.specs.Texts.{pieces}
+use Rattle.uri_references.specs.Passed.{pieces}
 use Rattle.schema_meaning.specs.Faults.{Fault, Faults, none, also, instance_path, evaluation_path}
 use Rattle.schema_definitions.specs.PathTexts.{path_text}
 

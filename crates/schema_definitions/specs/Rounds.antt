@@ -2,7 +2,7 @@
 use Rattle.std.specs.Prelude.{◌≡◌, ℕ, List, [], ◌∷◌, ◌++◌, Bool, true, not, ◌&&◌, ◌||◌, map, codes, bytes_eq, if◌then◌else◌, Option, Some, None, option_and_then, is_some}
 use Rattle.std.specs.List.{flat_map, list_any, AllByRecursion}
 use Rattle.serde_json.specs.Data.{Data}
-use Rattle.uri_grammar.specs.Texts.{cut_at}
+use Rattle.uri_references.specs.Passed.{cut_at}
 use Rattle.schema_definitions.specs.Words.{listed, text_at, has_text}
 use Rattle.schema_definitions.specs.Identifiers.{resolved}
 use Rattle.schema_definitions.specs.Places.{Dialect}

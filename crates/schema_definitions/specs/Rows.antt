@@ -3,8 +3,7 @@ use Rattle.std.specs.Prelude.{ℕ, ℤ, suc, List, [], ◌∷◌, ◌++◌, map,
 use Rattle.std.specs.List.{flat_map}
 use Rattle.serde_json.specs.Data.{Data, null, boolean, number, string, array, object, Items, no_items, item, Members, no_members, member}
 use Rattle.serde_json.specs.Find.{get_member, as_str, as_array, as_object, as_bool}
-use Rattle.uri_grammar.specs.Parts.{split}
-use Rattle.uri_grammar.specs.Grammar.{is_reference}
+use Rattle.uri_references.specs.Passed.{is_reference, split}
 use Rattle.json_values.specs.Parts.{Part, name, index}
 use Rattle.schema_drafts.specs.Counts.{counts}
 use Rattle.schema_drafts.specs.declared.draft.Draft.{Draft}

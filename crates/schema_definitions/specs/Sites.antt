@@ -3,7 +3,7 @@ use Rattle.std.specs.Prelude.{ℕ, List, [], ◌∷◌, ◌++◌, ◌==◌, if�
 use Rattle.serde_json.specs.Data.{Data}
 use Rattle.serde_json.specs.Find.{unescape}
 use Rattle.percent_encoding.specs.Percent.{percent_decode}
-use Rattle.uri_grammar.specs.Texts.{cut_at, pieces}
+use Rattle.uri_references.specs.Passed.{cut_at, pieces}
 use Rattle.json_values.specs.Parts.{Part, name}
 use Rattle.schema_definitions.specs.Words.{or}
 use Rattle.schema_definitions.specs.Places.{Dialect, SchemaPlace, entered}
