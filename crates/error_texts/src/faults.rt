@@ -1,14 +1,14 @@
 //! The text of a value's faults.
-ghost use Rattle.std.specs.Prelude.{◌≡◌, ◌++◌, map, reverse, string_bytes, IfOk, OnOk, OnErr};
+ghost use Rattle.std.specs.Prelude.{◌≡◌, ◌++◌, ◌∷◌, [], map, reverse, string_bytes, IfOk, OnOk, OnErr};
 ghost use Rattle.json_values.specs.Pointers.{pointer_text};
 ghost use Rattle.serde_json.specs.Data.{array};
 ghost use Rattle.serde_json.specs.View.{view};
 ghost use Rattle.schema_definitions.specs.Lines.{paths_of, in_order, pairs_data, faults_text};
 ghost use Rattle.schema_reports.specs.Left.{errors_left};
-ghost use Rattle.schema_reports.specs.Told.{faults_of};
-ghost use Rattle.error_texts.specs.Pairs.{pair_bytes, pair_data};
+ghost use Rattle.schema_reports.specs.Told.{fault_of, faults_of};
+ghost use Rattle.error_texts.specs.Pairs.{pair_bytes, pair_data, paths_in};
 
-use schema_reports::ErrorIterator;
+use schema_reports::{ErrorIterator, ValidationError};
 use schema_steps::Path;
 use serde_json::Value;
 use std::alloc::{AllocError, Global};
@@ -52,14 +52,39 @@ fn pointer_of(alloc: Global, path: &Path) -> Result<String, AllocError>
     Ok(text)
 }
 
+// Appends the pair of an error.
+fn push_pair_of(
+    alloc: Global,
+    error: &ValidationError<'_>,
+    pairs: &mut Vec<(String, String)>,
+) -> Result<(), AllocError>
+    ensures { OnOk result (map pair_bytes pairs.new.items
+        ≡ map pair_bytes pairs.old.items ++ paths_in (fault_of error.now) ∷ []) }
+{
+    let instance = pointer_of(alloc, error.instance_path())?;
+    let evaluation = pointer_of(alloc, error.evaluation_path())?;
+    pairs.push((instance, evaluation))?;
+    Ok(())
+}
+
+// The same, and lets the error go.
+fn push_pair(
+    alloc: Global,
+    error: ValidationError<'_>,
+    pairs: &mut Vec<(String, String)>,
+) -> Result<(), AllocError>
+    ensures { OnOk result (map pair_bytes pairs.new.items
+        ≡ map pair_bytes pairs.old.items ++ paths_in (fault_of error.entry) ∷ []) }
+{
+    push_pair_of(alloc, &error, pairs)
+}
+
 fn path_pairs(alloc: Global, errors: ErrorIterator<'_>) -> Result<Vec<(String, String)>, AllocError>
     ensures { IfOk result (λ v. map pair_bytes v.items ≡ paths_of (faults_of (errors_left errors.entry))) }
 {
     let mut pairs = Vec::new(alloc);
     for error in errors {
-        let instance = pointer_of(alloc, error.instance_path())?;
-        let evaluation = pointer_of(alloc, error.evaluation_path())?;
-        pairs.push((instance, evaluation))?;
+        push_pair(alloc, error, &mut pairs)?;
     }
     Ok(pairs)
 }

@@ -64,9 +64,33 @@ fn error_values(alloc: Global, errors: ErrorIterator<'_>) -> Result<Vec<Value>, 
 {
     let mut values = Vec::new(alloc);
     for error in errors {
-        values.push(error_value(alloc, &error)?)?;
+        push_value(alloc, error, &mut values)?;
     }
     Ok(values)
+}
+
+// Appends the object of an error, and lets the error go.
+fn push_value(
+    alloc: Global,
+    error: ValidationError<'_>,
+    values: &mut Vec<Value>,
+) -> Result<(), AllocError>
+    ensures { OnOk result ((d : Data) × IsObject error.entry d
+        × (map view values.new.items ≡ map view values.old.items ++ d ∷ [])) }
+{
+    push_value_of(alloc, &error, values)
+}
+
+fn push_value_of(
+    alloc: Global,
+    error: &ValidationError<'_>,
+    values: &mut Vec<Value>,
+) -> Result<(), AllocError>
+    ensures { OnOk result ((d : Data) × IsObject error.now d
+        × (map view values.new.items ≡ map view values.old.items ++ d ∷ [])) }
+{
+    values.push(error_value(alloc, error)?)?;
+    Ok(())
 }
 
 fn error_value(alloc: Global, error: &ValidationError<'_>) -> Result<Value, AllocError>

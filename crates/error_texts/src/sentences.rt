@@ -22,9 +22,22 @@ pub fn write_sentences(
         × (string_bytes text.new ≡ string_bytes text.old ++ concat lines)) }
 {
     for error in errors {
-        write_sentence(alloc, label, &error, text)?;
+        write_owned(alloc, label, error, text)?;
     }
     Ok(())
+}
+
+// Appends the line of an error, and lets the error go.
+fn write_owned(
+    alloc: Global,
+    label: &str,
+    error: ValidationError<'_>,
+    text: &mut String,
+) -> Result<(), AllocError>
+    ensures { OnOk result ((line : List ℕ) × IsSentence label.now error.entry line
+        × (string_bytes text.new ≡ string_bytes text.old ++ line)) }
+{
+    write_sentence(alloc, label, &error, text)
 }
 
 /// Appends a line that says why a text is no value: the label, `: ` and the reason.

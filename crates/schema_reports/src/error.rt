@@ -29,6 +29,7 @@ pub struct ValidationError<'i> {
 }
 
 impl<'i> ValidationError<'i> {
+    ghost use Rattle.schema_reports.specs.Instances.{value_in};
     ghost use Rattle.schema_reports.specs.Kinds.{kind_of, is_proper};
     ghost use Rattle.schema_meaning.specs.Rules.{of_object};
     ghost use Rattle.location_texts.specs.Locations.{location_of};
@@ -63,9 +64,21 @@ impl<'i> ValidationError<'i> {
         ensures told { fault_of result ≡ told.fault (kind_of (box_value kind.entry)) (view instance.now) paths.instance paths.schema paths.evaluation }
         ensures proper { error_is_proper result ≡ is_proper (box_value kind.entry) }
     {
+        ValidationError::with(kind, Instance::Lent(instance), paths)
+    }
+
+    // An error of these parts, of a value that may be its own.
+    pub(crate) fn with(
+        kind: Box<ValidationErrorKind<'i>>,
+        instance: Instance<'i>,
+        paths: Paths,
+    ) -> Self
+        ensures told { fault_of result ≡ told.fault (kind_of (box_value kind.entry)) (value_in instance.entry) paths.instance paths.schema paths.evaluation }
+        ensures proper { error_is_proper result ≡ is_proper (box_value kind.entry) }
+    {
         ValidationError {
             kind,
-            instance: Instance::Lent(instance),
+            instance,
             instance_path: paths.instance,
             schema_path: paths.schema,
             evaluation_path: paths.evaluation,
@@ -87,9 +100,17 @@ impl<'i> ValidationError<'i> {
     {
         let standing = self.standing.take();
         let paths = self.paths_at(alloc, at, standing)?;
-        let error = Box::new(alloc, self)?;
-        let kind = Box::new(alloc, ValidationErrorKind::PropertyNames { error })?;
+        let kind = self.into_name_kind(alloc)?;
         Ok(ValidationError::of(kind, object, paths))
+    }
+
+    // The kind of the error of a name with this error.
+    fn into_name_kind(self, alloc: Global) -> Result<Box<ValidationErrorKind<'i>>, AllocError>
+        ensures told { IfOk result (λ k. kind_of (box_value k) ≡ told.PropertyNames (fault_of self.entry)) }
+        ensures proper { IfOk result (λ k. is_proper (box_value k) ≡ error_is_proper self.entry) }
+    {
+        let error = Box::new(alloc, self)?;
+        Ok(Box::new(alloc, ValidationErrorKind::PropertyNames { error })?)
     }
 
     // The paths of the error, but for that of another value.

@@ -1,5 +1,5 @@
 //! Errors with values of their own.
-ghost use Rattle.std.specs.Prelude.{◌≡◌, IfOk};
+ghost use Rattle.std.specs.Prelude.{◌≡◌, IfOk, box_value};
 ghost use Rattle.schema_reports.specs.Contexts.{branches_of};
 ghost use Rattle.schema_reports.specs.Kinds.{kind_of, is_proper};
 ghost use Rattle.schema_reports.specs.Told.{fault_of, faults_of, branches_in, error_is_proper, are_proper, context_is_proper};
@@ -7,6 +7,7 @@ ghost use Rattle.schema_reports.specs.Told.{fault_of, faults_of, branches_in, er
 use crate::context::ErrorContext;
 use crate::error::ValidationError;
 use crate::kind::ValidationErrorKind as Kind;
+use crate::paths::Paths;
 use std::alloc::{AllocError, Global};
 
 impl ValidationError<'_> {
@@ -37,15 +38,24 @@ fn owned_error<'o>(
         evaluation_path,
         standing,
     } = error;
-    let kind = owned_kind(alloc, Box::into_inner(kind))?;
-    Ok(ValidationError {
-        kind: Box::new(alloc, kind)?,
-        instance: instance.into_owned()?,
-        instance_path,
-        schema_path,
-        evaluation_path,
+    let paths = Paths {
+        instance: instance_path,
+        schema: schema_path,
+        evaluation: evaluation_path,
         standing,
-    })
+    };
+    let instance = instance.into_owned()?;
+    let kind = owned_boxed(alloc, kind)?;
+    Ok(ValidationError::with(kind, instance, paths))
+}
+
+#[cycle(owned)]
+fn owned_boxed<'o>(alloc: Global, kind: Box<Kind<'_>>) -> Result<Box<Kind<'o>>, AllocError>
+    ensures told { IfOk result (λ k. kind_of (box_value k) ≡ kind_of (box_value kind.entry)) }
+    ensures proper { IfOk result (λ k. is_proper (box_value k) ≡ is_proper (box_value kind.entry)) }
+{
+    let kind = owned_kind(alloc, Box::into_inner(kind))?;
+    Ok(Box::new(alloc, kind)?)
 }
 
 #[cycle(owned)]

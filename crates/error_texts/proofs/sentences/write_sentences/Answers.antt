@@ -5,19 +5,9 @@ use Rattle.error_texts.specs.Sentences.{IsSentence}
 use Rattle.error_texts.proofs.Lines.{line_on}
 use Rattle.error_texts.proofs.sentences.write_sentences.Goals as goal
 
-pub loop-error-preserved-in_ok-write_sentence : goal.loop-error-preserved-in_ok-write_sentence
-loop-error-preserved-in_ok-write_sentence c =
-    let (line, is, longer) = c.in_ok-write_sentence.ensures in
-    line_on c.args.label.now _ _ _ _ line (string_bytes c.args.text.now) _ _ c.in-Some.ensures.steps is longer c.loop-error.invariant
-
-pub loop-error-preserved-in_ok-write_sentence-2 : goal.loop-error-preserved-in_ok-write_sentence-2
-loop-error-preserved-in_ok-write_sentence-2 c =
-    let (line, is, longer) = c.in_ok-write_sentence.ensures in
-    line_on c.args.label.now _ _ _ _ line (string_bytes c.args.text.now) _ _ c.in-Some.ensures.steps is longer c.loop-error.invariant
-
 pub loop-error-preserved : goal.loop-error-preserved
 loop-error-preserved c =
-    let (line, is, longer) = c.in_ok-write_sentence.ensures in
+    let (line, is, longer) = c.in_ok-write_owned.ensures in
     line_on c.args.label.now _ _ _ _ line (string_bytes c.args.text.now) _ _ c.in-Some.ensures.steps is longer c.loop-error.invariant
 
 pub returns : goal.returns

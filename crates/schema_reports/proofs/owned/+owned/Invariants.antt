@@ -6,6 +6,9 @@ use Rattle.schema_reports.proofs.owned.+owned.Given as goal
 abbrev pub decreases-owned_error : goal.decreases-owned_error
 decreases-owned_error l = 4 * goal.size-owned_error l
 
+abbrev pub decreases-owned_boxed : goal.decreases-owned_boxed
+decreases-owned_boxed l = 4 * goal.size-owned_boxed l + 1
+
 abbrev pub decreases-owned_kind : goal.decreases-owned_kind
 decreases-owned_kind l = 4 * goal.size-owned_kind l
 
