@@ -75,6 +75,23 @@ fn check_error_by(
     check_by(alloc, registry, root, matches, value, path)
 }
 
+// The same, and lets the error go.
+fn check_owned(
+    alloc: Global,
+    registry: &SchemaRegistry,
+    root: &str,
+    matches: Option<&ReadMatches>,
+    value: &Value,
+    error: ValidationError<'_>,
+) -> Result<CheckAnswer, AllocError>
+    ensures { IfOk result (λ a. (p : Patterns)
+        → AreReadIn p (root_on registry.now root.now) (view value.now) (option_copied matches.entry)
+        → IsSound p (root_on registry.now root.now)
+        → IsFaultChecked p (root_on registry.now root.now) (view value.now) (fault_of error.entry) a) }
+{
+    check_error_by(alloc, registry, root, matches, value, &error)
+}
+
 // What `check_fault` says of each of these faults, by matches that were read of the value.
 fn check_each(
     alloc: Global,
@@ -95,7 +112,7 @@ fn check_each(
 {
     let mut answers = Vec::new(alloc);
     for error in errors {
-        let answer = check_error_by(alloc, registry, root, matches, value, &error)?;
+        let answer = check_owned(alloc, registry, root, matches, value, error)?;
         answers.push(answer)?;
     }
     Ok(answers)
