@@ -1,3 +1,4 @@
+mod CopyLemmas
 pub mod Rising
 pub mod Related
 pub mod Linking

@@ -1,4 +1,4 @@
-use Rattle.compiled_keywords.proofs.CopyLemmas.{copied}
+use Rattle.keyword_compilers.proofs.CopyLemmas.{copied}
 use Rattle.std.proofs.lemmas.Result.{IfOk-weaker}
 use Rattle.keyword_compilers.proofs.asserting.values_of.Goals as goal
 
