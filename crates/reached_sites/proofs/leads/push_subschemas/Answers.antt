@@ -1,4 +1,5 @@
-use Rattle.std.proofs.Common.{◌≡◌, ◌∙◌, ◌+◌, [], ◌∷◌, List, map, drop, ap, sym, subst, arith}
+use Rattle.std.proofs.Common.{◌≡◌, ◌∙◌, ◌+◌, [], ◌∷◌, List, Option, None, Some, map, drop, option_copied, slice_get, refl, ap, sym, subst, arith}
+use Rattle.std.specs.Borrow.{Bor}
 use Rattle.std.proofs.lemmas.List.{drop_more, drop_all}
 use Rattle.serde_json.specs.View.{view}
 use Rattle.referencing.specs.Resolved.{documents_in}
@@ -9,6 +10,20 @@ use Rattle.schema_sites.specs.Seen.{documents_at}
 use Rattle.reached_sites.specs.Visits.{site_of, Adds}
 use Rattle.reached_sites.proofs.Matching.{adds-none, adds-one, adds-both}
 use Rattle.reached_sites.proofs.leads.push_subschemas.Goals as goal
+
+none-first : {A : Type 0} (xs : List A) (o : Option (Bor A)) → option_copied o ≡ slice_get xs 0 → ((x : Bor A) → o ≡ Some x → ⊥) → xs ≡ []
+none-first [] o e h = refl
+none-first (x ∷ xs) None e h = (let no : None ≡ Some x = e in cc)
+none-first (x ∷ xs) (Some y) e h = absurd (h y refl)
+
+pub returns-in_default : goal.returns-in_default
+returns-in_default c =
+    let outer = c.args.visit.now in
+    let own = documents_in outer.site.resolver in
+    let site = below (documents_at outer.site) (site_of outer) in
+    let vs = c.args.leads.now.items in
+    let nothing : c.args.found.now ≡ [] = none-first c.args.found.now c.first.result c.first.ensures.value c.in_default.not-Some in
+    subst (λ (xs : List Subschema). Adds own vs vs (map (place_of site) xs)) (sym nothing) (adds-none own vs)
 
 pub loop-subschema-preserved : goal.loop-subschema-preserved
 loop-subschema-preserved c = λ fin rest.
