@@ -32,7 +32,7 @@ fn written(rt: &impl Abort, alloc: Global, errors: &[ValidationError<'_>]) -> St
     text
 }
 
-fn listed<'i>(
+pub(crate) fn listed<'i>(
     rt: &impl Abort,
     alloc: Global,
     errors: ErrorIterator<'i>,

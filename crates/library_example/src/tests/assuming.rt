@@ -4,7 +4,7 @@ ghost use Rattle.std.specs.Prelude.{◌≡◌, true, None};
 ghost use Rattle.serde_json.specs.View.{view};
 ghost use Rattle.json_schema_validator.specs.Numbers.{only_whole};
 
-use crate::tests::answers::why;
+use crate::tests::answers::{listed, why};
 use crate::tests::cases::assert_cases;
 use crate::tests::given::{json, setting};
 use crate::tests::patterns::script_of;
@@ -43,8 +43,9 @@ fn assumed_by<M: PatternMatcher>(
     requires whole { only_whole (view value.now) ≡ true }
 {
     let mut text = String::new(alloc);
-    for error in validator.iter_errors(value).expect(rt, "memory") {
-        push_placed(rt, alloc, &mut text, &error);
+    let errors = listed(rt, alloc, validator.iter_errors(value).expect(rt, "memory"));
+    for error in errors.as_slice() {
+        push_placed(rt, alloc, &mut text, error);
     }
     let is_valid = validator.is_valid(value).expect(rt, "memory");
     assert!(rt; is_valid == text.is_empty(), "another verdict on {value}");

@@ -3,6 +3,7 @@ ghost use Rattle.std.specs.Prelude.{◌≡◌, true};
 ghost use Rattle.serde_json.specs.View.{view};
 ghost use Rattle.json_schema_validator.specs.Numbers.{only_whole};
 
+use crate::tests::answers::listed;
 use crate::tests::keywords::details::write_details;
 use json_schema_validator::{
     CheckAnswer, Documents, ErrorIterator, RegexMaker, SchemaRegistry, ValidationError,
@@ -105,9 +106,10 @@ fn told(
     requires whole { only_whole (view value.now) ≡ true }
 {
     let mut text = String::new(alloc);
-    for error in errors {
-        assert_accepted(rt, alloc, registry, value, &error);
-        write_error(rt, alloc, &mut text, &error, is_detailed);
+    let errors = listed(rt, alloc, errors);
+    for error in errors.as_slice() {
+        assert_accepted(rt, alloc, registry, value, error);
+        write_error(rt, alloc, &mut text, error, is_detailed);
     }
     text
 }
