@@ -1,6 +1,6 @@
 //! The walk that fills a graph.
 
-ghost use Rattle.std.specs.Prelude.{◌≡◌, ◌<◌, ◌+◌, List, [], IfOk, IfErr, OnOk, length};
+ghost use Rattle.std.specs.Prelude.{◌≡◌, ◌<◌, ◌+◌, List, [], IfOk, IfErr, OnOk, length, option_map, box_value};
 ghost use Rattle.schema_definitions.specs.Bearers.{Document};
 ghost use Rattle.schema_definitions.specs.Sites.{Site};
 ghost use Rattle.reached_sites.specs.Patterns.{IsFront};
@@ -51,6 +51,25 @@ fn stopped(cause: Option<BuildCause>, at_cause: AtCause) -> Result<(), BuildCaus
     }
 }
 
+// A cause in a box, which is let go by one call wherever a walk ends.
+fn boxed(alloc: Global, cause: Option<BuildCause>) -> Result<Option<Box<BuildCause>>, AllocError>
+    ensures { IfOk result (λ b. option_map box_value b ≡ cause) }
+{
+    match cause {
+        Some(cause) => Ok(Some(Box::new(alloc, cause)?)),
+        None => Ok(None),
+    }
+}
+
+fn unboxed(cause: Option<Box<BuildCause>>) -> Option<BuildCause>
+    ensures { result ≡ option_map box_value cause }
+{
+    match cause {
+        Some(cause) => Some(Box::into_inner(cause)),
+        None => None,
+    }
+}
+
 impl<'r, M: PatternMatcher> Walk<'r, M> {
     /// A walk that is to begin with some visits.
     pub(crate) fn new(alloc: Global, visits: Visits<'r>) -> Walk<'r, M>
@@ -80,6 +99,7 @@ impl<'r, M: PatternMatcher> Walk<'r, M> {
         let next = self.nodes.len();
         let visits = &self.visits;
         let (found, cause) = read(alloc, &visits.list[next], maker, &mut self.table)?;
+        let cause = boxed(alloc, cause)?;
         note(&mut self.wrong, next, cause.is_none())?;
         let numbers = link(alloc, &mut self.visits, &mut self.edges, next, found.visits)?;
         let keywords = if cause.is_none() {
@@ -89,7 +109,7 @@ impl<'r, M: PatternMatcher> Walk<'r, M> {
         };
         let visits = &self.visits;
         self.nodes.push(node_of(&visits.list[next], keywords)?)?;
-        Ok(cause)
+        Ok(unboxed(cause))
     }
 
     /// Fills the nodes of all that is reached, each schema once for each compile key with which it is reached. Where it goes on behind causes, a

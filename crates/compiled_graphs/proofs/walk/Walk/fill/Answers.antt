@@ -1,4 +1,4 @@
-use Rattle.std.proofs.Common.{◌≡◌, ◌∙◌, ◌<◌, ◌∷◌, Option, Some, slice_get, refl, sym, ap, subst, arith, is_none, length}
+use Rattle.std.proofs.Common.{◌≡◌, ◌∙◌, ◌<◌, ◌∷◌, Option, Some, None, option_map, box_value, Box, Global, slice_get, refl, sym, ap, subst, arith, is_none, length}
 use Rattle.std.proofs.lemmas.Option.{slice_get_read}
 use Rattle.std.specs.List.{AllZip}
 use Rattle.schema_patterns.specs.Tables.{texts_of_table}
@@ -6,6 +6,7 @@ use Rattle.reached_sites.specs.declared.cause.BuildCause.{BuildCause}
 use Rattle.reached_sites.specs.declared.visit.Visit.{Visit}
 use Rattle.graph_answers.specs.Linking.{IsLocatedAt}
 use Rattle.reached_sites.specs.Visits.{site_of}
+use Rattle.compiled_graphs.specs.Walked.{Fills}
 use Rattle.compiled_graphs.specs.Linked.{Links, StandsFor}
 use Rattle.compiled_graphs.specs.Filled.{Compiled, IsRank}
 use Rattle.compiled_graphs.proofs.Compiling.{zip-length}
@@ -14,6 +15,10 @@ use Rattle.compiled_graphs.proofs.Positions.{one-there, within}
 use Rattle.compiled_graphs.proofs.Walks.{told-none, Step, IsFitting, fits-compiled, fits-empty, step-walks, first-from, orders, nearest-first}
 use Rattle.compiled_graphs.proofs.walk.Walk.fill.Goals.{then-is_none+in_ok-keywords, else-is_none}
 use Rattle.compiled_graphs.proofs.walk.Walk.fill.Goals as goal
+
+none-boxed : (o : Option (Box BuildCause Global)) (p : Option BuildCause) → option_map box_value o ≡ p → is_none o ≡ is_none p
+none-boxed None p e = ap is_none e
+none-boxed (Some b) p e = ap is_none e
 
 pub compile-requires : goal.compile-requires
 compile-requires g c =
@@ -33,6 +38,8 @@ returns-clause-fills g c = λ own roots placed.
     let v = c.index.result.now in
     let found = c.in_ok-found.found in
     let cause = c.in_ok-found.cause in
+    let kept = c.in_ok-cause.cause in
+    let same-none = none-boxed kept cause c.in_ok-cause.ensures in
     let read = c.in_ok-found.ensures in
     let ns = c.in_ok-numbers.numbers.items in
     let node = c.in_ok-node_of.field-0 in
@@ -50,13 +57,13 @@ returns-clause-fills g c = λ own roots placed.
     let still = kept-at vs us linked.extends.added i v linked.extends.grown at in
     let same : v ≡ v2 = one-there (slice_get us i) v v2 still (slice_get_read us (length us) i v2 refl (within us i v still) c.index-2.ensures) in
     let noted : c.note.new.wrong.items ≡ noted_wrong (is_none cause) old.wrong.items (length old.nodes.items) =
-    c.in_ok-note.ensures ∙ ap (λ b. noted_wrong b old.wrong.items i) (told-none cause c.is_none.result c.is_none.ensures) ∙ ap (λ n. noted_wrong (is_none cause) old.wrong.items n) here in
+    c.in_ok-note.ensures ∙ ap (λ b. noted_wrong b old.wrong.items i) (told-none kept c.is_none.result c.is_none.ensures ∙ same-none) ∙ ap (λ n. noted_wrong (is_none cause) old.wrong.items n) here in
     let fitting : IsFitting (is_none cause) texts found.askings.items ns c.if-is_none.keywords.items = elim c.if-is_none.branch [
       | then-is_none+in_ok-keywords w ↦
-          fits-compiled (is_none cause) texts found.askings.items ns _ (sym (told-none cause c.is_none-2.result c.is_none-2.ensures) ∙ w.if-is_none.true)
+          fits-compiled (is_none cause) texts found.askings.items ns _ (sym (told-none kept c.is_none-2.result c.is_none-2.ensures ∙ same-none) ∙ w.if-is_none.true)
           (rw (sym w.deref.ensures.value, sym w.deref-then-is_none.ensures.value, w.keywords-is) w.in_ok-keywords.ensures)
       | else-is_none w ↦
-          fits-empty (is_none cause) texts found.askings.items ns _ (sym (told-none cause c.is_none-2.result c.is_none-2.ensures) ∙ w.if-is_none.false) (rw w.keywords-is w.new-keywords.ensures.items)
+          fits-empty (is_none cause) texts found.askings.items ns _ (sym (told-none kept c.is_none-2.result c.is_none-2.ensures ∙ same-none) ∙ w.if-is_none.false) (rw w.keywords-is w.new-keywords.ensures.items)
     ] in
     let step : Step finds p old (record { visits = c.link.new.visits; nodes = c.push.new.self; edges = c.link.new.edges; wrong = c.note.new.wrong; table = c.read.new.table }) v found cause ns node = record {
       at = subst (λ n. slice_get vs n ≡ Some v) here at;
@@ -80,10 +87,10 @@ returns-clause-fills g c = λ own roots placed.
       rank = subst (λ (x : Visit). IsRank x.point.place.path node.rank) (sym same) keeps.rank;
       pushed = c.in_ok-push.ensures.items;
     } in
-    record {
+    subst (λ (o : Option BuildCause). Fills finds p own roots old (record { visits = c.link.new.visits; nodes = c.push.new.self; edges = c.link.new.edges; wrong = c.note.new.wrong; table = c.read.new.table }) o) (sym (c.unboxed.ensures ∙ c.in_ok-cause.ensures)) (record {
       walks = λ w. step-walks finds p own roots placed old _ v found cause ns node step w;
       wrong = λ w. first-from finds p own roots placed old _ v found cause ns node step w;
       orders = λ w h. orders finds p own roots placed old _ v found cause ns node step w h;
       nearest = λ w h none. nearest-first finds p own roots placed old _ v found cause ns node step w h none;
       right = λ none. noted ∙ ap (λ (o : Option BuildCause). noted_wrong (is_none o) old.wrong.items (length old.nodes.items)) none;
-    }
+    })
