@@ -1,5 +1,5 @@
 -- How many steps lead to the visits of a walk.
-use Rattle.std.proofs.Common.{◌≡◌, ◌∙◌, ◌⊎◌, ◌<◌, ◌≤◌, ◌+◌, ℕ, zero, suc, List, [], ◌∷◌, ◌++◌, Bool, Option, Some, None, refl, sym, ap, subst, inl, inr, arith, length, slice_get}
+use Rattle.std.proofs.Common.{◌≡◌, ◌∙◌, ◌⊎◌, ◌<◌, ◌≤◌, ◌+◌, ℕ, zero, suc, List, [], ◌∷◌, ◌++◌, Bool, Some, refl, sym, ap, subst, inl, inr, arith, length, slice_get}
 use Rattle.std.proofs.lemmas.List.{length-append}
 use Rattle.schema_definitions.specs.Bearers.{Document}
 use Rattle.schema_definitions.specs.Sites.{Site}
@@ -8,8 +8,8 @@ use Rattle.marked_nodes.specs.declared.graph.Edge.{Edge}
 use Rattle.reached_sites.specs.Visits.{Met}
 use Rattle.reached_sites.specs.declared.visit.Visit.{Visit}
 use Rattle.reached_sites.proofs.Listing.{none-in, in-one}
-use Rattle.compiled_graphs.specs.Graphs.{IsVisited, led_from, wrong_at, IsEdge, IsLed, IsGraph}
-use Rattle.compiled_graphs.specs.Linked.{Extends, LeadsOn, Links}
+use Rattle.compiled_graphs.specs.Graphs.{IsVisited, IsLed, IsGraph}
+use Rattle.compiled_graphs.specs.Linked.{LeadsOn, Links}
 use Rattle.compiled_graphs.specs.Nearest.{ReachedIn, at_root, by_step, IsRightNearer, IsDeepAt, Begins, AreSteps}
 use Rattle.compiled_graphs.proofs.Growing.{kept-at}
 use Rattle.compiled_graphs.proofs.Positions.{in-place, front-place, kept-place, one-there, within}

@@ -1,5 +1,5 @@
-use Rattle.std.proofs.Common.{◌∙◌, ap₂, sym, subst}
-use Rattle.referencing.specs.Resolved.{base_of, documents_in, target_in}
+use Rattle.std.proofs.Common.{ap₂, subst}
+use Rattle.referencing.specs.Resolved.{target_in}
 use Rattle.schema_definitions.specs.Sites.{Site}
 use Rattle.reached_sites.specs.Roots.{root_behind}
 use Rattle.reached_sites.specs.Visits.{Met}
