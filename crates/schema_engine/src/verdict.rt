@@ -169,7 +169,11 @@ fn accepts_items<'q, 'i: 'q, K: Validate, T: Matching>(
     Ok(true)
 }
 
-/// The verdict by the answers to the questions from `start` on.
+/// The verdict by the answers to the questions from `start` on, each of which is asked once at most.
+///
+/// # Errors
+///
+/// Where memory was refused or a count of owners is full.
 #[cycle(verdict)]
 pub fn accepts_combined<'q, 'i: 'q, K: Validate, T: Matching>(
     here: &Here<'q, 'i, '_, K>,
@@ -298,7 +302,11 @@ fn accepts_conditional<'q, 'i: 'q, K: Validate, T: Matching>(
     accepts_each(here, answer, start + 1, matching, questions)
 }
 
-/// The answer to a question.
+/// The answer to a question: whether its node accepts the value at its place.
+///
+/// # Errors
+///
+/// Where memory was refused or a count of owners is full.
 #[cycle(verdict)]
 pub fn accepts_question<'q, 'i: 'q, K: Validate, T: Matching>(
     here: &Here<'q, 'i, '_, K>,
