@@ -9,5 +9,3 @@ pub mod TellLemmas
 pub mod PushLemmas
 pub mod WalkLemmas
 pub mod MatchLemmas
-pub mod LeadLemmas
-pub mod CheckLemmas

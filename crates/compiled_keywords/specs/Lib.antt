@@ -10,6 +10,4 @@ pub mod Rules
 pub mod Shapes
 pub mod Told
 pub mod Nodes
-pub mod Checks
-pub mod Tables
 pub mod Walked
