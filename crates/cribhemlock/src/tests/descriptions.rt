@@ -107,7 +107,7 @@ const DOCUMENTS: [Row; 7] = [
     ),
 ];
 
-const BUILDS: [Row; 19] = [
+const BUILDS: [Row; 22] = [
     (
         &["wrong.json", "--output", "text"],
         "1\n",
@@ -235,6 +235,33 @@ build refused: Schema refused by its meta-schema at '/type', '/properties/type/t
         &["anchor.json", "--output", "text"],
         "1\n",
         "2  build refused: Anchor 'a\nb' does not exist\n  in the file 'anchor.json' at '/$ref': The reference \"#a\\nb\" is refused: no schema there has the anchor 'a\nb'\n",
+    ),
+    (
+        &["refs.json", "--output", "text"],
+        "1\n",
+        r##"2  build refused: Anchor 'none' does not exist
+  in the file 'refs.json' at '/allOf/0/$ref': The reference "#none" is refused: no schema there has the anchor 'none'
+  in the file 'refs.json' at '/allOf/1/$ref': The reference "#a/b" is refused: 'a/b' is no anchor
+  in the file 'refs.json' at '/allOf/2/$ref': The reference "#/%ff" is refused: the pointer '/%ff' is no text decoded
+  in the file 'refs.json' at '/allOf/3/$ref': The reference "#/allOf/x" is refused: 'x' is no index of an array
+"##,
+    ),
+    (
+        &["hidden.json", "--output", "text"],
+        "1\n",
+        r#"2  warning: keyword "x" in the file 'hidden.json' at '/x' is unknown to draft 2020-12
+build refused: Resource 'u:a' is not present and retrieving it failed
+  in the file 'hidden.json' at '/x/$ref': The reference "u:a" is refused: the document 'u:a' is not present
+  the documents at hand are
+    'json-schema:///' in the file 'hidden.json'
+"#,
+    ),
+    (
+        &["dynamic.json", "--output", "json"],
+        "1\n",
+        r##"2  build refused: Anchor 'none' does not exist
+  in the file 'dynamic.json' at '/$dynamicRef': The reference "#none" is refused: no schema there has the anchor 'none'
+"##,
     ),
     (
         &["several.json", "--output", "text"],

@@ -202,11 +202,51 @@ empty.json: EOF while parsing at line 1 column 0
     ),
 ];
 
+// What each kind of fault says.
+const EACH_KIND: [Row; 1] = [(
+    &["kinds.json", "--draft", "7", "--output", "text"],
+    r#"{"additionalItems":[1,2],"additionalProperties":{"b":2},"anyOf":1,"const":2,"contains":[1],"enum":1,"exclusiveMaximum":5,"exclusiveMinimum":5,"false":1,"maxItems":[1,2],"maxLength":"ab","maxProperties":{"a":1},"maximum":6,"minItems":[],"minLength":"ab","minProperties":{},"minimum":4,"multipleOf":3,"not":1,"oneOf":1,"oneOfTwice":5,"pattern":"a","propertyNames":{"ab":1},"required":{},"type":1,"uniqueItems":[1,1]}
+"#,
+    r#"1 1:/additionalItems: [1,2] has an item that is not allowed (json-schema:///#/properties/additionalItems/additionalItems)
+1:/additionalProperties: {"b":2} has members that are not allowed: "b" (json-schema:///#/properties/additionalProperties/additionalProperties)
+1:/anyOf: 1 is to be accepted by a schema of anyOf, and is by 0 of 1 (json-schema:///#/properties/anyOf/anyOf)
+  anyOf/0: /anyOf: 1 is not of type null
+1:/const: 2 differs from the constant 1 (json-schema:///#/properties/const/const)
+1:/contains: [1] has too few or too many items that contains accepts (json-schema:///#/properties/contains/contains)
+1:/enum: 1 is none of the values ["a",null] (json-schema:///#/properties/enum/enum)
+1:/exclusiveMaximum: 5 is not below the exclusive maximum 5 (json-schema:///#/properties/exclusiveMaximum/exclusiveMaximum)
+1:/exclusiveMinimum: 5 is not above the exclusive minimum 5 (json-schema:///#/properties/exclusiveMinimum/exclusiveMinimum)
+1:/false: 1 is refused by the schema false (json-schema:///#/properties/false)
+1:/maxItems: [1,2] has more items than the maximum 1 (json-schema:///#/properties/maxItems/maxItems)
+1:/maxLength: "ab" has more characters than the maximum 1 (json-schema:///#/properties/maxLength/maxLength)
+1:/maxProperties: {"a":1} has more members than the maximum 0 (json-schema:///#/properties/maxProperties/maxProperties)
+1:/maximum: 6 is above the maximum 5 (json-schema:///#/properties/maximum/maximum)
+1:/minItems: [] has fewer items than the minimum 3 (json-schema:///#/properties/minItems/minItems)
+1:/minLength: "ab" has fewer characters than the minimum 3 (json-schema:///#/properties/minLength/minLength)
+1:/minProperties: {} has fewer members than the minimum 2 (json-schema:///#/properties/minProperties/minProperties)
+1:/minimum: 4 is below the minimum 5 (json-schema:///#/properties/minimum/minimum)
+1:/multipleOf: 3 is not a multiple of 2 (json-schema:///#/properties/multipleOf/multipleOf)
+1:/not: 1 is accepted by the schema of not: {"type":"integer"} (json-schema:///#/properties/not/not)
+1:/oneOf: 1 is to be accepted by exactly one schema of oneOf, and is by 0 of 1 (json-schema:///#/properties/oneOf/oneOf)
+  oneOf/0: /oneOf: 1 is not of type null
+1:/oneOfTwice: 5 is to be accepted by exactly one schema of oneOf, and is by 2 of 2 (json-schema:///#/properties/oneOfTwice/oneOf)
+  oneOf/0: it is accepted
+  oneOf/1: it is accepted
+1:/pattern: "a" does not match the pattern "^b" (json-schema:///#/properties/pattern/pattern)
+1:/propertyNames: {"ab":1} has a name that is refused: "ab" has more characters than the maximum 1 (json-schema:///#/properties/propertyNames/propertyNames/maxLength)
+1:/required: {} has no member of the required name "a" (json-schema:///#/properties/required/required)
+1:/type: 1 is not of type string (json-schema:///#/properties/type/type)
+1:/uniqueItems: [1,1] has items that are equal (json-schema:///#/properties/uniqueItems/uniqueItems)
+ lines: 1, valid: 0, not valid: 1, not read: 0
+"#,
+)];
+
 #[test]
 fn sentences(rt: HostRuntime) {
     assert_outcomes(&rt, rt.alloc(), &SOUND, &SENTENCES);
     assert_outcomes(&rt, rt.alloc(), &SOUND, &SAID);
     assert_outcomes(&rt, rt.alloc(), &SOUND, &LINKED_SENTENCES);
+    assert_outcomes(&rt, rt.alloc(), &SOUND, &EACH_KIND);
 }
 
 const PAIRS: [Row; 1] = [(

@@ -49,10 +49,44 @@ const NESTED: &str =
 // A meta-schema with a name that is no keyword.
 const NOTED: &str = "[{\"$id\":\"http://a.test/m7\",\"nmae\":1}]";
 
+// A member for each kind of fault, and one that two schemas of `oneOf` accept.
+const KINDS: &str = r#"{"properties":{
+"additionalItems":{"items":[true],"additionalItems":false},
+"additionalProperties":{"properties":{"a":true},"additionalProperties":false},
+"anyOf":{"anyOf":[{"type":"null"}]},
+"const":{"const":1},
+"contains":{"contains":{"type":"null"}},
+"enum":{"enum":["a",null]},
+"exclusiveMaximum":{"exclusiveMaximum":5},
+"exclusiveMinimum":{"exclusiveMinimum":5},
+"false":false,
+"maxItems":{"maxItems":1},
+"maxLength":{"maxLength":1},
+"maxProperties":{"maxProperties":0},
+"maximum":{"maximum":5},
+"minItems":{"minItems":3},
+"minLength":{"minLength":3},
+"minProperties":{"minProperties":2},
+"minimum":{"minimum":5},
+"multipleOf":{"multipleOf":2},
+"not":{"not":{"type":"integer"}},
+"oneOf":{"oneOf":[{"type":"null"}]},
+"oneOfTwice":{"oneOf":[{"minimum":1},{"maximum":9}]},
+"pattern":{"pattern":"^b"},
+"propertyNames":{"propertyNames":{"maxLength":1}},
+"required":{"required":["a"]},
+"type":{"type":"string"},
+"uniqueItems":{"uniqueItems":true}
+}}"#;
+
+// References that lead nowhere, each for another reason.
+const REFERENCES: &str =
+    r##"{"allOf":[{"$ref":"#none"},{"$ref":"#a/b"},{"$ref":"#/%ff"},{"$ref":"#/allOf/x"}]}"##;
+
 // Two references to documents that are not there.
 const LOST: &str = "{\"allOf\":[{\"$ref\":\"u:a\"},{\"$ref\":\"u:b#/x\"}]}";
 
-const FILES: [(&str, &str); 42] = [
+const FILES: [(&str, &str); 46] = [
     ("root.json", ROOT),
     ("leaf.json", LEAF),
     ("plain.json", "{\"type\":\"string\"}"),
@@ -115,6 +149,10 @@ const FILES: [(&str, &str); 42] = [
     ),
     ("lines.json", "[\n  12,\n  1,2.5\n]\n"),
     ("anchor.json", "{\"$ref\":\"#a\\nb\"}"),
+    ("kinds.json", KINDS),
+    ("refs.json", REFERENCES),
+    ("hidden.json", "{\"$ref\":\"#/x\",\"x\":{\"$ref\":\"u:a\"}}"),
+    ("dynamic.json", "{\"$dynamicRef\":\"#none\"}"),
     (
         "old.json",
         "{\"items\":[{\"$anchors\":1}],\"additionalItems\":false}",
