@@ -22,8 +22,9 @@ use std::alloc::{AllocError, Global};
 impl BuildError {
     /// Why there is no validator, as a sentence with no full stop. It says what was found, the pattern, or the reference and what was
     /// looked up; patterns and references are JSON strings. Where the cause stands at a schema, a second line with two spaces before it
-    /// has its place: the document's URI, `#` and a pointer. What a meta-schema finds wrong is said by the `description` of that error,
-    /// with the lines that it has. There is no line end behind the last line.
+    /// has its place: the document's URI, `#` and a pointer. Of documents that are refused together, and of a root that leads nowhere, it has
+    /// none: `absent_in` and `misnamed_in` of the options tell the places in documents. What a meta-schema finds wrong is said by the
+    /// `description` of that error, with the lines that it has. There is no line end behind the last line.
     ///
     /// The error comes where memory is out.
     pub fn description(&self, alloc: Global) -> Result<String, AllocError>
