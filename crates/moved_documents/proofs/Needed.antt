@@ -16,7 +16,7 @@ use Rattle.schema_definitions.specs.DocumentCauses.{document_causes}
 use Rattle.moved_documents.specs.Forms.{root_alone, moved_alone, added, inside}
 use Rattle.added_documents.specs.Added.{EachNamedBy, NamesDraft}
 use Rattle.moved_documents.specs.Premises.{BornOnce, CanMove}
-use Rattle.moved_documents.specs.Needed.{shifting, shifting_whole, shared, OnceBesideIsNeeded}
+use Rattle.moved_documents.specs.Needed.{shifting, shifting_whole, shared, BothMayBear}
 use Rattle.moved_documents.proofs.Computed.{leaf_fresh, leaf_normal}
 use Rattle.moved_documents.proofs.Clashes.{born_once}
 
@@ -56,8 +56,8 @@ root_drafts : EachNamedBy NamesDraft (root_alone shifting)
 unfolding digits serde_json_on_literals lib.Utf8.encode is_utf8 chars
 root_drafts = ((refl, (tt, (tt, ((tt, (tt, tt)), ((tt, ((tt, ((tt, ((tt, ((tt, ((tt, (tt, tt)), tt)), tt)), tt)), tt)), tt)), tt))))), tt)
 
-pub once_beside_is_needed : OnceBesideIsNeeded
-once_beside_is_needed = record {
+pub both_may_bear : BothMayBear
+both_may_bear = record {
   can = shifting_can;
   accepted = root_accepted;
   drafts = root_drafts;

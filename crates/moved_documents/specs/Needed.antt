@@ -41,7 +41,8 @@ shifting_whole = value (codes "{\"$id\":\"http://a.test/root.json\",\"$schema\":
 abbrev pub shared : List ℕ
 shared = codes "http://a.test/v"
 
-pub record OnceBesideIsNeeded : Type 0 where
+-- the one document can be moved into the other, and by what the two tell both bear `shared`
+pub record BothMayBear : Type 0 where
   pub can : CanMove shifting Draft202012 shifting_whole
   pub accepted : document_causes (root_alone shifting) ≡ []
   pub drafts : EachNamedBy NamesDraft (root_alone shifting)

@@ -3,7 +3,7 @@
 ghost use Rattle.moved_documents.specs.Example.{TextsCanMove};
 ghost use Rattle.moved_documents.specs.Laws.{InsideIsAdded, OnceBeside, OnceIsAlways};
 ghost use Rattle.moved_documents.specs.Laws.{RetrievedIsAdded, RootStandsAlone, WantedIsAdded};
-ghost use Rattle.moved_documents.specs.Needed.{LeavesOutIsNeeded, OnceBesideIsNeeded};
+ghost use Rattle.moved_documents.specs.Needed.{BothMayBear, LeavesOutIsNeeded};
 
 /// Where the moved document alone is answered, what is retrieved for the root is nothing or that document, once: then the documents are those of
 /// the form in which it is added.
@@ -41,10 +41,10 @@ pub fn once_beside()
     ensures { OnceBeside }
 {}
 
-/// What that premise of `root_stands_alone` is for, where something is wrong with the documents of the form inside: a pair of which one can be
-/// moved into the other, and yet both bear one URI by what the two tell of meta-schemas.
-pub fn once_beside_is_needed()
-    ensures { OnceBesideIsNeeded }
+/// That one document can be moved into the other does not keep the two apart by itself: a pair of which it can, with nothing wrong with the root
+/// alone, and yet both bear one URI by what the two tell of meta-schemas.
+pub fn both_may_bear()
+    ensures { BothMayBear }
 {}
 
 /// What the premise is for that the root by itself wants a document or leaves the moved one out: two pairs of which one can be moved into the
