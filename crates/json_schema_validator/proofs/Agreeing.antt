@@ -38,7 +38,7 @@ use Rattle.schema_registries.specs.declared.registry.SharedRegistry.{SharedRegis
 use Rattle.schema_registries.specs.declared.registry.SchemaRegistry.{SchemaRegistry}
 use Rattle.moved_documents.specs.Forms.{root_alone, moved_alone, added, by_map, inside, joined}
 use Rattle.moved_documents.specs.Premises.{BornOnce, CanMove}
-use Rattle.moved_documents.proofs.Apart.{uris_apart, bear_apart, added_is_joined}
+use Rattle.moved_documents.proofs.Apart.{uris_apart, bear_apart, bear_apart_beside, added_is_joined}
 use Rattle.moved_documents.proofs.Settled.{stands_alone as left_alone}
 use Rattle.moved_documents.proofs.Told.{once_beside}
 use Rattle.moved_documents.proofs.Retrieved.{wanted_is_added, retrieved_is_added}
@@ -308,9 +308,10 @@ module _ {P : Type 0} (may_answer : MapRetriever → List ℕ → Data → Type 
         → IsSaid p (root_beside m) d (string_bytes text)
     said_moved draft whole can once out = said_out out (bear_apart (pair_of m) draft whole can once)
 
-    said_apart : rises (view m.root.now) ≡ true → ShareNone m → IsLeftOut p m → IsSaid p (root_beside m) d (string_bytes text)
-    said_apart rise (inl apart) out = said_out out (λ told. apart)
-    said_apart rise (inr can) out = said_moved can.0 can.1 (can.2 rise) can.3 out
+    said_apart : rises (view m.root.now) ≡ true → AreApart m → ShareNone m → IsLeftOut p m → IsSaid p (root_beside m) d (string_bytes text)
+    said_apart rise two (inl apart) out = said_out out (λ told. apart)
+    said_apart rise two (inr (inl once)) out = said_out out (bear_apart_beside (pair_of m) two once)
+    said_apart rise two (inr (inr can)) out = said_moved can.0 can.1 (can.2 rise) can.3 out
 
 -- ---- one text
 
@@ -337,11 +338,11 @@ module _ {P R : Type 0} (may_answer : R → List ℕ → Data → Type 0) (may_r
       said_beside may_answer may_refuse nothing maker p m d apart text (subst (λ (a : Result (String Global) BuildError). IsAddedBy p may_answer may_refuse maker m d a) is h) in
       let got : (text : String Global) → r.retrieved ≡ Ok text → IsRetrievedBy p map_answers map_refuses maker m d (Ok text) =
       λ text is. subst (λ (a : Result (String Global) BuildError). IsRetrievedBy p map_answers map_refuses maker m d a) is k in
-      let asked : IsWanting m ⊎ (ShareNone m × IsLeftOut p m) → (text : String Global) → r.retrieved ≡ Ok text → IsSaid p (root_beside m) d (string_bytes text) =
-      λ settled text is.
+      let asked : AreApart m → IsWanting m ⊎ (ShareNone m × IsLeftOut p m) → (text : String Global) → r.retrieved ≡ Ok text → IsSaid p (root_beside m) d (string_bytes text) =
+      λ apart settled text is.
       elim settled [
         | inl wanting ↦ said_wanted map_answers map_refuses answers maker p m d text (got text is) wanting
-        | inr a ↦ said_apart map_answers map_refuses answers maker p m d text (got text is) rise a.0 a.1
+        | inr a ↦ said_apart map_answers map_refuses answers maker p m d text (got text is) rise apart a.0 a.1
       ] in
       let moving : (may : MayMove p m d) → document_causes (inside (pair_of m) may.whole) ≡ [] → IsWanting m ⊎ IsLeftOut p m → (text : String Global)
       → r.retrieved ≡ Ok text → IsSaid p (root_beside m) d (string_bytes text) =
@@ -361,7 +362,7 @@ module _ {P R : Type 0} (may_answer : R → List ℕ → Data → Type 0) (may_r
             are_one r.added r.inside
             (λ t u a b. moved_text_is p m d rise may (string_bytes t) (string_bytes u) (beside (uris_apart (pair_of m) may.draft may.whole (may.can rise)) t a) (within may u b));
         retrieved = λ apart settled matches decided.
-            are_one r.added r.retrieved (λ t u a b. said_once p (root_beside m) d matches decided (string_bytes t) (string_bytes u) (beside apart t a) (asked settled u b));
+            are_one r.added r.retrieved (λ t u a b. said_once p (root_beside m) d matches decided (string_bytes t) (string_bytes u) (beside apart t a) (asked apart settled u b));
         moved = λ settled may.
             are_one r.retrieved r.inside
             (λ t u a b.

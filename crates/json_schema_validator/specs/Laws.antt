@@ -76,11 +76,12 @@ BearApart m = (uri : List ℕ) → is_some (bearer (root_alone (pair_of m)) uri)
 abbrev pub CanMoveAsKept : Moving → Draft → Data → Type 0
 CanMoveAsKept m draft whole = rises (view m.root.now) ≡ true → CanMove (pair_of m) draft whole
 
--- or the one can be moved into the other, where by what the two tell of meta-schemas nothing is borne twice either: then none is
+-- or by what the two tell of meta-schemas nothing is borne twice: with the other added, or inside, where the one can be moved into the other; then none is
 abbrev pub ShareNone : Moving → Type 0
 ShareNone m =
     BearApart m
-    ⊎ ((draft : Draft) × (whole : Data) × CanMoveAsKept m draft whole × BornOnce (meta (added (pair_of m))) (inside (pair_of m) whole))
+    ⊎ (BornOnce (meta (added (pair_of m))) (added (pair_of m))
+    ⊎ ((draft : Draft) × (whole : Data) × CanMoveAsKept m draft whole × BornOnce (meta (added (pair_of m))) (inside (pair_of m) whole)))
 
 -- the root by itself wants a document
 abbrev pub IsWanting : Moving → Type 0

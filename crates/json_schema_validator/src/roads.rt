@@ -127,8 +127,8 @@ fn inside<P: PatternMaker + Drop, R: Retrieve + Drop>(
 /// The instance's numbers are whole numbers of 64 bits, as `has_only_whole` tells. Three validators are built, by the options that stand
 /// until it is said otherwise, and each document is copied for each form that it is in.
 ///
-/// Where the moved document can be moved, the matches that the instance asks for finish and no references come back, the texts are one: with it
-/// added and inside, and retrieved where the root by itself wants a document, or leaves the moved one out.
+/// Where the moved document can be moved, nothing is borne twice in any form, the matches that the instance asks for finish and no references come
+/// back, the texts are one: with it added and inside, and retrieved where the root by itself wants a document, or leaves the moved one out.
 ///
 /// # Errors
 ///

@@ -8,8 +8,8 @@ use Rattle.json_values.specs.Pointers.{value_at}
 use Rattle.schema_drafts.specs.declared.draft.Draft.{Draft}
 use Rattle.schema_meaning.specs.Members.{In}
 use Rattle.schema_definitions.specs.Places.{Dialect, SchemaPlace, places}
-use Rattle.schema_definitions.specs.Bearers.{Standing, by_default, standings, bears, last_standing, bearer, meta}
-use Rattle.document_laws.proofs.Listed.{in_either, of_in}
+use Rattle.schema_definitions.specs.Bearers.{Standing, by_default, uri_in, standing_in, standings, bears, last_standing, bearer, meta}
+use Rattle.document_laws.proofs.Listed.{in_first, in_second, in_either, of_in}
 use Rattle.document_laws.proofs.Levels.{root_among}
 use Rattle.document_laws.proofs.TargetPlaces.{PlaceInside, places_inside}
 use Rattle.added_documents.specs.Added.{Joined, neither, one_kept, one_added, EachNamedBy, IsToldAlike, IsFree, LeftAlone}
@@ -112,22 +112,64 @@ module _ (p : Pair) (draft : Draft) (whole : Data) (can : CanMove p draft whole)
           (subst (λ (q : SchemaPlace). In q moved_places) moved (root_among there p.moved_uri (by_default p.layer) p.moved))
           (first_or _ _ is) (first_or _ _ ((bytes_eq-Decides p.moved_uri p.moved_uri).1 refl)))
 
+-- ---- by what the two tell
+
+-- no URI is borne by both
+abbrev NoneBorneByBoth : Pair → Type 0
+NoneBorneByBoth p =
+    (uri : List ℕ) (s t : Standing) → last_standing (bears uri) (meta (added p)) (root_alone p) ≡ Some s
+    → last_standing (bears uri) (meta (added p)) (moved_alone p) ≡ Some t → ⊥
+
+-- so what the root bears by itself the other does not bear
+abbrev pub BearsFree : Pair → Type 0
+BearsFree p =
+    EachNamedBy (IsToldAlike (meta (root_alone p)) (meta (added p))) (root_alone p) → (uri : List ℕ)
+    → is_some (bearer (root_alone p) uri) ≡ true → IsFree (moved_alone p) (added p) uri
+
+bears_free : (p : Pair) → NoneBorneByBoth p → BearsFree p
+bears_free p none alike uri borne = by (bearer (root_alone p) uri) (last_standing (bears uri) (meta (added p)) (moved_alone p)) refl refl borne
+  where
+    by : (o q : Option Standing) → bearer (root_alone p) uri ≡ o → last_standing (bears uri) (meta (added p)) (moved_alone p) ≡ q → is_some o ≡ true → IsFree (moved_alone p) (added p) uri
+    by o None e f some = f
+    by None (Some t) e f some = absurd (cc)
+    by (Some s) (Some t) e f some =
+        let here : last_standing (bears uri) (meta (added p)) (root_alone p) ≡ Some s =
+        same_last (meta (root_alone p)) (meta (added p)) (bears uri) (root_alone p) alike ∙ e in
+        absurd (none uri s t here f)
+
 module _ (p : Pair) (draft : Draft) (whole : Data) (can : CanMove p draft whole) where
   pub uris_apart : bytes_eq p.root_uri p.moved_uri ≡ false
   uris_apart = own_apart p draft whole can (meta (inside p whole)) can.once
 
-  pub bear_apart : BornOnce (meta (added p)) (inside p whole)
-      → EachNamedBy (IsToldAlike (meta (root_alone p)) (meta (added p))) (root_alone p) → (uri : List ℕ)
-      → is_some (bearer (root_alone p) uri) ≡ true → IsFree (moved_alone p) (added p) uri
-  bear_apart once alike uri borne = by (bearer (root_alone p) uri) (last_standing (bears uri) (meta (added p)) (moved_alone p)) refl refl borne
-    where
-      by : (o q : Option Standing) → bearer (root_alone p) uri ≡ o → last_standing (bears uri) (meta (added p)) (moved_alone p) ≡ q → is_some o ≡ true → IsFree (moved_alone p) (added p) uri
-      by o None e f some = f
-      by None (Some t) e f some = absurd (cc)
-      by (Some s) (Some t) e f some =
-          let here : last_standing (bears uri) (meta (added p)) (root_alone p) ≡ Some s =
-          same_last (meta (root_alone p)) (meta (added p)) (bears uri) (root_alone p) alike ∙ e in
-          absurd (both_bear p draft whole can (meta (added p)) once uri s t here f)
+  pub bear_apart : BornOnce (meta (added p)) (inside p whole) → BearsFree p
+  bear_apart once = bears_free p (both_bear p draft whole can (meta (added p)) once)
+
+-- ---- where nothing is borne twice with the other added
+
+module _ (p : Pair) (apart : bytes_eq p.root_uri p.moved_uri ≡ false) (once : BornOnce (meta (added p)) (added p)) where
+  root_beside : (s : Standing) → In s (standings (meta (added p)) (root_alone p)) → In s (standings (meta (added p)) (added p))
+  unfolding standings
+  root_beside s i = elim (in_either s _ [] i) [ inl j ↦ in_first s _ _ j | inr j ↦ elim j [ ] ]
+
+  moved_beside : (s : Standing) → In s (standings (meta (added p)) (moved_alone p)) → In s (standings (meta (added p)) (added p))
+  unfolding standings
+  moved_beside s i = in_second s (standing_in (meta (added p)) (document_at p.layer p.root_uri p.root)) _ i
+
+  both_beside : NoneBorneByBoth p
+  unfolding standings
+  both_beside uri s t e f =
+      let told : List ℕ → Option Dialect = meta (added p) in
+      let last = found_last (bears uri) (standings told (root_alone p)) s e in
+      let other = found_last (bears uri) (standings told (moved_alone p)) t f in
+      let x = place_of (p.layer.number ∷ p.root_uri) (places told p.root_uri (by_default p.layer) p.root) s last.among in
+      let z = place_of (p.layer.number ∷ p.moved_uri) (places told p.moved_uri (by_default p.layer) p.moved) t other.among in
+      let one : s ≡ t = once.uris uri s t (root_beside s last.among) (moved_beside t other.among) last.passes other.passes in
+      let same : p.root_uri ≡ p.moved_uri = ap (λ (r : Standing). uri_in r.document) (sym x.is ∙ one ∙ z.is) in
+      let no : true ≡ false = sym ((bytes_eq-Decides p.root_uri p.moved_uri).1 same) ∙ apart in
+      absurd (cc)
+
+  pub bear_apart_beside : BearsFree p
+  bear_apart_beside = bears_free p both_beside
 
 pub added_is_joined : (p : Pair) → Joined (root_alone p) (moved_alone p) (added p)
 added_is_joined p = one_kept (document_at p.layer p.root_uri p.root) (one_added (document_at p.layer p.moved_uri p.moved) neither)
