@@ -22,13 +22,14 @@ use Rattle.reading_laws.proofs.Reached.{shapes_led}
 use Rattle.reading_laws.proofs.Elements.{each_laid_flat}
 use Rattle.moved_documents.specs.Forms.{Pair, added, inside}
 use Rattle.moved_documents.specs.Premises.{CanMove}
-use Rattle.moved_documents.proofs.Near.{Near, unmoved}
+use Rattle.moved_documents.specs.Linked.{Near, unmoved, SamePlace, TargetAlike, SiteAlike, Correspond}
+use Rattle.moved_documents.proofs.Twins.{Paths}
 use Rattle.moved_documents.proofs.Walks.{PlacedAlike, entered_alike}
 use Rattle.moved_documents.proofs.Told.{told, tell}
-use Rattle.moved_documents.proofs.Lookups.{TargetAlike, static_led, dynamic_led, recursive_led}
+use Rattle.moved_documents.proofs.Lookups.{next_place, further_place, static_led, dynamic_led, recursive_led}
 use Rattle.moved_documents.proofs.Rows.{elsewhere, LeadAlike}
 use Rattle.moved_documents.proofs.NearRows.{NoneWrong, near_alike}
-use Rattle.moved_documents.proofs.Joined.{Both, all_joined}
+use Rattle.moved_documents.proofs.Joined.{all_joined}
 
 -- ---- where nothing that is reached is wrong
 
@@ -54,15 +55,6 @@ module _ (docs : Documents) (makes : List ℕ → Bool) (root : Site) (right : (
       each_laid_flat (λ w. AllByRecursion (Holds (Reached docs makes root) (Reached docs makes root)) w.shapes) (Holds (Reached docs makes root) (Reached docs makes root)) (λ w. w.shapes)
       (λ w h. h) (rows_at docs makes s) (shapes_led docs makes s (Reached docs makes root) (λ row t i j. by_keyword row t r i j))
 
--- ---- sites that correspond
-
-pub record SiteAlike (fresh : List ℕ) (moved : Data) (s t : Site) : Type 0 where
-  pub near : Near fresh moved s.contents t.contents
-  pub base : s.base ≡ t.base
-  pub scope : s.scope ≡ t.scope
-  pub dialect : s.dialect ≡ t.dialect
-  pub schema_path : s.schema_path ≡ t.schema_path
-
 module _ (p : Pair) (draft : Draft) (whole : Data) (can : CanMove p draft whole) (accepted : document_causes (inside p whole) ≡ []) (makes : List ℕ → Bool) where
   abbrev old : Documents
   old = added p
@@ -71,15 +63,19 @@ module _ (p : Pair) (draft : Draft) (whole : Data) (can : CanMove p draft whole)
   new = inside p whole
 
   abbrev Like : Site → Site → Type 0
-  Like s t = SiteAlike p.fresh p.moved s t
+  Like s t = SiteAlike p s t
 
-  module _ (s : Site) (document : List ℕ) (path : List Part) (contents : Data) where
+  module _ (s : Site) (document : List ℕ) (path : List Part) (contents : Data) (place : SamePlace p s.document s.path document path) where
+    abbrev spelled : Paths
+    spelled = record { along = λ path path'. SamePlace p s.document path document path'; next = λ part path path' h. next_place part h }
+
     abbrev second : Site
     second = elsewhere old new makes s document path contents
 
-    within_like : (parts : List Part) (x y : SchemaPlace) → PlacedAlike p.fresh p.moved can.fresh (told p draft whole can) x y → Like (within s parts x) (within second parts y)
+    within_like : (parts : List Part) (x y : SchemaPlace) → PlacedAlike p.fresh p.moved can.fresh (told p draft whole can) spelled x y → Like (within s parts x) (within second parts y)
     within_like parts x y a = record {
-      near = a.contents;
+      place = a.along;
+      contents = a.contents;
       base = a.base;
       scope = ap (λ (b : List ℕ). entered_scope b s.base s.scope) a.base;
       dialect = a.dialect;
@@ -90,11 +86,12 @@ module _ (p : Pair) (draft : Draft) (whole : Data) (can : CanMove p draft whole)
     below_like parts d =
         subst (λ (x : SchemaPlace). Like (within s parts x) (below new second parts d)) (sym ((tell p draft whole can accepted).entry s.base s.dialect (parts ++ s.path) d))
         (within_like parts (entered (meta new) s.base s.dialect (parts ++ s.path) d) (entered (meta new) s.base s.dialect (parts ++ path) d)
-        (entered_alike p.fresh p.moved can.fresh (told p draft whole can) s.base s.dialect (parts ++ s.path) (parts ++ path) d d unmoved))
+        (entered_alike p.fresh p.moved can.fresh (told p draft whole can) spelled s.base s.dialect (parts ++ s.path) (parts ++ path) (further_place parts place) d d unmoved))
 
-    target_like : (text : List ℕ) (x y : Target) → TargetAlike p.fresh p.moved x y → Like (target_site s text x) (target_site second text y)
+    target_like : (text : List ℕ) (x y : Target) → TargetAlike p x y → Like (target_site s text x) (target_site second text y)
     target_like text x y a = record {
-      near = a.contents;
+      place = a.place;
+      contents = a.contents;
       base = a.base;
       scope = ap (λ (b : List ℕ). entered_scope b s.base s.scope) a.base;
       dialect = a.dialect;
@@ -122,12 +119,12 @@ module _ (p : Pair) (draft : Draft) (whole : Data) (can : CanMove p draft whole)
   keywords_alike s t a h g =
       let same = same_site s t a in
       subst (λ (x : Site). AllZip (RelatedShape Like) (keywords_at old makes s) (keywords_at new makes x)) same
-      (keywords_like s t.document t.path t.contents a.near h (subst (λ (x : Site). NoneWrong (rows_at new makes x)) (sym same) g))
+      (keywords_like s t.document t.path t.contents a.place a.contents h (subst (λ (x : Site). NoneWrong (rows_at new makes x)) (sym same) g))
 
   module _ (root other : Target) (right : (cause : BuildCause) → IsCauseOf old makes (root_site root) cause → ⊥)
       (right_too : (cause : BuildCause) → IsCauseOf new makes (root_site other) cause → ⊥) where
-    abbrev pub Reach : Site → Site → Type 0
-    Reach s t = Both Like (Reached old makes (root_site root)) (Reached new makes (root_site other)) s t
+    abbrev Reach : Site → Site → Type 0
+    Reach s t = Correspond p whole makes root other s t
 
     reached_alike : (s t : Site) → Reach s t → AllZip (RelatedShape Reach) (keywords_at old makes s) (keywords_at new makes t)
     reached_alike s t a =

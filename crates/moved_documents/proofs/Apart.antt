@@ -59,7 +59,7 @@ module _ (p : Pair) (draft : Draft) (whole : Data) (can : CanMove p draft whole)
 
   under : (x y : SchemaPlace) → OfMoved p draft whole can there x y → IsUnder at y.path
   under _ _ (moved_root h) = record { parts = []; is = h.path }
-  under _ _ (moved_below b) = b.paths
+  under _ _ (moved_below {x = x} b) = record { parts = x.path; is = b.paths }
 
   never_under : (x : SchemaPlace) → In x root_places → IsUnder at x.path → ⊥
   never_under x i u =

@@ -4,7 +4,8 @@ use Rattle.std.proofs.lemmas.Slice.Eq.{bytes_eq-Decides}
 use Rattle.serde_json.specs.Data.{Data, object, Members}
 use Rattle.schema_definitions.specs.Bearers.{schemas_named, schemas_named_among}
 use Rattle.moved_documents.specs.Premises.{IsFresh}
-use Rattle.moved_documents.proofs.Near.{Changed, set_new, set_again, further, Extended, made, grown, looked_apart}
+use Rattle.moved_documents.specs.Linked.{Changed, set_new, set_again, further, Extended, made, grown}
+use Rattle.moved_documents.proofs.Near.{looked_apart}
 
 abbrev named_in : Option Data → ℕ
 named_in None = 0

@@ -8,7 +8,7 @@ use Rattle.schema_meaning.specs.Members.{In, first, later}
 use Rattle.schema_definitions.specs.Places.{Dialect, SchemaPlace, is_schema, entered, if_schema, each_member, held, children_of}
 use Rattle.schema_definitions.specs.Bearers.{is_root}
 use Rattle.document_laws.proofs.Listed.{in_first, in_second, in_either}
-use Rattle.moved_documents.proofs.Near.{Changed, set_new, set_again, further, Extended, made, grown}
+use Rattle.moved_documents.specs.Linked.{Changed, set_new, set_again, further, Extended, made, grown}
 use Rattle.moved_documents.proofs.Twins.{Twin, Below, same_paths, in_zip, zip_in, another, members_below, held_below, all_below}
 
 -- where the moved document stands: `m` is its root by itself

@@ -1,5 +1,5 @@
 -- A root that builds in both forms answers alike.
-use Rattle.std.proofs.Common.{◌≡◌, ◌∙◌, ◌+◌, ◌≤◌, ℕ, List, [], ◌∷◌, Bool, Some, Ok, refl, sym, ap, arith}
+use Rattle.std.proofs.Common.{◌≡◌, ◌∙◌, ◌+◌, ◌≤◌, ℕ, List, Bool, Some, Ok, sym, ap, arith}
 use Rattle.schema_meaning.specs.Places.{Spot, whole as whole_value}
 use Rattle.schema_meaning.specs.Readings.{Reading, Telling, bags, told as told_by}
 use Rattle.meaning_laws.proofs.Stays.{decided_stays}
@@ -7,7 +7,6 @@ use Rattle.schema_definitions.specs.Bearers.{Documents}
 use Rattle.schema_definitions.specs.Lines.{faults_text}
 use Rattle.schema_definitions.specs.Lookup.{Target, lookup}
 use Rattle.schema_definitions.specs.Sites.{root_site}
-use Rattle.schema_definitions.specs.BuildCauses.{at_root}
 use Rattle.schema_definitions.specs.Plain.{deepest, plain}
 use Rattle.document_laws.proofs.TargetsLooked.{lookups_lie}
 use Rattle.linked_meanings.proofs.RelatedAnswers.{related_alike}
@@ -15,9 +14,9 @@ use Rattle.linked_meanings.proofs.Certified.{related_told}
 use Rattle.reading_laws.proofs.Nested.{nested}
 use Rattle.moved_documents.specs.Forms.{added, inside}
 use Rattle.moved_documents.specs.Laws.{InsideIsAdded}
-use Rattle.moved_documents.proofs.Lookups.{TargetAlike, static_led}
+use Rattle.moved_documents.specs.Linked.{Correspond}
 use Rattle.moved_documents.proofs.Order.{one_text}
-use Rattle.moved_documents.proofs.Answered.{SiteAlike, Reach, are_related}
+use Rattle.moved_documents.proofs.Linked.{inside_is_linked}
 
 -- the root nests no deeper than the documents do
 root_shallow : (docs : Documents) (makes : List ℕ → Bool) (matches : List ℕ → List ℕ → Bool) (base reference : List ℕ) (root : Target)
@@ -36,22 +35,14 @@ pub inside_is_added : InsideIsAdded
 inside_is_added p draft whole can accepted makes base reference root other b c matches d =
     let r = plain (added p) makes matches in
     let u = plain (inside p whole) makes matches in
-    let alike : TargetAlike p.fresh p.moved root other = static_led p draft whole can accepted base reference root other b.found c.found in
-    let site : SiteAlike p.fresh p.moved (root_site root) (root_site other) = record {
-      near = alike.contents;
-      base = alike.base;
-      scope = ap (λ (x : List ℕ). x ∷ []) alike.base;
-      dialect = alike.dialect;
-      schema_path = refl;
-    } in
-    let start : Reach p draft whole can accepted makes root other b.right c.right (root_site root) (root_site other) = (site, at_root, at_root) in
-    let related = are_related p draft whole can accepted makes root other b.right c.right matches in
+    let linked = (inside_is_linked p draft whole can accepted).readings makes base reference root other b c in
+    let related = linked.sites matches in
     let told =
-    related_told (Reach p draft whole can accepted makes root other b.right c.right) r u related (root_site root) (root_site other) (whole_value d) start (nested (inside p whole) makes matches)
+    related_told (Correspond p whole makes root other) r u related (root_site root) (root_site other) (whole_value d) linked.roots (nested (inside p whole) makes matches)
     (root_shallow (inside p whole) makes matches base reference other c.found) in
     record {
-      verdicts = λ n. (related_alike (Reach p draft whole can accepted makes root other b.right c.right) r u related n (root_site root) (root_site other) (whole_value d) start).0;
-      faults = λ n. (related_alike (Reach p draft whole can accepted makes root other b.right c.right) r u related n (root_site root) (root_site other) (whole_value d) start).1;
+      verdicts = λ n. (related_alike (Correspond p whole makes root other) r u related n (root_site root) (root_site other) (whole_value d) linked.roots).0;
+      faults = λ n. (related_alike (Correspond p whole makes root other) r u related n (root_site root) (root_site other) (whole_value d) linked.roots).1;
       decided = record { verdict = told.0; faults = told.1 };
       texts = λ fs gs h g.
           let k = told.1 fs h in

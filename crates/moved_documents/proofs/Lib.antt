@@ -15,6 +15,7 @@ pub mod Rows
 pub mod NearRows
 pub mod Joined
 pub mod Answered
+pub mod Linked
 pub mod Order
 pub mod Once
 pub mod Law

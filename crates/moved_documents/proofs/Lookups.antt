@@ -5,6 +5,7 @@ use Rattle.std.specs.Str.{is_utf8}
 use Rattle.percent_encoding.specs.Percent.{percent_decode}
 use Rattle.serde_json.specs.Data.{Data}
 use Rattle.serde_json.specs.Find.{get, as_bool}
+use Rattle.json_values.specs.Parts.{Part}
 use Rattle.uri_grammar.specs.Texts.{cut_at, has, pieces}
 use Rattle.schema_drafts.specs.declared.draft.Draft.{Draft}
 use Rattle.schema_definitions.specs.Words.{or, or_else, last_that, has_text, result_map, ok_or, and_then}
@@ -12,25 +13,28 @@ use Rattle.schema_definitions.specs.Identifiers.{resolved, is_name, anchors_by, 
 use Rattle.schema_definitions.specs.Places.{Dialect}
 use Rattle.schema_definitions.specs.Bearers.{Documents, Standing, bears, bears_anchor, bearer_under, bearer, anchored_under, dynamically_anchored}
 use Rattle.schema_definitions.specs.DocumentCauses.{document_causes}
-use Rattle.schema_definitions.specs.Lookup.{LookupCause, unretrievable, invalid_percent_encoding, no_such_anchor, invalid_anchor, invalid_uri, Target, Walk, at_place, walk, ended, behind_first, by_pointer, target_of, by_anchor, by_fragment, lookup_under, lookup}
+use Rattle.schema_definitions.specs.Lookup.{LookupCause, unretrievable, invalid_percent_encoding, no_such_anchor, invalid_anchor, invalid_uri, Target, Walk, at_place, walk, is_at_place, ended, behind_first, by_pointer, target_of, by_anchor, by_fragment, lookup_under, lookup}
 use Rattle.schema_definitions.specs.Scopes.{outermost, dynamic_lookup, recurs, end_of_run, recursive_lookup}
 use Rattle.moved_documents.specs.Forms.{Pair, added, inside}
 use Rattle.moved_documents.specs.Premises.{CanMove}
-use Rattle.moved_documents.proofs.Near.{Near}
+use Rattle.moved_documents.specs.Linked.{SamePlace, of_root, of_moved, TargetAlike, Together}
+use Rattle.moved_documents.proofs.Twins.{Paths}
 use Rattle.moved_documents.proofs.NearTexts.{anchors_near, dynamic_near, recurring_near}
 use Rattle.moved_documents.proofs.Standings.{Alike, BothFound, neither_found, each_found, both_found}
 use Rattle.moved_documents.proofs.Told.{told, tell}
 use Rattle.moved_documents.proofs.Walks.{came, WalkAlike, walk_alike}
 
--- targets that correspond
-pub record TargetAlike (fresh : List ℕ) (moved : Data) (t u : Target) : Type 0 where
-  pub base : t.base ≡ u.base
-  pub dialect : t.dialect ≡ u.dialect
-  pub contents : Near fresh moved t.contents u.contents
+-- ---- the same places
 
--- where both lead somewhere, to corresponding places
-abbrev pub Together : List ℕ → Data → Result Target LookupCause → Result Target LookupCause → Type 0
-Together fresh moved r q = (x y : Target) → r ≡ Ok x → q ≡ Ok y → TargetAlike fresh moved x y
+pub next_place : {p : Pair} {document document' : List ℕ} {path path' : List Part} (part : Part) → SamePlace p document path document' path'
+    → SamePlace p document (part ∷ path) document' (part ∷ path')
+next_place part of_root = of_root
+next_place part of_moved = of_moved
+
+pub further_place : {p : Pair} {document document' : List ℕ} {path path' : List Part} (parts : List Part) → SamePlace p document path document' path'
+    → SamePlace p document (parts ++ path) document' (parts ++ path')
+further_place [] h = h
+further_place (part ∷ parts) h = next_place part (further_place parts h)
 
 -- ---- texts of anchors
 
@@ -60,10 +64,10 @@ last_same f g same (x ∷ xs) = ap₂ (λ o (b : Bool). or_else o (if b then Som
 
 module _ (p : Pair) (draft : Draft) (whole : Data) (can : CanMove p draft whole) (accepted : document_causes (inside p whole) ≡ []) where
   abbrev AlikeHere : Standing → Standing → Type 0
-  AlikeHere s t = Alike p.fresh p.moved s t
+  AlikeHere s t = Alike p s t
 
   abbrev LedAlike : Result Target LookupCause → Result Target LookupCause → Type 0
-  LedAlike r q = Together p.fresh p.moved r q
+  LedAlike r q = Together p r q
 
   abbrev there : List ℕ → Option Dialect
   there = told p draft whole can
@@ -77,7 +81,7 @@ module _ (p : Pair) (draft : Draft) (whole : Data) (can : CanMove p draft whole)
   -- ---- bearers
 
   abbrev Found : Option Standing → Option Standing → Type 0
-  Found o q = BothFound p.fresh p.moved o q
+  Found o q = BothFound p o q
 
   bearer_found : (uri : List ℕ) → Found (bearer_under there old uri) (bearer_under there new uri)
   bearer_found uri = both_found p draft whole can there (bears uri) (λ s t a. a.bears_alike uri) (can.once.uris uri)
@@ -108,26 +112,30 @@ module _ (p : Pair) (draft : Draft) (whole : Data) (can : CanMove p draft whole)
 
   -- ---- what a place leads to
 
-  standing_target : (s t : Standing) → AlikeHere s t → TargetAlike p.fresh p.moved (target_of s) (target_of t)
-  standing_target s t a = record { base = a.base; dialect = a.dialect; contents = a.near }
+  -- the paths of two documents that are of the same places
+  abbrev spelled : Standing → Standing → Paths
+  spelled s t = record { along = λ path path'. SamePlace p s.document path t.document path'; next = λ part path path' h. next_place part h }
+
+  standing_target : (s t : Standing) → AlikeHere s t → TargetAlike p (target_of s) (target_of t)
+  standing_target s t a = record { place = a.place; contents = a.near; base = a.base; dialect = a.dialect; is_place = refl }
 
   of_found : (cause : LookupCause) (o q : Option Standing) → Found o q → LedAlike (result_map target_of (ok_or cause o)) (result_map target_of (ok_or cause q))
   of_found cause _ _ neither_found x y f g = absurd (cc)
   of_found cause _ _ (each_found {s = s} {t = t} a) x y f g =
       let one : target_of s ≡ x = cc in
       let other : target_of t ≡ y = cc in
-      subst (λ z. TargetAlike p.fresh p.moved x z) other (subst (λ z. TargetAlike p.fresh p.moved z (target_of t)) one (standing_target s t a))
+      subst (λ z. TargetAlike p x z) other (subst (λ z. TargetAlike p z (target_of t)) one (standing_target s t a))
 
   ended_together : (s t : Standing) (r q : Result Walk LookupCause)
-      → ((x y : Walk) → r ≡ Ok x → q ≡ Ok y → WalkAlike p.fresh p.moved can.fresh there x y) → LedAlike (result_map (ended s) r) (result_map (ended t) q)
+      → ((x y : Walk) → r ≡ Ok x → q ≡ Ok y → WalkAlike p.fresh p.moved can.fresh there (spelled s t) x y) → LedAlike (result_map (ended s) r) (result_map (ended t) q)
   ended_together s t (Err c) q h x y f g = absurd (cc)
   ended_together s t (Ok w) (Err c) h x y f g = absurd (cc)
   ended_together s t (Ok w) (Ok v) h x y f g =
       let a = h w v refl refl in
       let one : ended s w ≡ x = cc in
       let other : ended t v ≡ y = cc in
-      let alike : TargetAlike p.fresh p.moved (ended s w) (ended t v) = record { base = a.last.base; dialect = a.last.dialect; contents = a.near } in
-      subst (λ z. TargetAlike p.fresh p.moved x z) other (subst (λ z. TargetAlike p.fresh p.moved z (ended t v)) one alike)
+      let alike : TargetAlike p (ended s w) (ended t v) = record { place = a.along; contents = a.near; base = a.last.base; dialect = a.last.dialect; is_place = ap is_at_place a.within } in
+      subst (λ z. TargetAlike p x z) other (subst (λ z. TargetAlike p z (ended t v)) one alike)
 
   if_text : (cause : LookupCause) (b : Bool) (r q : Result Target LookupCause) → LedAlike r q → LedAlike (if b then r else Err cause) (if b then q else Err cause)
   if_text cause true r q h x y f g = h x y f g
@@ -142,10 +150,10 @@ module _ (p : Pair) (draft : Draft) (whole : Data) (can : CanMove p draft whole)
       let from : Walk = record { path = s.place.path; contents = s.place.contents; last = s.place; within = at_place } in
       let to : Walk = record { path = t.place.path; contents = t.place.contents; last = t.place; within = at_place } in
       let tokens = behind_first (pieces 47 decoded) in
-      let start : WalkAlike p.fresh p.moved can.fresh there from to =
-      record { within = refl; near = a.near; last = record { base = a.base; dialect = a.dialect; contents = a.near } } in
+      let start : WalkAlike p.fresh p.moved can.fresh there (spelled s t) from to =
+      record { along = a.place; within = refl; near = a.near; last = record { along = a.place; base = a.base; dialect = a.dialect; contents = a.near } } in
       if_text (invalid_percent_encoding written) (is_utf8 decoded) (result_map (ended s) (walk there written tokens from)) (result_map (ended t) (walk there written tokens to))
-      (ended_together s t (walk there written tokens from) (walk there written tokens to) (walk_alike p.fresh p.moved can.fresh there written tokens from to start))
+      (ended_together s t (walk there written tokens from) (walk there written tokens to) (walk_alike p.fresh p.moved can.fresh there (spelled s t) written tokens from to start))
 
   anchor_led : (s t : Standing) → AlikeHere s t → (k : List ℕ) → LedAlike (by_anchor there old s k) (by_anchor there new t k)
   anchor_led s t a k =
@@ -202,13 +210,13 @@ module _ (p : Pair) (draft : Draft) (whole : Data) (can : CanMove p draft whole)
   abbrev on_target : List ℕ → List (List ℕ) → Documents → Target → Result Target LookupCause
   on_target k scope docs t = if is_name k && has_text k (dynamic_anchors t.dialect t.contents) then outermost docs k (t.base ∷ scope) else Ok t
 
-  itself_led : (t u : Target) → TargetAlike p.fresh p.moved t u → LedAlike (Ok t) (Ok u)
+  itself_led : (t u : Target) → TargetAlike p t u → LedAlike (Ok t) (Ok u)
   itself_led t u a x y f g =
       let one : t ≡ x = cc in
       let other : u ≡ y = cc in
-      subst (λ z. TargetAlike p.fresh p.moved x z) other (subst (λ z. TargetAlike p.fresh p.moved z u) one a)
+      subst (λ z. TargetAlike p x z) other (subst (λ z. TargetAlike p z u) one a)
 
-  target_led : (k : List ℕ) (scope : List (List ℕ)) (t u : Target) → TargetAlike p.fresh p.moved t u → LedAlike (on_target k scope old t) (on_target k scope new u)
+  target_led : (k : List ℕ) (scope : List (List ℕ)) (t u : Target) → TargetAlike p t u → LedAlike (on_target k scope old t) (on_target k scope new u)
   target_led k scope t u a =
       let test : Target → Bool = λ (x : Target). is_name k && has_text k (dynamic_anchors x.dialect x.contents) in
       let same : test t ≡ test u =

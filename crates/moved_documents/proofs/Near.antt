@@ -18,13 +18,9 @@ use Rattle.schema_drafts.specs.declared.draft.Draft.TheVariants.{Draft201909, Dr
 use Rattle.document_laws.proofs.Inside.{itself, member_inside, held_found}
 use Rattle.moved_documents.specs.Forms.{definitions, put_anew, with_definitions, moved_into}
 use Rattle.moved_documents.specs.Premises.{IsFresh}
+use Rattle.moved_documents.specs.Linked.{Changed, set_new, set_again, further, Extended, made, grown, Near, unmoved, at_definitions, at_root}
 
 -- ---- members of which one has another value, or is further
-
-pub data Changed (k : List ℕ) (e : Data) : Option Data → Members → Members → Type 0 where
-  set_new : {ms : Members} → Changed k e None ms (member k e ms)
-  set_again : {d : Data} {ms : Members} → Changed k e (Some d) (member k d ms) (member k e ms)
-  further : {o : Option Data} {l : List ℕ} {d : Data} {ms ns : Members} → (k ≡ l → ⊥) → Changed k e o ms ns → Changed k e o (member l d ms) (member l d ns)
 
 module _ {k : List ℕ} {e : Data} where
   pub others_stay : {o : Option Data} {ms ns : Members} → Changed k e o ms ns → (j : List ℕ) → (j ≡ k → ⊥) → get_member j ns ≡ get_member j ms
@@ -61,21 +57,6 @@ module _ (k : List ℕ) (e : Data) where
       by rest Greater is =
           further (λ same. (let no : Equal ≡ Greater = sym (tied_itself nat_list_cmp_total k) ∙ ap (slice_cmp nat_cmp k) same ∙ is in absurd (cc)))
           (rest (sym (get_greater k l d ms is) ∙ g) (rising_rest l ms r))
-
--- ---- the root and its definitions
-
-module _ (fresh : List ℕ) (moved : Data) where
-  -- the definitions of the root, and those with the moved document
-  pub data Extended : Option Data → Members → Type 0 where
-    made : Extended None (member fresh moved no_members)
-    grown : {ds es : Members} → get_member fresh ds ≡ None → Changed fresh moved None ds es → Extended (Some (object ds)) es
-
-  -- a value of the root, and what stands at its place where the moved document is inside
-  pub data Near : Data → Data → Type 0 where
-    unmoved : {d : Data} → Near d d
-    at_definitions : {ds es : Members} → get_member fresh ds ≡ None → Changed fresh moved None ds es → Near (object ds) (object es)
-    at_root : {o : Option Data} {ms ns es : Members} → get_member (codes "$defs") ms ≡ o → Extended o es → Changed (codes "$defs") (object es) o ms ns
-        → Near (object ms) (object ns)
 
 -- ---- what is read by name
 

@@ -11,7 +11,8 @@ use Rattle.schema_definitions.specs.Rows.{Row, nothing_read, Context, counts_her
 use Rattle.linked_meanings.specs.Related.{RelatedShape, related_never}
 use Rattle.reading_laws.proofs.Results.{zip_append}
 use Rattle.moved_documents.specs.Premises.{IsFresh}
-use Rattle.moved_documents.proofs.Near.{Changed, set_new, set_again, further, is_looked, Near, unmoved, at_definitions, at_root, looked_same, never_keyword}
+use Rattle.moved_documents.specs.Linked.{Changed, set_new, set_again, further, Near, unmoved, at_definitions, at_root}
+use Rattle.moved_documents.proofs.Near.{is_looked, looked_same, never_keyword}
 use Rattle.moved_documents.proofs.Rows.{elsewhere, LeadAlike, row_alike}
 
 -- a member that is no keyword has no shapes

@@ -12,7 +12,8 @@ use Rattle.schema_definitions.specs.Identifiers.{is_hidden, identifier_text, wit
 use Rattle.schema_definitions.specs.Places.{draft_beside, schema_in_force, own_base}
 use Rattle.schema_definitions.specs.Bearers.{required_by}
 use Rattle.moved_documents.specs.Premises.{IsFresh}
-use Rattle.moved_documents.proofs.Near.{is_looked, Near, looked_same}
+use Rattle.moved_documents.specs.Linked.{Near}
+use Rattle.moved_documents.proofs.Near.{is_looked, looked_same}
 
 module _ (fresh : List ℕ) (moved : Data) (is_fresh : IsFresh fresh) (d e : Data) (near : Near fresh moved d e) where
   pub get_near : (j : List ℕ) → is_looked j ≡ true → bytes_eq j (codes "$defs") ≡ false → get j e ≡ get j d

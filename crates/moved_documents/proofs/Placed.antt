@@ -1,5 +1,5 @@
 -- Each schema place of the two documents has one in the document with the other inside, and the other way round.
-use Rattle.std.proofs.Common.{◌≡◌, ◌⊎◌, inl, inr, ℕ, suc, List, [], ◌∷◌, Bool, true, false, if◌then◌else◌, Option, is_some, refl, sym, subst}
+use Rattle.std.proofs.Common.{◌≡◌, ◌⊎◌, inl, inr, ℕ, suc, List, [], ◌∷◌, ◌++◌, Bool, true, false, if◌then◌else◌, Option, is_some, refl, sym, subst}
 use Rattle.serde_json.specs.Data.{Data, depth}
 use Rattle.json_values.specs.Parts.{Part}
 use Rattle.schema_drafts.specs.declared.draft.Draft.{Draft}
@@ -11,7 +11,7 @@ use Rattle.document_laws.proofs.Listed.{of_in, each_in}
 use Rattle.document_laws.proofs.Levels.{root_among, places_closed}
 use Rattle.moved_documents.specs.Forms.{Pair}
 use Rattle.moved_documents.specs.Premises.{CanMove}
-use Rattle.moved_documents.proofs.Twins.{Twin, Paths, Below, same_paths, IsUnder, paths_under, in_zip, zip_in, children_below}
+use Rattle.moved_documents.proofs.Twins.{Twin, Paths, Below, same_paths, paths_under, in_zip, zip_in, children_below}
 use Rattle.moved_documents.proofs.Grown.{IsMoved, Grown}
 use Rattle.moved_documents.proofs.Roots.{the_root, the_whole, the_moved, root_is, whole_is, moved_is, moved_path, root_grown}
 
@@ -68,11 +68,11 @@ module _ (p : Pair) (draft : Draft) (whole : Data) (can : CanMove p draft whole)
   root_step _ _ (both_below {x = x} {y = y} b) c i =
       (let h = in_zip (Below same_paths) c (children told x) (children told y) (children_below same_paths told x y b.twin b.paths) i in (h.0, h.1, both_below h.2))
 
-  by_twins : (x y : SchemaPlace) → Twin x y → IsUnder at y.path → (c : SchemaPlace) → In c (children told x) → (e : SchemaPlace) × In e (children told y) × OfMoved c e
+  by_twins : (x y : SchemaPlace) → Twin x y → y.path ≡ x.path ++ at → (c : SchemaPlace) → In c (children told x) → (e : SchemaPlace) × In e (children told y) × OfMoved c e
   by_twins x y t u c i = (let h = in_zip (Below under) c (children told x) (children told y) (children_below under told x y t u) i in (h.0, h.1, moved_below h.2))
 
   moved_step : (x y : SchemaPlace) → OfMoved x y → (c : SchemaPlace) → In c (children told x) → (e : SchemaPlace) × In e (children told y) × OfMoved c e
-  moved_step _ _ (moved_root {y = y} h) c i = by_twins moved y h.twin (record { parts = []; is = h.path }) c i
+  moved_step _ _ (moved_root {y = y} h) c i = by_twins moved y h.twin h.path c i
   moved_step _ _ (moved_below {x = x} {y = y} b) c i = by_twins x y b.twin b.paths c i
 
   -- ---- all places
@@ -133,13 +133,13 @@ module _ (p : Pair) (draft : Draft) (whole : Data) (can : CanMove p draft whole)
       let h = zip_in (Below same_paths) c (children told x) (children told y) (children_below same_paths told x y b.twin b.paths) j in
       from_root h.0 (closed told p.root_uri (by_default p.layer) p.root x i h.0 h.1) (both_below h.2)
 
-  back_of_twins : (x y : SchemaPlace) → Twin x y → IsUnder at y.path → In x moved_places → (c : SchemaPlace) → In c (children told y) → Comes c
+  back_of_twins : (x y : SchemaPlace) → Twin x y → y.path ≡ x.path ++ at → In x moved_places → (c : SchemaPlace) → In c (children told y) → Comes c
   back_of_twins x y t u i c j =
       let h = zip_in (Below under) c (children told x) (children told y) (children_below under told x y t u) j in
       from_moved h.0 (closed told p.moved_uri (by_default p.layer) p.moved x i h.0 h.1) (moved_below h.2)
 
   back_of_moved : (x y : SchemaPlace) → OfMoved x y → In x moved_places → (c : SchemaPlace) → In c (children told y) → Comes c
-  back_of_moved _ _ (moved_root {y = y} h) i c j = back_of_twins moved y h.twin (record { parts = []; is = h.path }) i c j
+  back_of_moved _ _ (moved_root {y = y} h) i c j = back_of_twins moved y h.twin h.path i c j
   back_of_moved _ _ (moved_below {x = x} {y = y} b) i c j = back_of_twins x y b.twin b.paths i c j
 
   back_step : (y : SchemaPlace) → Comes y → (c : SchemaPlace) → In c (children told y) → Comes c

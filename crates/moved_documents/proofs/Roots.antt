@@ -15,7 +15,8 @@ use Rattle.schema_definitions.specs.Places.{Dialect, SchemaPlace, standard, draf
 use Rattle.schema_definitions.specs.Bearers.{by_default, is_root, schemas_named}
 use Rattle.moved_documents.specs.Forms.{Pair, moved_into}
 use Rattle.moved_documents.specs.Premises.{embeds, States, CanMove}
-use Rattle.moved_documents.proofs.Near.{Extended, made, grown, Near, at_root, Inside, root_inside}
+use Rattle.moved_documents.specs.Linked.{Extended, made, grown, Near, at_root}
+use Rattle.moved_documents.proofs.Near.{Inside, root_inside}
 use Rattle.moved_documents.proofs.Counted.{named_at_root}
 use Rattle.moved_documents.proofs.NearTexts.{text_near, base_near}
 use Rattle.moved_documents.proofs.Twins.{another}

@@ -1,6 +1,7 @@
 -- Who bears a URI or an anchor: the same in the two documents and in the one with the other inside, where none is borne twice.
 use Rattle.std.proofs.Common.{◌≡◌, ◌∙◌, ◌||◌, ◌&&◌, ℕ, List, [], ◌∷◌, ◌++◌, map, inl, inr, Bool, true, false, if◌then◌else◌, bytes_eq, Option, Some, None, is_some, refl, sym, ap, subst}
 use Rattle.serde_json.specs.Data.{Data}
+use Rattle.json_values.specs.Parts.{Part}
 use Rattle.schema_drafts.specs.declared.draft.Draft.{Draft}
 use Rattle.schema_meaning.specs.Members.{In, first, later}
 use Rattle.schema_definitions.specs.Words.{or_else, last_that}
@@ -10,7 +11,7 @@ use Rattle.schema_definitions.specs.Bearers.{Standing, standings, bears, by_defa
 use Rattle.document_laws.proofs.Listed.{in_first, in_second, in_either, in_map}
 use Rattle.moved_documents.specs.Forms.{Pair, added, inside}
 use Rattle.moved_documents.specs.Premises.{CanMove}
-use Rattle.moved_documents.proofs.Near.{Near, unmoved}
+use Rattle.moved_documents.specs.Linked.{Near, unmoved, SamePlace, of_root, of_moved}
 use Rattle.moved_documents.proofs.NearTexts.{identifier_near}
 use Rattle.moved_documents.proofs.Twins.{Paths, Below}
 use Rattle.moved_documents.proofs.Grown.{IsMoved}
@@ -60,19 +61,21 @@ module _ {A : Type 0} (test : A → Bool) where
 
 -- ---- standings that are alike
 
-pub record Alike (fresh : List ℕ) (moved : Data) (s t : Standing) : Type 0 where
+pub record Alike (p : Pair) (s t : Standing) : Type 0 where
+  pub place : SamePlace p s.document s.place.path t.document t.place.path
   pub base : s.place.base ≡ t.place.base
   pub dialect : s.place.dialect ≡ t.place.dialect
   pub awaits : s.place.awaits ≡ t.place.awaits
-  pub near : Near fresh moved s.place.contents t.place.contents
+  pub near : Near p.fresh p.moved s.place.contents t.place.contents
   pub bears_alike : (uri : List ℕ) → bears uri s ≡ bears uri t
 
-below_alike : (r : Paths) (fresh : List ℕ) (moved : Data) (n n' : List ℕ) (x y : SchemaPlace) → Below r x y → Alike fresh moved (standing n x) (standing n' y)
-below_alike r fresh moved n n' x y b = record {
+below_alike : (r : Paths) (p : Pair) (n n' : List ℕ) (x y : SchemaPlace) → SamePlace p n x.path n' y.path → Below r x y → Alike p (standing n x) (standing n' y)
+below_alike r p n n' x y place b = record {
+  place = place;
   base = b.twin.base;
   dialect = b.twin.dialect;
   awaits = b.twin.awaits;
-  near = subst (λ (d : Data). Near fresh moved x.contents d) b.twin.contents unmoved;
+  near = subst (λ (d : Data). Near p.fresh p.moved x.contents d) b.twin.contents unmoved;
   bears_alike = λ uri. rw (b.here, b.there, b.twin.contents, b.twin.base, b.twin.dialect, b.twin.awaits) refl;
 }
 
@@ -82,7 +85,7 @@ twice false = refl
 
 module _ (p : Pair) (draft : Draft) (whole : Data) (can : CanMove p draft whole) (told : List ℕ → Option Dialect) where
   abbrev AlikeHere : Standing → Standing → Type 0
-  AlikeHere s t = Alike p.fresh p.moved s t
+  AlikeHere s t = Alike p s t
 
   abbrev pub root_name : List ℕ
   root_name = p.layer.number ∷ p.root_uri
@@ -92,13 +95,15 @@ module _ (p : Pair) (draft : Draft) (whole : Data) (can : CanMove p draft whole)
 
   pub root_alike : (x y : SchemaPlace) → OfRoot p draft whole can told x y → AlikeHere (standing root_name x) (standing root_name y)
   root_alike _ _ both_roots = record {
+    place = of_root;
     base = refl;
     dialect = refl;
     awaits = refl;
     near = near_root p draft whole can told;
     bears_alike = λ uri. rw (identifier_near p.fresh p.moved can.fresh p.root whole (near_root p draft whole can told) (own p draft whole can told)) refl;
   }
-  root_alike _ _ (both_below {x = x} {y = y} b) = below_alike _ p.fresh p.moved root_name root_name x y b
+  root_alike _ _ (both_below {x = x} {y = y} b) =
+      below_alike _ p root_name root_name x y (subst (λ (path : List Part). SamePlace p root_name x.path root_name path) b.paths of_root) b
 
   moved_bears : (y : SchemaPlace) (h : IsMoved (moved_path p draft whole can told) (record { path = []; contents = p.moved; base = p.moved_uri; dialect = own p draft whole can told; awaits = None }) y) (uri : List ℕ)
       → (bytes_eq p.moved_uri uri || (is_some (identifier (own p draft whole can told) p.moved) && bytes_eq p.moved_uri uri)) ≡ bears uri (standing root_name y)
@@ -111,13 +116,15 @@ module _ (p : Pair) (draft : Draft) (whole : Data) (can : CanMove p draft whole)
 
   pub moved_alike : (x y : SchemaPlace) → OfMoved p draft whole can told x y → AlikeHere (standing moved_name x) (standing root_name y)
   moved_alike _ _ (moved_root {y = y} h) = record {
+    place = subst (λ (path : List Part). SamePlace p moved_name [] root_name path) (sym h.path) (of_moved {path = []});
     base = h.twin.base;
     dialect = h.twin.dialect;
     awaits = h.twin.awaits;
     near = subst (λ (d : Data). Near p.fresh p.moved p.moved d) h.twin.contents unmoved;
     bears_alike = moved_bears y h;
   }
-  moved_alike _ _ (moved_below {x = x} {y = y} b) = below_alike _ p.fresh p.moved moved_name root_name x y b
+  moved_alike _ _ (moved_below {x = x} {y = y} b) =
+      below_alike _ p moved_name root_name x y (subst (λ (path : List Part). SamePlace p moved_name x.path root_name path) (sym b.paths) of_moved) b
 
   -- ---- each has one
 
@@ -182,12 +189,12 @@ module _ (p : Pair) (draft : Draft) (whole : Data) (can : CanMove p draft whole)
 
 -- ---- the last that passes a test that does not tell them apart, where one passes at most
 
-pub data BothFound (fresh : List ℕ) (moved : Data) : Option Standing → Option Standing → Type 0 where
-  neither_found : BothFound fresh moved None None
-  each_found : {s t : Standing} → Alike fresh moved s t → BothFound fresh moved (Some s) (Some t)
+pub data BothFound (p : Pair) : Option Standing → Option Standing → Type 0 where
+  neither_found : BothFound p None None
+  each_found : {s t : Standing} → Alike p s t → BothFound p (Some s) (Some t)
 
 module _ (p : Pair) (draft : Draft) (whole : Data) (can : CanMove p draft whole) (told : List ℕ → Option Dialect) (test : Standing → Bool)
-    (same : (s t : Standing) → Alike p.fresh p.moved s t → test s ≡ test t)
+    (same : (s t : Standing) → Alike p s t → test s ≡ test t)
     (once : (s t : Standing) → In s (standings told (inside p whole)) → In t (standings told (inside p whole)) → test s ≡ true → test t ≡ true → s ≡ t) where
   abbrev firsts : List Standing
   firsts = standings told (added p)
@@ -207,18 +214,18 @@ module _ (p : Pair) (draft : Draft) (whole : Data) (can : CanMove p draft whole)
       let h = has_before p draft whole can told t l.among in
       one_passes test firsts h.0 h.1 (same h.0 t h.2 ∙ l.passes)
 
-  both_alike : (s t : Standing) → last_that test firsts ≡ Some s → last_that test seconds ≡ Some t → Alike p.fresh p.moved s t
+  both_alike : (s t : Standing) → last_that test firsts ≡ Some s → last_that test seconds ≡ Some t → Alike p s t
   both_alike s t e f =
       let l = found_last test firsts s e in
       let k = found_last test seconds t f in
       let h = has_after p draft whole can told s l.among in
       let one : h.0 ≡ t = once h.0 t h.1 k.among (sym (same s h.0 h.2) ∙ l.passes) k.passes in
-      subst (λ (x : Standing). Alike p.fresh p.moved s x) one h.2
+      subst (λ (x : Standing). Alike p s x) one h.2
 
-  pub both_found : BothFound p.fresh p.moved (last_that test firsts) (last_that test seconds)
+  pub both_found : BothFound p (last_that test firsts) (last_that test seconds)
   both_found = by (last_that test firsts) (last_that test seconds) refl refl
     where
-      by : (o q : Option Standing) → last_that test firsts ≡ o → last_that test seconds ≡ q → BothFound p.fresh p.moved o q
+      by : (o q : Option Standing) → last_that test firsts ≡ o → last_that test seconds ≡ q → BothFound p o q
       by None None e f = neither_found
       by (Some s) (Some t) e f = each_found (both_alike s t e f)
       by None (Some t) e f = (let no : false ≡ true = sym (ap is_some e) ∙ some_before t f in absurd (cc))

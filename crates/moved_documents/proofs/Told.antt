@@ -18,17 +18,17 @@ use Rattle.moved_documents.proofs.Kept.{once_at_each}
 
 module _ (p : Pair) (draft : Draft) (whole : Data) (can : CanMove p draft whole) where
   -- standings that are alike give their schemas one dialect
-  same_dialect : (s t : Standing) → Alike p.fresh p.moved s t → dialect_by s ≡ dialect_by t
+  same_dialect : (s t : Standing) → Alike p s t → dialect_by s ≡ dialect_by t
   same_dialect s t a =
       ap₂ (λ (x : Dialect) vs. record { draft = x.draft; vocabularies = vs; siblings = x.siblings }) a.dialect
       (sym (required_near p.fresh p.moved can.fresh s.place.contents t.place.contents a.near))
 
-  by_found : (o q : Option Standing) → BothFound p.fresh p.moved o q → option_map dialect_by o ≡ option_map dialect_by q
+  by_found : (o q : Option Standing) → BothFound p o q → option_map dialect_by o ≡ option_map dialect_by q
   by_found _ _ neither_found = refl
   by_found _ _ (each_found {s = s} {t = t} a) = ap Some (same_dialect s t a)
 
   bearers_found : (told : List ℕ → Option Dialect) → BornOnce told (inside p whole) → (uri : List ℕ)
-      → BothFound p.fresh p.moved (last_standing (bears uri) told (added p)) (last_standing (bears uri) told (inside p whole))
+      → BothFound p (last_standing (bears uri) told (added p)) (last_standing (bears uri) told (inside p whole))
   bearers_found told once uri = both_found p draft whole can told (bears uri) (λ s t a. a.bears_alike uri) (once.uris uri)
 
   -- ---- by what the one document tells, where nothing is wrong with it

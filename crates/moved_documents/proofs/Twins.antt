@@ -37,11 +37,9 @@ pub record IsUnder (above path : List Part) : Type 0 where
   pub parts : List Part
   pub is : path ≡ parts ++ above
 
+-- the second path is the first, below another
 abbrev pub paths_under : List Part → Paths
-paths_under above = record {
-  along = λ path path'. IsUnder above path';
-  next = λ part path path' u. record { parts = part ∷ u.parts; is = ap (λ (q : List Part). part ∷ q) u.is };
-}
+paths_under above = record { along = λ path path'. path' ≡ path ++ above; next = λ part path path' e. ap (λ (q : List Part). part ∷ q) e }
 
 -- ---- lists one by one
 

@@ -11,7 +11,9 @@ use Rattle.schema_definitions.specs.Identifiers.{is_hidden}
 use Rattle.schema_definitions.specs.Places.{Dialect, SchemaPlace, Named, settled, awaited, by_schema, schema_in_force, placed, entered}
 use Rattle.schema_definitions.specs.Lookup.{LookupCause, Walk, Within, at_place, part_of, holds_schema, in_element, in_member, arrived, item_at, step_to, walk}
 use Rattle.moved_documents.specs.Premises.{IsFresh}
-use Rattle.moved_documents.proofs.Near.{others_stay, is_there, Extended, made, grown, Near, unmoved, at_definitions, at_root, near_schema}
+use Rattle.moved_documents.specs.Linked.{Extended, made, grown, Near, unmoved, at_definitions, at_root}
+use Rattle.moved_documents.proofs.Near.{others_stay, is_there, near_schema}
+use Rattle.moved_documents.proofs.Twins.{Paths}
 use Rattle.moved_documents.proofs.NearTexts.{hidden_near, base_near, in_force_near}
 
 -- a result that is right is made from one that is
@@ -61,29 +63,31 @@ module _ (fresh : List ℕ) (moved : Data) (is_fresh : IsFresh fresh) where
       subst (λ x. NearHere d x) value (definitions_at o es d here extended))
       (others_stay change k) f g
 
-  module _ (told : List ℕ → Option Dialect) where
+  module _ (told : List ℕ → Option Dialect) (r : Paths) where
     -- ---- a place that is entered
 
     pub record PlacedAlike (x y : SchemaPlace) : Type 0 where
+      pub along : r.along x.path y.path
       pub base : x.base ≡ y.base
       pub dialect : x.dialect ≡ y.dialect
       pub contents : NearHere x.contents y.contents
 
-    placed_alike : (outer : List ℕ) (around : Dialect) (path path' : List Part) (d e : Data) → NearHere d e → (n : Named)
+    placed_alike : (outer : List ℕ) (around : Dialect) (path path' : List Part) → r.along path path' → (d e : Data) → NearHere d e → (n : Named)
         → PlacedAlike (placed outer around path d n) (placed outer around path' e n)
-    placed_alike outer around path path' d e near (settled dialect) = record { base = sym (base_near fresh moved is_fresh d e near outer dialect); dialect = refl; contents = near }
-    placed_alike outer around path path' d e near (awaited uri) = record { base = refl; dialect = refl; contents = near }
+    placed_alike outer around path path' along d e near (settled dialect) = record { along = along; base = sym (base_near fresh moved is_fresh d e near outer dialect); dialect = refl; contents = near }
+    placed_alike outer around path path' along d e near (awaited uri) = record { along = along; base = refl; dialect = refl; contents = near }
 
-    pub entered_alike : (outer : List ℕ) (around : Dialect) (path path' : List Part) (d e : Data) → NearHere d e
+    pub entered_alike : (outer : List ℕ) (around : Dialect) (path path' : List Part) → r.along path path' → (d e : Data) → NearHere d e
         → PlacedAlike (entered told outer around path d) (entered told outer around path' e)
-    entered_alike outer around path path' d e near =
+    entered_alike outer around path path' along d e near =
         subst (λ (o : Option (List ℕ)). PlacedAlike (entered told outer around path d) (placed outer around path' e (by_schema told around o)))
         (sym (in_force_near fresh moved is_fresh d e near around.siblings false))
-        (placed_alike outer around path path' d e near (by_schema told around (schema_in_force around.siblings false d)))
+        (placed_alike outer around path path' along d e near (by_schema told around (schema_in_force around.siblings false d)))
 
     -- ---- walks
 
     pub record WalkAlike (w v : Walk) : Type 0 where
+      pub along : r.along w.path v.path
       pub within : w.within ≡ v.within
       pub near : NearHere w.contents v.contents
       pub last : PlacedAlike w.last v.last
@@ -101,7 +105,7 @@ module _ (fresh : List ℕ) (moved : Data) (is_fresh : IsFresh fresh) where
       both_entered part d e near =
           subst (λ (b : List ℕ). PlacedAlike (entered told w.last.base w.last.dialect (part ∷ w.path) d) (entered told b v.last.dialect (part ∷ v.path) e)) a.last.base
           (subst (λ (x : Dialect). PlacedAlike (entered told w.last.base w.last.dialect (part ∷ w.path) d) (entered told w.last.base x (part ∷ v.path) e)) a.last.dialect
-          (entered_alike w.last.base w.last.dialect (part ∷ w.path) (part ∷ v.path) d e near))
+          (entered_alike w.last.base w.last.dialect (part ∷ w.path) (part ∷ v.path) (r.next part w.path v.path a.along) d e near))
 
       arrived_by : (b : Bool) (h : Holds) (part : Part) (d e : Data) → NearHere d e
           → WalkAlike
@@ -109,8 +113,8 @@ module _ (fresh : List ℕ) (moved : Data) (is_fresh : IsFresh fresh) where
           else record { path = part ∷ w.path; contents = d; last = w.last; within = part_of h })
           (if b then record { path = part ∷ v.path; contents = e; last = entered told v.last.base v.last.dialect (part ∷ v.path) e; within = at_place }
           else record { path = part ∷ v.path; contents = e; last = v.last; within = part_of h })
-      arrived_by true h part d e near = record { within = refl; near = near; last = both_entered part d e near }
-      arrived_by false h part d e near = record { within = refl; near = near; last = a.last }
+      arrived_by true h part d e near = record { along = r.next part w.path v.path a.along; within = refl; near = near; last = both_entered part d e near }
+      arrived_by false h part d e near = record { along = r.next part w.path v.path a.along; within = refl; near = near; last = a.last }
 
       arrived_alike : (h : Holds) (part : Part) (d e : Data) → NearHere d e → WalkAlike (arrived told w h part d) (arrived told v h part e)
       arrived_alike h part d e near =

@@ -3,6 +3,7 @@
 ghost use Rattle.moved_documents.specs.Example.{TextsCanMove};
 ghost use Rattle.moved_documents.specs.Laws.{InsideIsAdded, OnceBeside, OnceIsAlways};
 ghost use Rattle.moved_documents.specs.Laws.{RetrievedIsAdded, RootStandsAlone, WantedIsAdded};
+ghost use Rattle.moved_documents.specs.Linked.{InsideIsLinked};
 ghost use Rattle.moved_documents.specs.Needed.{BothMayBear, LeavesOutIsNeeded};
 
 /// Where the moved document alone is answered, what is retrieved for the root is nothing or that document, once: then the documents are those of
@@ -21,6 +22,15 @@ pub fn wanted_is_added()
 /// borne twice by what the two documents tell of meta-schemas either.
 pub fn root_stands_alone()
     ensures { RootStandsAlone }
+{}
+
+/// Where one document can be moved into the other, and nothing is wrong with the documents of the form with it inside, that form and the one in
+/// which it is added are linked place by place. The schema places inside are the root, those below it as they were, and those of the moved
+/// document below the name in the root's `$defs`, each with the base and the dialect that it had. A lookup that leads somewhere in both forms
+/// leads to the same place. From a root that builds in both, the same places are read, with equal bases, dialects and scopes, and there the same
+/// keywords stand.
+pub fn inside_is_linked()
+    ensures { InsideIsLinked }
 {}
 
 /// Where one document can be moved into the other, and nothing is wrong with the documents of the form with it inside, a root that builds both
