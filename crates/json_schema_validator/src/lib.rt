@@ -16,6 +16,7 @@ pub mod roads;
 pub use checking::{check_error, check_errors, check_first, check_path};
 pub use fault_checks::checking::{CheckAnswer, FaultPath, check_fault};
 pub use roads::{Moving, Roads, same_on_three_roads};
+pub use schema_reports::LazyLocation;
 pub use schema_steps::Path;
 pub use schema_validators::{
     BothAnswers, BothValidators, BuildCause, BuildError, Checker, Decision, DefaultRetriever,

@@ -1,5 +1,5 @@
-// Errors taken apart, by the names that the library gives on.
-use json_schema_validator::{DocumentError, Documents, Path, UriError};
+// Errors taken apart and paths put together, by the names that the library gives on.
+use json_schema_validator::{DocumentError, Documents, LazyLocation, Location, Path, UriError};
 use std::alloc::Global;
 use std::process::Abort;
 
@@ -39,4 +39,14 @@ fn texts_and_places(rt: HostRuntime) {
         let error = refused.expect_err(&rt, "a document was added");
         assert_eq!(rt; carried(&rt, rt.alloc(), error).as_str(), *want);
     }
+}
+
+// The location of a path that was put together step by step.
+#[test]
+fn of_roads(rt: HostRuntime) {
+    let root = LazyLocation::new();
+    let member = root.push_name("a/b");
+    let item = member.push_index(1);
+    let location = Location::from_road(rt.alloc(), &item).expect(&rt, "memory");
+    assert_eq!(rt; location.as_str(), "/a~1b/1");
 }
