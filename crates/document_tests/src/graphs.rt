@@ -1,4 +1,4 @@
-// Graphs of what is reached: how many nodes there are, and at which of them each root starts.
+// Graphs of what is reached: how many nodes there are and how many keywords in them, and at which of them each root starts.
 use crate::rows::assert_text;
 use compiled_graphs::each::CompiledEach;
 use compiled_graphs::several::build_each;
@@ -12,16 +12,17 @@ use std::alloc::Global;
 use std::process::Abort;
 use uri_references::uri::from_str;
 
-// Each row: documents by their URIs, references from `http://a.test/r`, and what is wanted: the number of nodes, and for each
-// reference the number of its node, or a line where it may not be read.
+// Each row: documents by their URIs, references from `http://a.test/r`, and what is wanted: the number of nodes and of the keywords
+// in all of them, and for each reference the number of its node, or a line where it may not be read. A keyword that is compiled
+// twice where it is reached once is counted twice.
 const ONE_PLACE: &str = r##"{"rows": [
-    [{"http://a.test/r": true}, [""], "1: 0"],
-    [{"http://a.test/r": {"properties": {"a": true, "b": true}, "$defs": {"c": true}}}, [""], "3: 0"],
-    [{"http://a.test/r": {"items": {"$ref": "#"}}}, [""], "2: 0"],
+    [{"http://a.test/r": true}, [""], "1/0: 0"],
+    [{"http://a.test/r": {"properties": {"a": true, "b": true}, "$defs": {"c": true}}}, [""], "3/1: 0"],
+    [{"http://a.test/r": {"items": {"$ref": "#"}}}, [""], "2/2: 0"],
     [{"http://a.test/r": {"properties": {"a": {"$ref": "#/$defs/x"}, "b": {"$ref": "#/$defs/x"}},
-        "$defs": {"x": {"items": true}}}}, [""], "5: 0"],
+        "$defs": {"x": {"items": true}}}}, [""], "5/4: 0"],
     [{"http://a.test/r": {"properties": {"a": {"$ref": "#/$defs/x"}, "b": {"$ref": "#x"}},
-        "$defs": {"x": {"$anchor": "x", "items": true}}}}, [""], "7: 0"]
+        "$defs": {"x": {"$anchor": "x", "items": true}}}}, [""], "7/5: 0"]
 ]}"##;
 
 // Of a document that is reached by two scopes: where nothing in it depends on the scope, it is compiled once, and where a name is
@@ -29,18 +30,18 @@ const ONE_PLACE: &str = r##"{"rows": [
 const BY_SCOPES: &str = r##"{"rows": [
     [{"http://a.test/list": {"$id": "http://a.test/list", "type": "array", "items": {"$ref": "#/$defs/d"}, "$defs": {"d": true}},
         "http://a.test/strings": {"$id": "http://a.test/strings", "$ref": "list"},
-        "http://a.test/r": {"properties": {"l": {"$ref": "list"}, "s": {"$ref": "strings"}}}}, [""], "7: 0"],
+        "http://a.test/r": {"properties": {"l": {"$ref": "list"}, "s": {"$ref": "strings"}}}}, [""], "7/7: 0"],
     [{"http://a.test/list": {"$id": "http://a.test/list", "type": "array",
             "items": {"$dynamicRef": "#item"}, "$defs": {"d": {"$dynamicAnchor": "item"}}},
         "http://a.test/strings": {"$id": "http://a.test/strings", "$ref": "list",
             "$defs": {"s": {"$dynamicAnchor": "item", "type": "string"}}},
-        "http://a.test/r": {"properties": {"l": {"$ref": "list"}, "s": {"$ref": "strings"}}}}, [""], "10: 0"]
+        "http://a.test/r": {"properties": {"l": {"$ref": "list"}, "s": {"$ref": "strings"}}}}, [""], "10/11: 0"]
 ]}"##;
 
 const SEVERAL_ROOTS: &str = r##"{"rows": [
     [{"http://a.test/r": {"$defs": {"a": true, "b": {"type": 5}, "c": {"$ref": "#/$defs/b"}, "d": {"items": {"$ref": "#/$defs/a"}}}}},
-        ["#/$defs/a", "#/$defs/b", "#/$defs/c", "#/$defs/none", "#/$defs/a", "#/$defs/d"], "7: 0 - - - 0 3"],
-    [{"http://a.test/r": {"properties": {"a": {"properties": {"b": true}}}}}, ["", "#/properties/a"], "5: 0 1"]
+        ["#/$defs/a", "#/$defs/b", "#/$defs/c", "#/$defs/none", "#/$defs/a", "#/$defs/d"], "7/3: 0 - - - 0 3"],
+    [{"http://a.test/r": {"properties": {"a": {"properties": {"b": true}}}}}, ["", "#/properties/a"], "5/3: 0 1"]
 ]}"##;
 
 fn prepared(rt: &impl Abort, alloc: Global, documents: &Value) -> SharedRegistry {
@@ -81,9 +82,12 @@ fn graphs_of(
 }
 
 fn shown(rt: &impl Abort, alloc: Global, graphs: &CompiledEach<ScriptedMatcher>) -> String {
-    let mut output = format!(in alloc; "{}:", graphs.schemas.graph.nodes.len()).expect(
-        rt, "memory",
-    );
+    let nodes = &graphs.schemas.graph.nodes;
+    let mut keywords: usize = 0;
+    for node in nodes {
+        keywords = keywords.saturating_add(node.keywords.len());
+    }
+    let mut output = format!(in alloc; "{}/{keywords}:", nodes.len()).expect(rt, "memory");
     for start in &graphs.starts {
         match start {
             Some(position) => write!(output, " {position}").expect(rt, "memory"),
