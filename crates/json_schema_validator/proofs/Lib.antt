@@ -4,3 +4,4 @@ pub mod Agreeing
 pub mod Forming
 pub mod Bases
 pub mod OneKey
+pub mod Required

@@ -6,3 +6,4 @@ pub mod Roads
 pub mod Laws
 pub mod Bases
 pub mod OneKey
+pub mod Required
