@@ -2,7 +2,7 @@ mod Making
 mod ByNodes
 mod Hearing
 mod Certifying
-mod MissingLemmas
+pub mod MissingLemmas
 mod Agreeing
 mod Asking
 mod Owning
