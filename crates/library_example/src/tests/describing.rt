@@ -1,7 +1,8 @@
 // Why there is no validator, in words: each cause with the sentence that is wanted, a line each behind `says`.
 use crate::tests::given::{built, documents_of};
 use json_schema_validator::{
-    BuildError, DocumentError, Documents, RegexMaker, Retrieve, RetrieveError, Validator,
+    BuildCause, BuildError, DocumentError, Documents, Error, RegexMaker, Retrieve, RetrieveError,
+    Validator,
 };
 use serde_json::Value;
 use std::alloc::Global;
@@ -222,16 +223,41 @@ const TEXTS: [(&str, &str, &str); 8] = [
     ),
 ];
 
+fn assert_says(rt: &impl Abort, alloc: Global, error: &BuildError, words: &str) {
+    let found = error.description(alloc).expect(rt, "memory");
+    assert!(rt; found.as_str() == words, "{found}\nand not\n{words}");
+}
+
 #[test]
 fn documents(rt: HostRuntime) {
+    let alloc = rt.alloc();
     for (uri, text, words) in &TEXTS {
-        let found = described(&rt, rt.alloc(), &added(rt.alloc(), uri, text));
+        let found = described(&rt, alloc, &added(alloc, uri, text));
         assert!(rt; found.as_str() == *words, "{found}\nand not\n{words}");
     }
-    let found = DocumentError::Memory.description(rt.alloc());
+    let found = DocumentError::Memory.description(alloc);
     assert!(rt; found.expect(&rt, "memory").as_str() == "No memory");
-    let found = BuildError::from(DocumentError::Memory).description(rt.alloc());
-    assert!(rt; found.expect(&rt, "memory").as_str() == "No memory");
+    let error = BuildError::from(DocumentError::Memory);
+    assert_says(&rt, alloc, &error, "No memory");
+}
+
+// Memory that is out where documents are prepared, where the root is looked up, and at a schema; of a retriever that lacks it, the document
+// is not present.
+#[test]
+fn memory(rt: HostRuntime) {
+    let alloc = rt.alloc();
+    let error = BuildError::Registry(Error::Memory);
+    assert_says(&rt, alloc, &error, "The documents are refused: no memory");
+    let error = BuildError::Root(Error::Memory);
+    let words = "The reference to the root leads nowhere: no memory";
+    assert_says(&rt, alloc, &error, words);
+    let error = BuildError::Schema(BuildCause::Memory);
+    assert_says(&rt, alloc, &error, "No memory");
+    let uri = String::from_str(alloc, "u:a").expect(&rt, "memory");
+    let source = RetrieveError::Memory;
+    let error = BuildError::Registry(Error::Unretrievable { uri, source });
+    let words = "The documents are refused: the document 'u:a' is not present";
+    assert_says(&rt, alloc, &error, words);
 }
 
 // Whoever is asked and says why nothing comes.
