@@ -1,16 +1,15 @@
 -- Which error comes when. Each but want of memory names a cause.
-use Rattle.std.specs.Prelude.{◌≡◌, ◌⊎◌, ℕ, List, Option, Some, None, Err, true}
+use Rattle.std.specs.Prelude.{◌≡◌, ◌⊎◌, ℕ, List, [], ◌∷◌, Option, Some, None, Err, true}
 use Rattle.serde_json.specs.Data.{Data}
 use Rattle.schema_definitions.specs.Bearers.{Document, Layer}
 use Rattle.schema_definitions.specs.Lookup.{Target, LookupCause, lookup}
-use Rattle.schema_definitions.specs.Rows as rows
-use Rattle.schema_definitions.specs.BuildCauses.{IsCauseOf}
 use Rattle.document_sources.specs.Given.{Given, documents_by}
 use Rattle.document_sources.specs.Causes.{IsMemory, NamesLookup}
 use Rattle.document_sources.specs.declared.error.Error as reference
-use Rattle.reached_sites.specs.Causes.{NamesCause, IsExceeded}
+use Rattle.reached_sites.specs.Causes.{IsExceeded}
 use Rattle.reached_sites.specs.declared.cause.BuildCause.{BuildCause}
 use Rattle.reached_sites.specs.declared.cause.BuildCause.TheVariants as reached
+use Rattle.compiled_graphs.specs.Nearest.{IsNearest}
 use Rattle.schema_reports.specs.Told.{fault_of, error_is_proper}
 use Rattle.schema_reports.specs.declared.error.ValidationError.{ValidationError}
 use Rattle.schema_registries.specs.Passed.{Asking, Stops, HasCause}
@@ -57,14 +56,14 @@ IsOfRegistry e b = (IsMemory e × (b ≡ error.Memory)) ⊎ ((IsMemory e → ⊥
 
 -- ---- roots
 
--- a root is refused because its reference leads nowhere, for a cause at what is reached from it, or because that is too much
+-- a root is refused because its reference leads nowhere, for a cause at what is reached from it, none being nearer, or because that is too much
 abbrev pub RefusesBuild : Patterns → ℕ → Root → BuildError → Type 0
 RefusesBuild p limit r (error.Document e) = ⊥
 RefusesBuild p limit r (error.Registry e) = ⊥
 RefusesBuild p limit r (error.Root e) = (cause : LookupCause) × (lookup r.documents r.base r.reference ≡ Err cause) × NamesLookup cause e
 RefusesBuild p limit r (error.Schema e) =
     (target : Target) × Finds r target
-    × (IsExceeded r.documents p.makes (site_of_root r target) limit e ⊎ ((cause : rows.BuildCause) × NamesCause cause e × IsCauseOf r.documents p.makes (site_of_root r target) cause))
+    × (IsExceeded r.documents p.makes (site_of_root r target) limit e ⊎ IsNearest r.documents p.makes (site_of_root r target ∷ []) e)
 RefusesBuild p limit r (error.MetaSchema e) = ⊥
 RefusesBuild p limit r error.Memory = Unit {0}
 

@@ -3,7 +3,7 @@
 ghost use Rattle.std.specs.Prelude.{◌≡◌, ℕ};
 ghost use Rattle.schema_definitions.specs.Lookup.{Target, lookup};
 ghost use Rattle.document_sources.specs.Causes.{RefusesLookup};
-ghost use Rattle.reached_sites.specs.Causes as reached;
+ghost use Rattle.compiled_graphs.specs.Nearest.{RefusesNearest};
 ghost use Rattle.schema_registries.specs.Roots.{Root, Patterns, Finds, site_of_root};
 ghost use Rattle.schema_validators.specs.Refused.{IsOfRegistry, RefusesBuild};
 ghost use Rattle.schema_validators.specs.New.{IsOfDocument};
@@ -116,10 +116,10 @@ impl BuildError {
         }
     }
 
-    /// The error of a root that leads to a cause, or to too much.
+    /// The error of a root that leads to a cause, the nearest one, or to too much.
     pub(crate) fn of_schema(cause: BuildCause) -> BuildError
         ensures { (p : Patterns) (limit : ℕ) (root : Root) (target : Target) → Finds root target
-            → reached.RefusesWithin root.documents p.makes (site_of_root root target) limit cause
+            → RefusesNearest root.documents p.makes (site_of_root root target) limit cause
             → RefusesBuild p limit root result }
     {
         match cause {

@@ -280,8 +280,8 @@ impl<P: PatternMaker + Drop, R: Drop> ValidationOptions<P, R> {
     /// # Errors
     ///
     /// Where the reference leads nowhere, where something is wrong at a schema reached from there, a pattern that the maker refuses among
-    /// it, where more compile keys are reached than the limit, where the root's meta-schema refuses its value or is not read for such a
-    /// reason, or want of memory.
+    /// it (of several causes one to which no more steps lead than to any other), where more compile keys are reached than the limit, where
+    /// the root's meta-schema refuses its value or is not read for such a reason, or want of memory.
     pub fn build_on(
         &self,
         registry: &SchemaRegistry,
