@@ -29,7 +29,10 @@ fn json(rt: &impl Abort, alloc: Global, text: &str) -> Value
 
 fn assert_said(rt: &impl Abort, alloc: Global, said: Result<String, BuildError>, want: &str) {
     match said {
-        Ok(text) => assert_eq!(rt; text.as_str().trim_end(), want),
+        Ok(text) => {
+            let line = format!(in alloc; "{want}\n").expect(rt, "memory");
+            assert_eq!(rt; text.as_str(), line.as_str());
+        }
         Err(error) => {
             let text = format!(in alloc; "{error}").expect(rt, "memory");
             assert_eq!(rt; text.as_str(), want);
@@ -213,6 +216,19 @@ fn no_room_inside(rt: HostRuntime) {
         alloc,
         &Row {
             root: r##"{"$id":"http://a.test/root.json","type":"array","minItems":2,"items":{"$ref":"leaf.json"},"$defs":{"leaf":true}}"##,
+            moved: LEAF,
+            fresh: "leaf",
+            instance: "[1]",
+            added: FAULTS,
+            retrieved: FAULTS,
+            inside: "Keyword value at 'http://a.test/root.json#/$defs': expected fresh name",
+        },
+    );
+    assert_row(
+        &rt,
+        alloc,
+        &Row {
+            root: r##"{"$id":"http://a.test/root.json","type":"array","minItems":2,"items":{"$ref":"leaf.json"},"$defs":5}"##,
             moved: LEAF,
             fresh: "leaf",
             instance: "[1]",
