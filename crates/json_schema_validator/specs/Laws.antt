@@ -76,7 +76,8 @@ BearApart m = (uri : List ℕ) → is_some (bearer (root_alone (pair_of m)) uri)
 abbrev pub CanMoveAsKept : Moving → Draft → Data → Type 0
 CanMoveAsKept m draft whole = rises (view m.root.now) ≡ true → CanMove (pair_of m) draft whole
 
--- or by what the two tell of meta-schemas nothing is borne twice: with the other added, or inside, where the one can be moved into the other; then none is
+-- no URI is borne by both; or by what the two tell of meta-schemas nothing is borne twice, with the other added, or with it inside, where it can be moved:
+-- then none is
 abbrev pub ShareNone : Moving → Type 0
 ShareNone m =
     BearApart m
