@@ -25,7 +25,6 @@ use schema_reports::heard::all_heard;
 use schema_reports::{
     AllFaults, ErrorIterator, FirstFault, Observer, ValidationError, ValidationErrorKind,
 };
-use schema_steps::Path;
 use serde_json::Value;
 use std::alloc::{AllocError, Global};
 
@@ -148,28 +147,30 @@ fn unfinished<'i>(
     Ok(error.standing_in(stand.location, true))
 }
 
-// The error of the first match that stays unfinished of those that are asked for, in the order of the keywords and of what they ask.
+// The error of the first match that stays unfinished of those that are asked for, in the order of the keywords and of what they ask, where
+// a run was stopped by one. The walk asks all that a run asks, and a match that stays unfinished does so each time: so it stops as well,
+// at that match or before it, and where it remembers none it was for want of memory.
 fn first_unfinished<'i, K: Validate, M: PatternMatcher>(
     alloc: Global,
     graph: &Graph<K>,
     start: usize,
     table: &PatternTable<M>,
     value: &'i Value,
-) -> Result<Option<ValidationError<'i>>, AllocError>
+) -> Result<ValidationError<'i>, AllocError>
     requires known { KnowsTable K.knows graph.now.nodes.items table.now }
     requires forms { AreForms M.finds table.now }
     requires there { start < length graph.now.nodes.items }
-    ensures { IfOk result (λ found. IfSome found (IsUnfinishedOpen K.shape graph.now.nodes.items start
-        (view value.now) (matches_with M.finds table.now []))) }
+    ensures { IfOk result (IsUnfinishedOpen K.shape graph.now.nodes.items start
+        (view value.now) (matches_with M.finds table.now [])) }
 {
     let mut matching = Assumed::new(alloc, graph, start, value, table, &[]);
     let mut questions = Vec::new(alloc);
     let Some(stand) = seek(alloc, graph, start, value, &mut matching, &mut questions)? else {
-        return Ok(None);
+        return Err(AllocError);
     };
     match matching.into_stopped() {
-        Some(stopped) => Ok(Some(unfinished(alloc, stand, stopped.pattern)?)),
-        None => Ok(None),
+        Some(stopped) => unfinished(alloc, stand, stopped.pattern),
+        None => Err(AllocError),
     }
 }
 
@@ -180,13 +181,13 @@ fn tell_open<'i, K: Validate, M: PatternMatcher>(
     start: usize,
     table: &PatternTable<M>,
     value: &'i Value,
-    stopped: UnfinishedMatch,
+    _stopped: UnfinishedMatch,
 ) -> Result<Vec<ValidationError<'i>>, AllocError>
     requires known { KnowsTable K.knows graph.now.nodes.items table.now }
     requires forms { AreForms M.finds table.now }
     requires there { start < length graph.now.nodes.items }
     requires stop { IsStop (asked_from (start_at K.shape graph.now.nodes.items start (view value.now))
-        (matches_with M.finds table.now [])) (string_bytes stopped.pattern) (string_bytes stopped.text) }
+        (matches_with M.finds table.now [])) (string_bytes _stopped.pattern) (string_bytes _stopped.text) }
     ensures each { IfOk result (λ es. IsCertain K.shape graph.now.nodes.items start (view value.now)
         (matches_with M.finds table.now []) (faults_of es.items)) }
     ensures proper { IfOk result (λ es. are_proper es.items ≡ true) }
@@ -200,19 +201,7 @@ fn tell_open<'i, K: Validate, M: PatternMatcher>(
     if !shared.is_empty() {
         return Ok(shared);
     }
-    let error = match first_unfinished(alloc, graph, start, table, value)? {
-        Some(error) => error,
-        None => {
-            let stand = Stand {
-                value,
-                instance: Path::root(),
-                schema: graph.nodes[start].schema_path.clone()?,
-                evaluation: Path::root(),
-                location: graph.nodes[start].location.clone()?,
-            };
-            unfinished(alloc, stand, stopped.pattern)?
-        }
-    };
+    let error = first_unfinished(alloc, graph, start, table, value)?;
     Ok(vec![in alloc; error]?)
 }
 

@@ -153,3 +153,52 @@ fn a_matcher_without_memory(rt: HostRuntime) {
     let other = json(&rt, alloc, "1");
     assert!(rt; validator.iter_errors(&other).is_ok());
 }
+
+// A matcher that gives up on each match, or that has no memory for any, and what makes it: it has none for one pattern.
+#[derive(Drop)]
+struct Poor {
+    is_starved: bool,
+}
+
+impl PatternMatcher for Poor {
+    ghost finds = { λ _ text. None };
+
+    fn is_match(&self, _text: &str) -> MatchAnswer {
+        if self.is_starved {
+            MatchAnswer::NoMemory
+        } else {
+            MatchAnswer::Unfinished
+        }
+    }
+}
+
+#[derive(Drop)]
+struct PoorMaker;
+
+impl PatternMaker for PoorMaker {
+    type Matcher = Poor;
+
+    ghost patterns = { λ _. record { makes = λ pattern. true; finished = λ pattern text. None } };
+
+    fn make(&self, _alloc: Global, pattern: &str) -> Result<Poor, PatternError> {
+        Ok(Poor {
+            is_starved: pattern == "st.rved",
+        })
+    }
+}
+
+// No run asks the match that wants memory. The walk to where a match stays unfinished does.
+#[test]
+fn want_of_memory_on_the_way(rt: HostRuntime) {
+    let alloc = rt.alloc();
+    let text =
+        r#"{"allOf":[{"anyOf":[{"type":"string"},{"pattern":"st.rved"}]},{"pattern":"op.n"}]}"#;
+    let schema = Value::from_str(alloc, text).expect(&rt, "JSON");
+    let validator = Validator::new(alloc, schema, PoorMaker).expect(&rt, "a validator");
+    let value = json(&rt, alloc, "\"abc\"");
+    assert!(rt; !validator.is_valid(&value).expect(&rt, "memory"));
+    assert!(rt; validator.iter_errors(&value).is_err());
+    assert!(rt; validator.validate(&value).is_err());
+    let other = json(&rt, alloc, "1");
+    assert!(rt; validator.iter_errors(&other).is_ok());
+}

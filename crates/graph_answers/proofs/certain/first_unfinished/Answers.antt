@@ -1,4 +1,5 @@
 use Rattle.std.proofs.Common.{◌∙◌, string_bytes, ap, subst}
+use Rattle.std.proofs.lemmas.Result.{IfOk-weaker}
 use Rattle.serde_json.specs.View.{view}
 use Rattle.graph_answers.specs.Completions.{matches_with, start_at, asked_from, IsStop}
 use Rattle.graph_answers.proofs.CertainLemmas.{open_of_stop}
@@ -19,9 +20,10 @@ returns-in-Some-into_stopped g c =
     ∙ ap (λ v. asked_from (start_at shape nodes c.args.start (view v)) (matches_with finds made.table.now made.assumed.now)) e.value
     ∙ ap (λ x. asked_from (start_at shape nodes c.args.start d) (matches_with finds x made.assumed.now)) e.table
     ∙ ap (λ xs. asked_from (start_at shape nodes c.args.start d) (matches_with finds c.args.table.now xs)) e.assumed in
-    record {
+    IfOk-weaker c.unfinished.result _ _
+    (λ error said. record {
       pattern = p;
       text = t;
       is_open = open_of_stop finds c.args.table.now (start_at shape nodes c.args.start d) p t (subst (λ m. IsStop m p t) (c.seek.ensures.matches ∙ is) c.in-Some-into_stopped.ensures.stop);
-      unfinished = c.in_ok-unfinished-in-Some-into_stopped.ensures;
-    }
+      unfinished = said;
+    }) c.unfinished.ensures

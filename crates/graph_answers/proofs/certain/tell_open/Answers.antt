@@ -1,13 +1,13 @@
-use Rattle.std.proofs.Common.{◌∙◌, ◌⊎◌, [], true≢false, length, inl, inr, IfSome, string_bytes, sym, ap, subst}
+use Rattle.std.proofs.Common.{◌∙◌, ◌⊎◌, [], true≢false, length, inl, inr, string_bytes, sym, ap, subst}
 use Rattle.std.specs.Prelude.{◌==◌}
 use Rattle.std.proofs.lemmas.Bool.{eqb-true}
 use Rattle.serde_json.specs.View.{view}
 use Rattle.schema_reports.specs.Told.{faults_of}
-use Rattle.graph_answers.specs.Certain.{IsCertain, HasShared, MayRefuse, IsUnfinishedOpen}
+use Rattle.graph_answers.specs.Certain.{IsCertain, HasShared, MayRefuse}
 use Rattle.graph_answers.specs.Completions.{matches_with, start_at}
 use Rattle.graph_answers.specs.Runs.{IsDecision, AreSixOpen}
-use Rattle.graph_answers.proofs.CertainLemmas.{certain_none, certain_some, certain_one, has_open_of, open_of_stop, none_listed}
-use Rattle.graph_answers.proofs.certain.tell_open.Goals.{in-Refused, in-Undecided, in-Some, in-None+in_ok-clone-in-None+in_ok-clone-in-None-2+in_ok-error-in-None}
+use Rattle.graph_answers.proofs.CertainLemmas.{certain_none, certain_some, certain_one, has_open_of, none_listed}
+use Rattle.graph_answers.proofs.certain.tell_open.Goals.{in-Refused, in-Undecided}
 use Rattle.graph_answers.proofs.certain.tell_open.Goals as goal
 
 pub returns-in-Accepted-clause-each : goal.returns-in-Accepted-clause-each
@@ -29,7 +29,7 @@ returns-then-not-is_empty-clause-each g c =
     let begin = start_at shape nodes c.args.start d in
     certain_some shape nodes c.args.start d m c.in_ok-shared.shared.items
     (λ e. true≢false (sym (c.if-not-is_empty.ensures ∙ ap (λ n. n == 0) (c.in_ok-shared.shared.ok.0 ∙ ap length e))))
-    c.in_ok-shared.ensures (has_open_of finds c.args.table.now begin (string_bytes c.args.stopped.pattern) (string_bytes c.args.stopped.text) c.requires.stop)
+    c.in_ok-shared.ensures (has_open_of finds c.args.table.now begin (string_bytes c.args._stopped.pattern) (string_bytes c.args._stopped.text) c.requires.stop)
 
 pub returns-clause-each : goal.returns-clause-each
 returns-clause-each g c =
@@ -44,18 +44,6 @@ returns-clause-each g c =
       | in-Refused w ↦ inl (subst (IsDecision shape nodes c.args.start d m) w.in-Refused.is c.in_ok-decide.ensures.cut)
       | in-Undecided w ↦ inr (subst (IsDecision shape nodes c.args.start d m) w.in-Undecided.is c.in_ok-decide.ensures.cut)
     ] in
-    let one : IsUnfinishedOpen shape nodes c.args.start d m c.match-branch-5.error =
-    elim c.match-branch-5.branch [
-      | in-Some w ↦ subst (IsUnfinishedOpen shape nodes c.args.start d m) (sym w.error-is)
-          (subst (λ o. IfSome o (IsUnfinishedOpen shape nodes c.args.start d m)) w.in-Some.is c.in_ok-error.ensures)
-      | in-None+in_ok-clone-in-None+in_ok-clone-in-None-2+in_ok-error-in-None w ↦ subst (IsUnfinishedOpen shape nodes c.args.start d m) (sym w.error-is)
-          (record {
-            pattern = string_bytes c.args.stopped.pattern;
-            text = string_bytes c.args.stopped.text;
-            is_open = open_of_stop finds c.args.table.now begin (string_bytes c.args.stopped.pattern) (string_bytes c.args.stopped.text) c.requires.stop;
-            unfinished = w.in_ok-error-in-None.ensures;
-          })
-    ] in
     let none_left = subst (λ es. HasShared shape nodes c.args.start d m (faults_of es) ⊎ AreSixOpen m begin) (none_listed c.in_ok-shared.shared.items (sym c.in_ok-shared.shared.ok.0 ∙ eqb-true _ _ (sym c.if-not-is_empty.ensures))) c.in_ok-shared.ensures.all in
     subst (λ es. IsCertain shape nodes c.args.start d m (faults_of es)) (sym c.in_ok-vec.ensures.items)
-    (certain_one shape nodes c.args.start d m c.match-branch-5.error refuses one none_left)
+    (certain_one shape nodes c.args.start d m c.in_ok-error.error refuses c.in_ok-error.ensures none_left)
