@@ -11,3 +11,4 @@ pub mod RunCounts
 pub mod Chains
 pub mod RunVerdicts
 pub mod CertainLemmas
+pub mod DecidedRuns

@@ -165,22 +165,23 @@ module _ (m : Matches) (s : Start) where
 
 -- ---- runs, one after another
 
--- so many runs were made, and no more than 63 are made in all
+-- so many runs were made, and no more than 64 are made in all
 pub record AreFew (m : Matches) (s : Start) (made : ℕ) (xs : List AssumedMatch) : Type 0 where
   pub few : length xs ≤ 5
-  pub runs : made + to_come xs ≤ 63
+  pub runs : made + to_come xs ≤ 64
   pub are_open : AreOpen m s (met xs)
 
 pub record Counts (m : Matches) (s : Start) (made : ℕ) (xs : List AssumedMatch) : Type 0 where
   pub either : AreSixOpen m s ⊎ AreFew m s made xs
 
-pub begun : (m : Matches) (s : Start) → Counts m s 0 []
-begun m s = record { either = inr (record { few = omega arith; runs = omega arith; are_open = record { apart = tt; each = λ pattern text i. elim i [ ] } }) }
+-- nothing is assumed at first, and not after a run whose stop is met again
+pub begun : (m : Matches) (s : Start) (made : ℕ) → made ≤ 1 → Counts m s made []
+begun m s made soon = record { either = inr (record { few = omega arith; runs = omega (arith, soon); are_open = record { apart = tt; each = λ pattern text i. elim i [ ] } }) }
 
 pub at_the_end : (m : Matches) (s : Start) (made : ℕ) (xs : List AssumedMatch) → 64 ≤ made → Counts m s made xs → AreSixOpen m s
 at_the_end m s made xs many c = elim c.either [
   | inl six ↦ six
-  | inr few ↦ absurd (let runs = few.runs in omega (arith, runs))
+  | inr few ↦ absurd (let runs = few.runs in let one = one_run (length xs) in omega (arith, runs, one))
 ]
 
 below_five : (n : ℕ) → n ≤ 5 → (n < 5) ⊎ (n ≡ 5)

@@ -24,8 +24,8 @@ use Rattle.schema_engine.specs.declared.node.Node.{Node}
 use Rattle.graph_answers.specs.Answers.{keys_below, IsDecided, AreSame}
 use Rattle.graph_answers.specs.Completions.{start_at, asked_from, IsStop}
 use Rattle.graph_answers.specs.Runs.{verdict_in, IsOpen, AreSixOpen}
-use Rattle.graph_answers.specs.declared.certain.Telling.{Telling}
-use Rattle.graph_answers.specs.declared.certain.Telling.TheVariants as telling
+use Rattle.graph_answers.specs.declared.telling.Telling.{Telling}
+use Rattle.graph_answers.specs.declared.telling.Telling.TheVariants as telling
 
 -- some match is asked for, and nothing is known of it
 pub record HasOpen (m : Matches) (s : Start) : Type 0 where

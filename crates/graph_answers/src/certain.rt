@@ -6,17 +6,19 @@ ghost use Rattle.error_kinds.specs.Floats.{fault_has_float};
 ghost use Rattle.schema_reports.specs.Stands.{is_one_of};
 ghost use Rattle.schema_reports.specs.Told.{faults_of, are_proper};
 ghost use Rattle.graph_answers.specs.Answers.{IsVerdict, IsCertified};
-ghost use Rattle.graph_answers.specs.Certain.{IsTelling, IsAccepting, IsCertain, AreShared};
+ghost use Rattle.graph_answers.specs.Certain.{IsAccepting, IsCertain, AreShared};
 ghost use Rattle.graph_answers.specs.Certain.{IsUnfinished, IsUnfinishedOpen, IsFirst};
 ghost use Rattle.graph_answers.specs.Certain.{AreThoseFaults, HaveThoseCertificates, IsOneOfThose};
 ghost use Rattle.graph_answers.specs.Completions.{matches_with, asked_from, start_at, IsStop};
 ghost use Rattle.graph_answers.specs.Linking.{KnowsTable};
+ghost use Rattle.graph_answers.specs.Runs.{IsDecision};
 ghost use Rattle.graph_answers.specs.Tables.{AreForms};
+ghost use Rattle.graph_answers.specs.declared.runs.Decision.TheVariants as decisions;
 
 use crate::assumed::{Assumed, AssumedMatch, UnfinishedMatch};
-use crate::runs::{Decision, RUNS, Run, decide, run_once, turn_last};
+use crate::runs::{Decision, RUNS, Run, assume_each, run_once, turn_last};
 use crate::seeking::{Stand, seek};
-use engine_faults::tell::tell;
+use crate::telling::{Telling, tell_once};
 use error_kinds::keep_shared;
 use schema_engine::graph::Graph;
 use schema_engine::validate::Validate;
@@ -27,48 +29,6 @@ use schema_reports::{
 };
 use serde_json::Value;
 use std::alloc::{AllocError, Global};
-
-// What a run by what is assumed tells: each fault, which an observer was told of, or the match at which it stopped.
-#[derive(Drop)]
-pub(crate) enum Telling<'i> {
-    Told(Observer<'i>),
-    Stopped(UnfinishedMatch),
-}
-
-// What a run tells an observer by what is assumed.
-fn tell_once<'i, K: Validate, M: PatternMatcher>(
-    alloc: Global,
-    graph: &Graph<K>,
-    start: usize,
-    table: &PatternTable<M>,
-    assumed: &[AssumedMatch],
-    value: &'i Value,
-    mut observer: Observer<'i>,
-) -> Result<Telling<'i>, AllocError>
-    requires known { KnowsTable K.knows graph.now.nodes.items table.now }
-    requires forms { AreForms M.finds table.now }
-    requires there { start < length graph.now.nodes.items }
-    ensures { IfOk result (IsTelling K.shape graph.now.nodes.items start (view value.now)
-        (matches_with M.finds table.now assumed.now) observer.entry) }
-{
-    let mut matching = Assumed::new(alloc, graph, start, value, table, assumed);
-    let mut questions = Vec::new(alloc);
-    match tell(
-        alloc,
-        graph,
-        start,
-        value,
-        &mut matching,
-        &mut questions,
-        &mut observer,
-    ) {
-        Ok(()) => Ok(Telling::Told(observer)),
-        Err(error) => match matching.into_stopped() {
-            Some(stopped) => Ok(Telling::Stopped(stopped)),
-            None => Err(error),
-        },
-    }
-}
 
 // Of the errors of one run more, those that each run before told, if there were any.
 fn narrowed<'i>(
@@ -91,23 +51,51 @@ fn narrowed<'i>(
     }
 }
 
-// Faults that a value has in each completion; none, too, where that takes more runs than are made.
+// What runs that tell give: the faults that a value has in each completion, none where that takes more runs than are made; and what is
+// decided by these runs.
+#[derive(Drop)]
+pub(crate) struct Shared<'i> {
+    errors: Vec<ValidationError<'i>>,
+    decision: Decision,
+}
+
+// What is decided once a run more has told some faults, or none.
+fn decided_by(before: Decision, has_none: bool) -> Decision
+    ensures same { has_none ≡ true → result ≡ before }
+    ensures refused { has_none ≡ false → result ≡ decisions.Refused }
+{
+    if has_none { before } else { Decision::Refused }
+}
+
+// What is told and decided by the runs that follow one that stopped at this match: it was the first of those that are made.
 fn shared_faults<'i, K: Validate, M: PatternMatcher>(
     alloc: Global,
     graph: &Graph<K>,
     start: usize,
     table: &PatternTable<M>,
     value: &'i Value,
-) -> Result<Vec<ValidationError<'i>>, AllocError>
+    stopped: UnfinishedMatch,
+) -> Result<Shared<'i>, AllocError>
     requires known { KnowsTable K.knows graph.now.nodes.items table.now }
     requires forms { AreForms M.finds table.now }
     requires there { start < length graph.now.nodes.items }
-    ensures { IfOk result (λ es. AreShared K.shape graph.now.nodes.items start (view value.now)
-        (matches_with M.finds table.now []) es.items) }
+    requires stop { IsStop (asked_from (start_at K.shape graph.now.nodes.items start (view value.now))
+        (matches_with M.finds table.now [])) (string_bytes stopped.pattern) (string_bytes stopped.text) }
+    ensures shared { IfOk result (λ s. AreShared K.shape graph.now.nodes.items start (view value.now)
+        (matches_with M.finds table.now []) s.errors.items) }
+    ensures decided { IfOk result (λ s. IsDecision K.shape graph.now.nodes.items start (view value.now)
+        (matches_with M.finds table.now []) s.decision) }
 {
-    let mut assumed = Vec::new(alloc);
+    let mut assumed = vec![in alloc;
+        AssumedMatch {
+            pattern: stopped.pattern,
+            text: stopped.text,
+            is_match: false,
+        },
+    ]?;
     let mut shared = None;
-    for made in 0..RUNS {
+    let mut decision = Decision::Accepted;
+    for made in 1..RUNS {
         let all = Observer::All(AllFaults::new(alloc));
         match tell_once(alloc, graph, start, table, assumed.as_slice(), value, all)? {
             Telling::Stopped(stopped) => assumed.push(AssumedMatch {
@@ -116,15 +104,23 @@ fn shared_faults<'i, K: Validate, M: PatternMatcher>(
                 is_match: false,
             })?,
             Telling::Told(observer) => {
-                let kept = narrowed(shared, all_heard(alloc, observer));
+                let errors = all_heard(alloc, observer);
+                decision = decided_by(decision, errors.is_empty());
+                let kept = narrowed(shared, errors);
                 if !turn_last(&mut assumed)? {
-                    return Ok(kept);
+                    return Ok(Shared {
+                        errors: kept,
+                        decision,
+                    });
                 }
                 shared = Some(kept);
             }
         }
     }
-    Ok(Vec::new(alloc))
+    Ok(Shared {
+        errors: Vec::new(alloc),
+        decision: Decision::Undecided,
+    })
 }
 
 // The error of a match of a pattern that stays unfinished, of a keyword that stands there.
@@ -181,25 +177,25 @@ fn tell_open<'i, K: Validate, M: PatternMatcher>(
     start: usize,
     table: &PatternTable<M>,
     value: &'i Value,
-    _stopped: UnfinishedMatch,
+    stopped: UnfinishedMatch,
 ) -> Result<Vec<ValidationError<'i>>, AllocError>
     requires known { KnowsTable K.knows graph.now.nodes.items table.now }
     requires forms { AreForms M.finds table.now }
     requires there { start < length graph.now.nodes.items }
     requires stop { IsStop (asked_from (start_at K.shape graph.now.nodes.items start (view value.now))
-        (matches_with M.finds table.now [])) (string_bytes _stopped.pattern) (string_bytes _stopped.text) }
+        (matches_with M.finds table.now [])) (string_bytes stopped.pattern) (string_bytes stopped.text) }
     ensures each { IfOk result (λ es. IsCertain K.shape graph.now.nodes.items start (view value.now)
         (matches_with M.finds table.now []) (faults_of es.items)) }
     ensures proper { IfOk result (λ es. are_proper es.items ≡ true) }
 {
-    match decide(alloc, graph, start, table, value)? {
+    let shared = shared_faults(alloc, graph, start, table, value, stopped)?;
+    if !shared.errors.is_empty() {
+        return Ok(shared.errors);
+    }
+    match shared.decision {
         Decision::Accepted => return Ok(Vec::new(alloc)),
         Decision::Refused => {}
         Decision::Undecided => {}
-    }
-    let shared = shared_faults(alloc, graph, start, table, value)?;
-    if !shared.is_empty() {
-        return Ok(shared);
     }
     let error = first_unfinished(alloc, graph, start, table, value)?;
     Ok(vec![in alloc; error]?)
@@ -207,7 +203,8 @@ fn tell_open<'i, K: Validate, M: PatternMatcher>(
 
 /// Whether a value is accepted from a node of a graph on, however its unfinished matches are answered.
 ///
-/// One run is all where each match that it asks for finishes. Else there are 64 more at most.
+/// One run is all where each match that it asks for finishes. Else there are 64 in all at most; a value that is not decided by them is
+/// not accepted.
 ///
 /// # Errors
 ///
@@ -229,7 +226,7 @@ pub fn accepts_certain<K: Validate, M: PatternMatcher>(
 {
     match run_once(alloc, graph, start, table, &[], value)? {
         Run::Answered(verdict) => Ok(verdict),
-        Run::Stopped(_stopped) => match decide(alloc, graph, start, table, value)? {
+        Run::Stopped(_stopped) => match assume_each(alloc, graph, start, table, value)? {
             Decision::Accepted => Ok(true),
             Decision::Refused => Ok(false),
             Decision::Undecided => Ok(false),
@@ -240,12 +237,12 @@ pub fn accepts_certain<K: Validate, M: PatternMatcher>(
 /// The faults that a value has from a node of a graph on, however its unfinished matches are answered, in the order in which they are met:
 /// those that each way to answer them tells; or, where it is not accepted by each and no such fault is known, one `UnfinishedMatch`.
 ///
-/// One run is all where each match that it asks for finishes: then they are all of its faults. Else there are 64 more to decide whether
-/// it is accepted, and where it is not 64 more to tell.
+/// One run is all where each match that it asks for finishes: then they are all of its faults. Else there are 64 in all at most, and where
+/// an `UnfinishedMatch` is told, the match is sought by a walk to all that questions lead to.
 ///
 /// # Errors
 ///
-/// Where memory was refused or a count of owners is full.
+/// Where memory was refused, as it may be for a match that only this walk asks, or a count of owners is full.
 pub fn tell_certain<'i, K: Validate, M: PatternMatcher>(
     alloc: Global,
     graph: &Graph<K>,

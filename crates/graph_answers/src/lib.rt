@@ -9,3 +9,4 @@ pub mod direct;
 pub mod lookup;
 pub mod runs;
 pub mod seeking;
+mod telling;

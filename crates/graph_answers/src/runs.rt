@@ -8,6 +8,7 @@ ghost use Rattle.graph_answers.specs.Runs.{is_behind, is_left, IsRun, IsTurned, 
 ghost use Rattle.graph_answers.specs.Tables.{AreForms};
 
 use crate::assumed::{Assumed, AssumedMatch, UnfinishedMatch};
+use crate::telling::judge_once;
 use schema_engine::accepts::accepts;
 use schema_engine::graph::Graph;
 use schema_engine::validate::Validate;
@@ -81,9 +82,10 @@ pub(crate) fn turn_last(assumed: &mut Vec<AssumedMatch>) -> Result<bool, AllocEr
     Ok(false)
 }
 
-// What is decided of a value: a run stops at the first match that is neither finished nor assumed, and is begun again with that one
-// assumed no, then yes.
-fn assume_each<K: Validate, M: PatternMatcher>(
+// What is decided of a value by the runs that follow one that stopped, which was the first of those that are made. A run stops at the first
+// match that is neither finished nor assumed, and is begun again with that one assumed no, then yes. As long as none refuses they ask what
+// runs ask that tell all faults, so that both give up on the same values.
+pub(crate) fn assume_each<K: Validate, M: PatternMatcher>(
     alloc: Global,
     graph: &Graph<K>,
     start: usize,
@@ -97,8 +99,8 @@ fn assume_each<K: Validate, M: PatternMatcher>(
         (matches_with M.finds table.now [])) }
 {
     let mut assumed = Vec::new(alloc);
-    for made in 0..RUNS {
-        match run_once(alloc, graph, start, table, assumed.as_slice(), value)? {
+    for made in 1..RUNS {
+        match judge_once(alloc, graph, start, table, assumed.as_slice(), value)? {
             Run::Stopped(stopped) => assumed.push(AssumedMatch {
                 pattern: stopped.pattern,
                 text: stopped.text,
@@ -117,6 +119,8 @@ fn assume_each<K: Validate, M: PatternMatcher>(
 
 /// What is decided of a value from a node of a graph on: whether it is accepted however its unfinished matches are answered.
 ///
+/// One run is all where each match that it asks for finishes. Else there are 64 in all at most.
+///
 /// # Errors
 ///
 /// Where memory was refused.
@@ -134,5 +138,9 @@ pub fn decide<K: Validate, M: PatternMatcher>(
         (matches_with M.finds table.now [])) }
     ensures verdict { IfOk result (IsVerdictOf K.shape M.finds graph.now.nodes.items table.now start (view value.now)) }
 {
-    assume_each(alloc, graph, start, table, value)
+    match run_once(alloc, graph, start, table, &[], value)? {
+        Run::Answered(true) => Ok(Decision::Accepted),
+        Run::Answered(false) => Ok(Decision::Refused),
+        Run::Stopped(_stopped) => assume_each(alloc, graph, start, table, value),
+    }
 }

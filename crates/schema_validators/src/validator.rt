@@ -111,7 +111,7 @@ impl<M: PatternMatcher> Validator<M> {
     ///
     /// Its numbers are whole numbers of 64 bits, as `has_only_whole` tells; `check_json` tests that by itself. It stops as soon as that is
     /// decided, and takes no memory but for one stack of questions. A value at which references come back to where they were is read as
-    /// the cut reading does: the return is accepted. Where a match stays unfinished there are up to 64 runs more, by what is assumed of such
+    /// the cut reading does: the return is accepted. Where a match stays unfinished there are up to 64 runs in all, by what is assumed of such
     /// matches; a value that is not decided by them is not accepted.
     ///
     /// # Errors
@@ -267,11 +267,11 @@ impl<M: PatternMatcher> Validator<M> {
     /// Its numbers are whole numbers of 64 bits, as `has_only_whole` tells. All faults are gathered before the first is given, each with its
     /// three paths written out. Each application of `required` at the root, below keywords that tell what their subschemas tell, and below the
     /// `then` or `else` that is asked, tells each name that it lists and the value lacks. Where a match stays unfinished there are up to
-    /// 64 runs more for the verdict, and 64 for the faults.
+    /// 64 runs in all, and a walk for where it is asked if an `UnfinishedMatch` is told.
     ///
     /// # Errors
     ///
-    /// Where memory was refused or a count of owners is full.
+    /// Where memory was refused, as it may be for a match that only this walk asks, or a count of owners is full.
     pub fn iter_errors<'i>(&self, value: &'i Value) -> Result<ErrorIterator<'i>, AllocError>
         requires whole { only_whole (view value.now) ≡ true }
         ensures each { IfOk result (λ errors. TellsBy self.now (view value.now) (faults_of (errors_left errors))) }

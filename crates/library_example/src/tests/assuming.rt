@@ -7,11 +7,12 @@ ghost use Rattle.json_schema_validator.specs.Numbers.{only_whole};
 use crate::tests::answers::{listed, why};
 use crate::tests::cases::assert_cases;
 use crate::tests::given::{json, setting};
-use crate::tests::patterns::script_of;
+use crate::tests::patterns::{said, script_of};
 use json_schema_validator::{PatternError, PatternMaker, ValidationError, Validator};
 use schema_patterns::{MatchAnswer, PatternMatcher};
 use serde_json::Value;
 use std::alloc::Global;
+use std::cell::Cell;
 use std::process::Abort;
 
 // The path of the instance, the two in the schema, and the kind.
@@ -201,4 +202,89 @@ fn want_of_memory_on_the_way(rt: HostRuntime) {
     assert!(rt; validator.validate(&value).is_err());
     let other = json(&rt, alloc, "1");
     assert!(rt; validator.iter_errors(&other).is_ok());
+}
+
+// A matcher that gives up on each match, and counts how often it is asked of one text.
+#[derive(Drop)]
+struct Counting<'c> {
+    asked: &'c Cell<usize>,
+}
+
+impl<'c> PatternMatcher for Counting<'c> {
+    ghost finds = { λ _ text. None };
+
+    fn is_match(&self, text: &str) -> MatchAnswer {
+        if text == "first" {
+            self.asked.set(self.asked.get().wrapping_add(1));
+        }
+        MatchAnswer::Unfinished
+    }
+}
+
+#[derive(Drop)]
+struct CountingMaker<'c> {
+    asked: &'c Cell<usize>,
+}
+
+impl<'c> PatternMaker for CountingMaker<'c> {
+    type Matcher = Counting<'c>;
+
+    ghost patterns = { λ _. record { makes = λ pattern. true; finished = λ pattern text. None } };
+
+    fn make(&self, _alloc: Global, _pattern: &str) -> Result<Counting<'c>, PatternError> {
+        Ok(Counting { asked: self.asked })
+    }
+}
+
+// What is answered of a value by each call, and how often that call asked the match that it asks first.
+fn counted(
+    rt: &impl Abort,
+    alloc: Global,
+    validator: &Validator<Counting<'_>>,
+    asked: &Cell<usize>,
+    input: &str,
+) -> String {
+    let value = json(rt, alloc, input);
+    let is_valid = validator.is_valid(&value).expect(rt, "memory");
+    let by_verdict = asked.take();
+    let decision = said(validator.decide(&value).expect(rt, "memory"));
+    let by_decision = asked.take();
+    let mut errors = validator.iter_errors(&value).expect(rt, "memory");
+    let has_none = errors.next().is_none();
+    let by_errors = asked.take();
+    let has_no_first = validator.validate(&value).expect(rt, "memory").is_ok();
+    let by_first = asked.take();
+    format!(in alloc;
+        "{is_valid} {by_verdict}, {decision} {by_decision}, {has_none} {by_errors}, {has_no_first} {by_first}"
+    ).expect(rt, "memory")
+}
+
+const BOTH_ACCEPT: &str =
+    r#"{"additionalProperties":{"if":{"pattern":"op.n"},"then":{"type":"string"},"else":{"type":"string"}}}"#;
+
+// Each run asks the first member's match once. Where each asks five, they are answered in 32 ways, and 31 runs stop before: 63 in all.
+// `is_valid` and `decide` make the run that stopped first once more, and where 64 runs do not decide, `iter_errors` and `validate` ask once
+// more where the match stands.
+#[test]
+fn so_many_runs(rt: HostRuntime) {
+    let alloc = rt.alloc();
+    let asked = Cell::new(0);
+    let schema = Value::from_str(alloc, BOTH_ACCEPT).expect(&rt, "JSON");
+    let maker = CountingMaker { asked: &asked };
+    let validator = Validator::new(alloc, schema, maker).expect(&rt, "a validator");
+    let rows = [
+        (r#"{"x1":"first"}"#, "true 4, accepted 4, true 3, true 3"),
+        (
+            r#"{"x1":"first","x2":"b","x3":"c","x4":"d","x5":"e"}"#,
+            "true 64, accepted 64, true 63, true 63",
+        ),
+        (
+            r#"{"x1":"first","x2":"b","x3":"c","x4":"d","x5":"e","x6":"f"}"#,
+            "false 64, undecided 64, false 65, false 65",
+        ),
+    ];
+    for (input, want) in rows {
+        let got = counted(&rt, alloc, &validator, &asked, input);
+        assert_eq!(rt; got.as_str(), want);
+    }
 }

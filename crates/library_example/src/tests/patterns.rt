@@ -51,7 +51,7 @@ pub(crate) fn scripted(rt: &impl Abort, alloc: Global, case: &str, input: &str) 
     }
 }
 
-fn said(decision: Decision) -> &'static str {
+pub(crate) fn said(decision: Decision) -> &'static str {
     match decision {
         Decision::Accepted => "accepted",
         Decision::Refused => "refused",

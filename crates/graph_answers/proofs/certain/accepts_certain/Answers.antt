@@ -25,7 +25,7 @@ returns-in-Accepted-clause-each g c =
     let m = matches_with finds c.args.table.now [] in
     let begin = start_at g.K.Validate.shape c.args.graph.now.nodes.items c.args.start (view c.args.value.now) in
     let stop = subst (IsRun g.K.Validate.shape c.args.graph.now.nodes.items c.args.start (view c.args.value.now) m) c.in-Stopped.is c.in_ok-verdict.ensures in
-    let accepts = subst (IsDecision g.K.Validate.shape c.args.graph.now.nodes.items c.args.start (view c.args.value.now) m) c.in-Accepted.is c.in_ok-decide-in-Stopped.ensures.cut in
+    let accepts = subst (IsDecision g.K.Validate.shape c.args.graph.now.nodes.items c.args.start (view c.args.value.now) m) c.in-Accepted.is c.in_ok-assume_each-in-Stopped.ensures in
     record {
       either = inr (record {
         has_open = has_open_of finds c.args.table.now begin (string_bytes c.in-Stopped._stopped.pattern) (string_bytes c.in-Stopped._stopped.text) stop;
@@ -33,6 +33,11 @@ returns-in-Accepted-clause-each g c =
         refuses = λ e. absurd (true≢false e);
       });
     }
+
+pub returns-in-Accepted-clause-verdict : goal.returns-in-Accepted-clause-verdict
+returns-in-Accepted-clause-verdict g c =
+    accepting_told g.K.Validate.shape g.M.PatternMatcher.finds c.args.graph.now.nodes.items c.args.table.now c.args.start (view c.args.value.now) c.args.graph.now.sound true
+    (returns-in-Accepted-clause-each g c)
 
 pub returns-in-Accepted-clause-certified : goal.returns-in-Accepted-clause-certified
 returns-in-Accepted-clause-certified g c =
@@ -45,7 +50,7 @@ returns-in-Refused-clause-each g c =
     let m = matches_with finds c.args.table.now [] in
     let begin = start_at g.K.Validate.shape c.args.graph.now.nodes.items c.args.start (view c.args.value.now) in
     let stop = subst (IsRun g.K.Validate.shape c.args.graph.now.nodes.items c.args.start (view c.args.value.now) m) c.in-Stopped.is c.in_ok-verdict.ensures in
-    let refuses = subst (IsDecision g.K.Validate.shape c.args.graph.now.nodes.items c.args.start (view c.args.value.now) m) c.in-Refused.is c.in_ok-decide-in-Stopped.ensures.cut in
+    let refuses = subst (IsDecision g.K.Validate.shape c.args.graph.now.nodes.items c.args.start (view c.args.value.now) m) c.in-Refused.is c.in_ok-assume_each-in-Stopped.ensures in
     record {
       either = inr (record {
         has_open = has_open_of finds c.args.table.now begin (string_bytes c.in-Stopped._stopped.pattern) (string_bytes c.in-Stopped._stopped.text) stop;
@@ -53,6 +58,11 @@ returns-in-Refused-clause-each g c =
         refuses = λ e. inl refuses;
       });
     }
+
+pub returns-in-Refused-clause-verdict : goal.returns-in-Refused-clause-verdict
+returns-in-Refused-clause-verdict g c =
+    accepting_told g.K.Validate.shape g.M.PatternMatcher.finds c.args.graph.now.nodes.items c.args.table.now c.args.start (view c.args.value.now) c.args.graph.now.sound false
+    (returns-in-Refused-clause-each g c)
 
 pub returns-in-Refused-clause-certified : goal.returns-in-Refused-clause-certified
 returns-in-Refused-clause-certified g c =
@@ -65,7 +75,7 @@ returns-clause-each g c =
     let m = matches_with finds c.args.table.now [] in
     let begin = start_at g.K.Validate.shape c.args.graph.now.nodes.items c.args.start (view c.args.value.now) in
     let stop = subst (IsRun g.K.Validate.shape c.args.graph.now.nodes.items c.args.start (view c.args.value.now) m) c.in-Stopped.is c.in_ok-verdict.ensures in
-    let six = subst (IsDecision g.K.Validate.shape c.args.graph.now.nodes.items c.args.start (view c.args.value.now) m) c.in-Undecided.is c.in_ok-decide-in-Stopped.ensures.cut in
+    let six = subst (IsDecision g.K.Validate.shape c.args.graph.now.nodes.items c.args.start (view c.args.value.now) m) c.in-Undecided.is c.in_ok-assume_each-in-Stopped.ensures in
     record {
       either = inr (record {
         has_open = has_open_of finds c.args.table.now begin (string_bytes c.in-Stopped._stopped.pattern) (string_bytes c.in-Stopped._stopped.text) stop;

@@ -10,7 +10,7 @@ use Rattle.schema_engine.specs.Matches.{Answers, completed, none_matched}
 use Rattle.graph_answers.specs.Answers.{answer_by}
 use Rattle.graph_answers.specs.Certain.{faults_in, IsTelling}
 use Rattle.graph_answers.specs.Completions.{matches_with}
-use Rattle.graph_answers.specs.declared.certain.Telling.TheVariants as telling
+use Rattle.graph_answers.specs.declared.telling.Telling.TheVariants as telling
 use Rattle.graph_answers.proofs.CertainLemmas.{faults_by_table, certain_told, certain_certified}
 use Rattle.graph_answers.proofs.Joined.{are_faults, have_certificates}
 use Rattle.graph_answers.proofs.certain.first_certain.Goals as goal

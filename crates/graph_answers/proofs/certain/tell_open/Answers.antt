@@ -17,7 +17,7 @@ returns-in-Accepted-clause-each g c =
     let d = view c.args.value.now in
     let m = matches_with g.M.PatternMatcher.finds c.args.table.now [] in
     subst (λ es. IsCertain shape nodes c.args.start d m (faults_of es)) (sym c.new.ensures.items)
-    (certain_none shape nodes c.args.start d m (subst (IsDecision shape nodes c.args.start d m) c.in-Accepted.is c.in_ok-decide.ensures.cut))
+    (certain_none shape nodes c.args.start d m (subst (IsDecision shape nodes c.args.start d m) c.in-Accepted.is c.in_ok-shared.ensures.decided))
 
 pub returns-then-not-is_empty-clause-each : goal.returns-then-not-is_empty-clause-each
 returns-then-not-is_empty-clause-each g c =
@@ -27,9 +27,9 @@ returns-then-not-is_empty-clause-each g c =
     let d = view c.args.value.now in
     let m = matches_with finds c.args.table.now [] in
     let begin = start_at shape nodes c.args.start d in
-    certain_some shape nodes c.args.start d m c.in_ok-shared.shared.items
-    (λ e. true≢false (sym (c.if-not-is_empty.ensures ∙ ap (λ n. n == 0) (c.in_ok-shared.shared.ok.0 ∙ ap length e))))
-    c.in_ok-shared.ensures (has_open_of finds c.args.table.now begin (string_bytes c.args._stopped.pattern) (string_bytes c.args._stopped.text) c.requires.stop)
+    certain_some shape nodes c.args.start d m c.in_ok-shared.shared.errors.items
+    (λ e. true≢false (sym (c.if-not-is_empty.ensures ∙ ap (λ n. n == 0) (c.in_ok-shared.shared.errors.ok.0 ∙ ap length e))))
+    c.in_ok-shared.ensures.shared (has_open_of finds c.args.table.now begin (string_bytes c.args.stopped.pattern) (string_bytes c.args.stopped.text) c.requires.stop)
 
 pub returns-clause-each : goal.returns-clause-each
 returns-clause-each g c =
@@ -40,10 +40,10 @@ returns-clause-each g c =
     let m = matches_with finds c.args.table.now [] in
     let begin = start_at shape nodes c.args.start d in
     let refuses : MayRefuse shape nodes c.args.start d m =
-    elim c.match-branch-2.branch [
-      | in-Refused w ↦ inl (subst (IsDecision shape nodes c.args.start d m) w.in-Refused.is c.in_ok-decide.ensures.cut)
-      | in-Undecided w ↦ inr (subst (IsDecision shape nodes c.args.start d m) w.in-Undecided.is c.in_ok-decide.ensures.cut)
+    elim c.match-shared.branch [
+      | in-Refused w ↦ inl (subst (IsDecision shape nodes c.args.start d m) w.in-Refused.is c.in_ok-shared.ensures.decided)
+      | in-Undecided w ↦ inr (subst (IsDecision shape nodes c.args.start d m) w.in-Undecided.is c.in_ok-shared.ensures.decided)
     ] in
-    let none_left = subst (λ es. HasShared shape nodes c.args.start d m (faults_of es) ⊎ AreSixOpen m begin) (none_listed c.in_ok-shared.shared.items (sym c.in_ok-shared.shared.ok.0 ∙ eqb-true _ _ (sym c.if-not-is_empty.ensures))) c.in_ok-shared.ensures.all in
+    let none_left = subst (λ es. HasShared shape nodes c.args.start d m (faults_of es) ⊎ AreSixOpen m begin) (none_listed c.in_ok-shared.shared.errors.items (sym c.in_ok-shared.shared.errors.ok.0 ∙ eqb-true _ _ (sym c.if-not-is_empty.ensures))) c.in_ok-shared.ensures.shared.all in
     subst (λ es. IsCertain shape nodes c.args.start d m (faults_of es)) (sym c.in_ok-vec.ensures.items)
     (certain_one shape nodes c.args.start d m c.in_ok-error.error refuses c.in_ok-error.ensures none_left)

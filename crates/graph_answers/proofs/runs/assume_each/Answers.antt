@@ -72,8 +72,8 @@ loop-made-preserved g c =
 pub loop-made-init : goal.loop-made-init
 loop-made-init g c = record {
   left = λ rest e. search rules;
-  counts = subst (Counts (matches_with g.M.PatternMatcher.finds c.args.table.now []) (start_at g.K.Validate.shape c.args.graph.now.nodes.items c.args.start (view c.args.value.now)) 0) (sym c.new-assumed.ensures.items)
-      (begun (matches_with g.M.PatternMatcher.finds c.args.table.now []) _);
+  counts = subst (Counts (matches_with g.M.PatternMatcher.finds c.args.table.now []) (start_at g.K.Validate.shape c.args.graph.now.nodes.items c.args.start (view c.args.value.now)) 1) (sym c.new-assumed.ensures.items)
+      (begun (matches_with g.M.PatternMatcher.finds c.args.table.now []) _ 1 (omega arith));
 }
 
 pub returns : goal.returns

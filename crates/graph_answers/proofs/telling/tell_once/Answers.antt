@@ -9,7 +9,7 @@ use Rattle.graph_answers.specs.Completions.{matches_with, start_at, asked_from, 
 use Rattle.graph_answers.specs.declared.assumed.AssumedMatch.{AssumedMatch}
 use Rattle.graph_answers.proofs.CertainLemmas.{hears_in}
 use Rattle.graph_answers.proofs.Completing.{same_completed}
-use Rattle.graph_answers.proofs.certain.tell_once.Goals as goal
+use Rattle.graph_answers.proofs.telling.tell_once.Goals as goal
 
 pub tell-requires-clause-begin : goal.tell-requires-clause-begin
 tell-requires-clause-begin g c = record {
