@@ -1,6 +1,5 @@
 -- The nearest cause is a cause.
 use Rattle.std.proofs.Common.{ℕ, List, [], ◌∷◌, Bool, subst}
-use Rattle.schema_meaning.specs.Members.{In}
 use Rattle.schema_definitions.specs.Bearers.{Documents}
 use Rattle.schema_definitions.specs.BuildCauses.{Reached, by_keyword, IsCauseOf}
 use Rattle.schema_definitions.specs.BuildCauses as places

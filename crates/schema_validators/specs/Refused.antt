@@ -56,7 +56,7 @@ IsOfRegistry e b = (IsMemory e × (b ≡ error.Memory)) ⊎ ((IsMemory e → ⊥
 
 -- ---- roots
 
--- a root is refused because its reference leads nowhere, for a cause at what is reached from it, none being nearer, or because that is too much
+-- a root is refused because its reference leads nowhere, for a nearest cause at what is reached from it, or because that is too much
 abbrev pub RefusesBuild : Patterns → ℕ → Root → BuildError → Type 0
 RefusesBuild p limit r (error.Document e) = ⊥
 RefusesBuild p limit r (error.Registry e) = ⊥
