@@ -16,3 +16,4 @@ pub mod Entries
 pub mod Rooting
 mod Causing
 mod AbsentLemmas
+mod MisnamedLemmas

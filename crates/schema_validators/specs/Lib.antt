@@ -25,3 +25,4 @@ pub mod Caused
 pub mod AllTold
 pub mod Unknown
 pub mod Absent
+pub mod Misnamed

@@ -173,8 +173,12 @@ fn with_draft(
     })
 }
 
-// The documents of a layer. No value is copied.
-fn in_layer(
+/// The documents of a layer. No value is copied.
+///
+/// # Errors
+///
+/// Where memory was refused, or a count of owners is full.
+pub(crate) fn in_layer(
     alloc: Global,
     given: &[GivenDocument<'static>],
     layer: Layer,

@@ -14,6 +14,7 @@ mod error;
 mod mapping;
 mod meta_faults;
 mod meta_schema;
+mod misnamed;
 mod options;
 mod printing;
 mod unknown;

@@ -11,6 +11,7 @@ ghost use Rattle.schema_registries.specs.Retrieval.{IsPrepared};
 ghost use Rattle.schema_registries.specs.Seen.{documents_given, documents_shared, retrieved_shared, siblings_shared};
 ghost use Rattle.schema_registries.specs.Roots.{Finds, root_on};
 ghost use Rattle.schema_validators.specs.Absent.{NamesAbsent, absent_given};
+ghost use Rattle.schema_validators.specs.Misnamed.{NamesMisnamed, misnamed_given};
 ghost use Rattle.schema_validators.specs.Counted.{IsWithin};
 ghost use Rattle.schema_validators.specs.Made.{IsMadeBy};
 ghost use Rattle.schema_validators.specs.Asked.{IsMet};
@@ -27,6 +28,7 @@ use crate::error::BuildError;
 use crate::mapping::map_at;
 use crate::meta_faults::tell_by_meta_schema;
 use crate::meta_schema::ask_meta_schema;
+use crate::misnamed::{misnamed_alone, misnamed_beside};
 use crate::validator::Validator;
 use crate::validator_map::ValidatorMap;
 use document_sources::layer::Layer;
@@ -266,6 +268,34 @@ impl<P: Drop, R: Drop> ValidationOptions<P, R> {
         match &self.meta_schemas {
             None => absent_alone(alloc, layer, given),
             Some(metas) => absent_beside(alloc, layer, metas.list().documents(), given),
+        }
+    }
+
+    /// Each text of documents that names nothing whatever is given: a `$schema` that counts, an identifier, or the part of a `$ref` before
+    /// its `#`, that is no URI reference, and a `$schema` whose meta-schema waits for itself, or for one that does. Each is a cause with its
+    /// place, its text and what is wrong with it, in the order in which they are met. Those of the meta-schemas are looked at first, by
+    /// themselves, and where they have none those of the documents and of the meta-schemas together. No document is asked of the retriever.
+    /// A meta-schema that each reading of the documents tells anew, for which `prepare` may refuse them too, has no place and is not listed.
+    ///
+    /// It costs about what `prepare` costs where nothing is retrieved, and for each place that waits for its meta-schema a look through all
+    /// places for each meta-schema that is waited for on the way.
+    ///
+    /// # Errors
+    ///
+    /// Where memory was refused, or a count of owners or of layers is full.
+    pub fn misnamed_in(&self, documents: &Documents) -> Result<Vec<BuildCause>, AllocError>
+        ensures listed { IfOk result (λ v. AllZip NamesMisnamed (misnamed_given
+            (meta_schemas_given self.now) (layer_by self.now) (documents_given documents.now)) v.items) }
+    {
+        let (alloc, given) = (self.alloc, documents.list().documents());
+        let layer = Layer {
+            number: 0,
+            draft: self.draft,
+            siblings: self.siblings,
+        };
+        match &self.meta_schemas {
+            None => misnamed_alone(alloc, layer, given),
+            Some(metas) => misnamed_beside(alloc, layer, metas.list().documents(), given),
         }
     }
 }

@@ -31,7 +31,7 @@ pub(crate) fn causes(rt: &impl Abort, alloc: Global, case: &str) -> String {
     or_none(rt, alloc, text)
 }
 
-fn write_absent(rt: &impl Abort, text: &mut String, cause: &BuildCause) {
+fn write_reference(rt: &impl Abort, text: &mut String, cause: &BuildCause) {
     let between = if text.is_empty() { "" } else { "; " };
     match cause {
         BuildCause::Reference {
@@ -43,17 +43,30 @@ fn write_absent(rt: &impl Abort, text: &mut String, cause: &BuildCause) {
     }
 }
 
+fn references(rt: &impl Abort, alloc: Global, causes: &[BuildCause]) -> String {
+    let mut text = String::new(alloc);
+    for cause in causes {
+        write_reference(rt, &mut text, cause);
+    }
+    or_none(rt, alloc, text)
+}
+
 // The references of the documents to what is not at hand.
 pub(crate) fn absent(rt: &impl Abort, alloc: Global, case: &str) -> String {
     let documents = documents_of(rt, alloc, case, "document <");
     let causes = options_of(rt, alloc, case)
         .absent_in(&documents)
         .expect(rt, "memory");
-    let mut text = String::new(alloc);
-    for cause in causes.as_slice() {
-        write_absent(rt, &mut text, cause);
-    }
-    or_none(rt, alloc, text)
+    references(rt, alloc, causes.as_slice())
+}
+
+// The texts of the documents that name nothing, whatever is given.
+pub(crate) fn misnamed(rt: &impl Abort, alloc: Global, case: &str) -> String {
+    let documents = documents_of(rt, alloc, case, "document <");
+    let causes = options_of(rt, alloc, case)
+        .misnamed_in(&documents)
+        .expect(rt, "memory");
+    references(rt, alloc, causes.as_slice())
 }
 
 // Where each fault that the meta-schema of a root tells stands in the root, and the road to it.
@@ -173,6 +186,65 @@ document <http://a.test/r> {"$schema":"http://a.test/m","$ref":"s","items":{"$re
 absent => s at http://a.test/r#/$ref: Resource 'http://a.test/s' is not present and retrieving it failed
 "##;
 
+// Each text at its own place, level by level: a `$schema` where it counts, the identifier by the draft there, a `$ref` up to its `#`. What
+// stands beside a `$schema` that is awaited is not looked at. Meta-schemas are looked at by themselves first.
+const MISNAMED: &str = r##"
+document <http://a.test/r> {"$id":"%","$ref":"a b#/x","items":{"$ref":"#%"},"$defs":{"a":{"$id":"^"},"b":{"$id":"b","$schema":"%zz"},"c":{"$schema":"%","$ref":"r"}}}
+misnamed => % at http://a.test/r#/$id: Invalid URI '%'; a b#/x at http://a.test/r#/$ref: Invalid URI 'a b'; ^ at http://a.test/r#/$defs/a/$id: Invalid URI '^'; %zz at http://a.test/r#/$defs/b/$schema: Invalid URI '%zz'
+build => Invalid URI '%'
+
+document <http://a.test/r> {"$schema":"http://json-schema.org/draft-04/schema#","id":"%","$id":"^","definitions":{"a":{"$ref":"%","id":"^"}}}
+misnamed => % at http://a.test/r#/id: Invalid URI '%'; % at http://a.test/r#/definitions/a/$ref: Invalid URI '%'
+build => Invalid URI '%'
+
+document <http://a.test/r> {"$schema":"%","$id":"r","properties":{"$id":{"const":"%"}}}
+misnamed => % at http://a.test/r#/$schema: Invalid URI '%'
+build => Invalid URI '%'
+
+document <http://a.test/r> {"$id":"r","$ref":"s","properties":{"$id":{"const":"%"}},"const":{"$ref":"%"}}
+misnamed => none
+
+document <http://a.test/c> {"$schema":"http://a.test/c"}
+document <http://a.test/r> {"$id":"%","items":{"$id":"http://a.test/i","$schema":"http://a.test/c#","$ref":"%"}}
+misnamed => http://a.test/c at http://a.test/c#/$schema: Circular meta-schema 'http://a.test/c'; % at http://a.test/r#/$id: Invalid URI '%'; http://a.test/c# at http://a.test/r#/items/$schema: Circular meta-schema 'http://a.test/c'
+absent => none
+build => Circular meta-schema 'http://a.test/c'
+
+document <http://a.test/r> {"$schema":"http://a.test/s"}
+document <http://a.test/s> {"$schema":"http://a.test/r"}
+misnamed => http://a.test/s at http://a.test/r#/$schema: Circular meta-schema 'http://a.test/r'; http://a.test/r at http://a.test/s#/$schema: Circular meta-schema 'http://a.test/s'
+build => Circular meta-schema 'http://a.test/r'
+
+document <http://a.test/r> {"$schema":"http://a.test/s","$id":"%"}
+document <http://a.test/s> {"$schema":"http://a.test/none"}
+misnamed => none
+absent => http://a.test/none at http://a.test/s#/$schema: Unknown meta-schema 'http://a.test/none'
+
+document <http://a.test/r> {"$defs":{"c":{"$id":"c","$schema":"http://a.test/c"}}}
+misnamed => http://a.test/c at http://a.test/r#/$defs/c/$schema: Circular meta-schema 'http://a.test/c'
+absent => http://a.test/c at http://a.test/r#/$defs/c/$schema: Unknown meta-schema 'http://a.test/c'
+
+meta <http://a.test/m> {"$id":"m","$ref":"%"}
+document <http://a.test/r> {"$id":"%"}
+misnamed => % at http://a.test/m#/$ref: Invalid URI '%'
+build => Invalid URI '%'
+
+meta <http://a.test/m> true
+document <http://a.test/r> {"$schema":"http://a.test/m","$ref":"%"}
+misnamed => % at http://a.test/r#/$ref: Invalid URI '%'
+build => Invalid URI '%'
+
+meta <http://a.test/m> {"$schema":"http://a.test/m"}
+document <http://a.test/r> {"$schema":"http://a.test/m"}
+misnamed => http://a.test/m at http://a.test/m#/$schema: Circular meta-schema 'http://a.test/m'
+build => Circular meta-schema 'http://a.test/m'
+
+document <http://a.test/m> {"$schema":"https://json-schema.org/draft/2020-12/schema"}
+document <http://a.test/r> {"$schema":"http://a.test/m","$defs":{"x":{"$schema":"http://json-schema.org/draft-04/schema#","id":"http://a.test/m"}}}
+misnamed => none
+build => Circular meta-schema 'http://a.test/m'
+"##;
+
 // By the draft of each schema, whatever a name begins with; nothing of what is no schema, nor of names that only tell something.
 const UNKNOWN: &str = r##"
 document <http://a.test/r> {"nmae":1,"x-a":1,"title":"t","default":{"nmae":1},"enum":[{"nmae":1}],"properties":{"nmae":{"additionalItems":false}}}
@@ -210,4 +282,9 @@ fn unknown_names(rt: HostRuntime) {
 #[test]
 fn all_absent(rt: HostRuntime) {
     assert_cases(&rt, rt.alloc(), AT_R, ABSENT);
+}
+
+#[test]
+fn all_misnamed(rt: HostRuntime) {
+    assert_cases(&rt, rt.alloc(), AT_R, MISNAMED);
 }
