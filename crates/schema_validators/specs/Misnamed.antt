@@ -12,12 +12,14 @@ use Rattle.schema_definitions.specs.DocumentCauses.{DocumentCause, no_reference,
 use Rattle.schema_definitions.specs.Rows.{Place}
 use Rattle.document_sources.specs.Causes.{NamesDocument}
 use Rattle.document_sources.specs.Given.{Given, documents_by}
+use Rattle.document_index.specs.Awaited.{cause_of}
 use Rattle.document_index.specs.Checked.{unknown_by}
 use Rattle.reached_sites.specs.Places.{place_in}
 use Rattle.reached_sites.specs.declared.cause.BuildCause.{BuildCause}
 use Rattle.reached_sites.specs.declared.cause.BuildCause.TheVariants as cause
 use Rattle.schema_validators.specs.Absent.{first_some}
 use Rattle.schema_validators.specs.Prepared.{documents_alone}
+use Rattle.schema_validators.specs.declared.misnamed.Asked.{Asked}
 
 -- a text that names nothing: where the member stands that has it, the text, and what is wrong with it
 pub record Misnamed : Type 0 where
@@ -88,3 +90,7 @@ NamesMisnamed m _ = ⊥
 -- causes that were told of some, and then of more
 abbrev pub Adds : List Misnamed → List BuildCause → List BuildCause → Type 0
 Adds more old new = (found : List Misnamed) → AllZip NamesMisnamed found old → AllZip NamesMisnamed (found ++ more) new
+
+-- what was asked of a meta-schema that is awaited is why it is not known
+abbrev pub IsAskedIn : Documents → Asked → Type 0
+IsAskedIn docs a = cause_of a.why ≡ unknown_by docs a.uri

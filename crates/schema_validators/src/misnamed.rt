@@ -1,7 +1,7 @@
 //! Texts of documents that name nothing: what is no URI reference, and a `$schema` whose meta-schema waits for itself.
 
-ghost use Rattle.std.specs.Prelude.{◌≡◌, ◌⊎◌, ◌∷◌, [], map, codes, option_map, None, Some, IfOk, OnOk};
-ghost use Rattle.std.specs.List.{AllZip};
+ghost use Rattle.std.specs.Prelude.{◌≡◌, ◌⊎◌, ◌∷◌, [], map, codes, option_map, None, Some, IfOk, IfSome, OnOk};
+ghost use Rattle.std.specs.List.{All, AllZip};
 ghost use Rattle.schema_definitions.specs.Words.{or, text_at};
 ghost use Rattle.schema_definitions.specs.Bearers.{Documents};
 ghost use Rattle.schema_definitions.specs.DocumentCauses.{DocumentCause};
@@ -178,8 +178,64 @@ fn push_circular(
     }
 }
 
+/// Why the meta-schema of a URI is not known.
+#[derive(Drop)]
+pub(crate) struct Asked {
+    pub(crate) uri: Uri,
+    pub(crate) why: Unsettled,
+}
+
+// Why that of a URI is not known, if it was asked.
+fn why_of<'a>(asked: &'a [Asked], uri: &Uri) -> Option<&'a Unsettled>
+    ensures { IfSome result (λ why. (docs : Documents) → All (spec.IsAskedIn docs) asked.now
+        → cause_of why.now ≡ unknown_by docs uri.now) }
+{
+    for one in asked {
+        if one.uri.as_str() == uri.as_str() {
+            return Some(&one.why);
+        }
+    }
+    None
+}
+
+// Asks for the meta-schema that a place awaits, where it was not asked for.
+fn push_asked(
+    alloc: Global,
+    standings: &[Standing<'_>],
+    asked: &mut Vec<Asked>,
+    standing: &Standing<'_>,
+) -> Result<(), AllocError>
+    ensures { OnOk result ((docs : Documents) → AwaitedIn docs (map standing_of standings.now)
+        → All (spec.IsAskedIn docs) asked.old.items → All (spec.IsAskedIn docs) asked.new.items) }
+{
+    let Some(uri) = &standing.place.awaits else {
+        return Ok(());
+    };
+    if why_of(asked.as_slice(), uri).is_some() {
+        return Ok(());
+    }
+    let why = awaited_cause(alloc, standings, uri.clone()?)?;
+    asked.push(Asked {
+        uri: uri.clone()?,
+        why,
+    })?;
+    Ok(())
+}
+
+// Why meta-schemas are not known that places await, each once.
+fn asked_of(alloc: Global, standings: &[Standing<'_>]) -> Result<Vec<Asked>, AllocError>
+    ensures { IfOk result (λ v. (docs : Documents) → AwaitedIn docs (map standing_of standings.now)
+        → All (spec.IsAskedIn docs) v.items) }
+{
+    let mut asked = Vec::new(alloc);
+    for standing in standings {
+        push_asked(alloc, standings, &mut asked, standing)?;
+    }
+    Ok(asked)
+}
+
 // One is pushed where the meta-schema that a place awaits waits for itself, or for one that does.
-fn push_awaiting(
+fn push_anew(
     alloc: Global,
     standings: &[Standing<'_>],
     causes: &mut Vec<BuildCause>,
@@ -194,18 +250,40 @@ fn push_awaiting(
     push_circular(alloc, causes, standing, &why)
 }
 
+// The same, by what was asked.
+fn push_awaiting(
+    alloc: Global,
+    standings: &[Standing<'_>],
+    asked: &[Asked],
+    causes: &mut Vec<BuildCause>,
+    standing: &Standing<'_>,
+    uri: &Uri,
+) -> Result<(), AllocError>
+    ensures { OnOk result ((docs : Documents) → AwaitedIn docs (map standing_of standings.now)
+        → All (spec.IsAskedIn docs) asked.now
+        → spec.Adds (spec.awaiting (standing_of standing.now) (unknown_by docs uri.now))
+        causes.old.items causes.new.items) }
+{
+    match why_of(asked, uri) {
+        Some(why) => push_circular(alloc, causes, standing, why),
+        None => push_anew(alloc, standings, causes, standing, uri),
+    }
+}
+
 fn push_behind(
     alloc: Global,
     standings: &[Standing<'_>],
+    asked: &[Asked],
     causes: &mut Vec<BuildCause>,
     standing: &Standing<'_>,
 ) -> Result<(), AllocError>
     ensures { OnOk result ((docs : Documents) → AwaitedIn docs (map standing_of standings.now)
+        → All (spec.IsAskedIn docs) asked.now
         → spec.Adds (spec.behind_schema (unknown_by docs) (standing_of standing.now)
         (standing_of standing.now).place.awaits) causes.old.items causes.new.items) }
 {
     match &standing.place.awaits {
-        Some(uri) => push_awaiting(alloc, standings, causes, standing, uri),
+        Some(uri) => push_awaiting(alloc, standings, asked, causes, standing, uri),
         None => push_settled(alloc, causes, standing),
     }
 }
@@ -214,10 +292,12 @@ fn push_behind(
 fn push_misnamed(
     alloc: Global,
     standings: &[Standing<'_>],
+    asked: &[Asked],
     causes: &mut Vec<BuildCause>,
     standing: &Standing<'_>,
 ) -> Result<(), AllocError>
     ensures { OnOk result ((docs : Documents) → AwaitedIn docs (map standing_of standings.now)
+        → All (spec.IsAskedIn docs) asked.now
         → spec.Adds (spec.misnamed_at (unknown_by docs) (standing_of standing.now))
         causes.old.items causes.new.items) }
 {
@@ -225,7 +305,7 @@ fn push_misnamed(
     let siblings = place.dialect.siblings;
     let text = schema_in_force(siblings, place.path.is_root(), place.contents);
     push_whole(alloc, causes, standing, "$schema", text)?;
-    push_behind(alloc, standings, causes, standing)
+    push_behind(alloc, standings, asked, causes, standing)
 }
 
 // Those of all places of documents, in the order in which they are met.
@@ -234,9 +314,16 @@ fn misnamed_from(alloc: Global, documents: &[Document<'_>]) -> Result<Vec<BuildC
         (spec.misnamed_in (map document_of documents.now)) v.items) }
 {
     let places = told_standings(alloc, documents)?;
+    let asked = asked_of(alloc, places.as_slice())?;
     let mut causes = Vec::new(alloc);
     for standing in &places {
-        push_misnamed(alloc, places.as_slice(), &mut causes, standing)?;
+        push_misnamed(
+            alloc,
+            places.as_slice(),
+            asked.as_slice(),
+            &mut causes,
+            standing,
+        )?;
     }
     Ok(causes)
 }

@@ -277,8 +277,8 @@ impl<P: Drop, R: Drop> ValidationOptions<P, R> {
     /// themselves, and where they have none those of the documents and of the meta-schemas together. No document is asked of the retriever.
     /// A meta-schema that each reading of the documents tells anew, for which `prepare` may refuse them too, has no place and is not listed.
     ///
-    /// It costs about what `prepare` costs where nothing is retrieved, and for each place that waits for its meta-schema a look through all
-    /// places for each meta-schema that is waited for on the way.
+    /// It costs about what `prepare` costs where nothing is retrieved, and for each meta-schema that places wait for, once, a look through
+    /// all places for each that is waited for on the way.
     ///
     /// # Errors
     ///

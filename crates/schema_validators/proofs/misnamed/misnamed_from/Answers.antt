@@ -1,11 +1,12 @@
-use Rattle.std.proofs.Common.{◌≡◌, ◌∙◌, map, ap, sym, take, subst, arith}
+use Rattle.std.proofs.Common.{◌≡◌, ◌∙◌, List, map, ap, sym, take, subst, arith}
 use Rattle.std.proofs.lemmas.List.{take_all}
-use Rattle.std.specs.List.{AllZip, flat_map}
+use Rattle.std.specs.List.{All, AllZip, flat_map}
 use Rattle.schema_definitions.specs.Bearers.{standings, meta}
 use Rattle.document_index.specs.Checked.{unknown_by}
 use Rattle.document_index.specs.Seen.{document_of, standing_of}
 use Rattle.document_index.proofs.LocatedLemmas.{stand-located}
-use Rattle.schema_validators.specs.Misnamed.{NamesMisnamed, misnamed_at}
+use Rattle.schema_validators.specs.Misnamed.{NamesMisnamed, IsAskedIn, misnamed_at}
+use Rattle.schema_validators.specs.declared.misnamed.Asked.{Asked}
 use Rattle.schema_validators.proofs.MisnamedLemmas.{told-more}
 use Rattle.schema_validators.proofs.misnamed.misnamed_from.Goals as goal
 
@@ -18,9 +19,12 @@ loop-standing-preserved c =
     let i = c.loop-standing.standing-index in
     let seen = c.deref-standing-items.result.now in
     let found = flat_map told (map standing_of (take i seen)) in
+    let there : map standing_of c.as_slice.result.now ≡ standings (meta docs) docs = ap (map standing_of) c.as_slice.ensures.value ∙ stand in
+    let again : map standing_of c.as_slice-in-loop-standing.result.now ≡ standings (meta docs) docs = ap (map standing_of) c.as_slice-in-loop-standing.ensures.value ∙ stand in
+    let known = subst (λ (l : List Asked). All (IsAskedIn docs) l) (sym c.as_slice-in-loop-standing-2.ensures.value) (c.in_ok-asked.ensures docs there) in
     subst (λ l. AllZip NamesMisnamed l c.push_misnamed.new.causes.items)
     (sym (told-more told standing_of seen i c.standing-item.result c.loop-standing-test.true c.standing-item.is))
-    (c.in_ok-push_misnamed.ensures docs (ap (map standing_of) c.as_slice.ensures.value ∙ stand) found c.loop-standing.invariant)
+    (c.in_ok-push_misnamed.ensures docs again known found c.loop-standing.invariant)
 
 pub returns : goal.returns
 returns c =

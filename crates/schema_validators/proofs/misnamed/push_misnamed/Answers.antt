@@ -19,5 +19,5 @@ returns c =
     let first : Adds (of_whole s (codes "$schema") text) old some = subst (λ o. Adds (of_whole s (codes "$schema") o) old some)
     (c.schema_in_force-text.ensures ∙ ap (λ b. schema_in_force s.place.dialect.siblings b s.place.contents) (c.is_root.ensures ∙ root-length s.place.path))
     c.in_ok-push_whole.ensures in
-    on_ok_weaker c.push_behind.result (λ h docs there.
-    adds-both (of_whole s (codes "$schema") text) (behind_schema (unknown_by docs) s s.place.awaits) old some new first (h docs there)) c.push_behind.ensures
+    on_ok_weaker c.push_behind.result (λ h docs there known.
+    adds-both (of_whole s (codes "$schema") text) (behind_schema (unknown_by docs) s s.place.awaits) old some new first (h docs there known)) c.push_behind.ensures
