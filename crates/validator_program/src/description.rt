@@ -7,6 +7,7 @@ use line_runs::{BuildCause, BuildError, DocumentError, Error as ReferenceError, 
 use program_inputs::ProgramWords;
 use schema_reports::ValidationError;
 use std::alloc::{AllocError, Global};
+use uri_references::error::UriError;
 
 /// How many lines the file of `--check` has to have.
 const COUNT: &str = "  the file has a line for each instance, in their order\n";
@@ -118,8 +119,29 @@ fn of_document(
                 said.as_str(),
             )
         }
-        DocumentError::InvalidUri(_) => line_of(alloc, error.description(alloc)?.as_str()),
+        DocumentError::InvalidUri(UriError::Parse { uri } | UriError::Resolve { uri, .. }) => {
+            let said = error.description(alloc)?;
+            of_uri(alloc, words, uri.as_str(), said.as_str())
+        }
         DocumentError::Memory => Ok(String::new(alloc)),
+    }
+}
+
+// The file of a text that is no URI of a document: the one that was given under it, or that of the meta-schemas, one of which has it.
+fn of_uri(
+    alloc: Global,
+    words: &ProgramWords<'_>,
+    uri: &str,
+    said: &str,
+) -> Result<String, AllocError> {
+    for document in given_documents(alloc, words)? {
+        if document.uri == uri {
+            return at_path(alloc, document.file, "", said);
+        }
+    }
+    match words.meta {
+        Some(file) => at_path(alloc, file, "", said),
+        None => line_of(alloc, said),
     }
 }
 

@@ -166,8 +166,9 @@ pub(crate) fn prepare_documents<'a, F: SchemaFiles, T: ByteSink>(
     Ok(PreparedDocuments { options, registry })
 }
 
-// Each reference of the documents to what is not at hand, as an error of its own; nothing where memory is out.
-fn all_absent(
+// Each reference of the documents to what is not at hand, and then each of their texts that names nothing, as an error of its own; nothing
+// where memory is out.
+fn all_unmet(
     alloc: Global,
     options: &ValidationOptions,
     documents: &Documents,
@@ -176,11 +177,28 @@ fn all_absent(
     for cause in options.absent_in(documents).ok()? {
         errors.push(BuildError::Schema(cause)).ok()?;
     }
+    for cause in options.misnamed_in(documents).ok()? {
+        errors.push(BuildError::Schema(cause)).ok()?;
+    }
     Some(errors)
 }
 
-// The fault of documents that are refused together: where more is said than its text, and one that they refer to is not at hand, with each
-// reference to such a one.
+// Whether documents are refused for references in them: to what is not at hand, to more than may be asked for, or to nothing at all.
+fn is_of_references(error: &BuildError) -> bool {
+    matches!(
+        error,
+        BuildError::Registry(
+            Error::Unretrievable { .. }
+                | Error::UnknownSpecification { .. }
+                | Error::RetrievalLimit { .. }
+                | Error::InvalidUri(_)
+                | Error::CircularMetaschema { .. }
+        )
+    )
+}
+
+// The fault of documents that are refused together: where more is said than its text, and they are refused for references, with each such
+// reference.
 fn unprepared<'a>(
     alloc: Global,
     words: &ProgramWords<'a>,
@@ -188,14 +206,10 @@ fn unprepared<'a>(
     documents: &Documents,
     error: BuildError,
 ) -> ProgramFault<'a> {
-    let is_absent = matches!(
-        error,
-        BuildError::Registry(Error::Unretrievable { .. } | Error::UnknownSpecification { .. })
-    );
-    if !(says_more(words) && is_absent) {
+    if !(says_more(words) && is_of_references(&error)) {
         return ProgramFault::from(error);
     }
-    match all_absent(alloc, options, documents) {
+    match all_unmet(alloc, options, documents) {
         Some(causes) => ProgramFault::Schema { error, causes },
         None => ProgramFault::from(error),
     }
