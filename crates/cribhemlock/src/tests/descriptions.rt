@@ -1,5 +1,7 @@
 // What is said of refusals where the output is for people.
-use crate::tests::whole::{Row, SOUND, assert_outcomes};
+use crate::tests::whole::{Row, SOUND, assert_outcomes, assert_told};
+use std::alloc::Global;
+use std::process::Abort;
 
 const WORDS: [Row; 6] = [
     (
@@ -44,7 +46,7 @@ const WORDS: [Row; 6] = [
     ),
 ];
 
-const DOCUMENTS: [Row; 7] = [
+const DOCUMENTS: [Row; 5] = [
     (
         &["plain.json", "u:x=none", "--output", "text"],
         "1\n",
@@ -82,14 +84,69 @@ const DOCUMENTS: [Row; 7] = [
         &["plain.json", "u:x#a=true.json", "--output", "text"],
         "1\n",
         r"2  build refused: Invalid URI 'u:x#a'
-  The text 'u:x#a' is no URI of a document
+  in the file 'true.json': The text 'u:x#a' is no URI of a document
 ",
     ),
+];
+
+// Texts that name nothing, whatever is given.
+const MISNAMED: [Row; 13] = [
     (
         &["astray.json", "--output", "text"],
         "1\n",
+        r#"2  build refused: Invalid URI '%'
+  in the file 'astray.json' at '/$id': The reference "%" is refused: '%' is no URI reference taken here
+"#,
+    ),
+    (
+        &["astray.json"],
+        "1\n",
+        "2  build refused: Invalid URI '%'\n",
+    ),
+    (
+        &["plain.json", "u:x=adrift.json", "--output", "json"],
+        "1\n",
+        r#"2  build refused: Invalid URI 'a b'
+  in the file 'adrift.json' at '/items/$ref': The reference "a b#/x" is refused: 'a b' is no URI reference taken here
+"#,
+    ),
+    (
+        &["amiss.json", "--output", "text"],
+        "1\n",
+        r#"2  build refused: Invalid URI '%'
+  in the file 'amiss.json' at '/$schema': The reference "%" is refused: '%' is no URI reference taken here
+"#,
+    ),
+    (
+        &["fourth.json", "--output", "text"],
+        "1\n",
+        r#"2  build refused: Invalid URI '%'
+  in the file 'fourth.json' at '/id': The reference "%" is refused: '%' is no URI reference taken here
+"#,
+    ),
+    (
+        &["adrift.json", "u:x=astray.json", "--output", "text"],
+        "1\n",
+        r#"2  build refused: Invalid URI 'a b'
+  in the file 'adrift.json' at '/items/$ref': The reference "a b#/x" is refused: 'a b' is no URI reference taken here
+  in the file 'astray.json' at '/$id': The reference "%" is refused: '%' is no URI reference taken here
+"#,
+    ),
+    (
+        &["both.json", "--output", "text"],
+        "1\n",
+        r#"2  build refused: Resource 'u:a' is not present and retrieving it failed
+  in the file 'both.json' at '/allOf/0/$ref': The reference "u:a" is refused: the document 'u:a' is not present
+  in the file 'both.json' at '/$id': The reference "%" is refused: '%' is no URI reference taken here
+  the documents at hand are
+    'json-schema:///' in the file 'both.json'
+"#,
+    ),
+    (
+        &["plain.json", "--meta", "misnamed.json", "--output", "text"],
+        "1\n",
         r"2  build refused: Invalid URI '%'
-  The documents are refused: '%' is no URI reference taken here
+  in the file 'misnamed.json': The text '%' is no URI of a document
 ",
     ),
     (
@@ -100,9 +157,53 @@ const DOCUMENTS: [Row; 7] = [
             "json",
         ],
         "1\n",
-        r"2  build refused: Circular meta-schema 'http://a.test/c'
-  The documents are refused: the meta-schema 'http://a.test/c' waits for itself
-  'http://a.test/c' is in the file 'circle.json'
+        r#"2  build refused: Circular meta-schema 'http://a.test/c'
+  in the file 'circle.json' at '/$schema': The reference "http://a.test/c" is refused: the meta-schema 'http://a.test/c' waits for itself
+"#,
+    ),
+    (
+        &[
+            "plain.json",
+            "http://a.test/c=there.json",
+            "http://a.test/d=back.json",
+            "--output",
+            "text",
+        ],
+        "1\n",
+        r#"2  build refused: Circular meta-schema 'http://a.test/c'
+  in the file 'there.json' at '/$schema': The reference "http://a.test/d" is refused: the meta-schema 'http://a.test/c' waits for itself
+  in the file 'back.json' at '/$schema': The reference "http://a.test/c" is refused: the meta-schema 'http://a.test/d' waits for itself
+"#,
+    ),
+    (
+        &["plain.json", "--meta", "round.json", "--output", "text"],
+        "1\n",
+        r#"2  build refused: Circular meta-schema 'http://a.test/m9'
+  in the file 'round.json' at 'http://a.test/m9#/$schema': The reference "http://a.test/m9" is refused: the meta-schema 'http://a.test/m9' waits for itself
+"#,
+    ),
+    (
+        &["circle.json", "--output", "text"],
+        "1\n",
+        r#"2  build refused: Unknown meta-schema 'http://a.test/c'
+  in the file 'circle.json' at '/$schema': The reference "http://a.test/c" is refused: the meta-schema 'http://a.test/c' is not known
+  in the file 'circle.json' at '/$schema': The reference "http://a.test/c" is refused: the meta-schema 'http://a.test/c' waits for itself
+  a file with a list of meta-schemas is given by --meta
+"#,
+    ),
+    (
+        &[
+            "newest.json",
+            "u:b=turning.json",
+            "--base",
+            "http://a.test/m",
+            "--output",
+            "text",
+        ],
+        "1\n",
+        r"2  build refused: Circular meta-schema 'http://a.test/m'
+  The documents are refused: the meta-schema 'http://a.test/m' waits for itself
+  'http://a.test/m' is in the file 'newest.json'
 ",
     ),
 ];
@@ -329,5 +430,38 @@ build refused: Resource 'u:a' is not present and retrieving it failed
 fn said_of_refusals(rt: HostRuntime) {
     assert_outcomes(&rt, rt.alloc(), &SOUND, &WORDS);
     assert_outcomes(&rt, rt.alloc(), &SOUND, &DOCUMENTS);
+    assert_outcomes(&rt, rt.alloc(), &SOUND, &MISNAMED);
     assert_outcomes(&rt, rt.alloc(), &SOUND, &BUILDS);
+}
+
+// References to more documents that are not there than would be asked for: a schema, and what is told of it.
+fn many_absent(rt: &impl Abort, alloc: Global) -> (String, String) {
+    let mut schema = String::from_str(alloc, "{\"allOf\":[true").expect(rt, "memory");
+    let mut told = String::from_str(
+        alloc,
+        "2  build refused: More than 256 documents wanted\n",
+    ).expect(rt, "memory");
+    for number in 1..258 {
+        write!(schema, ",{{\"$ref\":\"u:{number}\"}}").expect(rt, "memory");
+        write!(
+            told,
+            "  in the file 'many.json' at '/allOf/{number}/$ref': The reference \"u:{number}\" is refused: the document 'u:{number}' is not present\n"
+        )
+        .expect(rt, "memory");
+    }
+    schema.push_str("]}").expect(rt, "memory");
+    told.push_str("  the documents at hand are\n    'json-schema:///' in the file 'many.json'\n")
+        .expect(rt, "memory");
+    (schema, told)
+}
+
+#[test]
+fn more_absent_than_asked_for(rt: HostRuntime) {
+    let alloc = rt.alloc();
+    let (schema, told) = many_absent(&rt, alloc);
+    let (words, file) = (
+        ["many.json", "--output", "text"],
+        ("many.json", schema.as_str()),
+    );
+    assert_told(&rt, alloc, &words, file, told.as_str());
 }

@@ -86,7 +86,19 @@ const REFERENCES: &str =
 // Two references to documents that are not there.
 const LOST: &str = "{\"allOf\":[{\"$ref\":\"u:a\"},{\"$ref\":\"u:b#/x\"}]}";
 
-const FILES: [(&str, &str); 46] = [
+// An identifier that is no URI reference, beside a reference to a document that is not there.
+const BOTH: &str = "{\"$id\":\"%\",\"allOf\":[{\"$ref\":\"u:a\"}]}";
+
+// An identifier by Draft 4 that is no URI reference, and a member that is none there.
+const FOURTH: &str =
+    "{\"$schema\":\"http://json-schema.org/draft-04/schema#\",\"id\":\"%\",\"$id\":\"^\"}";
+
+// A document that names another as its meta-schema, and has a schema of an older draft with that one's URI: each stage of reading them tells
+// another dialect of it.
+const TURNING: &str =
+    "{\"$schema\":\"http://a.test/m\",\"$defs\":{\"x\":{\"$schema\":\"http://json-schema.org/draft-04/schema#\",\"id\":\"http://a.test/m\"}}}";
+
+const FILES: [(&str, &str); 56] = [
     ("root.json", ROOT),
     ("leaf.json", LEAF),
     ("plain.json", "{\"type\":\"string\"}"),
@@ -157,6 +169,22 @@ const FILES: [(&str, &str); 46] = [
         "old.json",
         "{\"items\":[{\"$anchors\":1}],\"additionalItems\":false}",
     ),
+    ("adrift.json", "{\"items\":{\"$ref\":\"a b#/x\"}}"),
+    ("amiss.json", "{\"$schema\":\"%\"}"),
+    ("fourth.json", FOURTH),
+    ("both.json", BOTH),
+    ("there.json", "{\"$schema\":\"http://a.test/d\"}"),
+    ("back.json", "{\"$schema\":\"http://a.test/c\"}"),
+    (
+        "round.json",
+        "[{\"$id\":\"http://a.test/m9\",\"$schema\":\"http://a.test/m9\"}]",
+    ),
+    ("misnamed.json", "[{\"$id\":\"%\"}]"),
+    (
+        "newest.json",
+        "{\"$schema\":\"https://json-schema.org/draft/2020-12/schema\"}",
+    ),
+    ("turning.json", TURNING),
 ];
 
 fn files(rt: &impl Abort, alloc: Global) -> MapFiles {
@@ -173,15 +201,15 @@ fn files(rt: &impl Abort, alloc: Global) -> MapFiles {
 fn outcome(
     rt: &impl Abort,
     alloc: Global,
+    files: &MapFiles,
     words: &[&str],
     input: &str,
     fails: &[Option<usize>; 3],
 ) -> String {
-    let files = files(rt, alloc);
     let mut reader = MemorySource::new(input.as_bytes(), 2, fails[0]);
     let mut writer = MemorySink::new(alloc, 3, fails[1]);
     let mut faults = MemorySink::new(alloc, 5, fails[2]);
-    let status = program(alloc, words, &files, &mut reader, &mut writer, &mut faults);
+    let status = program(alloc, words, files, &mut reader, &mut writer, &mut faults);
     let written = str::from_utf8(writer.as_slice()).expect(rt, "UTF-8");
     let fault = str::from_utf8(faults.as_slice()).expect(rt, "UTF-8");
     format!(in alloc; "{status} {written} {fault}").expect(rt, "memory")
@@ -198,9 +226,27 @@ pub(crate) fn assert_outcomes(
     fails: &[Option<usize>; 3],
     rows: &[Row],
 ) {
+    let files = files(rt, alloc);
     for (words, input, want) in rows {
-        assert_eq!(rt; outcome(rt, alloc, words, input, fails).as_str(), *want);
+        let found = outcome(rt, alloc, &files, words, input, fails);
+        assert_eq!(rt; found.as_str(), *want);
     }
+}
+
+// What comes of words that name a file of that text.
+pub(crate) fn assert_told(
+    rt: &impl Abort,
+    alloc: Global,
+    words: &[&str],
+    file: (&str, &str),
+    want: &str,
+) {
+    let mut files = MapFiles::new(alloc);
+    files
+        .add(alloc, file.0, file.1.as_bytes())
+        .expect(rt, "memory");
+    let found = outcome(rt, alloc, &files, words, "", &SOUND);
+    assert_eq!(rt; found.as_str(), want);
 }
 
 const LINKED: [&str; 4] = [
@@ -398,8 +444,9 @@ fn words_by_clap(rt: HostRuntime) {
             "2  error: unexpected argument",
         ),
     ];
+    let files = files(&rt, alloc);
     for (words, want) in cases {
-        let text = outcome(&rt, alloc, words, "1\n", &SOUND);
+        let text = outcome(&rt, alloc, &files, words, "1\n", &SOUND);
         assert!(rt; text.as_str().starts_with(want), "{text}");
     }
 }
