@@ -109,7 +109,7 @@ fn push_whole(
     }
 }
 
-// One is pushed where a `$ref` leads into no document whatever there is.
+// One is pushed where the part of a `$ref` before its `#` is no URI reference.
 fn push_reference(
     alloc: Global,
     causes: &mut Vec<BuildCause>,

@@ -271,11 +271,11 @@ impl<P: Drop, R: Drop> ValidationOptions<P, R> {
         }
     }
 
-    /// Each text of documents that names nothing whatever is given: a `$schema` that counts, an identifier, or the part of a `$ref` before
-    /// its `#`, that is no URI reference, and a `$schema` whose meta-schema waits for itself, or for one that does. Each is a cause with its
-    /// place, its text and what is wrong with it, in the order in which they are met. Those of the meta-schemas are looked at first, by
-    /// themselves, and where they have none those of the documents and of the meta-schemas together. No document is asked of the retriever.
-    /// A meta-schema that each reading of the documents tells anew, for which `prepare` may refuse them too, has no place and is not listed.
+    /// Each text of documents that names nothing: a `$schema` that counts, an identifier, or the part of a `$ref` before its `#`, that is no
+    /// URI reference, and a `$schema` whose meta-schema waits for itself, or for one that does. Each is a cause with its place, its text and
+    /// what is wrong with it, in the order in which they are met. Those of the meta-schemas are looked at first, by themselves, and where
+    /// they have none those of the documents and of the meta-schemas together. No document is asked of the retriever. A meta-schema that
+    /// each reading of the documents tells anew, for which `prepare` may refuse them too, has no place and is not listed.
     ///
     /// It costs about what `prepare` costs where nothing is retrieved, and for each meta-schema that places wait for, once, a look through
     /// all places for each that is waited for on the way.

@@ -89,7 +89,7 @@ const DOCUMENTS: [Row; 5] = [
     ),
 ];
 
-// Texts that name nothing, whatever is given.
+// Texts that name nothing.
 const MISNAMED: [Row; 13] = [
     (
         &["astray.json", "--output", "text"],

@@ -24,7 +24,7 @@
 //   causes                  all that is wrong with the root, or why that is not listed
 //   refusals                all that the meta-schema of the root finds wrong with it, or why that is not told
 //   absent                  the references of the documents to what is not at hand
-//   misnamed                the texts of the documents that name nothing, whatever is given
+//   misnamed                the texts of the documents that name nothing
 //   unknown URI             the names in a document that are no keywords
 //   alone VALUE             the same, of a document by itself, without options
 //   scripted VALUE          the faults by the script's patterns, or why there is no validator

@@ -60,7 +60,7 @@ pub(crate) fn absent(rt: &impl Abort, alloc: Global, case: &str) -> String {
     references(rt, alloc, causes.as_slice())
 }
 
-// The texts of the documents that name nothing, whatever is given.
+// The texts of the documents that name nothing.
 pub(crate) fn misnamed(rt: &impl Abort, alloc: Global, case: &str) -> String {
     let documents = documents_of(rt, alloc, case, "document <");
     let causes = options_of(rt, alloc, case)
