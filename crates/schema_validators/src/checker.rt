@@ -38,6 +38,19 @@ fn nothing_kept<'v>(alloc: Global, validator: &'v Validator) -> Kept<'v>
     Kept::nothing(alloc, validator.patterns())
 }
 
+impl Validator {
+    /// What answers many values as this validator does, and keeps its searches: [`Checker::new`] of it.
+    ///
+    /// # Errors
+    ///
+    /// Where memory was refused.
+    pub fn checker(&self, alloc: Global) -> Result<Checker<'_>, AllocError>
+        ensures { IfOk result (λ checker. checker.validator.now ≡ self.now) }
+    {
+        Checker::new(alloc, self)
+    }
+}
+
 impl<'v> Checker<'v> {
     ghost use Rattle.schema_validators.specs.Calls.{IsVerdictOf, IsCertifiedOf, AreFaultsOf};
     ghost use Rattle.schema_validators.specs.Calls.{HaveCertificatesOf, TellsMissingOf};

@@ -31,7 +31,7 @@ fn assert_kept(
 fn assert_answers(rt: &impl Abort, alloc: Global, schema: &str, rows: &[(&str, &str)]) {
     let schema = Value::from_str(alloc, schema).expect(rt, "JSON");
     let validator = Validator::new(alloc, schema, RegexMaker).expect(rt, "a validator");
-    let mut checker = Checker::new(alloc, &validator).expect(rt, "memory");
+    let mut checker = validator.checker(alloc).expect(rt, "memory");
     for (input, wanted) in rows {
         let value = json(rt, alloc, input);
         assert_kept(rt, alloc, &mut checker, &value, wanted);
