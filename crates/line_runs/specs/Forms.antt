@@ -13,6 +13,7 @@ use Rattle.schema_validators.specs.Passed.{Root, Patterns}
 use Rattle.schema_validators.specs.Answered.{AreFaults}
 use Rattle.schema_validators.specs.Made.{IsMadeBy}
 use Rattle.schema_validators.specs.Told.{faults_by}
+use Rattle.schema_validators.specs.ByNodes.{HasOpenBy, TellsBy}
 use Rattle.schema_validators.specs.declared.validator.Validator.{Validator}
 use Rattle.line_runs.specs.Objects.{IsObjectText, IsUnreadText, is_refused_object}
 use Rattle.line_runs.specs.declared.form.LineForm.{LineForm}
@@ -74,3 +75,19 @@ pub record IsToldBy {M : Type 0} {G : Ghosts M} (form : LineForm) (v : Validator
 
 abbrev pub IsLineToldBy : {M : Type 0} {G : Ghosts M} → LineForm → Validator M G → List ℕ → List ℕ → Type 0
 IsLineToldBy form v line written = (text : List ℕ) × IsToldBy form v (line_value line) text × (written ≡ text ++ end_of form)
+
+-- ---- by a validator, where matches may stay unfinished
+
+-- the faults that it tells however such matches are answered, which are those of its nodes where there are none
+pub record AreCertain {M : Type 0} {G : Ghosts M} (v : Validator M G) (d : Data) (fs : Faults) : Type 0 where
+  pub each : TellsBy v d fs
+  pub nodes : (HasOpenBy v d → ⊥) → fs ≡ faults_by v d
+
+abbrev pub CertainTold : {M : Type 0} {G : Ghosts M} → Validator M G → Option Data → List ℕ → Type 0
+CertainTold v None text = text ≡ codes "null"
+CertainTold v (Some d) text = (fs : Faults) × AreCertain v d fs × (text ≡ faults_text fs)
+
+-- and it is the text of the faults under each root of which it was made
+pub record IsCertainText {M : Type 0} {G : Ghosts M} (v : Validator M G) (value : Option Data) (text : List ℕ) : Type 0 where
+  pub certain : CertainTold v value text
+  pub root : (p : Patterns) (r : Root) → IsMadeBy p r v → ValueTold Pairs p r value text

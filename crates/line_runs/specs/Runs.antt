@@ -1,10 +1,11 @@
 -- What is written for lines under a root, in either form that stands by itself.
-use Rattle.std.specs.Prelude.{ℕ, List}
+use Rattle.std.specs.Prelude.{◌≡◌, ◌∷◌, [], ◌++◌, ℕ, List}
 use Rattle.std.specs.List.{AllZip}
 use Rattle.schema_patterns.specs.declared.matcher.PatternMatcher.{Ghosts}
 use Rattle.schema_validators.specs.Passed.{Root, Patterns}
 use Rattle.schema_validators.specs.declared.validator.Validator.{Validator}
-use Rattle.line_runs.specs.Forms.{IsLineTold, IsLineToldBy}
+use Rattle.schema_definitions.specs.Lines.{line_value}
+use Rattle.line_runs.specs.Forms.{IsLineTold, IsLineToldBy, IsCertainText}
 use Rattle.line_runs.specs.declared.form.LineForm.TheVariants.{Pairs, Objects}
 
 -- `null` where there is no value, and else the text of its faults under a root, and a line end
@@ -27,3 +28,7 @@ IsLineTextBy v line written = IsLineToldBy Pairs v line written
 
 abbrev pub IsObjectLineBy : {M : Type 0} {G : Ghosts M} → Validator M G → List ℕ → List ℕ → Type 0
 IsObjectLineBy v line written = IsLineToldBy Objects v line written
+
+-- the faults are those that it tells however the matches that stay unfinished are answered
+abbrev pub IsLineTextCertain : {M : Type 0} {G : Ghosts M} → Validator M G → List ℕ → List ℕ → Type 0
+IsLineTextCertain v line written = (text : List ℕ) × IsCertainText v (line_value line) text × (written ≡ text ++ 10 ∷ [])

@@ -6,12 +6,13 @@ ghost use Rattle.line_cuts.specs.Runs.{is_refused};
 ghost use Rattle.regex_patterns.specs.Matchers.{finds_by_regex};
 ghost use Rattle.schema_registries.specs.Whole.{only_whole};
 ghost use Rattle.schema_validators.specs.Seen.{table_in};
-ghost use Rattle.line_runs.specs.Forms.{IsLineToldBy, IsToldBy, refuses_in};
+ghost use Rattle.line_runs.specs.Forms.{IsCertainText, IsLineToldBy, IsToldBy, refuses_in};
 ghost use Rattle.line_runs.specs.Counts.{IsLabel};
-ghost use Rattle.line_runs.specs.Runs.{IsLineTextBy};
+ghost use Rattle.line_runs.specs.Runs.{IsLineTextCertain};
 
 use crate::counts::{LineCounts, LineVerdict};
 use crate::form::LineForm;
+use error_texts::write_faults;
 use line_cuts::LineAnswers;
 use regex_patterns::kept::Kept;
 use schema_engine::matching::Matching;
@@ -98,26 +99,46 @@ pub(crate) struct LineFaults<'v, M: PatternMatcher> {
 impl<M: PatternMatcher> LineAnswers for LineFaults<'_, M> {
     type Kept = ();
 
-    ghost answers = { λ s. IsLineTextBy s.validator.now };
+    ghost answers = { λ s. IsLineTextCertain s.validator.now };
 
     ghost refuses = { λ s. is_refused };
 
     ghost keeps = { λ _ _. Unit };
 
     fn answer(&self, kept: &mut (), line: &[u8], text: &mut String) -> Result<(), AllocError> {
-        let mut matching = self.validator.direct();
-        let task = LineTask {
-            alloc: self.alloc,
-            form: LineForm::Pairs,
-            validator: self.validator,
-            label: "",
-        };
-        task.answer_line(&mut matching, line, text)?;
-        Ok(())
+        let value = line_value(self.alloc, line)?;
+        self.answer_read(&value, text)?;
+        text.push_str("\n")
     }
 
     fn is_refused(&self, written: &[u8]) -> bool {
         LineForm::Pairs.is_refused(written)
+    }
+}
+
+impl<M: PatternMatcher> LineFaults<'_, M> {
+    // What is written for a value, or for a line that has none.
+    fn answer_read(&self, value: &Option<Value>, text: &mut String) -> Result<(), AllocError>
+        requires whole { IfSome value.now (λ v. only_whole (view v) ≡ true) }
+        ensures { OnOk result ((written : List ℕ)
+            × IsCertainText self.now.validator.now (option_map (λ v. view v) value.now) written
+            × (string_bytes text.new ≡ string_bytes text.old ++ written)) }
+    {
+        match value {
+            Some(value) => self.answer_value(value, text),
+            None => text.push_str("null"),
+        }
+    }
+
+    // What is written for a value.
+    fn answer_value(&self, value: &Value, text: &mut String) -> Result<(), AllocError>
+        requires whole { only_whole (view value.now) ≡ true }
+        ensures { OnOk result ((written : List ℕ)
+            × IsCertainText self.now.validator.now (Some (view value.now)) written
+            × (string_bytes text.new ≡ string_bytes text.old ++ written)) }
+    {
+        let errors = self.validator.iter_errors(value)?;
+        write_faults(self.alloc, errors, text)
     }
 }
 

@@ -5,7 +5,7 @@ ghost use Rattle.schema_validators.specs.Passed.{Patterns, Root};
 ghost use Rattle.schema_validators.specs.Made.{IsMadeBy};
 ghost use Rattle.line_cuts.specs.Cuts.{lines_of};
 ghost use Rattle.line_cuts.specs.Runs.{Counts, RunsThrough, Stops};
-ghost use Rattle.line_runs.specs.Runs.{IsLineText, IsLineTextBy};
+ghost use Rattle.line_runs.specs.Runs.{IsLineText, IsLineTextBy, IsLineTextCertain};
 
 use crate::answers::LineFaults;
 use crate::form::LineForm;
@@ -49,7 +49,8 @@ pub fn run<S: ByteSource, K: ByteSink>(
     Ok(run.report)
 }
 
-/// The same by the matchers of whatever maker, each match asked of its matcher anew.
+/// The same by the matchers of whatever maker, each match asked of its matcher anew. A matcher may leave a match unfinished: the faults of
+/// a line are those that `iter_errors` tells, which assumes such a match both ways.
 ///
 /// # Errors
 ///
@@ -60,7 +61,7 @@ pub fn run_directly<M: PatternMatcher, S: ByteSource, K: ByteSink>(
     writer: &mut K,
     validator: &Validator<M>,
 ) -> Result<RunReport, RunError>
-    ensures nodes { IfOk result (RunsThrough (IsLineTextBy validator.now) (S.remaining reader.old)
+    ensures certain { IfOk result (RunsThrough (IsLineTextCertain validator.now) (S.remaining reader.old)
         (S.remaining reader.new) (K.contents writer.old) (K.contents writer.new)) }
     ensures ok { IfOk result (λ report. (p : Patterns) (r : Root) → IsMadeBy p r validator.now
         → RunsThrough (IsLineText p r) (S.remaining reader.old) (S.remaining reader.new) (K.contents writer.old)

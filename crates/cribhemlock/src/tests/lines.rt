@@ -1,6 +1,8 @@
 // Runs over bytes in memory.
 use line_cuts::{MemorySink, MemorySource};
 use line_runs::run_directly;
+use schema_patterns::bench::ScriptedMaker;
+use serde_json::Value;
 use std::alloc::Global;
 use std::process::Abort;
 use std::str;
@@ -190,4 +192,24 @@ fn by_nesting(rt: HostRuntime) {
             want
         );
     }
+}
+
+// A match that stays unfinished is assumed both ways: by neither is it known that `not` accepts.
+#[test]
+fn by_matches_that_stay_unfinished(rt: HostRuntime) {
+    let alloc = rt.alloc();
+    let mut maker = ScriptedMaker::new(alloc);
+    maker
+        .leave_unfinished(alloc, "(?<=ab)c")
+        .expect(&rt, "memory");
+    let schema = Value::from_str(alloc, "{\"not\":{\"pattern\":\"(?<=ab)c\"}}").expect(&rt, "JSON");
+    let validator = Validator::new(alloc, schema, maker).expect(&rt, "a validator");
+    let mut source = MemorySource::new(b"\"abc\"\n1\n", 100, None);
+    let mut sink = MemorySink::new(alloc, 100, None);
+    let report = run_directly(alloc, &mut source, &mut sink, &validator).expect(&rt, "a run");
+    assert!(rt; report.any_refused);
+    assert_eq!(rt;
+        str::from_utf8(sink.as_slice()).expect(&rt, "UTF-8"),
+        "[[\"\",\"/not/pattern\"]]\n[[\"\",\"/not\"]]\n"
+    );
 }
