@@ -108,7 +108,8 @@ impl<M: PatternMatcher> LineAnswers for LineFaults<'_, M> {
     fn answer(&self, kept: &mut (), line: &[u8], text: &mut String) -> Result<(), AllocError> {
         let value = line_value(self.alloc, line)?;
         self.answer_read(&value, text)?;
-        text.push_str("\n")
+        text.push_str("\n")?;
+        Ok(())
     }
 
     fn is_refused(&self, written: &[u8]) -> bool {
