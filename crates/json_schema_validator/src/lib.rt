@@ -21,10 +21,11 @@ pub use schema_steps::Path;
 pub use schema_validators::{
     BothAnswers, BothValidators, BuildCause, BuildError, Checker, Decision, DefaultRetriever,
     DocumentError, Documents, Draft, Error, ErrorContext, ErrorIterator, Location, MapRetriever,
-    MatchAnswer, NumberError, PatternError, PatternMaker, PatternMatcher, RegexMaker, RegexMatcher,
-    Retrieve, RetrieveError, SchemaPlace, SchemaRegistry, SharedRegistry, UnknownKeyword, Uri,
-    ValidationError, ValidationErrorKind, ValidationOptions, Validator, ValidatorMap, WholeNumbers,
-    answers_on_both, build_on_both, has_only_whole, is_valid_by_both, is_valid_twice,
-    iter_errors_by_both, iter_errors_twice, unknown_keywords, uri,
+    MatchAnswer, NumberError, PatternError, PatternMaker, PatternMatcher, RefusedDocuments,
+    RefusedRoot, RefusedSchema, RefusedText, RegexMaker, RegexMatcher, Retrieve, RetrieveError,
+    SchemaPlace, SchemaRegistry, SharedRegistry, UnknownKeyword, Uri, ValidationError,
+    ValidationErrorKind, ValidationOptions, Validator, ValidatorMap, WholeNumbers, answers_on_both,
+    build_on_both, has_only_whole, is_valid_by_both, is_valid_twice, iter_errors_by_both,
+    iter_errors_twice, unknown_keywords, uri,
 };
 pub use uri_references::error::UriError;

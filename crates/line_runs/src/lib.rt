@@ -15,6 +15,6 @@ pub use formed_runs::{FormedRun, answer_texts, run_in_form, run_objects};
 pub use line_cuts::{RunError, RunReport};
 pub use running::{lines_are_ended, run, run_directly};
 pub use schema_validators::{
-    BuildCause, BuildError, DocumentError, Documents, Draft, Error, SchemaPlace, UnknownKeyword,
-    ValidationOptions, Validator, unknown_keywords,
+    BuildCause, BuildError, DocumentError, Documents, Draft, Error, RefusedDocuments, SchemaPlace,
+    UnknownKeyword, ValidationOptions, Validator, unknown_keywords,
 };

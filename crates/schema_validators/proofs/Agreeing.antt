@@ -64,7 +64,7 @@ module _ (p : Patterns) (limit : ℕ) where
   not_refused : (r : Root) (e : BuildError) → IsSound p r → IsWithin p limit r → RefusesBuild p limit r e → e ≡ error.Memory
   not_refused r (error.Document e) sound within h = absurd h
   not_refused r (error.Registry e) sound within h = absurd h
-  not_refused r (error.Root e) sound within h = absurd (leads_somewhere p r sound h.0 h.1)
+  not_refused r (error.Root e) sound within h = absurd (leads_somewhere p r sound h.cause h.nowhere)
   not_refused r (error.Schema e) sound within h =
       elim h.2 [
         | inl exceeded ↦ (let most = within h.0 h.1 exceeded.exceeds.keys exceeded.exceeds.are in let more = exceeded.exceeds.more in absurd (omega arith))
@@ -76,7 +76,7 @@ module _ (p : Patterns) (limit : ℕ) where
   -- what accepts a value does not tell a fault of it, where the matches finish and no references come back
   not_told : (r : Root) (d : Data) (e : BuildError) → IsAnswer verdicts p r d true → RefusesValue p r d e → IsStraight p r d → ⊥
   not_told r d e answer h s =
-      let f = fault_of h.fault in
+      let f = fault_of h.schema.fault in
       true≢false (verdict_certified p r d true answer s.matches s.target s.found s.finish s.straight (path_text (instance_path f)) (path_text (evaluation_path f))
       (fault_certified p r d f h.told s.matches s.target s.found s.finish s.straight))
 

@@ -1,5 +1,5 @@
 -- What is said of a root by its meta-schema.
-use Rattle.std.proofs.Common.{◌≡◌, ◌∙◌, ◌⊎◌, inl, inr, ap, codes, ℕ, List, Bool, true, false, not, Option, Some, None, Result, Ok, Err, OnOk, IfErr, IsErrAnd, sym, subst}
+use Rattle.std.proofs.Common.{◌≡◌, ◌∙◌, ◌⊎◌, inl, inr, ap, codes, ℕ, List, Bool, true, false, not, Option, Some, None, Result, Ok, Err, OnOk, IfErr, sym, subst}
 use Rattle.serde_json.specs.Data.{Data}
 use Rattle.schema_definitions.specs.Words.{has_text}
 use Rattle.schema_definitions.specs.Bearers.{uri_in}
@@ -11,9 +11,12 @@ use Rattle.schema_registries.specs.Roots.{Root, Patterns, Finds, IsSound}
 use Rattle.schema_registries.proofs.Found.{finds_one}
 use Rattle.schema_meaning.specs.Readings.{verdicts}
 use Rattle.schema_registries.specs.Answers.{IsAnswer}
+use Rattle.schema_reports.specs.Told.{fault_of, error_is_proper}
+use Rattle.schema_reports.specs.declared.error.ValidationError.{ValidationError}
+use Rattle.schema_validators.specs.Answered.{IsFault}
 use Rattle.schema_validators.specs.Asked.{meta_root, meta_schema_of, Accepts, IsAsked, IsHandedIn, IsMetIn, IsMet}
 use Rattle.schema_validators.specs.Counted.{IsWithin}
-use Rattle.schema_validators.specs.Refused.{RefusesAt, RefusesBuild, RefusesByMeta, RefusesRoot, RefusesValue}
+use Rattle.schema_validators.specs.Refused.{HasFault, NamesSchema, RefusesAt, RefusesBuild, RefusesByMeta, RefusesRoot, RefusesValue}
 use Rattle.schema_validators.specs.Seen.{root_of}
 use Rattle.schema_validators.specs.declared.error.BuildError.{BuildError}
 use Rattle.schema_validators.specs.declared.error.BuildError.TheVariants as error
@@ -40,11 +43,18 @@ meta_root_by p base text b = ap (λ (u : List ℕ). root_of (documents_shared p)
 pub one_named : (o : Option (List ℕ)) (u w : List ℕ) → o ≡ Some u → o ≡ Some w → u ≡ w
 one_named o u w e f = cc (e, f)
 
--- want of memory says nothing of a meta-schema
-pub of_memory : {T : Type 0} (Made : Patterns → Root → Type 0) (d : Data) (x : Result T BuildError) → IsErrAnd x (λ e. e ≡ error.Memory)
-    → IfErr x (λ e. (p : Patterns) (r : Root) → Made p r → (e ≡ error.Memory) ⊎ RefusesValue p r d e)
-of_memory Made d (Ok y) h = tt
-of_memory Made d (Err e) h = λ p r made. inl h
+-- one that finds a fault refuses the value
+pub fault_refuses : (p : Patterns) (r : Root) (d : Data) (fault : ValidationError) → IsSound p r → IsFault p r d (fault_of fault) → error_is_proper fault ≡ true
+    → (e : BuildError) → (e ≡ error.Memory) ⊎ HasFault fault e → (e ≡ error.Memory) ⊎ RefusesValue p r d e
+fault_refuses p r d fault sound told proper e (inl memory) = inl memory
+fault_refuses p r d fault sound told proper e (inr has) =
+    inr (record {
+      sound = sound;
+      schema = has.0;
+      is = has.1;
+      told = subst (λ (f : ValidationError). IsFault p r d (fault_of f)) (sym has.2) told;
+      proper = ap error_is_proper has.2 ∙ proper;
+    })
 
 -- what a validator says of a value is said of the root that it validates by
 module _ (p : Patterns) (limit : ℕ) (Made : Patterns → Root → Type 0) (r other : Root) (made : Made p r) (d : Data) (is : r ≡ other) where
@@ -73,17 +83,18 @@ module _ (parent : SharedRegistry) (t : Target) where
   met_unasked p limit none = λ uri asked. absurd (none uri asked)
 
 -- so it is for the meta-schema of a root
-module _ (p : Patterns) (limit : ℕ) (parent : SharedRegistry) (t : Target) (uri text : List ℕ) (d : Data) (named : meta_schema_of t ≡ Some uri) (is : text ≡ uri) (contents : d ≡ t.contents) where
-  pub met_there : {T : Type 0} (x : Result T BuildError) → OnOk x (Accepts p limit (meta_root parent text) d) → OnOk x (IsMetIn p limit parent t)
+module _ (p : Patterns) (limit : ℕ) (parent : SharedRegistry) (t : Target) (uri : List ℕ) (is : meta_schema_of t ≡ Some uri) where
+  pub met_there : {T : Type 0} (x : Result T BuildError) → OnOk x (Accepts p limit (meta_root parent uri) t.contents) → OnOk x (IsMetIn p limit parent t)
   met_there (Ok y) h = λ other asked.
-      subst (Accepts p limit (meta_root parent other)) contents
-      (subst (λ (u : List ℕ). Accepts p limit (meta_root parent u) d) (is ∙ one_named (meta_schema_of t) uri other named asked.named) h)
+      subst (λ (u : List ℕ). Accepts p limit (meta_root parent u) t.contents) (one_named (meta_schema_of t) uri other is asked.named) h
   met_there (Err e) h = tt
 
-  pub refused_there : {T : Type 0} (x : Result T BuildError) → IsHandedIn parent text → IfErr x (RefusesAt p limit (meta_root parent text) d) → IfErr x (RefusesByMeta p limit parent t)
-  refused_there (Ok y) handed h = tt
-  refused_there (Err e) handed h = inr (record {
-    uri = text;
-    asked = record { named = named ∙ ap Some (sym is); handed_in = handed };
-    why = subst (λ (c : Data). RefusesAt p limit (meta_root parent text) c e) contents h;
+  pub refused_there : {T : Type 0} (x : Result T BuildError) → IsHandedIn parent uri → IfErr x (RefusesAt p limit (meta_root parent uri) t.contents)
+      → IfErr x (NamesSchema t uri) → IfErr x (RefusesByMeta p limit parent t)
+  refused_there (Ok y) handed h says = tt
+  refused_there (Err e) handed h says = inr (record {
+    uri = uri;
+    asked = record { named = is; handed_in = handed };
+    why = h;
+    named = says;
   })

@@ -17,3 +17,4 @@ pub mod Rooting
 mod Causing
 mod AbsentLemmas
 mod MisnamedLemmas
+mod RefusedTextLemmas

@@ -1,12 +1,11 @@
 -- Why there is no validator, in words.
-use Rattle.std.specs.Prelude.{◌≡◌, ℕ, List, [], ◌∷◌, reverse, decimal, codes, string_bytes}
+use Rattle.std.specs.Prelude.{◌≡◌, ℕ, List, [], ◌∷◌, reverse, decimal, codes, string_bytes, Option, Some, None, Box, box_value}
+use Rattle.std.specs.declared.alloc.Global.{Global}
 use Rattle.std.specs.List.{concat}
 use Rattle.serde_json.specs.Data.{string}
 use Rattle.serde_json.specs.Written.{compact_text}
 use Rattle.json_values.specs.Pointers.{pointer_text}
 use Rattle.schema_meaning.specs.Faults.{instance_path, evaluation_path}
-use Rattle.uri_references.specs.declared.error.UriError.{UriError}
-use Rattle.uri_references.specs.declared.error.UriError.TheVariants.{Parse, Resolve}
 use Rattle.document_sources.specs.declared.error.RetrieveError.{RetrieveError}
 use Rattle.document_sources.specs.declared.error.RetrieveError.TheVariants as retrieved
 use Rattle.document_sources.specs.declared.error.Error.{Error}
@@ -15,13 +14,16 @@ use Rattle.schema_registries.specs.Described.{refused_text, description_of as sa
 use Rattle.schema_reports.specs.Phrases.{AreSpelled}
 use Rattle.schema_reports.specs.Sentences.{description_of}
 use Rattle.schema_reports.specs.Told.{fault_of}
-use Rattle.schema_reports.specs.declared.error.ValidationError.{ValidationError}
 use Rattle.reached_sites.specs.Places.{place_in, shown}
 use Rattle.reached_sites.specs.declared.place.SchemaPlace.{SchemaPlace}
 use Rattle.reached_sites.specs.declared.cause.BuildCause.{BuildCause}
 use Rattle.reached_sites.specs.declared.cause.BuildCause.TheVariants as cause
 use Rattle.schema_validators.specs.declared.error.BuildError.{BuildError}
 use Rattle.schema_validators.specs.declared.error.BuildError.TheVariants as build
+use Rattle.schema_validators.specs.declared.error.RefusedDocuments.{RefusedDocuments}
+use Rattle.schema_validators.specs.declared.error.RefusedRoot.{RefusedRoot}
+use Rattle.schema_validators.specs.declared.error.RefusedSchema.{RefusedSchema}
+use Rattle.schema_validators.specs.declared.error.RefusedText.{RefusedText}
 
 -- a text from a schema, as a JSON string
 abbrev pub quoted : List ℕ → List ℕ
@@ -67,17 +69,36 @@ said_of_cause (cause.Reference place reference error) = said_of_reference place 
 said_of_cause (cause.NodeLimit limit) = concat (codes "More than " ∷ decimal limit ∷ codes " schemas are reached" ∷ [])
 said_of_cause cause.Memory = codes "No memory"
 
--- the place in the schema, the road in the meta-schema, and the sentence of a fault of the schema
-abbrev pub said_of_fault : ValidationError → List ℕ → List ℕ
-said_of_fault e sentence =
+-- documents that are refused, and below it the text for which they are
+abbrev pub line_by : RefusedText → List ℕ
+line_by t = concat (codes "\n  by the reference " ∷ quoted (string_bytes t.reference) ∷ codes " at '" ∷ shown (place_in t.place) ∷ codes "'" ∷ [])
+
+abbrev pub line_of : Option (Box RefusedText Global) → List ℕ
+line_of (Some t) = line_by (box_value t)
+line_of None = []
+
+abbrev pub said_of_documents : RefusedDocuments → List ℕ
+said_of_documents e = concat (codes "The documents are refused: " ∷ words_of e.error ∷ line_of e.at ∷ [])
+
+-- a reference to a root, and the base that it leads nowhere from
+abbrev pub said_of_root : RefusedRoot → List ℕ
+said_of_root e =
     concat
-    (codes "The meta-schema refuses the schema at '" ∷ pointer_text (reverse (instance_path (fault_of e)))
-    ∷ codes "', by '" ∷ pointer_text (reverse (evaluation_path (fault_of e))) ∷ codes "': " ∷ sentence ∷ [])
+    (codes "The reference " ∷ quoted (string_bytes e.reference) ∷ codes " to the root leads nowhere from '" ∷ e.base
+    ∷ codes "': " ∷ words_of e.error ∷ [])
+
+-- the meta-schema, the place in the schema's document, the road in the meta-schema, and the sentence of a fault of the schema
+abbrev pub said_of_schema : RefusedSchema → List ℕ → List ℕ
+said_of_schema e sentence =
+    concat
+    (codes "The meta-schema '" ∷ e.meta_schema ∷ codes "' refuses the schema at '" ∷ shown (place_in e.place)
+    ∷ pointer_text (reverse (instance_path (fault_of e.fault))) ∷ codes "', by '"
+    ∷ pointer_text (reverse (evaluation_path (fault_of e.fault))) ∷ codes "': " ∷ sentence ∷ [])
 
 abbrev pub IsDescribed : BuildError → List ℕ → Type 0
 IsDescribed (build.Document e) text = text ≡ said_of_document e
-IsDescribed (build.Registry e) text = text ≡ concat (codes "The documents are refused: " ∷ words_of e ∷ [])
-IsDescribed (build.Root e) text = text ≡ concat (codes "The reference to the root leads nowhere: " ∷ words_of e ∷ [])
+IsDescribed (build.Registry e) text = text ≡ said_of_documents e
+IsDescribed (build.Root e) text = text ≡ said_of_root e
 IsDescribed (build.Schema e) text = text ≡ said_of_cause e
-IsDescribed (build.MetaSchema e) text = (sentence : List ℕ) × AreSpelled (description_of e) sentence × (text ≡ said_of_fault e sentence)
+IsDescribed (build.MetaSchema e) text = (sentence : List ℕ) × AreSpelled (description_of e.fault) sentence × (text ≡ said_of_schema e sentence)
 IsDescribed build.Memory text = text ≡ codes "No memory"

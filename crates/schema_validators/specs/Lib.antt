@@ -12,6 +12,9 @@ pub mod Calls
 pub mod Counted
 pub mod Asked
 pub mod Prepared
+pub mod Absent
+pub mod Misnamed
+pub mod RefusedTexts
 pub mod Refused
 pub mod Built
 pub mod New
@@ -24,5 +27,3 @@ pub mod Described
 pub mod Caused
 pub mod AllTold
 pub mod Unknown
-pub mod Absent
-pub mod Misnamed

@@ -53,7 +53,7 @@ fn compile_at<P: PatternMaker>(
     let resolver = registry.registry().resolver(base.clone()?)?;
     let found = match resolver.lookup(root) {
         Ok(found) => found,
-        Err(error) => return Err(BuildError::of_root(error)),
+        Err(error) => return Err(BuildError::of_root(alloc, base, root, error)),
     };
     registry.documents_are_apart();
     registry.registry().names_rise();

@@ -30,10 +30,11 @@ pub(crate) fn causes_at<P: PatternMaker>(
     ensures refused { IfErr result (RefusesListing (P.patterns maker.now) node_limit (root_on registry.now root.now)) }
 {
     let own = registry.own();
-    let resolver = own.registry().resolver(registry.base().clone()?)?;
+    let base = registry.base();
+    let resolver = own.registry().resolver(base.clone()?)?;
     let found = match resolver.lookup(root) {
         Ok(found) => found,
-        Err(error) => return Err(BuildError::of_reference(error)),
+        Err(error) => return Err(BuildError::of_root(alloc, base, root, error)),
     };
     own.documents_are_apart();
     own.registry().names_rise();

@@ -6,25 +6,27 @@ ghost use Rattle.schema_reports.specs.Phrases.{AreSpelled};
 ghost use Rattle.schema_reports.specs.Sentences.{description_of};
 ghost use Rattle.schema_validators.specs.Described.{quoted as quoted_text, words_of as said_of_lookup};
 ghost use Rattle.schema_validators.specs.Described.{line_at as line_of, said_of_value, said_of_reference};
-ghost use Rattle.schema_validators.specs.Described.{said_of_cause, said_of_fault, said_of_retrieval};
-ghost use Rattle.schema_validators.specs.Described.{IsDescribed};
+ghost use Rattle.schema_validators.specs.Described.{said_of_cause, said_of_retrieval};
+ghost use Rattle.schema_validators.specs.Described.{said_of_documents, said_of_root, said_of_schema};
+ghost use Rattle.schema_validators.specs.Described.{line_by, line_of as line_below, IsDescribed};
 
-use crate::error::BuildError;
+use crate::error::{BuildError, RefusedDocuments, RefusedRoot, RefusedSchema, RefusedText};
 use document_sources::error::{RetrieveError, UriError};
 use reached_sites::Error as ReferenceError;
 use reached_sites::cause::BuildCause;
 use reached_sites::place::SchemaPlace;
 use schema_registries::error::joined;
-use schema_reports::ValidationError;
 use serde_json::Value;
 use std::alloc::{AllocError, Global};
 
 impl BuildError {
     /// Why there is no validator, as a sentence with no full stop. It says what was found, the pattern, or the reference and what was
     /// looked up; patterns and references are JSON strings. Where the cause stands at a schema, a second line with two spaces before it
-    /// has its place: the document's URI, `#` and a pointer. Of documents that are refused together, and of a root that leads nowhere, it has
-    /// none: `absent_in` and `misnamed_in` of the options tell the places in documents. What a meta-schema finds wrong is said by the
-    /// `description` of that error, with the lines that it has. There is no line end behind the last line.
+    /// has its place: the document's URI, `#` and a pointer. Of documents that are refused together, that line has the first text of the
+    /// documents at hand for which they are, with its place; it is left out where none is, as where a document that was retrieved asks for
+    /// what is not there, or more are wanted than may be retrieved. Of a root that leads nowhere the reference is told, and the base URI
+    /// that it is resolved against. What a meta-schema finds wrong is said by the `description` of that fault, with the lines that it has,
+    /// behind the meta-schema's URI and the place in the root's document. There is no line end behind the last line.
     ///
     /// The error comes where memory is out.
     pub fn description(&self, alloc: Global) -> Result<String, AllocError>
@@ -32,22 +34,69 @@ impl BuildError {
     {
         match self {
             BuildError::Document(error) => error.description(alloc),
-            BuildError::Registry(error) => {
-                let words = words_of(alloc, error)?;
-                joined(alloc, &["The documents are refused: ", words.as_str()])
-            }
-            BuildError::Root(error) => {
-                let words = words_of(alloc, error)?;
-                joined(
-                    alloc,
-                    &["The reference to the root leads nowhere: ", words.as_str()],
-                )
-            }
+            BuildError::Registry(refused) => of_documents(alloc, refused),
+            BuildError::Root(refused) => of_root(alloc, refused),
             BuildError::Schema(cause) => of_cause(alloc, cause),
-            BuildError::MetaSchema(error) => of_fault(alloc, error),
+            BuildError::MetaSchema(refused) => of_schema(alloc, refused),
             BuildError::Memory => String::from_str(alloc, "No memory"),
         }
     }
+}
+
+fn of_documents(alloc: Global, refused: &RefusedDocuments) -> Result<String, AllocError>
+    ensures { IfOk result (λ text. string_bytes text ≡ said_of_documents refused.now) }
+{
+    let words = words_of(alloc, &refused.error)?;
+    let line = line_behind(alloc, refused)?;
+    joined(
+        alloc,
+        &["The documents are refused: ", words.as_str(), line.as_str()],
+    )
+}
+
+// The line of the text for which documents are refused, where there is one.
+fn line_behind(alloc: Global, refused: &RefusedDocuments) -> Result<String, AllocError>
+    ensures { IfOk result (λ text. string_bytes text ≡ line_below refused.now.at) }
+{
+    match &refused.at {
+        Some(text) => of_text(alloc, text),
+        None => Ok(String::new(alloc)),
+    }
+}
+
+fn of_text(alloc: Global, text: &RefusedText) -> Result<String, AllocError>
+    ensures { IfOk result (λ line. string_bytes line ≡ line_by text.now) }
+{
+    let reference = quoted(alloc, text.reference.as_str())?;
+    let place = text.place.to_string(alloc)?;
+    joined(
+        alloc,
+        &[
+            "\n  by the reference ",
+            reference.as_str(),
+            " at '",
+            place.as_str(),
+            "'",
+        ],
+    )
+}
+
+fn of_root(alloc: Global, refused: &RefusedRoot) -> Result<String, AllocError>
+    ensures { IfOk result (λ text. string_bytes text ≡ said_of_root refused.now) }
+{
+    let reference = quoted(alloc, refused.reference.as_str())?;
+    let words = words_of(alloc, &refused.error)?;
+    joined(
+        alloc,
+        &[
+            "The reference ",
+            reference.as_str(),
+            " to the root leads nowhere from '",
+            refused.base.as_str(),
+            "': ",
+            words.as_str(),
+        ],
+    )
 }
 
 fn of_cause(alloc: Global, cause: &BuildCause) -> Result<String, AllocError>
@@ -128,17 +177,22 @@ fn refused_reference(
     )
 }
 
-fn of_fault(alloc: Global, error: &ValidationError<'_>) -> Result<String, AllocError>
-    ensures { IfOk result (λ text. (sentence : List ℕ) × AreSpelled (description_of error.now) sentence
-        × (string_bytes text ≡ said_of_fault error.now sentence)) }
+fn of_schema(alloc: Global, refused: &RefusedSchema) -> Result<String, AllocError>
+    ensures { IfOk result (λ text. (sentence : List ℕ)
+        × AreSpelled (description_of refused.now.fault) sentence
+        × (string_bytes text ≡ said_of_schema refused.now sentence)) }
 {
-    let place = error.instance_path().to_pointer(alloc)?;
-    let road = error.evaluation_path().to_pointer(alloc)?;
-    let sentence = error.description(alloc)?;
+    let root = refused.place.to_string(alloc)?;
+    let place = refused.fault.instance_path().to_pointer(alloc)?;
+    let road = refused.fault.evaluation_path().to_pointer(alloc)?;
+    let sentence = refused.fault.description(alloc)?;
     joined(
         alloc,
         &[
-            "The meta-schema refuses the schema at '",
+            "The meta-schema '",
+            refused.meta_schema.as_str(),
+            "' refuses the schema at '",
+            root.as_str(),
             place.as_str(),
             "', by '",
             road.as_str(),

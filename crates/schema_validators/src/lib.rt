@@ -17,6 +17,7 @@ mod meta_schema;
 mod misnamed;
 mod options;
 mod printing;
+mod refused_texts;
 mod unknown;
 mod validator;
 mod validator_map;
@@ -27,7 +28,9 @@ pub use agreement::{
 };
 pub use checker::Checker;
 pub use document_sources::error::RetrieveError;
-pub use error::{BuildError, NumberError};
+pub use error::{
+    BuildError, NumberError, RefusedDocuments, RefusedRoot, RefusedSchema, RefusedText,
+};
 pub use graph_answers::runs::Decision;
 pub use location_texts::Location;
 pub use options::ValidationOptions;

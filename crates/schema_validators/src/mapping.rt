@@ -155,9 +155,10 @@ pub(crate) fn map_at<P: PatternMaker>(
     ensures built { IfOk result (IsMapAt (P.patterns maker.now) registry.now root.now node_limit) }
     ensures refused { IfErr result (RefusesMapAt (P.patterns maker.now) registry.now root.now node_limit) }
 {
-    let resolver = registry.registry().resolver(registry.base().clone()?)?;
+    let base = registry.base();
+    let resolver = registry.registry().resolver(base.clone()?)?;
     match resolver.lookup(root) {
         Ok(found) => map_of(alloc, registry.own(), found.document(), maker, node_limit),
-        Err(error) => Err(BuildError::of_reference(error)),
+        Err(error) => Err(BuildError::of_root(alloc, base, root, error)),
     }
 }

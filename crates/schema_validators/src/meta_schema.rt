@@ -6,14 +6,18 @@ ghost use Rattle.schema_definitions.specs.Places as places;
 ghost use Rattle.schema_definitions.specs.Words.{has_text};
 ghost use Rattle.reached_sites.specs.Passed.{target_in};
 ghost use Rattle.schema_registries.specs.Passed.{retrieved_by};
+ghost use Rattle.schema_reports.specs.Told.{fault_of, error_is_proper};
 ghost use Rattle.schema_validators.specs.Asked.{schema_of_draft, schema_text, meta_schema_of, meta_root};
 ghost use Rattle.schema_validators.specs.Asked.{Accepts, IsAsked, IsHandedIn, IsMetIn};
-ghost use Rattle.schema_validators.specs.Calls.{IsVerdictOf, RefusesValueOf};
+ghost use Rattle.schema_validators.specs.Calls.{IsFaultOf, IsVerdictOf, RefusesValueOf};
+ghost use Rattle.reached_sites.specs.Places.{place_in};
+ghost use Rattle.schema_validators.specs.Refused.{HasFault, NamesSchema, place_of};
 ghost use Rattle.schema_validators.specs.Refused.{RefusesAt, RefusesByMeta};
 ghost use Rattle.schema_validators.specs.declared.error.BuildError.TheVariants.{Memory};
 
-use crate::error::BuildError;
+use crate::error::{BuildError, RefusedSchema};
 use crate::validator::Validator;
+use reached_sites::place::SchemaPlace;
 use reached_sites::{Error, Registry};
 use referencing::Resolved;
 use schema_dialects::bases::resolved;
@@ -21,6 +25,7 @@ use schema_dialects::identifiers::schema_in_force;
 use schema_drafts::draft::Draft;
 use schema_patterns::{PatternMaker, PatternMatcher};
 use schema_registries::SharedRegistry;
+use schema_reports::ValidationError;
 use serde_json::Value;
 use std::alloc::{AllocError, Global};
 use uri_grammar::components::split_fragment;
@@ -122,39 +127,84 @@ pub(crate) fn asked_uri(
     Ok(Some(uri))
 }
 
-// Asks a meta-schema whether it accepts a value.
-fn ask<M: PatternMatcher>(
-    alloc: Global,
-    meta_schema: &Validator<M>,
-    value: &Value,
-) -> Result<(), BuildError>
-    ensures accepted { OnOk result (IsVerdictOf meta_schema.now (view value.now) true) }
-    ensures refused { IfErr result (RefusesValueOf meta_schema.now (view value.now)) }
+// The place of a root, and the URI of its meta-schema.
+fn names_of(root: &Resolved<'_>, uri: &Uri) -> Result<(SchemaPlace, Uri), AllocError>
+    ensures place { IfOk result (λ x. place_in x.0 ≡ place_of (target_in root.now)) }
+    ensures uri { IfOk result (λ x. x.1 ≡ uri.now) }
 {
-    match meta_schema.first_fault(value)? {
-        Ok(()) => Ok(()),
-        Err(error) => Err(BuildError::MetaSchema(error.to_owned(alloc)?)),
+    Ok((SchemaPlace::of_target(root)?, uri.clone()?))
+}
+
+// The error of a root of which its meta-schema tells a fault.
+fn refusal(root: &Resolved<'_>, uri: &Uri, fault: ValidationError<'static>) -> BuildError
+    ensures fault { (result ≡ Memory) ⊎ HasFault fault.entry result }
+    ensures named { NamesSchema (target_in root.now) uri.now result }
+{
+    match names_of(root, uri) {
+        Ok((place, meta_schema)) => BuildError::MetaSchema(RefusedSchema {
+            place,
+            meta_schema,
+            fault,
+        }),
+        Err(_) => BuildError::Memory,
     }
 }
 
-// Asks the meta-schema that a URI leads to whether it accepts a value.
+// The first fault of a value that a meta-schema tells, with values of its own, if there is one.
+fn told_fault<M: PatternMatcher>(
+    alloc: Global,
+    meta_schema: &Validator<M>,
+    value: &Value,
+) -> Result<Option<ValidationError<'static>>, AllocError>
+    ensures accepted { IfOk result (λ f. f ≡ None
+        → IsVerdictOf meta_schema.now (view value.now) true) }
+    ensures fault { IfOk result (λ f. IfSome f (λ e.
+        IsFaultOf meta_schema.now (view value.now) (fault_of e))) }
+    ensures proper { IfOk result (λ f. IfSome f (λ e. error_is_proper e ≡ true)) }
+{
+    match meta_schema.first_fault(value)? {
+        Ok(()) => Ok(None),
+        Err(error) => Ok(Some(error.to_owned(alloc)?)),
+    }
+}
+
+// Asks a meta-schema, which has a URI, whether it accepts the value of a root.
+fn ask<M: PatternMatcher>(
+    alloc: Global,
+    meta_schema: &Validator<M>,
+    uri: &Uri,
+    root: &Resolved<'_>,
+) -> Result<(), BuildError>
+    ensures accepted { OnOk result (IsVerdictOf
+        meta_schema.now (target_in root.now).contents true) }
+    ensures refused { IfErr result (RefusesValueOf meta_schema.now (target_in root.now).contents) }
+    ensures named { IfErr result (NamesSchema (target_in root.now) uri.now) }
+{
+    match told_fault(alloc, meta_schema, root.contents())? {
+        None => Ok(()),
+        Some(fault) => Err(refusal(root, uri, fault)),
+    }
+}
+
+// Asks the meta-schema that a URI leads to whether it accepts the value of a root.
 fn ask_at<P: PatternMaker>(
     alloc: Global,
     parent: &SharedRegistry,
     base: &Uri,
-    uri: &str,
-    value: &Value,
+    uri: &Uri,
+    root: &Resolved<'_>,
     maker: &P,
     node_limit: usize,
 ) -> Result<(), BuildError>
     requires base { base.now ≡ codes "json-schema:///" }
     ensures accepted { OnOk result (Accepts (P.patterns maker.now) node_limit (meta_root parent.now uri.now)
-        (view value.now)) }
+        (target_in root.now).contents) }
     ensures refused { IfErr result (RefusesAt (P.patterns maker.now) node_limit (meta_root parent.now uri.now)
-        (view value.now)) }
+        (target_in root.now).contents) }
+    ensures named { IfErr result (NamesSchema (target_in root.now) uri.now) }
 {
-    let meta_schema = Validator::at(alloc, parent, base, uri, maker, node_limit)?;
-    ask(alloc, &meta_schema, value)
+    let meta_schema = Validator::at(alloc, parent, base, uri.as_str(), maker, node_limit)?;
+    ask(alloc, &meta_schema, uri, root)
 }
 
 /// Asks the meta-schema of a root whether it accepts the root's value: the one that its `$schema` names, or without one that of its
@@ -178,13 +228,5 @@ pub(crate) fn ask_meta_schema<P: PatternMaker>(
     let Some(uri) = asked_uri(alloc, parent, &base, root)? else {
         return Ok(());
     };
-    ask_at(
-        alloc,
-        parent,
-        &base,
-        uri.as_str(),
-        root.contents(),
-        maker,
-        node_limit,
-    )
+    ask_at(alloc, parent, &base, &uri, root, maker, node_limit)
 }

@@ -16,6 +16,7 @@ ghost use Rattle.schema_validators.specs.Counted.{IsWithin};
 ghost use Rattle.schema_validators.specs.Made.{IsMadeBy};
 ghost use Rattle.schema_validators.specs.Asked.{IsMet};
 ghost use Rattle.schema_validators.specs.Prepared.{asking_by, layer_by, meta_schemas_given, AreDocuments, IsRegistry};
+ghost use Rattle.schema_validators.specs.RefusedTexts.{IsAbsentText, IsAt, IsMisnamedText};
 ghost use Rattle.schema_validators.specs.Refused.{RefusesGiven, RefusesPreparing, RefusesRoot};
 ghost use Rattle.schema_validators.specs.Built.{IsBuilt, RefusesBuilding};
 ghost use Rattle.schema_validators.specs.Mapped.{IsMapBuilt, RefusesMapping};
@@ -24,11 +25,12 @@ ghost use Rattle.schema_validators.specs.Caused.{ListsCauses, NoneWhereSound, Re
 
 use crate::absent::{absent_alone, absent_beside};
 use crate::causes::causes_at;
-use crate::error::BuildError;
+use crate::error::{BuildError, RefusedText};
 use crate::mapping::map_at;
 use crate::meta_faults::tell_by_meta_schema;
 use crate::meta_schema::ask_meta_schema;
 use crate::misnamed::{misnamed_alone, misnamed_beside};
+use crate::refused_texts::text_among;
 use crate::validator::Validator;
 use crate::validator_map::ValidatorMap;
 use document_sources::layer::Layer;
@@ -115,10 +117,11 @@ fn meet<P: PatternMaker>(
     let Some(parent) = registry.parent() else {
         return Ok(());
     };
-    let resolver = registry.registry().resolver(registry.base().clone()?)?;
+    let base = registry.base();
+    let resolver = registry.registry().resolver(base.clone()?)?;
     match resolver.lookup(root) {
         Ok(found) => ask_meta_schema(alloc, parent, &found, maker, node_limit),
-        Err(error) => Err(BuildError::of_root(error)),
+        Err(error) => Err(BuildError::of_root(alloc, base, root, error)),
     }
 }
 
@@ -139,10 +142,11 @@ fn tell_faults<P: PatternMaker>(
     let Some(parent) = registry.parent() else {
         return Ok(Vec::new(alloc));
     };
-    let resolver = registry.registry().resolver(registry.base().clone()?)?;
+    let base = registry.base();
+    let resolver = registry.registry().resolver(base.clone()?)?;
     match resolver.lookup(root) {
         Ok(found) => tell_by_meta_schema(alloc, parent, &found, maker, node_limit),
-        Err(error) => Err(BuildError::of_reference(error)),
+        Err(error) => Err(BuildError::of_root(alloc, base, root, error)),
     }
 }
 
@@ -298,6 +302,53 @@ impl<P: Drop, R: Drop> ValidationOptions<P, R> {
             Some(metas) => misnamed_beside(alloc, layer, metas.list().documents(), given),
         }
     }
+
+    // The text that names nothing for which documents are refused with an error.
+    fn misnamed_text(
+        &self,
+        documents: &Documents,
+        error: &Error,
+    ) -> Result<Option<Box<RefusedText>>, AllocError>
+        ensures { IfOk result (IsMisnamedText (misnamed_given
+            (meta_schemas_given self.now) (layer_by self.now)
+            (documents_given documents.now)) error.now) }
+    {
+        let causes = self.misnamed_in(documents)?;
+        text_among(self.alloc, causes.as_slice(), error)
+    }
+
+    // The text that refers to what is not at hand for which they are.
+    fn absent_text(
+        &self,
+        documents: &Documents,
+        error: &Error,
+    ) -> Result<Option<Box<RefusedText>>, AllocError>
+        ensures { IfOk result (IsAbsentText (absent_given
+            (meta_schemas_given self.now) (layer_by self.now)
+            (documents_given documents.now)) error.now) }
+    {
+        let causes = self.absent_in(documents)?;
+        text_among(self.alloc, causes.as_slice(), error)
+    }
+
+    // The one or the other, the one that names nothing first.
+    fn refused_text(
+        &self,
+        documents: &Documents,
+        error: &Error,
+    ) -> Result<Option<Box<RefusedText>>, AllocError>
+        ensures { IfOk result (IsAt
+            (meta_schemas_given self.now) (layer_by self.now)
+            (documents_given documents.now) error.now) }
+    {
+        if let Error::Memory = error {
+            return Ok(None);
+        }
+        match self.misnamed_text(documents, error)? {
+            Some(text) => Ok(Some(text)),
+            None => self.absent_text(documents, error),
+        }
+    }
 }
 
 impl<P: PatternMaker + Drop, R: Drop> ValidationOptions<P, R> {
@@ -433,15 +484,31 @@ impl<P: Drop, R: Retrieve + Drop> ValidationOptions<P, R> {
         }
     }
 
+    // The error of documents that are refused.
+    fn refusal(&self, documents: &Documents, error: Error) -> BuildError
+        ensures { IsMemory error ⊎ RefusesGiven
+            (asking_by R.may_answer R.may_refuse self.now) self.now.limit (layer_by self.now)
+            (meta_schemas_given self.now) (documents_given documents.now) error
+            → RefusesPreparing R.may_answer R.may_refuse self.now
+            (documents_given documents.now) result }
+    {
+        match self.refused_text(documents, &error) {
+            Ok(at) => BuildError::of_registry(error, at),
+            Err(_) => BuildError::Memory,
+        }
+    }
+
     /// A registry of documents, for any number of validators: the meta-schemas and what they want are gathered first, by themselves, and
     /// then the documents and what they want and is not there yet.
     ///
-    /// It costs what `SharedRegistry::prepare` costs for each of the two. No value is copied.
+    /// It costs what `SharedRegistry::prepare` costs for each of the two. No value is copied. Where they are refused it costs, besides,
+    /// what `misnamed_in` and `absent_in` cost, which are asked for the text that the error names.
     ///
     /// # Errors
     ///
     /// Where the retriever refuses what is wanted, where more is wanted than may be retrieved, a cause that the documents or the
-    /// meta-schemas have to be refused, or want of memory.
+    /// meta-schemas have to be refused, or want of memory. The first text of the documents at hand, or of the meta-schemas, that has this
+    /// cause is told with it, where one has.
     pub fn prepare(&self, documents: &Documents) -> Result<SchemaRegistry, BuildError>
         ensures prepared { IfOk result (IsRegistry R.may_answer R.may_refuse self.now (documents_given documents.now)) }
         ensures refused { IfErr result (RefusesPreparing R.may_answer R.may_refuse self.now
@@ -450,7 +517,7 @@ impl<P: Drop, R: Retrieve + Drop> ValidationOptions<P, R> {
         let base = self.base.clone()?;
         match self.gather(documents, base) {
             Ok(registry) => Ok(registry),
-            Err(error) => Err(BuildError::of_registry(error)),
+            Err(error) => Err(self.refusal(documents, error)),
         }
     }
 }

@@ -3,7 +3,9 @@
 use crate::documents::{documents_at_hand, given_documents, last_under};
 use crate::fault::ProgramFault;
 use crate::preparing::DEFAULT_BASE;
-use line_runs::{BuildCause, BuildError, DocumentError, Error as ReferenceError, SchemaPlace};
+use line_runs::{
+    BuildCause, BuildError, DocumentError, Error as ReferenceError, RefusedDocuments, SchemaPlace,
+};
 use program_inputs::ProgramWords;
 use schema_reports::ValidationError;
 use std::alloc::{AllocError, Global};
@@ -44,7 +46,11 @@ pub(crate) fn description(
         ProgramFault::Base(_) => String::from_str(alloc, BASE),
         ProgramFault::Document(error) => of_document(alloc, words, error),
         ProgramFault::Build(error) => of_error(alloc, words, error),
-        ProgramFault::Schema { error, causes } => of_schema(alloc, words, error, causes),
+        ProgramFault::Schema {
+            error,
+            causes,
+            faults,
+        } => of_schema(alloc, words, error, causes, faults),
         ProgramFault::Count { .. } => String::from_str(alloc, COUNT),
         _ => Ok(String::new(alloc)),
     }
@@ -65,8 +71,9 @@ fn of_schema(
     words: &ProgramWords<'_>,
     error: &BuildError,
     causes: &[BuildError],
+    faults: &[ValidationError<'_>],
 ) -> Result<String, AllocError> {
-    if causes.is_empty() {
+    if causes.is_empty() && faults.is_empty() {
         return of_error(alloc, words, error);
     }
     let mut text = String::new(alloc);
@@ -75,6 +82,10 @@ fn of_schema(
         let lines = of_build(alloc, words, cause)?;
         text.push_str(lines.as_str())?;
         lacking = lacking.or(lacking_by(cause));
+    }
+    for fault in faults {
+        let lines = of_fault(alloc, words, fault)?;
+        text.push_str(lines.as_str())?;
     }
     let more = help(alloc, words, lacking)?;
     text.push_str(more.as_str())?;
@@ -152,22 +163,33 @@ fn of_build(
 ) -> Result<String, AllocError> {
     match error {
         BuildError::Document(error) => of_document(alloc, words, error),
-        BuildError::Registry(ReferenceError::CircularMetaschema { uri }) => {
-            let mut text = line_of(alloc, error.description(alloc)?.as_str())?;
-            let line = where_given(alloc, words, uri.as_str())?;
-            text.push_str(line.as_str())?;
-            Ok(text)
+        BuildError::Registry(refused) => {
+            let said = error.description(alloc)?;
+            of_documents(alloc, words, refused, said.as_str())
         }
-        BuildError::Registry(_) | BuildError::Root(_) => {
-            line_of(alloc, error.description(alloc)?.as_str())
-        }
+        BuildError::Root(_) => line_of(alloc, error.description(alloc)?.as_str()),
         BuildError::Schema(cause) => {
             let said = error.description(alloc)?;
             of_cause(alloc, words, cause, said.as_str())
         }
-        BuildError::MetaSchema(error) => of_fault(alloc, words, error),
+        BuildError::MetaSchema(refused) => of_fault(alloc, words, &refused.fault),
         BuildError::Memory => Ok(String::new(alloc)),
     }
+}
+
+// Of documents that are refused, and of a meta-schema that waits for itself the file, where it was given.
+fn of_documents(
+    alloc: Global,
+    words: &ProgramWords<'_>,
+    refused: &RefusedDocuments,
+    description: &str,
+) -> Result<String, AllocError> {
+    let mut text = line_of(alloc, description)?;
+    if let ReferenceError::CircularMetaschema { uri } = &refused.error {
+        let line = where_given(alloc, words, uri.as_str())?;
+        text.push_str(line.as_str())?;
+    }
+    Ok(text)
 }
 
 fn of_cause(
@@ -209,18 +231,17 @@ impl Lacking {
 
 fn lacking_by(error: &BuildError) -> Lacking {
     match error {
-        BuildError::Registry(reference)
-        | BuildError::Root(reference)
-        | BuildError::Schema(
-            BuildCause::Reference {
-                error: reference,
-                ..
-            },
-        ) => Lacking {
-            documents: matches!(reference, ReferenceError::Unretrievable { .. }),
-            meta_schemas: matches!(reference, ReferenceError::UnknownSpecification { .. }),
-        },
+        BuildError::Registry(refused) => lacking_of(&refused.error),
+        BuildError::Root(refused) => lacking_of(&refused.error),
+        BuildError::Schema(BuildCause::Reference { error, .. }) => lacking_of(error),
         _ => Lacking::default(),
+    }
+}
+
+fn lacking_of(error: &ReferenceError) -> Lacking {
+    Lacking {
+        documents: matches!(error, ReferenceError::Unretrievable { .. }),
+        meta_schemas: matches!(error, ReferenceError::UnknownSpecification { .. }),
     }
 }
 

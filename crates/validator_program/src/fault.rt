@@ -6,6 +6,7 @@ ghost use Rattle.validator_program.specs.Status.{status_of};
 use answer_checks::CheckError;
 use clap::error::ErrorKind;
 use line_runs::{BuildError, DocumentError, RunError};
+use schema_reports::ValidationError;
 use std::alloc::{AllocError, AllocFailed, Global};
 use thiserror::Error;
 use uri_references::error::{Error as ReferenceError, UriError};
@@ -48,11 +49,12 @@ pub(crate) enum ProgramFault<'a> {
     /// The documents together, or the schema.
     #[error("build refused: {0}")]
     Build(BuildError),
-    /// The documents or the schema, by the first of their causes, or a fault that its meta-schema tells, with all of them.
+    /// The documents or the schema, by the first of their causes, or a fault that its meta-schema tells, with all causes and all faults.
     #[error("build refused: {error}")]
     Schema {
         error: BuildError,
         causes: Vec<BuildError>,
+        faults: Vec<ValidationError<'static>>,
     },
     /// A file that lists the faults of another number of instances.
     #[error("answers refused: lines of {name}: {lines}, instances: {instances}")]

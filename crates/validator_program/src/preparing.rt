@@ -20,6 +20,7 @@ use line_cuts::ByteSink;
 use line_runs::{BuildError, Documents, Draft, Error, ValidationOptions, Validator};
 use program_inputs::{ProgramWords, SchemaFiles};
 use schema_registries::SchemaRegistry;
+use schema_reports::ValidationError;
 use std::alloc::{AllocError, Global};
 use uri_references::uri::{Uri, from_str};
 
@@ -185,15 +186,16 @@ fn all_unmet(
 
 // Whether documents are refused for references in them: to what is not at hand, to more than may be asked for, or to nothing at all.
 fn is_of_references(error: &BuildError) -> bool {
+    let BuildError::Registry(refused) = error else {
+        return false;
+    };
     matches!(
-        error,
-        BuildError::Registry(
-            Error::Unretrievable { .. }
-                | Error::UnknownSpecification { .. }
-                | Error::RetrievalLimit { .. }
-                | Error::InvalidUri(_)
-                | Error::CircularMetaschema { .. }
-        )
+        refused.error,
+        Error::Unretrievable { .. }
+            | Error::UnknownSpecification { .. }
+            | Error::RetrievalLimit { .. }
+            | Error::InvalidUri(_)
+            | Error::CircularMetaschema { .. }
     )
 }
 
@@ -210,25 +212,32 @@ fn unprepared<'a>(
         return ProgramFault::from(error);
     }
     match all_unmet(alloc, options, documents) {
-        Some(causes) => ProgramFault::Schema { error, causes },
+        Some(causes) => ProgramFault::Schema {
+            error,
+            causes,
+            faults: Vec::new(alloc),
+        },
         None => ProgramFault::from(error),
     }
 }
 
-// All that is wrong with the schema, each cause as an error of its own, and then all that its meta-schema finds wrong, if that is read;
-// nothing where memory is out.
+// All that is wrong with the schema, each cause as an error of its own; nothing where memory is out.
 fn all_causes(alloc: Global, documents: &PreparedDocuments) -> Option<Vec<BuildError>> {
     let (options, registry) = (&documents.options, &documents.registry);
     let mut errors = Vec::new(alloc);
     for cause in options.causes_on(registry, "").ok()? {
         errors.push(BuildError::Schema(cause)).ok()?;
     }
-    if let Ok(faults) = options.meta_schema_faults_on(registry, "") {
-        for fault in faults {
-            errors.push(BuildError::MetaSchema(fault)).ok()?;
-        }
-    }
     Some(errors)
+}
+
+// All that its meta-schema finds wrong with the schema, if that is read.
+fn all_faults(alloc: Global, documents: &PreparedDocuments) -> Vec<ValidationError<'static>> {
+    let (options, registry) = (&documents.options, &documents.registry);
+    match options.meta_schema_faults_on(registry, "") {
+        Ok(faults) => faults,
+        Err(_) => Vec::new(alloc),
+    }
 }
 
 // The fault of a build that was refused: where more is said than its text, and something is wrong at a schema, or its meta-schema refuses
@@ -244,7 +253,11 @@ fn refused<'a>(
         return ProgramFault::from(error);
     }
     match all_causes(alloc, documents) {
-        Some(causes) => ProgramFault::Schema { error, causes },
+        Some(causes) => ProgramFault::Schema {
+            error,
+            causes,
+            faults: all_faults(alloc, documents),
+        },
         None => ProgramFault::from(error),
     }
 }

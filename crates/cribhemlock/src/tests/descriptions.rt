@@ -465,3 +465,26 @@ fn more_absent_than_asked_for(rt: HostRuntime) {
     );
     assert_told(&rt, alloc, &words, file, told.as_str());
 }
+
+// A list of more schemas than may be reached.
+fn many_schemas(rt: &impl Abort, alloc: Global) -> String {
+    let mut schema = String::from_str(alloc, "{\"prefixItems\":[{}").expect(rt, "memory");
+    for _ in 0..65_536 {
+        schema.push_str(",{}").expect(rt, "memory");
+    }
+    schema.push_str("]}").expect(rt, "memory");
+    schema
+}
+
+#[test]
+fn more_schemas_than_allowed(rt: HostRuntime) {
+    let alloc = rt.alloc();
+    let schema = many_schemas(&rt, alloc);
+    let (words, file) = (
+        ["many.json", "--output", "text"],
+        ("many.json", schema.as_str()),
+    );
+    let told =
+        "2  build refused: More than 65536 schema nodes\n  More than 65536 schemas are reached\n";
+    assert_told(&rt, alloc, &words, file, told);
+}

@@ -180,8 +180,8 @@ fn verdict(rt: &impl Abort, alloc: Global, validator: &Validator, input: &str) -
 // The text of a refusal, and behind it the fault that a meta-schema tells.
 pub(crate) fn why(rt: &impl Abort, alloc: Global, error: BuildError) -> String {
     let text = error.to_string(alloc).expect(rt, "memory");
-    if let BuildError::MetaSchema(fault) = &error {
-        let fault = described(rt, alloc, fault);
+    if let BuildError::MetaSchema(refused) = &error {
+        let fault = described(rt, alloc, &refused.fault);
         return format!(in alloc; "{text}: {fault}").expect(rt, "memory");
     }
     text

@@ -1,8 +1,8 @@
 // Why there is no validator, in words: each cause with the sentence that is wanted, a line each behind `says`.
 use crate::tests::given::{built, documents_of};
 use json_schema_validator::{
-    BuildCause, BuildError, DocumentError, Documents, Error, RegexMaker, Retrieve, RetrieveError,
-    Validator,
+    BuildCause, BuildError, DocumentError, Documents, Error, RefusedDocuments, RefusedRoot,
+    RegexMaker, Retrieve, RetrieveError, Validator,
 };
 use serde_json::Value;
 use std::alloc::Global;
@@ -102,16 +102,47 @@ says   at 'http://a.test/r#/x/items'
 const DOCUMENTS: &str = r##"
 document <http://a.test/r> {"$defs":{"u":{"$ref":"http://b.test/"}}}
 says The documents are refused: the document 'http://b.test/' is not present
+says   by the reference "http://b.test/" at 'http://a.test/r#/$defs/u/$ref'
 
 document <http://a.test/r> {"$schema":"http://a.test/m"}
 says The documents are refused: the meta-schema 'http://a.test/m' is not known
+says   by the reference "http://a.test/m" at 'http://a.test/r#/$schema'
 
 document <http://a.test/r> {"$schema":"http://a.test/t"}
 document <http://a.test/t> {"$schema":"http://a.test/r"}
 says The documents are refused: the meta-schema 'http://a.test/r' waits for itself
+says   by the reference "http://a.test/t" at 'http://a.test/r#/$schema'
 
 document <http://a.test/r> {"$defs":{"u":{"$id":"http://a.test/%zz"}}}
 says The documents are refused: 'http://a.test/%zz' is no URI reference taken here
+says   by the reference "http://a.test/%zz" at 'http://a.test/r#/$defs/u/$id'
+
+# the part before the fragment is none
+document <http://a.test/r> {"not":{"$ref":"%\"#/x"}}
+says The documents are refused: '%"' is no URI reference taken here
+says   by the reference "%\"#/x" at 'http://a.test/r#/not/$ref'
+
+# of the meta-schemas
+meta <http://a.test/m> {"$defs":{"a/b":{"$ref":"http://b.test/"}}}
+document <http://a.test/r> {"$ref":"http://c.test/"}
+says The documents are refused: the document 'http://b.test/' is not present
+says   by the reference "http://b.test/" at 'http://a.test/m#/$defs/a~1b/$ref'
+
+# what is given for another reference is not what they are refused for
+document <http://a.test/r> {"items":{"$ref":"http://b.test/one"},"not":{"$ref":"http://b.test/two#/x"}}
+retrieved <http://b.test/one> true
+says The documents are refused: the document 'http://b.test/two' is not present
+says   by the reference "http://b.test/two#/x" at 'http://a.test/r#/not/$ref'
+
+# the first of two
+document <http://a.test/r> {"items":{"$ref":"http://b.test/#a"},"not":{"$ref":"http://b.test/"}}
+says The documents are refused: the document 'http://b.test/' is not present
+says   by the reference "http://b.test/#a" at 'http://a.test/r#/items/$ref'
+
+# a document that was retrieved asks for it
+document <http://a.test/r> {"items":{"$ref":"http://b.test/one"}}
+retrieved <http://b.test/one> {"items":{"$ref":"http://b.test/two"}}
+says The documents are refused: the document 'http://b.test/two' is not present
 
 # more documents than may be retrieved
 document <http://a.test/r> {"items":{"$ref":"http://b.test/one"},"not":{"$ref":"http://b.test/two"}}
@@ -119,10 +150,20 @@ retrieved <http://b.test/one> true
 retrieved <http://b.test/two> true
 retrievals 1
 says The documents are refused: more than 1 documents are wanted
+"##;
 
+const ROOTS: &str = r##"
 root http://a.test/r#/items
 document <http://a.test/r> true
-says The reference to the root leads nowhere: nothing stands at the pointer '/items'
+says The reference "http://a.test/r#/items" to the root leads nowhere from 'http://a.test/r': nothing stands at the pointer '/items'
+
+root s#/b/1
+document <http://a.test/r> true
+says The reference "s#/b/1" to the root leads nowhere from 'http://a.test/r': nothing stands at the pointer '/b/1'
+
+root t
+document <http://a.test/r> true
+says The reference "t" to the root leads nowhere from 'http://a.test/r': the document 'http://a.test/t' is not present
 
 limit 1
 document <http://a.test/r> {"items":true}
@@ -130,9 +171,15 @@ says More than 1 schemas are reached
 
 meta <http://a.test/m> {"properties":{"type":{"anyOf":[{"type":"string"},{"minItems":2}]}}}
 document <http://a.test/r> {"$schema":"http://a.test/m","type":["integer"]}
-says The meta-schema refuses the schema at '/type', by '/properties/type/anyOf': ["integer"] is to be accepted by a schema of anyOf, and is by 0 of 2
+says The meta-schema 'http://a.test/m' refuses the schema at 'http://a.test/r#/type', by '/properties/type/anyOf': ["integer"] is to be accepted by a schema of anyOf, and is by 0 of 2
 says   anyOf/0: /type: ["integer"] is not of type string
 says   anyOf/1: /type: ["integer"] has fewer items than the minimum 2
+
+# a root that is not that of its document
+root #/items
+meta <http://a.test/m> {"properties":{"type":{"type":"string"}}}
+document <http://a.test/r> {"items":{"$id":"i","$schema":"http://a.test/m","type":["integer"]}}
+says The meta-schema 'http://a.test/m' refuses the schema at 'http://a.test/r#/items/type', by '/properties/type/type': ["integer"] is not of type string
 "##;
 
 // What is wanted of a case.
@@ -175,6 +222,7 @@ fn causes(rt: HostRuntime) {
     assert_described(&rt, rt.alloc(), PATTERNS);
     assert_described(&rt, rt.alloc(), REFERENCES);
     assert_described(&rt, rt.alloc(), DOCUMENTS);
+    assert_described(&rt, rt.alloc(), ROOTS);
 }
 
 // A document added, and a validator of it: the error of the first becomes one of the second.
@@ -241,21 +289,29 @@ fn documents(rt: HostRuntime) {
     assert_says(&rt, alloc, &error, "No memory");
 }
 
+fn refused_together(error: Error) -> BuildError {
+    BuildError::Registry(RefusedDocuments { error, at: None })
+}
+
 // Memory that is out where documents are prepared, where the root is looked up, and at a schema; of a retriever that lacks it, the document
 // is not present.
 #[test]
 fn memory(rt: HostRuntime) {
     let alloc = rt.alloc();
-    let error = BuildError::Registry(Error::Memory);
+    let error = refused_together(Error::Memory);
     assert_says(&rt, alloc, &error, "The documents are refused: no memory");
-    let error = BuildError::Root(Error::Memory);
-    let words = "The reference to the root leads nowhere: no memory";
+    let error = BuildError::Root(RefusedRoot {
+        base: Uri::parse(alloc, "u:b").expect(&rt, "a URI"),
+        reference: String::from_str(alloc, "#\n").expect(&rt, "memory"),
+        error: Error::Memory,
+    });
+    let words = "The reference \"#\\n\" to the root leads nowhere from 'u:b': no memory";
     assert_says(&rt, alloc, &error, words);
     let error = BuildError::Schema(BuildCause::Memory);
     assert_says(&rt, alloc, &error, "No memory");
     let uri = String::from_str(alloc, "u:a").expect(&rt, "memory");
     let source = RetrieveError::Memory;
-    let error = BuildError::Registry(Error::Unretrievable { uri, source });
+    let error = refused_together(Error::Unretrievable { uri, source });
     let words = "The documents are refused: the document 'u:a' is not present";
     assert_says(&rt, alloc, &error, words);
 }
@@ -284,6 +340,6 @@ fn retrievers(rt: HostRuntime) {
         .with_retriever(Offline);
     let found = described(&rt, alloc, &options.build(&documents, "http://a.test/r"));
     let words =
-        "The documents are refused: the document 'http://a.test/s' is not present, and retrieving it failed: no network";
+        "The documents are refused: the document 'http://a.test/s' is not present, and retrieving it failed: no network\n  by the reference \"s\" at 'http://a.test/r#/items/$ref'";
     assert!(rt; found.as_str() == words, "{found}\nand not\n{words}");
 }

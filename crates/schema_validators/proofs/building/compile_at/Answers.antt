@@ -21,7 +21,7 @@ returns-in-Err-clause-refused g c =
     let documents : documents_in resolver ≡ documents_shared c.args.registry.now = c.in_ok-resolver.ensures.documents ∙ c.registry.ensures.documents in
     let base : base_of resolver ≡ r.base = c.in_ok-resolver.ensures.base ∙ c.in_ok-clone.ensures.cases in
     let same : lookup (documents_in resolver) (base_of resolver) r.reference ≡ lookup r.documents r.base r.reference = ap₂ (λ ds b. lookup ds b r.reference) documents base in
-    c.of_root.ensures p c.args.node_limit r (subst (λ x. RefusesLookup x c.in-Err.error) same c.in-Err.ensures.refused)
+    c.of_root.ensures.build p c.args.node_limit r refl refl (subst (λ x. RefusesLookup x c.in-Err.error) same c.in-Err.ensures.refused)
 
 pub returns-clause-refused : goal.returns-clause-refused
 returns-clause-refused g c =

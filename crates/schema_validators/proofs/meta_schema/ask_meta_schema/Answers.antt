@@ -1,7 +1,6 @@
-use Rattle.std.proofs.Common.{IfSome, ap, subst, sym}
-use Rattle.serde_json.specs.View.{view}
+use Rattle.std.proofs.Common.{IfSome, subst}
 use Rattle.reached_sites.specs.Passed.{target_in}
-use Rattle.schema_validators.specs.Asked.{IsAsked, IsHandedIn}
+use Rattle.schema_validators.specs.Asked.{IsAsked}
 use Rattle.schema_validators.proofs.Asking.{met_there, met_unasked, refused_there}
 use Rattle.schema_validators.proofs.meta_schema.ask_meta_schema.Goals as goal
 
@@ -10,8 +9,7 @@ returns-clause-accepted g c =
     let by = g.P.PatternMaker.patterns c.args.maker.now in
     let t = target_in c.args.root.now in
     let asked = subst (λ o. IfSome o (IsAsked c.args.parent.now t)) c.in-Some.is c.in_ok-uri.ensures.asked in
-    met_there by c.args.node_limit c.args.parent.now t c.in-Some.uri c.as_str.result.now (view c.contents.result.now) asked.named c.as_str.ensures.value
-    (ap (λ b. view b.now) c.contents.ensures) c.ask_at.result c.ask_at.ensures.accepted
+    met_there by c.args.node_limit c.args.parent.now t c.in-Some.uri asked.named c.ask_at.result c.ask_at.ensures.accepted
 
 pub returns-clause-refused : goal.returns-clause-refused
 returns-clause-refused g c =
@@ -19,8 +17,8 @@ returns-clause-refused g c =
     let p = c.args.parent.now in
     let t = target_in c.args.root.now in
     let asked = subst (λ o. IfSome o (IsAsked p t)) c.in-Some.is c.in_ok-uri.ensures.asked in
-    refused_there by c.args.node_limit p t c.in-Some.uri c.as_str.result.now (view c.contents.result.now) asked.named c.as_str.ensures.value
-    (ap (λ b. view b.now) c.contents.ensures) c.ask_at.result (subst (IsHandedIn p) (sym c.as_str.ensures.value) asked.handed_in) c.ask_at.ensures.refused
+    refused_there by c.args.node_limit p t c.in-Some.uri asked.named c.ask_at.result asked.handed_in
+    c.ask_at.ensures.refused c.ask_at.ensures.named
 
 pub returns-in_default-clause-accepted : goal.returns-in_default-clause-accepted
 returns-in_default-clause-accepted g c =

@@ -1,4 +1,4 @@
-use Rattle.std.proofs.Common.{◌≡◌, ◌∙◌, [], Some, inl, ap₂, sym, subst}
+use Rattle.std.proofs.Common.{◌≡◌, ◌∙◌, [], Some, inl, ap₂, refl, sym, subst}
 use Rattle.schema_definitions.specs.Lookup.{lookup}
 use Rattle.document_sources.specs.Causes.{RefusesLookup}
 use Rattle.reached_sites.specs.Passed.{documents_in, base_of, target_in}
@@ -14,7 +14,7 @@ returns-in-Ok-clause-told g c =
     let resolver = c.in_ok-resolver.resolver in
     let t = target_in c.in-Ok.found in
     let documents : documents_in resolver ≡ documents_in_registry registry = c.in_ok-resolver.ensures.documents ∙ c.registry.ensures in
-    let base : base_of resolver ≡ r.base = c.in_ok-resolver.ensures.base ∙ c.in_ok-clone.ensures.cases ∙ c.base.ensures in
+    let base : base_of resolver ≡ r.base = c.in_ok-resolver.ensures.base ∙ c.in_ok-clone.ensures.cases ∙ c.base-base.ensures in
     let found : Finds r t = sym (ap₂ (λ ds b. lookup ds b c.args.root.now) documents base) ∙ c.in-Ok.ensures.ok in
     let is : registry.parent ≡ Some c.in-Some.parent.now = sym c.in-Some.ensures in
     told_by (g.P.PatternMaker.patterns c.args.maker.now) c.args.node_limit registry r c.in-Some.parent.now is t found c.tell_by_meta_schema.result c.tell_by_meta_schema.ensures.told
@@ -26,7 +26,7 @@ returns-in-Ok-clause-refused g c =
     let resolver = c.in_ok-resolver.resolver in
     let t = target_in c.in-Ok.found in
     let documents : documents_in resolver ≡ documents_in_registry registry = c.in_ok-resolver.ensures.documents ∙ c.registry.ensures in
-    let base : base_of resolver ≡ r.base = c.in_ok-resolver.ensures.base ∙ c.in_ok-clone.ensures.cases ∙ c.base.ensures in
+    let base : base_of resolver ≡ r.base = c.in_ok-resolver.ensures.base ∙ c.in_ok-clone.ensures.cases ∙ c.base-base.ensures in
     let found : Finds r t = sym (ap₂ (λ ds b. lookup ds b c.args.root.now) documents base) ∙ c.in-Ok.ensures.ok in
     let is : registry.parent ≡ Some c.in-Some.parent.now = sym c.in-Some.ensures in
     untold_by (g.P.PatternMaker.patterns c.args.maker.now) c.args.node_limit registry r c.in-Some.parent.now is t found c.tell_by_meta_schema.result c.tell_by_meta_schema.ensures.refused
@@ -37,9 +37,9 @@ returns-clause-refused g c =
     let r : Root = root_on registry c.args.root.now in
     let resolver = c.in_ok-resolver.resolver in
     let documents : documents_in resolver ≡ documents_in_registry registry = c.in_ok-resolver.ensures.documents ∙ c.registry.ensures in
-    let base : base_of resolver ≡ r.base = c.in_ok-resolver.ensures.base ∙ c.in_ok-clone.ensures.cases ∙ c.base.ensures in
+    let base : base_of resolver ≡ r.base = c.in_ok-resolver.ensures.base ∙ c.in_ok-clone.ensures.cases ∙ c.base-base.ensures in
     let same : lookup (documents_in resolver) (base_of resolver) r.reference ≡ lookup r.documents r.base r.reference = ap₂ (λ ds b. lookup ds b c.args.root.now) documents base in
-    inl (c.of_reference.ensures r (subst (λ x. RefusesLookup x c.in-Err.error) same c.in-Err.ensures.refused))
+    inl (c.of_root.ensures.alone r (sym c.base-base.ensures) refl (subst (λ x. RefusesLookup x c.in-Err.error) same c.in-Err.ensures.refused))
 
 pub returns-in-Ok-clause-none : goal.returns-in-Ok-clause-none
 returns-in-Ok-clause-none g c =
