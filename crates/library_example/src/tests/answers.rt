@@ -177,14 +177,23 @@ fn verdict(rt: &impl Abort, alloc: Global, validator: &Validator, input: &str) -
     }
 }
 
+// The fault that a meta-schema tells, behind the text of the refusal.
+fn with_fault(rt: &impl Abort, alloc: Global, text: &str, fault: &ValidationError<'_>) -> String {
+    let fault = described(rt, alloc, fault);
+    format!(in alloc; "{text}: {fault}").expect(rt, "memory")
+}
+
+fn refusal(rt: &impl Abort, alloc: Global, error: &BuildError) -> String {
+    let text = error.to_string(alloc).expect(rt, "memory");
+    match error {
+        BuildError::MetaSchema(refused) => with_fault(rt, alloc, text.as_str(), &refused.fault),
+        _ => text,
+    }
+}
+
 // The text of a refusal, and behind it the fault that a meta-schema tells.
 pub(crate) fn why(rt: &impl Abort, alloc: Global, error: BuildError) -> String {
-    let text = error.to_string(alloc).expect(rt, "memory");
-    if let BuildError::MetaSchema(refused) = &error {
-        let fault = described(rt, alloc, &refused.fault);
-        return format!(in alloc; "{text}: {fault}").expect(rt, "memory");
-    }
-    text
+    refusal(rt, alloc, &error)
 }
 
 // The verdict on a value, or why there is no validator.

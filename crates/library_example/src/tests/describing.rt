@@ -271,7 +271,7 @@ const TEXTS: [(&str, &str, &str); 8] = [
     ),
 ];
 
-fn assert_says(rt: &impl Abort, alloc: Global, error: &BuildError, words: &str) {
+fn assert_says(rt: &impl Abort, alloc: Global, error: BuildError, words: &str) {
     let found = error.description(alloc).expect(rt, "memory");
     assert!(rt; found.as_str() == words, "{found}\nand not\n{words}");
 }
@@ -285,12 +285,30 @@ fn documents(rt: HostRuntime) {
     }
     let found = DocumentError::Memory.description(alloc);
     assert!(rt; found.expect(&rt, "memory").as_str() == "No memory");
-    let error = BuildError::from(DocumentError::Memory);
-    assert_says(&rt, alloc, &error, "No memory");
+    assert_says(
+        &rt,
+        alloc,
+        BuildError::from(DocumentError::Memory),
+        "No memory",
+    );
 }
 
 fn refused_together(error: Error) -> BuildError {
     BuildError::Registry(RefusedDocuments { error, at: None })
+}
+
+fn refused_root(rt: &impl Abort, alloc: Global, base: &str, reference: &str) -> BuildError {
+    BuildError::Root(RefusedRoot {
+        base: Uri::parse(alloc, base).expect(rt, "a URI"),
+        reference: String::from_str(alloc, reference).expect(rt, "memory"),
+        error: Error::Memory,
+    })
+}
+
+fn unretrieved(rt: &impl Abort, alloc: Global, uri: &str) -> BuildError {
+    let uri = String::from_str(alloc, uri).expect(rt, "memory");
+    let source = RetrieveError::Memory;
+    refused_together(Error::Unretrievable { uri, source })
 }
 
 // Memory that is out where documents are prepared, where the root is looked up, and at a schema; of a retriever that lacks it, the document
@@ -298,22 +316,18 @@ fn refused_together(error: Error) -> BuildError {
 #[test]
 fn memory(rt: HostRuntime) {
     let alloc = rt.alloc();
-    let error = refused_together(Error::Memory);
-    assert_says(&rt, alloc, &error, "The documents are refused: no memory");
-    let error = BuildError::Root(RefusedRoot {
-        base: Uri::parse(alloc, "u:b").expect(&rt, "a URI"),
-        reference: String::from_str(alloc, "#\n").expect(&rt, "memory"),
-        error: Error::Memory,
-    });
+    let words = "The documents are refused: no memory";
+    assert_says(&rt, alloc, refused_together(Error::Memory), words);
     let words = "The reference \"#\\n\" to the root leads nowhere from 'u:b': no memory";
-    assert_says(&rt, alloc, &error, words);
-    let error = BuildError::Schema(BuildCause::Memory);
-    assert_says(&rt, alloc, &error, "No memory");
-    let uri = String::from_str(alloc, "u:a").expect(&rt, "memory");
-    let source = RetrieveError::Memory;
-    let error = refused_together(Error::Unretrievable { uri, source });
+    assert_says(&rt, alloc, refused_root(&rt, alloc, "u:b", "#\n"), words);
+    assert_says(
+        &rt,
+        alloc,
+        BuildError::Schema(BuildCause::Memory),
+        "No memory",
+    );
     let words = "The documents are refused: the document 'u:a' is not present";
-    assert_says(&rt, alloc, &error, words);
+    assert_says(&rt, alloc, unretrieved(&rt, alloc, "u:a"), words);
 }
 
 // Whoever is asked and says why nothing comes.
