@@ -12,6 +12,7 @@ ghost use Rattle.compiled_graphs.specs.Filled.{total, node_if, PutsCompiled, Com
 
 use crate::asking::Asking;
 use compiled_keywords::keyword::Keyword;
+use compiled_keywords::together::together_in;
 use keyword_compilers::compiling::compiled;
 use keyword_compilers::nodes::Nodes;
 use reached_sites::visit::Visit;
@@ -148,8 +149,10 @@ pub(crate) fn node_of(
     ensures draft { IfOk result (λ n. n.draft ≡ visit.now.site.dialect.draft) }
 {
     let place = &visit.point.place;
+    let together = together_in(&keywords);
     Ok(Node {
         keywords,
+        together,
         rank: rank(&place.path)?,
         schema_path: visit.point.schema_path.steps.clone()?,
         location: SchemaLocation {

@@ -9,3 +9,5 @@ pub mod TellLemmas
 pub mod PushLemmas
 pub mod WalkLemmas
 pub mod MatchLemmas
+pub mod PairLemmas
+pub mod BesideLemmas

@@ -9,12 +9,25 @@ use Rattle.json_values.specs.Parts.{Part}
 use Rattle.json_values.specs.Patterns.{matched}
 use Rattle.schema_meaning.specs.Places.{to_member}
 use Rattle.schema_meaning.specs.Questions.{question, at, at_name, items_from, item_by_item, each_member, Declared, is_declared}
+use Rattle.schema_engine.specs.Questions.{PushesAs}
 use Rattle.schema_engine.specs.declared.place.Question.{Question}
 use Rattle.schema_engine.proofs.Pushing.{LeavesAs, seen_nothing, seen_start, seen_next, seen_done}
 use Rattle.compiled_keywords.specs.Forms.{Asked, alone, form_of, added_in, asked_beside}
 use Rattle.compiled_keywords.specs.declared.asks.Asks.{Asks}
 use Rattle.compiled_keywords.specs.Members.{matching_of, others_among}
 use Rattle.compiled_keywords.specs.Seen.{seen_by, Puts}
+
+-- several at once
+pub seen_more : {A : Type 0} (seen : Question → A) (old mid new : List Question) (xs left more all : List A) → left ≡ xs ++ more → LeavesAs seen old mid left all → PushesAs seen mid new xs
+    → LeavesAs seen old new more all
+seen_more seen old mid new xs left more all is so puts =
+    let last = drop (length mid) new in
+    record {
+      pushed = so.pushed ++ last;
+      behind = sym (take-append-drop (length mid) new) ∙ ap (λ qs. qs ++ last) (puts.kept ∙ so.behind) ∙ append_assoc old so.pushed last;
+      rest = ap (λ ys. ys ++ more) (map-append seen so.pushed last ∙ ap (λ ys. map seen so.pushed ++ ys) puts.pushed) ∙ append_assoc (map seen so.pushed) xs more
+          ∙ ap (λ ys. map seen so.pushed ++ ys) (sym is) ∙ so.rest;
+    }
 
 module _ (added : ℕ → List Part) where
   pub put_nothing : (old : List Question) (all : List Asked) → all ≡ [] → Puts added old old all
@@ -33,17 +46,9 @@ module _ (added : ℕ → List Part) where
   pub put_done : (old new : List Question) (left all : List Asked) → left ≡ [] → LeavesAs (seen_by added) old new left all → Puts added old new all
   put_done old new left all none so = seen_done (seen_by added) old new all (put_same old new left [] all none so)
 
-  -- several at once
   pub put_more : (old mid new : List Question) (xs left more all : List Asked) → left ≡ xs ++ more → LeavesAs (seen_by added) old mid left all → Puts added mid new xs
       → LeavesAs (seen_by added) old new more all
-  put_more old mid new xs left more all is so puts =
-      let last = drop (length mid) new in
-      record {
-        pushed = so.pushed ++ last;
-        behind = sym (take-append-drop (length mid) new) ∙ ap (λ qs. qs ++ last) (puts.kept ∙ so.behind) ∙ append_assoc old so.pushed last;
-        rest = ap (λ ys. ys ++ more) (map-append (seen_by added) so.pushed last ∙ ap (λ ys. map (seen_by added) so.pushed ++ ys) puts.pushed) ∙ append_assoc (map (seen_by added) so.pushed) xs more
-            ∙ ap (λ ys. map (seen_by added) so.pushed ++ ys) (sym is) ∙ so.rest;
-      }
+  put_more old mid new xs left more all is so puts = seen_more (seen_by added) old mid new xs left more all is so puts
 
 pub drop_items : (start : ℕ) (vs : List Value) → items_from start (items_view vs) ≡ items_view (drop start vs)
 drop_items zero [] = refl

@@ -11,6 +11,7 @@ ghost use Rattle.schema_engine.specs.Places.{value_at};
 ghost use Rattle.applicators.specs.Forms.{noted};
 ghost use Rattle.compiled_keywords.specs.Asked.{MayMatchIn};
 ghost use Rattle.compiled_keywords.specs.Forms.{alone, form_of, whole_at, added_in, asked_beside};
+ghost use Rattle.compiled_keywords.specs.Paired.{Pairs};
 ghost use Rattle.compiled_keywords.specs.Seen.{Puts, beside_in};
 ghost use Rattle.compiled_keywords.specs.Shapes.{shape_of, added_by, reference_of, Knows, KnowsAsked};
 ghost use Rattle.compiled_keywords.specs.Told.{TellsEach};
@@ -31,6 +32,7 @@ use crate::patterns::is_matched;
 use crate::reasons::reason_of;
 use crate::rules::{combination_at, refused_under};
 use crate::subschemas::Pattern;
+use crate::together::{are_beside, push_both};
 use schema_engine::asking::Asking;
 use schema_engine::combination::Combination;
 use schema_engine::entry::Entry;
@@ -186,6 +188,8 @@ impl Validate for Keyword {
 
     ghost added = { added_by };
 
+    ghost pairs = { Pairs };
+
     fn combination(&self, place: Place<'_>) -> Combination {
         match self {
             Keyword::Applicator(applicator) => combination_at(applicator.combining, place),
@@ -222,6 +226,34 @@ impl Validate for Keyword {
         into: &mut Vec<Question<'q, 'i>>,
     ) -> Result<(), AllocError> {
         self.push_questions(place, matching, into)
+    }
+
+    fn goes_with(&self, other: &Self) -> bool {
+        match self {
+            Keyword::Applicator(applicator) => match other {
+                Keyword::Applicator(beside) => are_beside(&applicator.asks, &beside.asks),
+                _ => false,
+            },
+            _ => false,
+        }
+    }
+
+    fn questions_with<'q, 'i: 'q, T: Matching>(
+        &'q self,
+        other: &'q Self,
+        place: Place<'i>,
+        matching: &mut T,
+        into: &mut Vec<Question<'q, 'i>>,
+    ) -> Result<(), AllocError> {
+        match self {
+            Keyword::Applicator(applicator) => match other {
+                Keyword::Applicator(beside) => {
+                    push_both(&applicator.asks, &beside.asks, place, matching, into)
+                }
+                _ => Ok(()),
+            },
+            _ => Ok(()),
+        }
     }
 
     fn entry(&self, entry: usize) -> Entry<'_> {

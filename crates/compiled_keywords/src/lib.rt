@@ -16,4 +16,5 @@ mod patterns;
 mod reasons;
 mod rules;
 pub mod subschemas;
+pub mod together;
 mod walk;

@@ -1,6 +1,5 @@
 -- The steps of the engine.
-use Rattle.std.proofs.Common.{◌≡◌, ◌<◌, ◌≤◌, ◌+◌, ℕ, zero, suc, List, [], ◌∷◌, Bool, true, false, ◌&&◌, map, drop, length, get_or, Option, Some, None, IfSome, refl, sym, ap, ◌∙◌, subst, arith, add-one}
-use Rattle.std.proofs.lemmas.List.{drop_more, drop_all}
+use Rattle.std.proofs.Common.{◌≡◌, ◌<◌, ◌≤◌, ◌+◌, ◌⊎◌, inl, inr, ℕ, zero, suc, List, [], ◌∷◌, Bool, true, false, ◌&&◌, map, drop, length, get_or, Option, Some, None, IfSome, refl, sym, ap, ◌∙◌, subst, arith, add-one}
 use Rattle.std.proofs.lemmas.Option.{slice_get_read}
 use Rattle.serde_json.specs.Data.{Data}
 use Rattle.schema_meaning.specs.Members.{In, first, later, all_true}
@@ -27,7 +26,6 @@ use Rattle.schema_engine.specs.Leads.{leads_of}
 use Rattle.schema_engine.specs.Graphs.{keywords_at, keywords_or_none, rank_at, reading_of, IsSound}
 use Rattle.schema_engine.specs.Verdicts.{Setting, Fits, Tells, MayAsk, EachMayAsk, node_in, asked_in, rule_in, key_in, size}
 use Rattle.schema_engine.proofs.Inside.{inside}
-use Rattle.schema_engine.proofs.Left.{KeywordsLeft}
 use Rattle.schema_engine.proofs.RuleLemmas.{rule_combined}
 use Rattle.schema_engine.proofs.Settings.{stepped, entered, target_fits}
 
@@ -112,30 +110,66 @@ module _ {K : Type 0} (knows : K → (ℕ → List ℕ) → Type 0) (shape : K �
   pub may_ask_for : MayAskFor m (shape k) d
   may_ask_for = record { each = λ pattern text i. asks_for pattern text i m.from led ready.asks }
 
+  -- a question of the rule leads on
+  leads_on : (c : Call) (s : Start) (rest : Answers) → LedFrom m n d s → HasKeywords shape nodes s → In c (questions_of (rule (completed m rest) d (shape k)))
+      → IsLed (completed m rest) s c.node (value_after d c.step)
+  leads_on c s rest l a i =
+      let reads = completed m rest in
+      let one = all_asked (rule reads d (shape k)) c i in
+      subst (λ e. IsLed reads s c.node (value_after d e)) (sym one.step)
+      (subst (λ e. IsLed reads s e (value_after d one.question.step)) (sym one.node) (goes_on (l rest) (shape k) one.question (a n k stands) one.asked))
+
   goes_to : (c : Call) → ((rest : Answers) → In c (questions_of (rule (completed m rest) d (shape k)))) → (o : Option Start)
       → IfSome o (LedFrom m n d) → IfSome o (HasKeywords shape nodes) → IfSome o (LedFrom m c.node (value_after d c.step))
   goes_to c i None l a = tt
-  goes_to c i (Some s) l a = λ rest.
-      (let reads = completed m rest in
-      let one = all_asked (rule reads d (shape k)) c (i rest) in
-      subst (λ e. IsLed reads s c.node (value_after d e)) (sym one.step)
-      (subst (λ e. IsLed reads s e (value_after d one.question.step)) (sym one.node) (goes_on (l rest) (shape k) one.question (a n k stands) one.asked)))
+  goes_to c i (Some s) l a = λ rest. leads_on c s rest l a (i rest)
+
+  -- a question of the rule may be asked where it leads
+  asked_so : IsSound shape nodes → (c : Call) → In c (questions_of (rule (completed m none_matched) d (shape k))) → LedTo m c.node (value_after d c.step)
+      → MayAsk m nodes (rank_at nodes n) d c
+  asked_so sound c i l =
+      let reads = completed m none_matched in
+      let a = all_asked (rule reads d (shape k)) c i in
+      let here = inside reads d (shape k) a.question a.asked in
+      record {
+        below = rw a.node (sound.below n k a.question.follows a.question.site stands here.leads);
+        falls = λ g. rw a.node (sound.falls n k a.question.site stands (subst (λ f. In a.question.site (leads_of f (shape k))) (sym a.follows ∙ g) here.leads));
+        stays = λ g. a.step ∙ here.stays (sym a.follows ∙ g);
+        down = rw a.step here.down;
+        led = l;
+      }
 
   -- calls that the rule asks, however what is not known is answered
   pub each_may_ask : IsSound shape nodes → (cs : List Call) → ((rest : Answers) → cs ≡ questions_of (rule (completed m rest) d (shape k)))
       → EachMayAsk m nodes (rank_at nodes n) d cs
   each_may_ask sound cs is = record {
-    each = λ c i.
-        (let reads = completed m none_matched in
-        let a = all_asked (rule reads d (shape k)) c (subst (In c) (is none_matched) i) in
-        let here = inside reads d (shape k) a.question a.asked in
-        record {
-          below = rw a.node (sound.below n k a.question.follows a.question.site stands here.leads);
-          falls = λ g. rw a.node (sound.falls n k a.question.site stands (subst (λ f. In a.question.site (leads_of f (shape k))) (sym a.follows ∙ g) here.leads));
-          stays = λ g. a.step ∙ here.stays (sym a.follows ∙ g);
-          down = rw a.step here.down;
-          led = goes_to c (λ rest. subst (In c) (is rest) i) m.from led ready.asks;
-        });
+    each = λ c i. asked_so sound c (subst (In c) (is none_matched) i) (goes_to c (λ rest. subst (In c) (is rest) i) m.from led ready.asks);
+  }
+
+module _ {K : Type 0} (knows : K → (ℕ → List ℕ) → Type 0) (shape : K → Shape ℕ) (nodes : List (Node K)) (n : ℕ) (j k : K) (m : Matches) (d : Data)
+    (ready : AreReady knows shape m nodes) (led : LedTo m n d) (one : In j (keywords_at nodes n)) (other : In k (keywords_at nodes n)) where
+  abbrev IsOfEither : Call → Answers → Type 0
+  IsOfEither c rest = In c (questions_of (rule (completed m rest) d (shape j))) ⊎ In c (questions_of (rule (completed m rest) d (shape k)))
+
+  either_goes : (c : Call) → ((rest : Answers) → IsOfEither c rest) → (o : Option Start)
+      → IfSome o (LedFrom m n d) → IfSome o (HasKeywords shape nodes) → IfSome o (LedFrom m c.node (value_after d c.step))
+  either_goes c i None l a = tt
+  either_goes c i (Some s) l a = λ rest.
+      elim (i rest) [
+        | inl x ↦ leads_on knows shape nodes n j m d ready led one c s rest l a x
+        | inr x ↦ leads_on knows shape nodes n k m d ready led other c s rest l a x
+      ]
+
+  either_asked : IsSound shape nodes → (c : Call) → IsOfEither c none_matched → LedTo m c.node (value_after d c.step) → MayAsk m nodes (rank_at nodes n) d c
+  either_asked sound c (inl x) l = asked_so knows shape nodes n j m d ready led one sound c x l
+  either_asked sound c (inr x) l = asked_so knows shape nodes n k m d ready led other sound c x l
+
+  -- calls that either of two rules asks, however what is not known is answered
+  pub both_may_ask : IsSound shape nodes → (cs : List Call)
+      → ((rest : Answers) (c : Call) → In c cs → In c (questions_of (rule (completed m rest) d (shape j))) ⊎ In c (questions_of (rule (completed m rest) d (shape k))))
+      → EachMayAsk m nodes (rank_at nodes n) d cs
+  both_may_ask sound cs is = record {
+    each = λ c i. either_asked sound c (is none_matched c i) (either_goes c (λ rest. is rest c i) m.from led ready.asks);
   }
 
 -- ---- the keywords of a node
@@ -169,50 +203,19 @@ module _ {K : Type 0} (shape : K → Shape ℕ) (matches : List ℕ → List ℕ
       (rule matches (value_at p)) (map shape (keywords_at nodes n))
       ∙ map_map (λ s. accepts (rule matches (value_at p) s) (map (cut_asked verdicts (reading_of shape matches nodes) (cut_within verdicts (reading_of shape matches nodes) depth) x.keys x.spot) (asks (rule matches (value_at p) s)))) shape (keywords_at nodes n)))
 
-  keywords_next : (i : ℕ) (all ks : List K) (k : K) → i < length ks → k ≡ get_or ks i k → KeywordsLeft shape matches nodes n p progress all (drop i ks)
-      → KeywordsLeft shape matches nodes n p progress all (k ∷ drop (i + 1) ks)
-  keywords_next i all ks k high is left =
-      subst (KeywordsLeft shape matches nodes n p progress all) (drop_more ks i k high ∙ ap (λ y. y ∷ drop (i + 1) ks) (sym is)) left
-
-  pub keywords_yes : (i : ℕ) (all ks : List K) (k : K) → i < length ks → k ≡ get_or ks i k → KeywordsLeft shape matches nodes n p progress all (drop i ks)
-      → Tells p progress (size nodes (value_at p) progress (rank_at nodes n)) (rule_in (reading_of shape matches nodes) (rule matches (value_at p) (shape k))) true
-      → KeywordsLeft shape matches nodes n p progress all (drop (i + 1) ks)
-  keywords_yes i all ks k high is left taken = record {
-    left = λ x fits deep.
-        (let e = (keywords_next i all ks k high is left).left x fits deep in e ∙ rw (sym (taken.same x fits deep)) refl);
-  }
-
-  -- a node with a keyword that refuses
-  pub node_refuses : (i : ℕ) (ks : List K) (k : K) → i < length ks → k ≡ get_or ks i k → KeywordsLeft shape matches nodes n p progress (keywords_at nodes n) (drop i ks)
-      → Tells p progress (size nodes (value_at p) progress (rank_at nodes n)) (rule_in (reading_of shape matches nodes) (rule matches (value_at p) (shape k))) false
-      → Tells p progress (suc (size nodes (value_at p) progress (rank_at nodes n))) (node_in (reading_of shape matches nodes) n) false
-  node_refuses i ks k high is left refused = record { same = λ x fits deep. told x x.depth refl fits deep }
+  -- a node is accepted where its keywords are, one question deeper
+  pub node_by_keywords : (b : Bool)
+      → Tells p progress (size nodes (value_at p) progress (rank_at nodes n)) (λ x. all_true (map (λ k. rule_in (reading_of shape matches nodes) (rule matches (value_at p) (shape k)) x) (keywords_at nodes n))) b
+      → Tells p progress (suc (size nodes (value_at p) progress (rank_at nodes n))) (node_in (reading_of shape matches nodes) n) b
+  node_by_keywords b tells = record { same = λ x fits deep. told x x.depth refl fits deep }
     where
       told : (x : Setting) (m : ℕ) → x.depth ≡ m → Fits p progress x → suc (size nodes (value_at p) progress (rank_at nodes n)) ≤ x.depth
-          → false ≡ node_in (reading_of shape matches nodes) n x
+          → b ≡ node_in (reading_of shape matches nodes) n x
       told x zero e fits deep = absurd (omega arith)
       told x (suc m) e fits deep =
           let y : Setting = record { depth = m; keys = x.keys; spot = x.spot } in
           let low : size nodes (value_at p) progress (rank_at nodes n) ≤ m = omega arith in
-          let f : Fits p progress y = lower_fits x m fits in
-          let rest = (keywords_next i (keywords_at nodes n) ks k high is left).left y f low in
-          sym (node_told x m e fits ∙ rest ∙ rw (sym (refused.same y f low)) refl)
-
-  -- a node whose keywords all accept
-  pub node_accepts : (i : ℕ) (ks : List K) → length ks ≤ i → KeywordsLeft shape matches nodes n p progress (keywords_at nodes n) (drop i ks)
-      → Tells p progress (suc (size nodes (value_at p) progress (rank_at nodes n))) (node_in (reading_of shape matches nodes) n) true
-  node_accepts i ks all left = record { same = λ x fits deep. told x x.depth refl fits deep }
-    where
-      told : (x : Setting) (m : ℕ) → x.depth ≡ m → Fits p progress x → suc (size nodes (value_at p) progress (rank_at nodes n)) ≤ x.depth
-          → true ≡ node_in (reading_of shape matches nodes) n x
-      told x zero e fits deep = absurd (omega arith)
-      told x (suc m) e fits deep =
-          let y : Setting = record { depth = m; keys = x.keys; spot = x.spot } in
-          let low : size nodes (value_at p) progress (rank_at nodes n) ≤ m = omega arith in
-          let f : Fits p progress y = lower_fits x m fits in
-          let none : drop i ks ≡ [] = drop_all i ks all in
-          let rest = (subst (KeywordsLeft shape matches nodes n p progress (keywords_at nodes n)) none left).left y f low in
-          sym (node_told x m e fits ∙ rest)
+          tells.same y (lower_fits x m fits) low ∙ sym (node_told x m e fits)
 
   no_longer : (b : Bool) → (b && false) ≡ false
   no_longer true = refl

@@ -1,5 +1,5 @@
 //! What the engine asks of a keyword.
-ghost use Rattle.std.specs.Prelude.{◌≡◌, ℕ, List, Bool, OnOk, OnErr, IfOk};
+ghost use Rattle.std.specs.Prelude.{◌≡◌, ℕ, List, Bool, true, OnOk, OnErr, IfOk};
 ghost use Rattle.serde_json.specs.Data.{Data};
 ghost use Rattle.serde_json.specs.View.{view};
 ghost use Rattle.json_values.specs.Parts.{Part};
@@ -12,6 +12,7 @@ ghost use Rattle.schema_engine.specs.Questions.{Pushes, PushesAsked};
 ghost use Rattle.schema_engine.specs.Refusals.{IsReason, IsRefusedUnder};
 ghost use Rattle.schema_engine.specs.Rules.{combination_of, is_right, questions_of};
 ghost use Rattle.schema_engine.specs.Situations.{TellsNotes};
+ghost use Rattle.schema_engine.specs.Together.{PushesBoth};
 ghost use Rattle.schema_engine.specs.Led.{MayAskFor};
 ghost use Rattle.schema_engine.specs.Matches.{InEach};
 
@@ -36,6 +37,9 @@ pub trait Validate: Drop {
 
     // The parts that a question of an entry adds to the road.
     ghost added: { Self → ℕ → List Part };
+
+    // The questions of both can be pushed together.
+    ghost pairs: { Self → Self → Type 0 };
 
     /// How the answers to its questions make its verdict.
     fn combination(&self, place: Place<'_>) -> Combination
@@ -84,6 +88,35 @@ pub trait Validate: Drop {
         ensures asked { OnOk result (InEach (T.matches matching.old) (λ m.
             PushesAsked (added self.now) into.old.items into.new.items
             (asks (rule m (value_at place.entry) (shape self.now))))) };
+
+    /// Whether its questions can be pushed together with those of another keyword.
+    fn goes_with(&self, other: &Self) -> bool
+        ensures { result ≡ true → pairs self.now other.now };
+
+    /// Pushes its questions and those of another keyword behind those that are there, in any order, and asks for no match twice. Each answer
+    /// has to be yes.
+    ///
+    /// # Errors
+    ///
+    /// Where memory was refused. Some questions may have been pushed then.
+    fn questions_with<'q, 'i: 'q, T: Matching>(
+        &'q self,
+        other: &'q Self,
+        place: Place<'i>,
+        matching: &mut T,
+        into: &mut Vec<Question<'q, 'i>>,
+    ) -> Result<(), AllocError>
+        requires pairs { pairs self.now other.now }
+        requires known { knows self.now (T.matches matching.old).pattern }
+        requires known_beside { knows other.now (T.matches matching.old).pattern }
+        requires asked { MayAskFor (T.matches matching.old) (shape self.now) (value_at place) }
+        requires asked_beside { MayAskFor (T.matches matching.old) (shape other.now) (value_at place) }
+        ensures same { OnOk result (T.matches matching.new ≡ T.matches matching.old) }
+        ensures stays { OnErr result (T.matches matching.new ≡ T.matches matching.old) }
+        ensures pushed { OnOk result (InEach (T.matches matching.old) (λ m.
+            PushesBoth into.old.items into.new.items
+            (rule m (value_at place.entry) (shape self.now))
+            (rule m (value_at place.entry) (shape other.now)))) };
 
     /// Where in it the schema of a question of this entry stands.
     fn entry(&self, entry: usize) -> Entry<'_>

@@ -1,7 +1,7 @@
 //! The verdict of a compiled schema.
-ghost use Rattle.std.specs.Prelude.{◌≡◌, ◌<◌, ◌≤◌, ◌+◌, ℕ, suc, true, map, drop, length, OnOk, OnErr, IfOk};
+ghost use Rattle.std.specs.Prelude.{◌≡◌, ◌<◌, ◌≤◌, ◌+◌, ◌&&◌, ℕ, suc, true, map, drop, length, OnOk, OnErr, IfOk};
 ghost use Rattle.serde_json.specs.View.{items_view};
-ghost use Rattle.schema_meaning.specs.Members.{In, count_true};
+ghost use Rattle.schema_meaning.specs.Members.{In, all_true, count_true};
 ghost use Rattle.schema_meaning.specs.Places.{stay};
 ghost use Rattle.schema_meaning.specs.Keywords.{rule};
 ghost use Rattle.schema_engine.specs.Places.{value_at};
@@ -14,6 +14,7 @@ ghost use Rattle.schema_engine.specs.Verdicts.{node_in, asked_in, rule_in, size,
 ghost use Rattle.schema_engine.specs.Led.{LedTo, AreReady};
 ghost use Rattle.schema_engine.specs.Standing.{LedHere, MayAskAt, EachMayAskAt};
 ghost use Rattle.schema_engine.specs.Matches.{InEach};
+ghost use Rattle.schema_engine.specs.Pairs.{ArePaired};
 
 use crate::asking::Asking;
 use crate::combination::{Combination, is_within, settled};
@@ -21,6 +22,8 @@ use crate::graph::Graph;
 use crate::here::Here;
 use crate::itself::accept_itself;
 use crate::matching::Matching;
+use crate::node::Together;
+use crate::pairing::paired;
 use crate::place::{Asked, Place, Question};
 use crate::progress::{Progress, is_in_progress};
 use crate::validate::Validate;
@@ -59,16 +62,116 @@ pub fn accepts_node<'q, 'i: 'q, K: Validate, T: Matching>(
         place,
         progress,
     };
-    let keywords = graph.nodes[node].keywords.as_slice();
+    let compiled = &graph.nodes[node];
+    let keywords = compiled.keywords.as_slice();
     if !accept_itself(keywords, place, matching)? {
         return Ok(false);
     }
+    match paired(keywords, compiled.together) {
+        Some(pair) => accepts_paired(&here, keywords, pair, matching, questions),
+        None => accepts_all(&here, keywords, matching, questions),
+    }
+}
+
+// Whether each keyword of a node accepts what is at a place, where nothing is wrong with the value itself.
+#[cycle(verdict)]
+fn accepts_all<'q, 'i: 'q, K: Validate, T: Matching>(
+    here: &Here<'q, 'i, '_, K>,
+    keywords: &'q [K],
+    matching: &mut T,
+    questions: &mut Vec<Question<'q, 'i>>,
+) -> Result<bool, AllocError>
+    requires known { AreReady K.knows K.shape (T.matches matching.old) here.now.graph.now.nodes.items }
+    requires keywords { keywords.now ≡ keywords_at here.now.graph.now.nodes.items here.now.node }
+    requires led { LedHere (T.matches matching.old) here.now }
+    requires right { InEach (T.matches matching.old) (λ m.
+        all_true (map (λ k. is_right (rule m (value_at here.now.place) (K.shape k))) keywords.now) ≡ true) }
+    ensures matches { OnOk result (T.matches matching.new ≡ T.matches matching.old) }
+    ensures stays { OnErr result (T.matches matching.new ≡ T.matches matching.old) }
+    ensures questions { OnOk result (questions.new.items ≡ questions.old.items) }
+    ensures verdict { let nodes = here.now.graph.now.nodes.items in IfOk result (λ b. InEach (T.matches matching.old) (λ m.
+        let r = reading_of K.shape m nodes in
+        TellsFrom nodes here.now.node here.now.place (numbers_in here.now.progress.now)
+        (λ x. all_true (map (λ k. rule_in r (rule m (value_at here.now.place) (K.shape k)) x) keywords.now)) b)) }
+{
     for keyword in keywords {
-        if !accepts_keyword(&here, keyword, matching, questions)? {
+        if !accepts_keyword(here, keyword, matching, questions)? {
             return Ok(false);
         }
     }
     Ok(true)
+}
+
+// The same, where two of them are asked together, before the others.
+#[cycle(verdict)]
+fn accepts_paired<'q, 'i: 'q, K: Validate, T: Matching>(
+    here: &Here<'q, 'i, '_, K>,
+    keywords: &'q [K],
+    pair: Together,
+    matching: &mut T,
+    questions: &mut Vec<Question<'q, 'i>>,
+) -> Result<bool, AllocError>
+    requires known { AreReady K.knows K.shape (T.matches matching.old) here.now.graph.now.nodes.items }
+    requires keywords { keywords.now ≡ keywords_at here.now.graph.now.nodes.items here.now.node }
+    requires led { LedHere (T.matches matching.old) here.now }
+    requires right { InEach (T.matches matching.old) (λ m.
+        all_true (map (λ k. is_right (rule m (value_at here.now.place) (K.shape k))) keywords.now) ≡ true) }
+    requires pair { ArePaired K.pairs keywords.now pair }
+    ensures matches { OnOk result (T.matches matching.new ≡ T.matches matching.old) }
+    ensures stays { OnErr result (T.matches matching.new ≡ T.matches matching.old) }
+    ensures questions { OnOk result (questions.new.items ≡ questions.old.items) }
+    ensures verdict { let nodes = here.now.graph.now.nodes.items in IfOk result (λ b. InEach (T.matches matching.old) (λ m.
+        let r = reading_of K.shape m nodes in
+        TellsFrom nodes here.now.node here.now.place (numbers_in here.now.progress.now)
+        (λ x. all_true (map (λ k. rule_in r (rule m (value_at here.now.place) (K.shape k)) x) keywords.now)) b)) }
+{
+    let first = &keywords[pair.first];
+    let second = &keywords[pair.second];
+    if !accepts_both(here, first, second, matching, questions)? {
+        return Ok(false);
+    }
+    for (position, other) in keywords.iter().enumerate() {
+        if position != pair.first && position != pair.second {
+            if !accepts_keyword(here, other, matching, questions)? {
+                return Ok(false);
+            }
+        }
+    }
+    Ok(true)
+}
+
+// Whether two keywords of a node that go together accept, with which nothing is wrong of the value itself.
+#[cycle(verdict)]
+fn accepts_both<'q, 'i: 'q, K: Validate, T: Matching>(
+    here: &Here<'q, 'i, '_, K>,
+    first: &'q K,
+    second: &'q K,
+    matching: &mut T,
+    questions: &mut Vec<Question<'q, 'i>>,
+) -> Result<bool, AllocError>
+    requires known { AreReady K.knows K.shape (T.matches matching.old) here.now.graph.now.nodes.items }
+    requires pairs { K.pairs first.now second.now }
+    requires stands { In first.now (keywords_at here.now.graph.now.nodes.items here.now.node) }
+    requires stands_beside { In second.now (keywords_at here.now.graph.now.nodes.items here.now.node) }
+    requires led { LedHere (T.matches matching.old) here.now }
+    requires right { InEach (T.matches matching.old)
+        (λ m. is_right (rule m (value_at here.now.place) (K.shape first.now)) ≡ true) }
+    requires right_beside { InEach (T.matches matching.old)
+        (λ m. is_right (rule m (value_at here.now.place) (K.shape second.now)) ≡ true) }
+    ensures matches { OnOk result (T.matches matching.new ≡ T.matches matching.old) }
+    ensures stays { OnErr result (T.matches matching.new ≡ T.matches matching.old) }
+    ensures questions { OnOk result (questions.new.items ≡ questions.old.items) }
+    ensures verdict { let nodes = here.now.graph.now.nodes.items in IfOk result (λ b. InEach (T.matches matching.old) (λ m.
+        let r = reading_of K.shape m nodes in
+        TellsFrom nodes here.now.node here.now.place (numbers_in here.now.progress.now)
+        (λ x. rule_in r (rule m (value_at here.now.place) (K.shape first.now)) x
+        && rule_in r (rule m (value_at here.now.place) (K.shape second.now)) x) b)) }
+{
+    let start = questions.len();
+    first.questions_with(second, here.place, matching, questions)?;
+    let accepts = accepts_each(here, true, start, matching, questions)?;
+    questions.truncate(start);
+    Ok(accepts)
 }
 
 // Whether a keyword of a node, with which nothing is wrong of the value itself, accepts what is at a place.

@@ -50,7 +50,7 @@ fn asked_by(rt: &impl Abort, alloc: Global, schema: &str, input: &str) -> u32 {
 }
 
 // A schema, a value, and how many matches its verdict asks.
-const ASKED: [(&str, &str, u32); 8] = [
+const ASKED: [(&str, &str, u32); 11] = [
     (
         r#"{"anyOf":[{"pattern":"a+"},{"pattern":"b+"}]}"#,
         r#""x""#,
@@ -82,6 +82,21 @@ const ASKED: [(&str, &str, u32); 8] = [
         r#"{"not":{"pattern":"a+"},"items":{"pattern":"b+"}}"#,
         r#""x""#,
         1,
+    ),
+    (
+        r#"{"patternProperties":{"a+":{},"b+":{}},"additionalProperties":false}"#,
+        r#"{"x":1,"y":2,"z":3}"#,
+        6,
+    ),
+    (
+        r#"{"additionalProperties":{"type":"string"},"properties":{"y":{}},"patternProperties":{"a+":{"minimum":0}}}"#,
+        r#"{"x":1,"y":2,"z":3}"#,
+        3,
+    ),
+    (
+        r#"{"properties":{"y":{}},"additionalProperties":false}"#,
+        r#"{"y":2}"#,
+        0,
     ),
 ];
 

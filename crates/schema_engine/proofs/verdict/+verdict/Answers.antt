@@ -1,4 +1,4 @@
-use Rattle.std.proofs.Common.{rules, ◌≡◌, ◌<◌, ◌≤◌, ◌+◌, ◌∙◌, suc, List, get_or, Bool, true, false, map, drop, length, [], ◌∷◌, refl, sym, ap, subst, arith}
+use Rattle.std.proofs.Common.{rules, IfSome, ◌≡◌, ◌<◌, ◌≤◌, ◌+◌, ◌∙◌, suc, List, get_or, Bool, true, false, map, drop, length, [], ◌∷◌, refl, sym, ap, subst, arith}
 use Rattle.std.proofs.lemmas.Result.{IfOk-weaker}
 use Rattle.serde_json.specs.View.{view}
 use Rattle.serde_json.specs.View.{items_view}
@@ -10,21 +10,23 @@ use Rattle.schema_engine.specs.declared.place.Asked.{Asked}
 use Rattle.schema_engine.specs.declared.place.Question.{Question}
 use Rattle.schema_engine.specs.declared.place.Place.TheVariants as place
 use Rattle.schema_engine.specs.Matches.{Answers, Matches, completed, none_matched}
+use Rattle.schema_engine.specs.Pairs.{ArePaired}
 use Rattle.schema_engine.specs.Places.{value_at, step_of}
 use Rattle.schema_engine.specs.Progress.{numbers_in, is_among}
 use Rattle.schema_engine.specs.Questions.{Call, call_of}
 use Rattle.schema_engine.specs.Asking.{AsksEach, AsksSo, target_call, item_call, item_calls}
 use Rattle.schema_engine.specs.Rules.{all_beside, combined, is_right}
-use Rattle.schema_engine.specs.Graphs.{keywords_at, rank_at, reading_of}
+use Rattle.schema_engine.specs.Graphs.{rank_at, reading_of}
 use Rattle.schema_engine.specs.Led.{LedTo, AreReady}
 use Rattle.schema_engine.specs.Verdicts.{Setting, Fits, node_in, asked_in, rule_in, size, Tells, MayAsk, EachMayAsk, GoesDown}
 use Rattle.schema_engine.proofs.Items.{items_begin, items_yes, items_no, items_end, may_ask_item, may_ask_items}
-use Rattle.schema_engine.proofs.Left.{KeywordsLeft, CountLeft}
+use Rattle.schema_engine.proofs.Left.{CountLeft}
 use Rattle.schema_engine.proofs.Loops.{each_yes, each_skipped, each_no, count_yes, count_no, chosen_by, combined_by}
 use Rattle.schema_engine.proofs.Sizes.{size_inside, size_down, size_target}
 use Rattle.schema_engine.proofs.Settings.{stepped, stay_fits, item_fits, member_fits, name_fits}
-use Rattle.schema_engine.proofs.Steps.{may_ask_one, may_ask_rest, may_ask_for, each_may_ask, keywords_here, keyword_stands, keywords_yes, node_refuses, node_accepts, node_wrong, each_right, keyword_told, keyword_each, keyword_alone, keyword_targeted, question_told, follows_told, back_told, entered_told}
-use Rattle.schema_engine.proofs.verdict.+verdict.Goals.{accepts_each-then-question-beside+in_ok-accepts_question+else-not-branch, accepts_each-else-question-beside, accepts_counted-then-branch, accepts_counted-else-branch}
+use Rattle.schema_engine.proofs.Keywords.{keywords_yes, keywords_no, keywords_end, one_yes, other_yes, both_no, both_told, same_at}
+use Rattle.schema_engine.proofs.Steps.{may_ask_one, may_ask_rest, may_ask_for, each_may_ask, both_may_ask, keywords_here, keyword_stands, node_by_keywords, node_wrong, each_right, keyword_told, keyword_each, keyword_alone, keyword_targeted, question_told, follows_told, back_told, entered_told}
+use Rattle.schema_engine.proofs.verdict.+verdict.Goals.{accepts_paired-else-position-pair-via-then-position-pair+else-position-pair-2, accepts_paired-else-position-pair-via-else-position-pair, accepts_paired-then-position-pair+then-position-pair-2+in_ok-accepts_keyword+else-not-branch-2, accepts_paired-else-position-pair, accepts_each-then-question-beside+in_ok-accepts_question+else-not-branch, accepts_each-else-question-beside, accepts_counted-then-branch, accepts_counted-else-branch}
 use Rattle.schema_engine.proofs.verdict.+verdict.Goals as goal
 
 -- ---- the target of a reference
@@ -416,7 +418,7 @@ accepts_items-returns-clause-verdict g t c =
 pub accepts_node-accept_itself-requires : goal.accepts_node-accept_itself-requires
 accepts_node-accept_itself-requires g t c =
     let nodes = c.args.graph.now.nodes.items in
-    let here = keywords_here nodes c.args.node c.index.result.now c.requires.there c.index.ensures ∙ sym c.as_slice-keywords.ensures.value in
+    let here = keywords_here nodes c.args.node c.index-compiled.result.now c.requires.there c.index-compiled.ensures ∙ sym c.as_slice-keywords.ensures.value in
     record {
       known = λ k i. c.requires.known.known.each c.args.node k (subst (In k) (sym here) i);
       asked = λ k i. may_ask_for g.K.Validate.knows g.K.Validate.shape nodes c.args.node k _ (value_at c.args.place) c.requires.known c.requires.led (subst (In k) (sym here) i);
@@ -426,19 +428,17 @@ pub accepts_node-returns-then-not-branch-clause-verdict :
     goal.accepts_node-returns-then-not-branch-clause-verdict
 accepts_node-returns-then-not-branch-clause-verdict g t c =
     let nodes = c.args.graph.now.nodes.items in
-    let here = keywords_here nodes c.args.node c.index.result.now c.requires.there c.index.ensures ∙ sym c.as_slice-keywords.ensures.value in
+    let here = keywords_here nodes c.args.node c.index-compiled.result.now c.requires.there c.index-compiled.ensures ∙ sym c.as_slice-keywords.ensures.value in
     let refused : c.in_ok-accept_itself.field-0 ≡ false = search rules in
     λ rest. node_wrong g.K.Validate.shape _ nodes c.args.node c.args.place (numbers_in c.args.progress.now) c.in_ok-accept_itself.field-0
     (subst (λ ks. c.in_ok-accept_itself.field-0 ≡ all_true (map (λ k. is_right (rule (completed (g.T.Matching.matches c.args.matching.now) rest) (value_at c.args.place) (g.K.Validate.shape k))) ks)) (sym here) (c.in_ok-accept_itself.ensures.right rest))
     refused
 
-pub accepts_node-accepts_keyword-requires : goal.accepts_node-accepts_keyword-requires
-accepts_node-accepts_keyword-requires g t c κs within =
+pub accepts_node-accepts_paired-requires : goal.accepts_node-accepts_paired-requires
+accepts_node-accepts_paired-requires g t c κs within =
     let nodes = c.args.graph.now.nodes.items in
-    let l = c.loop-keyword in
-    let items : c.as_slice-keywords.result.now ≡ c.index.result.now.keywords.items = c.as_slice-keywords.ensures.value in
-    let here : keywords_at nodes c.args.node ≡ c.as_slice-keywords.result.now = keywords_here nodes c.args.node c.index.result.now c.requires.there c.index.ensures ∙ sym items in
-    let stands = keyword_stands l.keyword-index c.as_slice-keywords.result.now c.keyword-item.result c.loop-keyword-test.true c.keyword-item.is in
+    let here = keywords_here nodes c.args.node c.index-compiled.result.now c.requires.there c.index-compiled.ensures ∙ sym c.as_slice-keywords.ensures.value in
+    let same = c.in_ok-accept_itself.ensures.matches in
     let accepted : c.in_ok-accept_itself.field-0 ≡ true = search rules in
     let right = λ (rest : Answers). sym (c.in_ok-accept_itself.ensures.right rest) ∙ accepted in (
       omega arith,
@@ -447,13 +447,12 @@ accepts_node-accepts_keyword-requires g t c κs within =
         (
           within.1,
           (
-            subst (λ m. AreReady g.K.Validate.knows g.K.Validate.shape m nodes) (sym l.invariant.matches) c.requires.known,
+            subst (λ m. AreReady g.K.Validate.knows g.K.Validate.shape m nodes) (sym same) c.requires.known,
             (
-              subst (In c.keyword-item.result) (sym here) stands,
+              sym here,
               (
-                subst (λ m. LedTo m c.args.node (value_at c.args.place)) (sym l.invariant.matches) c.requires.led,
-                λ rest. subst (λ (m : Matches). is_right (rule (completed m rest) (value_at c.args.place) (g.K.Validate.shape c.keyword-item.result)) ≡ true) (sym l.invariant.matches)
-                    (each_right g.K.Validate.shape _ nodes c.args.node c.args.place (numbers_in c.args.progress.now) c.as_slice-keywords.result.now c.keyword-item.result stands (right rest)),
+                subst (λ m. LedTo m c.args.node (value_at c.args.place)) (sym same) c.requires.led,
+                (λ rest. subst (λ (m : Matches). all_true (map (λ k. is_right (rule (completed m rest) (value_at c.args.place) (g.K.Validate.shape k))) c.as_slice-keywords.result.now) ≡ true) (sym same) (right rest), subst (λ o. IfSome o (ArePaired g.K.Validate.pairs c.as_slice-keywords.result.now)) c.in-Some.is c.paired.ensures),
               ),
             ),
           ),
@@ -461,52 +460,314 @@ accepts_node-accepts_keyword-requires g t c κs within =
       ),
     )
 
-pub accepts_node-returns-then-not-branch-2-clause-verdict :
-    goal.accepts_node-returns-then-not-branch-2-clause-verdict
-accepts_node-returns-then-not-branch-2-clause-verdict g t c =
+pub accepts_node-accepts_all-requires : goal.accepts_node-accepts_all-requires
+accepts_node-accepts_all-requires g t c κs within =
     let nodes = c.args.graph.now.nodes.items in
-    let l = c.loop-keyword in
-    let items : c.as_slice-keywords.result.now ≡ c.index.result.now.keywords.items = c.as_slice-keywords.ensures.value in
-    let here : keywords_at nodes c.args.node ≡ c.as_slice-keywords.result.now = keywords_here nodes c.args.node c.index.result.now c.requires.there c.index.ensures ∙ sym items in
-    let refused : c.in_ok-accepts_keyword.field-0 ≡ false = search rules in
-    let place = c.args.place in
-    let progress = numbers_in c.args.progress.now in
-    let verdict = λ (rest : Answers). subst (λ m. Tells place progress (size nodes (value_at place) progress (rank_at nodes c.args.node))
-    (rule_in (reading_of g.K.Validate.shape (completed m rest) nodes) (rule (completed m rest) (value_at place) (g.K.Validate.shape c.keyword-item.result))) c.in_ok-accepts_keyword.field-0) l.invariant.matches (c.in_ok-accepts_keyword.ensures.verdict rest) in
-    λ rest. node_refuses g.K.Validate.shape _ nodes c.args.node place progress l.keyword-index c.as_slice-keywords.result.now c.keyword-item.result c.loop-keyword-test.true c.keyword-item.is
-    (subst (λ ks. KeywordsLeft g.K.Validate.shape (completed (g.T.Matching.matches c.args.matching.now) rest) nodes c.args.node place progress (keywords_at nodes c.args.node) (drop l.keyword-index ks)) here (l.invariant.left rest))
-    (subst (Tells place progress _ _) refused (verdict rest))
+    let here = keywords_here nodes c.args.node c.index-compiled.result.now c.requires.there c.index-compiled.ensures ∙ sym c.as_slice-keywords.ensures.value in
+    let same = c.in_ok-accept_itself.ensures.matches in
+    let accepted : c.in_ok-accept_itself.field-0 ≡ true = search rules in
+    let right = λ (rest : Answers). sym (c.in_ok-accept_itself.ensures.right rest) ∙ accepted in (
+      omega arith,
+      (
+        within.0,
+        (
+          within.1,
+          (
+            subst (λ m. AreReady g.K.Validate.knows g.K.Validate.shape m nodes) (sym same) c.requires.known,
+            (
+              sym here,
+              (
+                subst (λ m. LedTo m c.args.node (value_at c.args.place)) (sym same) c.requires.led,
+                λ rest. subst (λ (m : Matches). all_true (map (λ k. is_right (rule (completed m rest) (value_at c.args.place) (g.K.Validate.shape k))) c.as_slice-keywords.result.now) ≡ true) (sym same) (right rest),
+              ),
+            ),
+          ),
+        ),
+      ),
+    )
 
-pub accepts_node-loop-keyword-preserved : goal.accepts_node-loop-keyword-preserved
-accepts_node-loop-keyword-preserved g t c =
+pub accepts_node-returns-in-Some-clause-verdict : goal.accepts_node-returns-in-Some-clause-verdict
+accepts_node-returns-in-Some-clause-verdict g t c =
     let nodes = c.args.graph.now.nodes.items in
-    let l = c.loop-keyword in
-    let items : c.as_slice-keywords.result.now ≡ c.index.result.now.keywords.items = c.as_slice-keywords.ensures.value in
-    let here : keywords_at nodes c.args.node ≡ c.as_slice-keywords.result.now = keywords_here nodes c.args.node c.index.result.now c.requires.there c.index.ensures ∙ sym items in
-    let taken : c.in_ok-accepts_keyword.field-0 ≡ true = search rules in
+    let here = keywords_here nodes c.args.node c.index-compiled.result.now c.requires.there c.index-compiled.ensures ∙ sym c.as_slice-keywords.ensures.value in
     let place = c.args.place in
     let progress = numbers_in c.args.progress.now in
-    let verdict = λ (rest : Answers). subst (λ m. Tells place progress (size nodes (value_at place) progress (rank_at nodes c.args.node))
-    (rule_in (reading_of g.K.Validate.shape (completed m rest) nodes) (rule (completed m rest) (value_at place) (g.K.Validate.shape c.keyword-item.result))) c.in_ok-accepts_keyword.field-0) l.invariant.matches (c.in_ok-accepts_keyword.ensures.verdict rest) in
-    let left = λ (rest : Answers). subst (λ ks. KeywordsLeft g.K.Validate.shape (completed (g.T.Matching.matches c.args.matching.now) rest) nodes c.args.node place progress (keywords_at nodes c.args.node) (drop l.keyword-index ks)) here (l.invariant.left rest) in
+    IfOk-weaker c.accepts_paired.result _ _
+    (λ b told rest. node_by_keywords g.K.Validate.shape _ nodes c.args.node place progress b
+    (subst (λ ks. Tells place progress (size nodes (value_at place) progress (rank_at nodes c.args.node))
+    (λ x. all_true (map (λ k. rule_in (reading_of g.K.Validate.shape (completed (g.T.Matching.matches c.args.matching.now) rest) nodes) (rule (completed (g.T.Matching.matches c.args.matching.now) rest) (value_at place) (g.K.Validate.shape k)) x) ks)) b) (sym here)
+    (subst (λ m. Tells place progress (size nodes (value_at place) progress (rank_at nodes c.args.node))
+    (λ x. all_true (map (λ k. rule_in (reading_of g.K.Validate.shape (completed m rest) nodes) (rule (completed m rest) (value_at place) (g.K.Validate.shape k)) x) c.as_slice-keywords.result.now)) b) c.in_ok-accept_itself.ensures.matches (told rest))))
+    c.accepts_paired.ensures.verdict
+
+pub accepts_node-returns-in-None-clause-verdict : goal.accepts_node-returns-in-None-clause-verdict
+accepts_node-returns-in-None-clause-verdict g t c =
+    let nodes = c.args.graph.now.nodes.items in
+    let here = keywords_here nodes c.args.node c.index-compiled.result.now c.requires.there c.index-compiled.ensures ∙ sym c.as_slice-keywords.ensures.value in
+    let place = c.args.place in
+    let progress = numbers_in c.args.progress.now in
+    IfOk-weaker c.accepts_all.result _ _
+    (λ b told rest. node_by_keywords g.K.Validate.shape _ nodes c.args.node place progress b
+    (subst (λ ks. Tells place progress (size nodes (value_at place) progress (rank_at nodes c.args.node))
+    (λ x. all_true (map (λ k. rule_in (reading_of g.K.Validate.shape (completed (g.T.Matching.matches c.args.matching.now) rest) nodes) (rule (completed (g.T.Matching.matches c.args.matching.now) rest) (value_at place) (g.K.Validate.shape k)) x) ks)) b) (sym here)
+    (subst (λ m. Tells place progress (size nodes (value_at place) progress (rank_at nodes c.args.node))
+    (λ x. all_true (map (λ k. rule_in (reading_of g.K.Validate.shape (completed m rest) nodes) (rule (completed m rest) (value_at place) (g.K.Validate.shape k)) x) c.as_slice-keywords.result.now)) b) c.in_ok-accept_itself.ensures.matches (told rest))))
+    c.accepts_all.ensures.verdict
+
+-- ---- the keywords of a node
+
+pub accepts_all-accepts_keyword-requires : goal.accepts_all-accepts_keyword-requires
+accepts_all-accepts_keyword-requires g t c κs within =
+    let h = c.args.here.now in
+    let nodes = h.graph.now.nodes.items in
+    let l = c.loop-keyword in
+    let k = c.keyword-item.result in
+    let stands = keyword_stands l.keyword-index c.args.keywords.now k c.loop-keyword-test.true c.keyword-item.is in (
+      omega arith,
+      (
+        within.0,
+        (
+          within.1,
+          (
+            subst (λ m. AreReady g.K.Validate.knows g.K.Validate.shape m nodes) (sym l.invariant.matches) c.requires.known,
+            (
+              subst (In k) c.requires.keywords stands,
+              (
+                subst (λ m. LedTo m h.node (value_at h.place)) (sym l.invariant.matches) c.requires.led,
+                λ rest. subst (λ (m : Matches). is_right (rule (completed m rest) (value_at h.place) (g.K.Validate.shape k)) ≡ true) (sym l.invariant.matches)
+                    (each_right g.K.Validate.shape _ nodes h.node h.place (numbers_in h.progress.now) c.args.keywords.now k stands (c.requires.right rest)),
+              ),
+            ),
+          ),
+        ),
+      ),
+    )
+
+pub accepts_all-returns-then-not-branch-clause-verdict : goal.accepts_all-returns-then-not-branch-clause-verdict
+accepts_all-returns-then-not-branch-clause-verdict g t c =
+    let h = c.args.here.now in
+    let nodes = h.graph.now.nodes.items in
+    let progress = numbers_in h.progress.now in
+    let l = c.loop-keyword in
+    let k = c.keyword-item.result in
+    let refused : c.in_ok-accepts_keyword.field-0 ≡ false = search rules in
+    let verdict = λ (rest : Answers). subst (λ m. Tells h.place progress (size nodes (value_at h.place) progress (rank_at nodes h.node))
+    (rule_in (reading_of g.K.Validate.shape (completed m rest) nodes) (rule (completed m rest) (value_at h.place) (g.K.Validate.shape k))) c.in_ok-accepts_keyword.field-0) l.invariant.matches (c.in_ok-accepts_keyword.ensures.verdict rest) in
+    λ rest. keywords_no g.K.Validate.shape _ nodes h.node h.place progress l.keyword-index _ c.args.keywords.now k c.loop-keyword-test.true c.keyword-item.is (l.invariant.left rest)
+    (subst (Tells h.place progress _ _) refused (verdict rest))
+
+pub accepts_all-loop-keyword-preserved : goal.accepts_all-loop-keyword-preserved
+accepts_all-loop-keyword-preserved g t c =
+    let h = c.args.here.now in
+    let nodes = h.graph.now.nodes.items in
+    let progress = numbers_in h.progress.now in
+    let l = c.loop-keyword in
+    let k = c.keyword-item.result in
+    let taken : c.in_ok-accepts_keyword.field-0 ≡ true = search rules in
+    let verdict = λ (rest : Answers). subst (λ m. Tells h.place progress (size nodes (value_at h.place) progress (rank_at nodes h.node))
+    (rule_in (reading_of g.K.Validate.shape (completed m rest) nodes) (rule (completed m rest) (value_at h.place) (g.K.Validate.shape k))) c.in_ok-accepts_keyword.field-0) l.invariant.matches (c.in_ok-accepts_keyword.ensures.verdict rest) in
     record {
       matches = c.in_ok-accepts_keyword.ensures.matches ∙ l.invariant.matches;
       questions = c.in_ok-accepts_keyword.ensures.questions ∙ l.invariant.questions;
-      left = λ rest. subst (λ ks. KeywordsLeft g.K.Validate.shape (completed (g.T.Matching.matches c.args.matching.now) rest) nodes c.args.node place progress (keywords_at nodes c.args.node) (drop (l.keyword-index + 1) ks)) (sym here)
-          (keywords_yes g.K.Validate.shape _ nodes c.args.node place progress l.keyword-index _ c.as_slice-keywords.result.now c.keyword-item.result c.loop-keyword-test.true c.keyword-item.is (left rest) (subst (Tells place progress _ _) taken (verdict rest)));
+      left = λ rest. keywords_yes g.K.Validate.shape _ nodes h.node h.place progress l.keyword-index _ c.args.keywords.now k c.loop-keyword-test.true c.keyword-item.is (l.invariant.left rest) (subst (Tells h.place progress _ _) taken (verdict rest));
     }
 
-pub accepts_node-returns-clause-verdict : goal.accepts_node-returns-clause-verdict
-accepts_node-returns-clause-verdict g t c =
-    let nodes = c.args.graph.now.nodes.items in
+pub accepts_all-returns-clause-verdict : goal.accepts_all-returns-clause-verdict
+accepts_all-returns-clause-verdict g t c =
+    let h = c.args.here.now in
     let l = c.loop-keyword in
-    let items : c.as_slice-keywords.result.now ≡ c.index.result.now.keywords.items = c.as_slice-keywords.ensures.value in
-    let here : keywords_at nodes c.args.node ≡ c.as_slice-keywords.result.now = keywords_here nodes c.args.node c.index.result.now c.requires.there c.index.ensures ∙ sym items in
-    let place = c.args.place in
-    let progress = numbers_in c.args.progress.now in
-    let past : length c.as_slice-keywords.result.now ≤ l.keyword-index = omega arith in
-    λ rest. node_accepts g.K.Validate.shape _ nodes c.args.node place progress l.keyword-index c.as_slice-keywords.result.now past
-    (subst (λ ks. KeywordsLeft g.K.Validate.shape (completed (g.T.Matching.matches c.args.matching.now) rest) nodes c.args.node place progress (keywords_at nodes c.args.node) (drop l.keyword-index ks)) here (l.invariant.left rest))
+    let past : length c.args.keywords.now ≤ l.keyword-index = omega arith in
+    λ rest. keywords_end g.K.Validate.shape _ h.graph.now.nodes.items h.node h.place _ l.keyword-index _ c.args.keywords.now past (l.invariant.left rest)
+
+-- ---- two of them together
+
+pub accepts_both-questions_with-requires : goal.accepts_both-questions_with-requires
+accepts_both-questions_with-requires g t c =
+    let h = c.args.here.now in
+    let nodes = h.graph.now.nodes.items in
+    let one = c.args.first.now in
+    let other = c.args.second.now in
+    record {
+      pairs = c.requires.pairs;
+      known = c.requires.known.known.each h.node one c.requires.stands;
+      known_beside = c.requires.known.known.each h.node other c.requires.stands_beside;
+      asked = may_ask_for g.K.Validate.knows g.K.Validate.shape nodes h.node one _ (value_at h.place) c.requires.known c.requires.led c.requires.stands;
+      asked_beside = may_ask_for g.K.Validate.knows g.K.Validate.shape nodes h.node other _ (value_at h.place) c.requires.known c.requires.led c.requires.stands_beside;
+    }
+
+pub accepts_both-accepts_each-requires : goal.accepts_both-accepts_each-requires
+accepts_both-accepts_each-requires g t c κs within =
+    let h = c.args.here.now in
+    let nodes = h.graph.now.nodes.items in
+    let d = value_at h.place in
+    let same = c.in_ok-questions_with.ensures.same in
+    let start : c.len-start.result ≡ length c.args.questions.now.items = omega arith in
+    let now = c.questions_with.new.into.items in
+    let calls = map call_of (drop c.len-start.result now) in
+    let of_either = λ (rest : Answers) (call : Call) (i : In call calls). (c.in_ok-questions_with.ensures.pushed rest).each call (subst (λ n. In call (map call_of (drop n now))) start i) in
+    let may = both_may_ask g.K.Validate.knows g.K.Validate.shape nodes h.node c.args.first.now c.args.second.now (g.T.Matching.matches c.args.matching.now) d c.requires.known c.requires.led c.requires.stands c.requires.stands_beside h.graph.now.sound
+    calls of_either in (
+      omega arith,
+      (
+        within.0,
+        (
+          within.1,
+          (
+            subst (λ m. AreReady g.K.Validate.knows g.K.Validate.shape m nodes) (sym same) c.requires.known,
+            subst (λ m. EachMayAsk m nodes (rank_at nodes h.node) d calls) (sym same) may,
+          ),
+        ),
+      ),
+    )
+
+pub accepts_both-returns-clause-questions : goal.accepts_both-returns-clause-questions
+accepts_both-returns-clause-questions g t c =
+    let kept = (c.in_ok-questions_with.ensures.pushed none_matched).kept in
+    let same = c.in_ok-accepts.ensures.questions in
+    search rules
+
+pub accepts_both-returns-clause-verdict : goal.accepts_both-returns-clause-verdict
+accepts_both-returns-clause-verdict g t c rest =
+    let h = c.args.here.now in
+    let nodes = h.graph.now.nodes.items in
+    let progress = numbers_in h.progress.now in
+    let same = c.in_ok-questions_with.ensures.same in
+    let start : c.len-start.result ≡ length c.args.questions.now.items = omega arith in
+    let told = subst (λ m. Tells h.place progress (size nodes (value_at h.place) progress (rank_at nodes h.node))
+    (λ x. all_beside (asked_in (reading_of g.K.Validate.shape (completed m rest) nodes) x) true (map call_of (drop c.len-start.result c.questions_with.new.into.items)))
+    c.in_ok-accepts.accepts) same (c.in_ok-accepts.ensures.verdict rest) in
+    both_told _ h.place progress _ _ _ _ _ c.len-start.result c.in_ok-accepts.accepts start (c.requires.right rest) (c.requires.right_beside rest) (c.in_ok-questions_with.ensures.pushed rest) told
+
+-- ---- the keywords of a node, two of them together
+
+pub accepts_paired-accepts_both-requires : goal.accepts_paired-accepts_both-requires
+accepts_paired-accepts_both-requires g t c κs within =
+    let h = c.args.here.now in
+    let nodes = h.graph.now.nodes.items in
+    let ks = c.args.keywords.now in
+    let one = c.index-keywords-pair.result in
+    let other = c.index-keywords-pair-2.result in
+    let stands = keyword_stands c.args.pair.first ks one c.requires.pair.first c.index-keywords-pair.is in
+    let beside = keyword_stands c.args.pair.second ks other c.requires.pair.second c.index-keywords-pair-2.is in
+    let right = λ (k : _) (i : In k ks) (rest : Answers). each_right g.K.Validate.shape _ nodes h.node h.place (numbers_in h.progress.now) ks k i (c.requires.right rest) in (
+      omega arith,
+      (
+        within.0,
+        (
+          within.1,
+          (
+            c.requires.known,
+            (
+              c.requires.pair.pairs one other c.index-keywords-pair.is c.index-keywords-pair-2.is,
+              (
+                subst (In one) c.requires.keywords stands,
+                (subst (In other) c.requires.keywords beside, (c.requires.led, (right one stands, right other beside))),
+              ),
+            ),
+          ),
+        ),
+      ),
+    )
+
+pub accepts_paired-returns-then-not-branch-clause-verdict :
+    goal.accepts_paired-returns-then-not-branch-clause-verdict
+accepts_paired-returns-then-not-branch-clause-verdict g t c =
+    let h = c.args.here.now in
+    let ks = c.args.keywords.now in
+    let one = c.index-keywords-pair.result in
+    let other = c.index-keywords-pair-2.result in
+    let stands = keyword_stands c.args.pair.first ks one c.requires.pair.first c.index-keywords-pair.is in
+    let beside = keyword_stands c.args.pair.second ks other c.requires.pair.second c.index-keywords-pair-2.is in
+    let refused : c.in_ok-accepts_both.field-0 ≡ false = search rules in
+    λ rest. both_no g.K.Validate.shape _ h.graph.now.nodes.items h.node h.place (numbers_in h.progress.now) one other ks stands beside
+    (subst (Tells h.place (numbers_in h.progress.now) _ _) refused (c.in_ok-accepts_both.ensures.verdict rest))
+
+pub accepts_paired-accepts_keyword-requires : goal.accepts_paired-accepts_keyword-requires
+accepts_paired-accepts_keyword-requires g t c κs within =
+    let h = c.args.here.now in
+    let nodes = h.graph.now.nodes.items in
+    let l = c.loop-position in
+    let k = c.index-keywords-position.result in
+    let stands = keyword_stands l.position c.args.keywords.now k c.loop-position-test.true c.index-keywords-position.is in (
+      omega arith,
+      (
+        within.0,
+        (
+          within.1,
+          (
+            subst (λ m. AreReady g.K.Validate.knows g.K.Validate.shape m nodes) (sym l.invariant.matches) c.requires.known,
+            (
+              subst (In k) c.requires.keywords stands,
+              (
+                subst (λ m. LedTo m h.node (value_at h.place)) (sym l.invariant.matches) c.requires.led,
+                λ rest. subst (λ (m : Matches). is_right (rule (completed m rest) (value_at h.place) (g.K.Validate.shape k)) ≡ true) (sym l.invariant.matches)
+                    (each_right g.K.Validate.shape _ nodes h.node h.place (numbers_in h.progress.now) c.args.keywords.now k stands (c.requires.right rest)),
+              ),
+            ),
+          ),
+        ),
+      ),
+    )
+
+pub accepts_paired-returns-then-not-branch-2-clause-verdict : goal.accepts_paired-returns-then-not-branch-2-clause-verdict
+accepts_paired-returns-then-not-branch-2-clause-verdict g t c =
+    let h = c.args.here.now in
+    let nodes = h.graph.now.nodes.items in
+    let progress = numbers_in h.progress.now in
+    let l = c.loop-position in
+    let k = c.index-keywords-position.result in
+    let refused : c.in_ok-accepts_keyword.field-0 ≡ false = search rules in
+    let verdict = λ (rest : Answers). subst (λ m. Tells h.place progress (size nodes (value_at h.place) progress (rank_at nodes h.node))
+    (rule_in (reading_of g.K.Validate.shape (completed m rest) nodes) (rule (completed m rest) (value_at h.place) (g.K.Validate.shape k))) c.in_ok-accepts_keyword.field-0) l.invariant.matches (c.in_ok-accepts_keyword.ensures.verdict rest) in
+    λ rest. keywords_no g.K.Validate.shape _ nodes h.node h.place progress l.position _ c.args.keywords.now k c.loop-position-test.true c.index-keywords-position.is (l.invariant.left rest)
+    (subst (Tells h.place progress _ _) refused (verdict rest))
+
+pub accepts_paired-loop-position-preserved : goal.accepts_paired-loop-position-preserved
+accepts_paired-loop-position-preserved g t c =
+    let h = c.args.here.now in
+    let nodes = h.graph.now.nodes.items in
+    let progress = numbers_in h.progress.now in
+    let l = c.loop-position in
+    let k = c.index-keywords-position.result in
+    let one = c.index-keywords-pair.result in
+    let other = c.index-keywords-pair-2.result in
+    let accepted : c.in_ok-accepts_both.field-0 ≡ true = search rules in
+    let both = λ (rest : Answers). subst (Tells h.place progress (size nodes (value_at h.place) progress (rank_at nodes h.node)) _) accepted (c.in_ok-accepts_both.ensures.verdict rest) in
+    let taken = λ (rest : Answers) (i : _) (same : i ≡ k). subst (λ i. Tells h.place progress (size nodes (value_at h.place) progress (rank_at nodes h.node))
+    (rule_in (reading_of g.K.Validate.shape (completed (g.T.Matching.matches c.args.matching.now) rest) nodes) (rule (completed (g.T.Matching.matches c.args.matching.now) rest) (value_at h.place) (g.K.Validate.shape i))) true) same in
+    elim c.if-position-pair.branch [
+      | accepts_paired-then-position-pair+then-position-pair-2+in_ok-accepts_keyword+else-not-branch-2 w ↦
+          (let verdict = λ (rest : Answers). subst (λ m. Tells h.place progress (size nodes (value_at h.place) progress (rank_at nodes h.node))
+          (rule_in (reading_of g.K.Validate.shape (completed m rest) nodes) (rule (completed m rest) (value_at h.place) (g.K.Validate.shape k))) w.in_ok-accepts_keyword.field-0) l.invariant.matches (w.in_ok-accepts_keyword.ensures.verdict rest) in
+          record {
+            matches = ap g.T.Matching.matches w.matching-is ∙ w.in_ok-accepts_keyword.ensures.matches ∙ l.invariant.matches;
+            questions = ap (λ v. v.items) w.questions-is ∙ w.in_ok-accepts_keyword.ensures.questions ∙ l.invariant.questions;
+            left = λ rest. keywords_yes g.K.Validate.shape _ nodes h.node h.place progress l.position _ c.args.keywords.now k c.loop-position-test.true c.index-keywords-position.is (l.invariant.left rest) (subst (Tells h.place progress _ _) w.if-not-branch-2.false (verdict rest));
+          })
+      | accepts_paired-else-position-pair w ↦ record {
+        matches = ap g.T.Matching.matches w.matching-is ∙ l.invariant.matches;
+        questions = ap (λ v. v.items) w.questions-is ∙ l.invariant.questions;
+        left = λ rest.
+            keywords_yes g.K.Validate.shape _ nodes h.node h.place progress l.position _ c.args.keywords.now k c.loop-position-test.true c.index-keywords-position.is (l.invariant.left rest)
+            (elim w.else-position-pair.branch [
+              | accepts_paired-else-position-pair-via-then-position-pair+else-position-pair-2 v ↦
+                  (let at : l.position ≡ c.args.pair.second = (let e = v.if-position-pair-2.false in omega arith) in
+                  let same = same_at l.position c.args.pair.second c.args.keywords.now k other at c.loop-position-test.true c.index-keywords-position.is c.index-keywords-pair-2.is in
+                  taken rest other (sym same) (other_yes g.K.Validate.shape _ nodes h.node h.place progress one other (both rest)))
+              | accepts_paired-else-position-pair-via-else-position-pair v ↦
+                  (let at : l.position ≡ c.args.pair.first = (let e = v.if-position-pair.false in omega arith) in
+                  let same = same_at l.position c.args.pair.first c.args.keywords.now k one at c.loop-position-test.true c.index-keywords-position.is c.index-keywords-pair.is in
+                  taken rest one (sym same) (one_yes g.K.Validate.shape _ nodes h.node h.place progress one other (both rest)))
+            ]);
+      }
+    ]
+
+pub accepts_paired-returns-clause-verdict : goal.accepts_paired-returns-clause-verdict
+accepts_paired-returns-clause-verdict g t c =
+    let h = c.args.here.now in
+    let l = c.loop-position in
+    let past : length c.args.keywords.now ≤ l.position = omega arith in
+    λ rest. keywords_end g.K.Validate.shape _ h.graph.now.nodes.items h.node h.place _ l.position _ c.args.keywords.now past (l.invariant.left rest)
 
 -- ---- what is left of the questions
 
