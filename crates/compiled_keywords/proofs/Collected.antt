@@ -14,11 +14,11 @@ use Rattle.compiled_keywords.specs.Options.{beside}
 abbrev pub Text : Type 0
 Text = String Global
 
-absorbed : (b r : Bool) → (b || r) ≡ (b || (b || r))
+pub absorbed : (b r : Bool) → (b || r) ≡ (b || (b || r))
 absorbed true r = refl
 absorbed false r = refl
 
-swapped : (b c r : Bool) → (b || (c || r)) ≡ (c || (b || r))
+pub swapped : (b c r : Bool) → (b || (c || r)) ≡ (c || (b || r))
 swapped true true r = refl
 swapped true false r = refl
 swapped false c r = refl

@@ -10,4 +10,5 @@ pub mod PushLemmas
 pub mod WalkLemmas
 pub mod MatchLemmas
 pub mod PairLemmas
+pub mod NamedLemmas
 pub mod BesideLemmas

@@ -64,20 +64,3 @@ module _ (d : Data) (entries : List NamedDependency) (i : ℕ) (p : NamedDepende
   pub applied_next : (s : ℕ) → applied_node (get (depending p).0 d) (depending p).1 ≡ Some s
       → map alone (each_dependency d (map depending (drop i entries))) ≡ alone (question s stay (at_name (codes "dependencies") (depending p).0)) ∷ map alone (each_dependency d (map depending (drop (i + 1) entries)))
   applied_next s there = next ∙ ap (λ xs. map alone (xs ++ each_dependency d (map depending (drop (i + 1) entries)))) (applied_so d (depending p).0 (get (depending p).0 d) (depending p).1 s there)
-
--- the names of those that are not declared
-module _ (reads : List ℕ → List ℕ → Bool) (w : Declared) (all front : List (List ℕ)) where
-  abbrev others_in : List (List ℕ × Data) → List (List ℕ)
-  others_in ms = map (λ x. x.0) (others_among reads w ms)
-
-  pub other_named : (n : List ℕ) (e : Data) (ms more : List (List ℕ × Data)) → ms ≡ (n, e) ∷ more
-      → is_declared reads w n ≡ false → all ≡ front ++ others_in ms
-      → all ≡ (front ++ n ∷ []) ++ others_in more
-  other_named n e ms more is other so =
-      so ∙ ap (λ xs. front ++ others_in xs) is
-      ∙ rw other (sym (append_assoc front (n ∷ []) (others_in more)))
-
-  pub declared_named : (n : List ℕ) (e : Data) (ms more : List (List ℕ × Data)) → ms ≡ (n, e) ∷ more
-      → is_declared reads w n ≡ true → all ≡ front ++ others_in ms → all ≡ front ++ others_in more
-  declared_named n e ms more is declared so =
-      so ∙ ap (λ xs. front ++ others_in xs) is ∙ rw declared refl

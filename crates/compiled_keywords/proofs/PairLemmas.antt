@@ -222,7 +222,7 @@ module _ (reads : Answers) (k l : List ℕ) (ps : List (List ℕ × ℕ)) (w : D
 -- ---- what the rules ask, and how the answers make their verdicts
 
 module _ (reads : Answers) (d : Data) where
-  asked_by : (k : List ℕ) (c : Combining) (f : Form ℕ) (qs : List (told.Question ℕ)) → stands k c f ≡ true
+  pub asked_by : (k : List ℕ) (c : Combining) (f : Form ℕ) (qs : List (told.Question ℕ)) → stands k c f ≡ true
       → map call_in (asked_beside reads k d f) ≡ calls qs → questions_of (rule reads d (shape_by k c f)) ≡ calls qs
   asked_by k c f qs h same =
       sym (calls_so (rule reads d (shape_by k c f))) ∙ ap (map call_in) (beside_so reads d k c f (a_keyword k c f h)) ∙ same

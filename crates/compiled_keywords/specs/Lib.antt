@@ -6,6 +6,7 @@ pub mod Forms
 pub mod Applied
 pub mod Seen
 pub mod Members
+pub mod Named
 pub mod Paired
 pub mod Rules
 pub mod Shapes

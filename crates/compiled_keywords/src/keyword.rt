@@ -1,16 +1,17 @@
 //! The keywords of compiled schemas.
-ghost use Rattle.std.specs.Prelude.{◌≡◌, ℕ, List, [], ◌∷◌, OnOk, OnErr, map, true};
+ghost use Rattle.std.specs.Prelude.{◌≡◌, ℕ, List, [], ◌∷◌, OnOk, OnErr, map, drop, true};
 ghost use Rattle.serde_json.specs.View.{view};
 ghost use Rattle.schema_meaning.specs.Keywords.{rule, reference_name};
 ghost use Rattle.schema_meaning.specs.Members.{is_empty};
 ghost use Rattle.schema_meaning.specs.Places.{stay};
 ghost use Rattle.schema_meaning.specs.Questions.{at};
 ghost use Rattle.schema_engine.specs.Led.{MayAskFor};
-ghost use Rattle.schema_engine.specs.Matches.{InEach};
+ghost use Rattle.schema_engine.specs.Matches.{Answers, InEach};
 ghost use Rattle.schema_engine.specs.Places.{value_at};
 ghost use Rattle.applicators.specs.Forms.{noted};
 ghost use Rattle.compiled_keywords.specs.Asked.{MayMatchIn};
 ghost use Rattle.compiled_keywords.specs.Forms.{alone, form_of, whole_at, added_in, asked_beside};
+ghost use Rattle.compiled_keywords.specs.Named.{LeaveOthers};
 ghost use Rattle.compiled_keywords.specs.Paired.{Pairs};
 ghost use Rattle.compiled_keywords.specs.Seen.{Puts, beside_in};
 ghost use Rattle.compiled_keywords.specs.Shapes.{shape_of, added_by, reference_of, Knows, KnowsAsked};
@@ -22,6 +23,7 @@ use crate::asking::{
 };
 use crate::asks::Asks;
 use crate::assertion::{Assertion, has_dependencies};
+use crate::beside::push_beside;
 use crate::entries::entry_of;
 use crate::members::{
     push_declared, push_dependencies, push_matching, push_members, push_names, push_others,
@@ -141,6 +143,25 @@ fn push_asked<'q, 'i: 'q, T: Matching>(
     }
 }
 
+// Pushes the questions of members that are not declared, where those from `start` on ask of each member that a declared pattern matches.
+fn push_left<'q, 'i: 'q>(
+    asks: &Asks,
+    place: Place<'i>,
+    start: usize,
+    into: &mut Vec<Question<'q, 'i>>,
+) -> Result<(), AllocError>
+    ensures { OnOk result ((m : Answers) (k : List ℕ)
+        → LeaveOthers m (form_of asks.now) (value_at place.entry)
+        (drop start into.old.items)
+        → Puts (added_in k (form_of asks.now)) into.old.items into.new.items
+        (asked_beside m k (value_at place.entry) (form_of asks.now))) }
+{
+    match asks {
+        Asks::OtherMembers { declared, node } => push_beside(declared, *node, place, start, into),
+        _ => Ok(()),
+    }
+}
+
 fn push_target<'q, 'i: 'q>(node: usize, into: &mut Vec<Question<'q, 'i>>) -> Result<(), AllocError>
     ensures { OnOk result ((k : List ℕ) → Puts (whole_at k) into.old.items into.new.items
         (map alone (record { site = node; step = stay; added = at k; follows = true } ∷ []))) }
@@ -256,6 +277,19 @@ impl Validate for Keyword {
         }
     }
 
+    fn questions_beside<'q, 'i: 'q>(
+        &'q self,
+        _first: &Self,
+        place: Place<'i>,
+        start: usize,
+        into: &mut Vec<Question<'q, 'i>>,
+    ) -> Result<(), AllocError> {
+        match self {
+            Keyword::Applicator(applicator) => push_left(&applicator.asks, place, start, into),
+            _ => Ok(()),
+        }
+    }
+
     fn entry(&self, entry: usize) -> Entry<'_> {
         match self {
             Keyword::Applicator(applicator) => {
@@ -297,13 +331,13 @@ impl Validate for Keyword {
         }
     }
 
-    fn reason<'o, T: Matching>(
+    fn reason<'o>(
         &self,
         situation: &Situation<'_, 'o>,
-        matching: &mut T,
+        questions: &[Question<'_, 'o>],
     ) -> Result<Reason<'o>, AllocError> {
         match self {
-            Keyword::Applicator(applicator) => reason_of(&applicator.asks, situation, matching),
+            Keyword::Applicator(applicator) => reason_of(&applicator.asks, situation, questions),
             _ => Ok(Reason {
                 kind: ValidationErrorKind::FalseSchema,
                 value: situation.value,

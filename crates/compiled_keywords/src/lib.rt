@@ -6,6 +6,7 @@ pub mod applicator;
 mod asking;
 pub mod asks;
 pub mod assertion;
+mod beside;
 mod entries;
 pub mod keyword;
 mod members;

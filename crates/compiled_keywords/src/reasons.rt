@@ -1,23 +1,20 @@
 //! The one fault of a compiled keyword that says nothing of the answers.
-ghost use Rattle.std.specs.Prelude.{◌≡◌, OnOk, OnErr, IfOk, map, string_bytes};
+ghost use Rattle.std.specs.Prelude.{◌≡◌, IfOk, map, string_bytes};
+ghost use Rattle.serde_json.specs.Data.{Data};
 ghost use Rattle.serde_json.specs.View.{view};
 ghost use Rattle.schema_meaning.specs.Keywords.{first_value};
-ghost use Rattle.schema_meaning.specs.Questions.{members_of, other_members};
+ghost use Rattle.schema_meaning.specs.Questions.{members_of};
 ghost use Rattle.schema_reports.specs.Kinds.{StandsFor};
-ghost use Rattle.schema_engine.specs.Matches.{InEach};
+ghost use Rattle.schema_engine.specs.Matches.{Answers};
 ghost use Rattle.schema_engine.specs.Refusals.{IsNote};
 ghost use Rattle.applicators.specs.Forms.{kind_in, value_in};
-ghost use Rattle.compiled_keywords.specs.Asked.{MayMatchNames, MayMatchIn};
 ghost use Rattle.compiled_keywords.specs.Forms.{form_of};
-ghost use Rattle.compiled_keywords.specs.Members.{listed, others_among};
-ghost use Rattle.compiled_keywords.specs.Owned.{declared_by, AllNumbered};
-ghost use Rattle.compiled_keywords.specs.Shapes.{KnowsAsked};
+ghost use Rattle.compiled_keywords.specs.Members.{listed};
+ghost use Rattle.compiled_keywords.specs.Named.{names_asked, AskOfOthers};
 
-use crate::asks::{Asks, Declared};
+use crate::asks::Asks;
 use crate::members::object_at;
-use crate::patterns::is_declared;
-use schema_engine::matching::Matching;
-use schema_engine::place::Place;
+use schema_engine::place::{Asked, Place, Question};
 use schema_engine::reason::Reason;
 use schema_engine::situation::Situation;
 use schema_reports::ValidationErrorKind;
@@ -43,71 +40,33 @@ fn first_member<'o>(value: &'o Value) -> &'o Value
     }
 }
 
-fn undeclared_among<T: Matching>(
-    alloc: Global,
-    declared: &Declared,
-    members: &Map<String, Value>,
-    matching: &mut T,
-) -> Result<Vec<String>, AllocError>
-    requires known { AllNumbered (T.matches matching.old).pattern declared.now.patterns.items }
-    requires asked { MayMatchNames (T.matches matching.old)
-        (declared_by declared.now).patterns (listed members.now) }
-    ensures same { OnOk result (T.matches matching.new ≡ T.matches matching.old) }
-    ensures stays { OnErr result (T.matches matching.new ≡ T.matches matching.old) }
-    ensures listed { IfOk result (λ names. InEach (T.matches matching.old)
-        (λ m. map string_bytes names.items ≡ map (λ x. x.0)
-        (others_among m (declared_by declared.now) (listed members.now)))) }
+// The names of the members that these questions ask of, in order.
+fn names_of(alloc: Global, questions: &[Question<'_, '_>]) -> Result<Vec<String>, AllocError>
+    ensures { IfOk result (λ names. map string_bytes names.items ≡ names_asked questions.now) }
 {
     let mut names = Vec::new(alloc);
-    for (name, _) in members.iter() {
-        if !is_declared(declared, name.as_str(), matching)? {
-            names.push(name.clone()?)?;
+    for question in questions {
+        if let Asked::Member { name, .. } = question.asked {
+            names.push(String::from_str(alloc, name)?)?;
         }
     }
     Ok(names)
 }
 
-// The names of a value's members that are not declared, in order.
-fn undeclared<T: Matching>(
-    alloc: Global,
-    declared: &Declared,
-    value: &Value,
-    matching: &mut T,
-) -> Result<Vec<String>, AllocError>
-    requires known { AllNumbered (T.matches matching.old).pattern declared.now.patterns.items }
-    requires asked { MayMatchNames (T.matches matching.old)
-        (declared_by declared.now).patterns (members_of (view value.now)) }
-    ensures same { OnOk result (T.matches matching.new ≡ T.matches matching.old) }
-    ensures stays { OnErr result (T.matches matching.new ≡ T.matches matching.old) }
-    ensures listed { IfOk result (λ names. InEach (T.matches matching.old)
-        (λ m. map string_bytes names.items ≡ map (λ x. x.0)
-        (other_members m (declared_by declared.now) (view value.now)))) }
-{
-    match object_at(Place::Value(value)) {
-        Some(members) => undeclared_among(alloc, declared, members, matching),
-        None => Ok(Vec::new(alloc)),
-    }
-}
-
-fn kind_of<'o, T: Matching>(
+fn kind_of<'o>(
     asks: &Asks,
-    situation: &Situation<'_, 'o>,
-    matching: &mut T,
+    alloc: Global,
+    questions: &[Question<'_, 'o>],
 ) -> Result<ValidationErrorKind<'o>, AllocError>
-    requires known { KnowsAsked asks.now (T.matches matching.old).pattern }
-    requires asked { MayMatchIn (T.matches matching.old)
-        (form_of asks.now) (view situation.now.value.now) }
-    ensures same { OnOk result (T.matches matching.new ≡ T.matches matching.old) }
-    ensures stays { OnErr result (T.matches matching.new ≡ T.matches matching.old) }
-    ensures stands { IfOk result (λ k. InEach (T.matches matching.old)
-        (λ m. StandsFor k (kind_in m (form_of asks.now) (view situation.now.value.now)))) }
+    ensures { IfOk result (λ k. (m : Answers) (d : Data)
+        → AskOfOthers m (form_of asks.now) d questions.now
+        → StandsFor k (kind_in m (form_of asks.now) d)) }
 {
     match asks {
         Asks::ItemsFrom { .. } => Ok(ValidationErrorKind::AdditionalItems),
-        Asks::OtherMembers { declared, .. } => {
-            let unexpected = undeclared(situation.alloc, declared, situation.value, matching)?;
-            Ok(ValidationErrorKind::AdditionalProperties { unexpected })
-        }
+        Asks::OtherMembers { .. } => Ok(ValidationErrorKind::AdditionalProperties {
+            unexpected: names_of(alloc, questions)?,
+        }),
         Asks::Value(shown) => Ok(ValidationErrorKind::Not {
             schema: shown.schema.clone()?,
         }),
@@ -124,27 +83,24 @@ fn value_of<'o>(asks: &Asks, value: &'o Value) -> &'o Value
     }
 }
 
-/// Why a keyword that asks so refuses, if one fault speaks for all that it asks and says nothing of the answers.
+/// Why a keyword that asks so refuses, if one fault speaks for all that it asks and says nothing of the answers. These are its questions.
 ///
 /// # Errors
 ///
 /// Where memory was refused or a count of owners is full.
-pub(crate) fn reason_of<'o, T: Matching>(
+pub(crate) fn reason_of<'o>(
     asks: &Asks,
     situation: &Situation<'_, 'o>,
-    matching: &mut T,
+    questions: &[Question<'_, 'o>],
 ) -> Result<Reason<'o>, AllocError>
-    requires known { KnowsAsked asks.now (T.matches matching.old).pattern }
-    requires asked { MayMatchIn (T.matches matching.old)
-        (form_of asks.now) (view situation.now.value.now) }
-    ensures same { OnOk result (T.matches matching.new ≡ T.matches matching.old) }
-    ensures stays { OnErr result (T.matches matching.new ≡ T.matches matching.old) }
-    ensures noted { IfOk result (λ r. InEach (T.matches matching.old) (λ m. IsNote r (record {
-      kind = kind_in m (form_of asks.now) (view situation.now.value.now);
-      value = value_in (form_of asks.now) (view situation.now.value.now);
-    }))) }
+    ensures { IfOk result (λ r. (m : Answers)
+        → AskOfOthers m (form_of asks.now) (view situation.now.value.now) questions.now
+        → IsNote r (record {
+          kind = kind_in m (form_of asks.now) (view situation.now.value.now);
+          value = value_in (form_of asks.now) (view situation.now.value.now);
+        })) }
 {
-    let kind = kind_of(asks, situation, matching)?;
+    let kind = kind_of(asks, situation.alloc, questions)?;
     let value = value_of(asks, situation.value);
     Ok(Reason { kind, value })
 }

@@ -4,6 +4,7 @@ use Rattle.std.specs.declared.alloc.Global.{Global}
 use Rattle.std.specs.declared.vec.Vec.{Vec}
 use Rattle.json_values.specs.Parts.{Part}
 use Rattle.schema_meaning.specs.Faults.{Faults, none, also, joined, join, is_none, branches_of}
+use Rattle.schema_meaning.specs.Keywords.{Shape, rule}
 use Rattle.schema_meaning.specs.Questions as told
 use Rattle.schema_meaning.specs.Rules.{Rule, asks, faults, each_of_object}
 use Rattle.schema_meaning.specs.Readings.{Reading, bags}
@@ -11,9 +12,13 @@ use Rattle.schema_meaning.specs.Cut.{cut_asked, cut_within}
 use Rattle.schema_reports.specs.Told.{AreBranches}
 use Rattle.schema_reports.specs.declared.error.ValidationError.{ValidationError}
 use Rattle.schema_reports.specs.declared.observer.Observer.{Observer}
+use Rattle.schema_engine.specs.declared.node.Node.{Node}
 use Rattle.schema_engine.specs.declared.place.Place.{Place}
 use Rattle.schema_engine.specs.declared.place.Question as code
+use Rattle.schema_engine.specs.Graphs.{reading_of}
 use Rattle.schema_engine.specs.Hearing.{HearsMore}
+use Rattle.schema_engine.specs.Matches.{Answers}
+use Rattle.schema_engine.specs.Places.{value_at}
 use Rattle.schema_engine.specs.Questions.{call_of, question_by}
 use Rattle.schema_engine.specs.Refusals.{refused_fault}
 use Rattle.schema_engine.specs.Rules.{questions_of}
@@ -74,6 +79,10 @@ pub record Stand : Type 0 where
   pub progress : List ℕ
   pub path : List Part
   pub road : List Part
+
+-- of keywords of a node, one after another
+abbrev pub keywords_faults : {K : Type 0} → (K → Shape ℕ) → Answers → List (Node K) → ℕ → Stand → List K → Setting → Faults
+keywords_faults shape m nodes n s ks x = join (map (λ k. rule_faults (reading_of shape m nodes) n (rule m (value_at s.place) (shape k)) x) ks)
 
 -- the setting is there
 pub record IsAt (s : Stand) (x : Setting) : Type 0 where

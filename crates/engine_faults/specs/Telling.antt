@@ -4,6 +4,7 @@ use Rattle.std.specs.Borrow.{Bor}
 use Rattle.serde_json.specs.View.{view}
 use Rattle.json_values.specs.Parts.{Part}
 use Rattle.schema_meaning.specs.Faults.{Faults}
+use Rattle.schema_meaning.specs.Members.{In}
 use Rattle.schema_meaning.specs.Places.{Step}
 use Rattle.schema_meaning.specs.Readings.{Reading}
 use Rattle.location_texts.specs.Locations.{location_of}
@@ -19,6 +20,10 @@ use Rattle.schema_engine.specs.Verdicts.{Setting, size}
 use Rattle.schema_engine.specs.Standing.{nodes_of, size_of}
 use Rattle.engine_faults.specs.declared.there.There.{There}
 use Rattle.engine_faults.specs.Faults.{Stand, Hearing, asked_faults}
+
+-- each of these is one of those
+abbrev pub AreIn : {K : Type 0} → List K → List K → Type 0
+AreIn ks all = (k : _) → In k ks → In k all
 
 module _ {K : Type 0} {G : Ghosts K} where
   abbrev pub stand_of : There K G → Stand

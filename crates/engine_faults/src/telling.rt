@@ -1,5 +1,5 @@
 //! The faults of a compiled schema.
-ghost use Rattle.std.specs.Prelude.{◌≡◌, ◌<◌, ◌≤◌, ◌++◌, ℕ, suc, true, false, map, drop, length, OnOk, OnErr, IfOk};
+ghost use Rattle.std.specs.Prelude.{◌≡◌, ◌<◌, ◌≤◌, ◌++◌, [], ◌∷◌, ℕ, suc, true, false, map, drop, length, OnOk, OnErr, IfOk};
 ghost use Rattle.serde_json.specs.Data.{string};
 ghost use Rattle.serde_json.specs.View.{view};
 ghost use Rattle.schema_meaning.specs.Members.{In};
@@ -12,13 +12,14 @@ ghost use Rattle.schema_engine.specs.Refusals.{has_one_fault};
 ghost use Rattle.schema_engine.specs.Rules.{combination_of};
 ghost use Rattle.schema_engine.specs.Graphs.{keywords_at, path_at, rank_at, reading_of};
 ghost use Rattle.schema_engine.specs.Led.{LedTo, AreReady};
-ghost use Rattle.engine_faults.specs.Faults.{node_faults, rule_faults, one_told, question_faults};
+ghost use Rattle.engine_faults.specs.Faults.{node_faults, keywords_faults, rule_faults, one_told, question_faults};
 ghost use Rattle.engine_faults.specs.Faults.{faults_beside, faults_by_first, faults_of_object, AreAsked};
 ghost use Rattle.engine_faults.specs.Faults.{AreErrorsOf, Hearing};
+ghost use Rattle.schema_engine.specs.Pairs.{ArePaired};
 ghost use Rattle.schema_engine.specs.Standing.{nodes_of, size_of};
 ghost use Rattle.engine_faults.specs.Telling.{size_at, stand_in, stand_of, stand_of_name};
 ghost use Rattle.schema_engine.specs.Standing.{LedHere, MayAskAt, EachMayAskAt};
-ghost use Rattle.engine_faults.specs.Telling.{HearsAt, HearsOf, IsThere};
+ghost use Rattle.engine_faults.specs.Telling.{AreIn, HearsAt, HearsOf, IsThere};
 ghost use Rattle.schema_engine.specs.Matches.{InEach};
 
 use crate::refusals::{any_of, one_of};
@@ -29,6 +30,8 @@ use schema_engine::entry::Entry;
 use schema_engine::graph::Graph;
 use schema_engine::here::Here;
 use schema_engine::matching::Matching;
+use schema_engine::node::Together;
+use schema_engine::pairing::paired;
 use schema_engine::place::{Asked, Place, Question};
 use schema_engine::progress::{Progress, is_in_progress};
 use schema_engine::situation::Situation;
@@ -93,13 +96,157 @@ fn tell_node<'q, 'i: 'q, K: Validate, T: Matching>(
         Hearing (stand_of there.now) (suc (size_of there.now.here))
         (node_faults r there.now.here.node) observer.old observer.new)) }
 {
-    for keyword in &there.here.graph.nodes[there.here.node].keywords {
+    let compiled = &there.here.graph.nodes[there.here.node];
+    let keywords = compiled.keywords.as_slice();
+    if let Some(hint) = compiled.together {
+        if let Some(pair) = paired(keywords, hint) {
+            return tell_paired(there, keywords, pair, matching, questions, observer);
+        }
+    }
+    tell_keywords(there, keywords, matching, questions, observer)
+}
+
+// What some keywords of the node tell.
+#[cycle(telling)]
+fn tell_keywords<'q, 'i: 'q, K: Validate, T: Matching>(
+    there: &There<'q, 'i, '_, K>,
+    keywords: &'q [K],
+    matching: &mut T,
+    questions: &mut Vec<Question<'q, 'i>>,
+    observer: &mut Observer<'i>,
+) -> Result<(), AllocError>
+    requires known { AreReady K.knows K.shape (T.matches matching.old) (nodes_of there.now.here) }
+    requires right { IsThere there.now }
+    requires stand { AreIn keywords.now (keywords_at (nodes_of there.now.here) there.now.here.node) }
+    requires led { LedHere (T.matches matching.old) there.now.here }
+    ensures matches { OnOk result (T.matches matching.new ≡ T.matches matching.old) }
+    ensures stays { OnErr result (T.matches matching.new ≡ T.matches matching.old) }
+    ensures questions { OnOk result (questions.new.items ≡ questions.old.items) }
+    ensures heard { OnOk result (InEach (T.matches matching.old) (λ m.
+        HearsAt there.now (keywords_faults K.shape m (nodes_of there.now.here) there.now.here.node
+        (stand_of there.now) keywords.now) observer.old observer.new)) }
+{
+    for keyword in keywords {
         if observer.is_settled() {
             return Ok(());
         }
         tell_keyword(there, keyword, matching, questions, observer)?;
     }
     Ok(())
+}
+
+// What the keywords of the node tell, two of them asked together.
+#[cycle(telling)]
+fn tell_paired<'q, 'i: 'q, K: Validate, T: Matching>(
+    there: &There<'q, 'i, '_, K>,
+    keywords: &'q [K],
+    pair: Together,
+    matching: &mut T,
+    questions: &mut Vec<Question<'q, 'i>>,
+    observer: &mut Observer<'i>,
+) -> Result<(), AllocError>
+    requires known { AreReady K.knows K.shape (T.matches matching.old) (nodes_of there.now.here) }
+    requires right { IsThere there.now }
+    requires stand { AreIn keywords.now (keywords_at (nodes_of there.now.here) there.now.here.node) }
+    requires led { LedHere (T.matches matching.old) there.now.here }
+    requires pair { ArePaired K.pairs keywords.now pair }
+    ensures matches { OnOk result (T.matches matching.new ≡ T.matches matching.old) }
+    ensures stays { OnErr result (T.matches matching.new ≡ T.matches matching.old) }
+    ensures questions { OnOk result (questions.new.items ≡ questions.old.items) }
+    ensures heard { OnOk result (InEach (T.matches matching.old) (λ m.
+        HearsAt there.now (keywords_faults K.shape m (nodes_of there.now.here) there.now.here.node
+        (stand_of there.now) keywords.now) observer.old observer.new)) }
+{
+    tell_keywords(
+        there,
+        &keywords[..pair.second],
+        matching,
+        questions,
+        observer,
+    )?;
+    if observer.is_settled() {
+        return Ok(());
+    }
+    let second = &keywords[pair.second];
+    let between = &keywords[pair.second + 1..pair.first];
+    let first = &keywords[pair.first];
+    tell_together(there, second, between, first, matching, questions, observer)?;
+    tell_keywords(
+        there,
+        &keywords[pair.first + 1..],
+        matching,
+        questions,
+        observer,
+    )
+}
+
+// What two keywords tell that go together, with those that stand between them. No match is asked for twice.
+#[cycle(telling)]
+fn tell_together<'q, 'i: 'q, K: Validate, T: Matching>(
+    there: &There<'q, 'i, '_, K>,
+    second: &'q K,
+    between: &'q [K],
+    first: &'q K,
+    matching: &mut T,
+    questions: &mut Vec<Question<'q, 'i>>,
+    observer: &mut Observer<'i>,
+) -> Result<(), AllocError>
+    requires known { AreReady K.knows K.shape (T.matches matching.old) (nodes_of there.now.here) }
+    requires right { IsThere there.now }
+    requires pairs { K.pairs first.now second.now }
+    requires second { In second.now (keywords_at (nodes_of there.now.here) there.now.here.node) }
+    requires between { AreIn between.now (keywords_at (nodes_of there.now.here) there.now.here.node) }
+    requires first { In first.now (keywords_at (nodes_of there.now.here) there.now.here.node) }
+    requires led { LedHere (T.matches matching.old) there.now.here }
+    ensures matches { OnOk result (T.matches matching.new ≡ T.matches matching.old) }
+    ensures stays { OnErr result (T.matches matching.new ≡ T.matches matching.old) }
+    ensures questions { OnOk result (questions.new.items ≡ questions.old.items) }
+    ensures heard { OnOk result (InEach (T.matches matching.old) (λ m.
+        HearsAt there.now (keywords_faults K.shape m (nodes_of there.now.here) there.now.here.node
+        (stand_of there.now) (second.now ∷ (between.now ++ first.now ∷ []))) observer.old observer.new)) }
+{
+    let start = questions.len();
+    first.questions(there.here.place, matching, questions)?;
+    let held = questions.len();
+    second.questions_beside(first, there.here.place, start, questions)?;
+    tell_by_rule(there, second, held, matching, questions, observer)?;
+    questions.truncate(held);
+    tell_keywords(there, between, matching, questions, observer)?;
+    tell_unless_settled(there, first, start, matching, questions, observer)?;
+    questions.truncate(start);
+    Ok(())
+}
+
+// What a keyword tells whose questions are those from `start` on. Where the observer is settled, they need not be asked.
+#[cycle(telling)]
+fn tell_unless_settled<'q, 'i: 'q, K: Validate, T: Matching>(
+    there: &There<'q, 'i, '_, K>,
+    keyword: &'q K,
+    start: usize,
+    matching: &mut T,
+    questions: &mut Vec<Question<'q, 'i>>,
+    observer: &mut Observer<'i>,
+) -> Result<(), AllocError>
+    requires known { AreReady K.knows K.shape (T.matches matching.old) (nodes_of there.now.here) }
+    requires right { IsThere there.now }
+    requires stands { In keyword.now (keywords_at (nodes_of there.now.here) there.now.here.node) }
+    requires led { LedHere (T.matches matching.old) there.now.here }
+    requires start { start ≤ length questions.old.items }
+    requires asked { InEach (T.matches matching.old)
+        (λ m. AreAsked (K.added keyword.now) (rule m (value_at there.now.here.place) (K.shape keyword.now))
+        (drop start questions.old.items)) }
+    ensures matches { OnOk result (T.matches matching.new ≡ T.matches matching.old) }
+    ensures stays { OnErr result (T.matches matching.new ≡ T.matches matching.old) }
+    ensures questions { OnOk result (questions.new.items ≡ questions.old.items) }
+    ensures heard { OnOk result (InEach (T.matches matching.old) (λ m.
+        let r = reading_of K.shape m (nodes_of there.now.here) in
+        HearsAt there.now (rule_faults r there.now.here.node
+        (rule m (value_at there.now.here.place) (K.shape keyword.now))) observer.old observer.new)) }
+{
+    if observer.is_settled() {
+        return Ok(());
+    }
+    tell_by_rule(there, keyword, start, matching, questions, observer)
 }
 
 // What a keyword of the node tells.
@@ -144,6 +291,7 @@ fn tell_by_rule<'q, 'i: 'q, K: Validate, T: Matching>(
     requires right { IsThere there.now }
     requires stands { In keyword.now (keywords_at (nodes_of there.now.here) there.now.here.node) }
     requires led { LedHere (T.matches matching.old) there.now.here }
+    requires start { start ≤ length questions.old.items }
     requires asked { InEach (T.matches matching.old)
         (λ m. AreAsked (K.added keyword.now) (rule m (value_at there.now.here.place) (K.shape keyword.now))
         (drop start questions.old.items)) }
@@ -308,6 +456,7 @@ fn tell_combined<'q, 'i: 'q, K: Validate, T: Matching>(
     requires combination { InEach (T.matches matching.old)
         (λ m. combination ≡ combination_of (rule m (value_at there.now.here.place) (K.shape keyword.now))) }
     requires once { has_one_fault combination ≡ true }
+    requires start { start ≤ length questions.old.items }
     requires asked { InEach (T.matches matching.old)
         (λ m. AreAsked (K.added keyword.now) (rule m (value_at there.now.here.place) (K.shape keyword.now))
         (drop start questions.old.items)) }
@@ -354,6 +503,7 @@ fn tell_refusal<'q, 'i: 'q, K: Validate, T: Matching>(
     requires combination { InEach (T.matches matching.old)
         (λ m. combination ≡ combination_of (rule m (value_at there.now.here.place) (K.shape keyword.now))) }
     requires once { has_one_fault combination ≡ true }
+    requires start { start ≤ length questions.old.items }
     requires asked { InEach (T.matches matching.old)
         (λ m. AreAsked (K.added keyword.now) (rule m (value_at there.now.here.place) (K.shape keyword.now))
         (drop start questions.old.items)) }
@@ -394,7 +544,7 @@ fn tell_refusal<'q, 'i: 'q, K: Validate, T: Matching>(
             )
         }
         _ => {
-            let reason = keyword.reason(situation, matching)?;
+            let reason = keyword.reason(situation, &questions[start..])?;
             situation.tell(keyword.refused_name(0), reason.kind, reason.value, observer)
         }
     }

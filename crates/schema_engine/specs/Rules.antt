@@ -1,10 +1,11 @@
 -- The rules as the engine reads them.
-use Rattle.std.specs.Prelude.{ℕ, nat_le, List, [], ◌∷◌, map, Bool, true, false, ◌&&◌, Option, Some, None}
+use Rattle.std.specs.Prelude.{◌≡◌, ℕ, nat_le, List, [], ◌∷◌, map, Bool, true, false, ◌&&◌, Option, Some, None}
 use Rattle.schema_meaning.specs.Members.{is_empty, count_true}
 use Rattle.schema_meaning.specs.Rules.{Rule, every, together, each_named, some_branch, one_branch, refusal, counted, conditional, asks, is_few}
-use Rattle.schema_engine.specs.Questions.{Call, call}
+use Rattle.schema_engine.specs.Questions.{Call, call, call_of}
 use Rattle.schema_engine.specs.declared.combination.Combination.{Combination}
 use Rattle.schema_engine.specs.declared.combination.Combination.TheVariants as combination
+use Rattle.schema_engine.specs.declared.place.Question as code
 
 abbrev pub or_one : Option ℕ → ℕ
 or_one None = 1
@@ -41,6 +42,10 @@ questions_of (one_branch p qs) = map (call true) qs
 questions_of (refusal p schema q) = call true q ∷ []
 questions_of (counted least most qs) = map (call true) qs
 questions_of (conditional q cs) = call true q ∷ map (λ c. call c.0 c.1) cs
+
+-- they ask what the rule asks
+abbrev pub AreOf : Rule ℕ → List code.Question → Type 0
+AreOf k qs = map call_of qs ≡ questions_of k
 
 -- ---- what the answers make
 

@@ -12,7 +12,7 @@ pub mod here;
 mod itself;
 pub mod matching;
 pub mod node;
-mod pairing;
+pub mod pairing;
 pub mod place;
 pub mod progress;
 pub mod reason;

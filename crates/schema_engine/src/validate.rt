@@ -1,5 +1,5 @@
 //! What the engine asks of a keyword.
-ghost use Rattle.std.specs.Prelude.{◌≡◌, ℕ, List, Bool, true, OnOk, OnErr, IfOk};
+ghost use Rattle.std.specs.Prelude.{◌≡◌, ℕ, List, Bool, true, drop, OnOk, OnErr, IfOk};
 ghost use Rattle.serde_json.specs.Data.{Data};
 ghost use Rattle.serde_json.specs.View.{view};
 ghost use Rattle.json_values.specs.Parts.{Part};
@@ -10,11 +10,11 @@ ghost use Rattle.schema_engine.specs.Entries.{parts_of};
 ghost use Rattle.schema_engine.specs.Places.{value_at};
 ghost use Rattle.schema_engine.specs.Questions.{Pushes, PushesAsked};
 ghost use Rattle.schema_engine.specs.Refusals.{IsReason, IsRefusedUnder};
-ghost use Rattle.schema_engine.specs.Rules.{combination_of, is_right, questions_of};
+ghost use Rattle.schema_engine.specs.Rules.{combination_of, is_right, questions_of, AreOf};
 ghost use Rattle.schema_engine.specs.Situations.{TellsNotes};
 ghost use Rattle.schema_engine.specs.Together.{PushesBoth};
 ghost use Rattle.schema_engine.specs.Led.{MayAskFor};
-ghost use Rattle.schema_engine.specs.Matches.{InEach};
+ghost use Rattle.schema_engine.specs.Matches.{Answers, InEach};
 
 use crate::asking::Asking;
 use crate::combination::Combination;
@@ -118,6 +118,28 @@ pub trait Validate: Drop {
             (rule m (value_at place.entry) (shape self.now))
             (rule m (value_at place.entry) (shape other.now)))) };
 
+    /// Pushes its questions behind those that are there, in the rule's order, and asks for no match: from `start` on stand the questions of
+    /// another keyword with which it goes together.
+    ///
+    /// # Errors
+    ///
+    /// Where memory was refused. Some questions may have been pushed then.
+    fn questions_beside<'q, 'i: 'q>(
+        &'q self,
+        first: &Self,
+        place: Place<'i>,
+        start: usize,
+        into: &mut Vec<Question<'q, 'i>>,
+    ) -> Result<(), AllocError>
+        requires pairs { pairs first.now self.now }
+        ensures pushed { OnOk result ((m : Answers)
+            → AreOf (rule m (value_at place.entry) (shape first.now)) (drop start into.old.items)
+            → Pushes into.old.items into.new.items (questions_of (rule m (value_at place.entry) (shape self.now)))) }
+        ensures asked { OnOk result ((m : Answers)
+            → AreOf (rule m (value_at place.entry) (shape first.now)) (drop start into.old.items)
+            → PushesAsked (added self.now) into.old.items into.new.items
+            (asks (rule m (value_at place.entry) (shape self.now)))) };
+
     /// Where in it the schema of a question of this entry stands.
     fn entry(&self, entry: usize) -> Entry<'_>
         ensures { parts_of result ≡ added self.now entry };
@@ -145,20 +167,17 @@ pub trait Validate: Drop {
         ensures told { OnOk result (InEach (T.matches matching.old) (λ m.
             TellsNotes situation.now (rule m (view situation.now.value.now) (shape self.now)) observer.old observer.new)) };
 
-    /// Why it refuses the value, if one fault speaks for all of its questions and says nothing of their answers.
+    /// Why it refuses the value, if one fault speaks for all of its questions and says nothing of their answers. These are its questions.
     ///
     /// # Errors
     ///
     /// Where memory was refused or a count of owners is full.
-    fn reason<'o, T: Matching>(
+    fn reason<'o>(
         &self,
         situation: &Situation<'_, 'o>,
-        matching: &mut T,
+        questions: &[Question<'_, 'o>],
     ) -> Result<Reason<'o>, AllocError>
-        requires known { knows self.now (T.matches matching.old).pattern }
-        requires asked { MayAskFor (T.matches matching.old) (shape self.now) (view situation.now.value.now) }
-        ensures same { OnOk result (T.matches matching.new ≡ T.matches matching.old) }
-        ensures stays { OnErr result (T.matches matching.new ≡ T.matches matching.old) }
-        ensures stated { IfOk result (λ b. InEach (T.matches matching.old) (λ m.
-            IsReason (rule m (view situation.now.value.now) (shape self.now)) (view situation.now.value.now) b)) };
+        ensures { IfOk result (λ r. (m : Answers)
+            → AreOf (rule m (view situation.now.value.now) (shape self.now)) questions.now
+            → IsReason (rule m (view situation.now.value.now) (shape self.now)) (view situation.now.value.now) r) };
 }

@@ -67,42 +67,21 @@ pub fn accepts_node<'q, 'i: 'q, K: Validate, T: Matching>(
     if !accept_itself(keywords, place, matching)? {
         return Ok(false);
     }
-    match paired(keywords, compiled.together) {
-        Some(pair) => accepts_paired(&here, keywords, pair, matching, questions),
-        None => accepts_all(&here, keywords, matching, questions),
+    if let Some(hint) = compiled.together {
+        if let Some(pair) = paired(keywords, hint) {
+            return accepts_paired(&here, keywords, pair, matching, questions);
+        }
     }
-}
-
-// Whether each keyword of a node accepts what is at a place, where nothing is wrong with the value itself.
-#[cycle(verdict)]
-fn accepts_all<'q, 'i: 'q, K: Validate, T: Matching>(
-    here: &Here<'q, 'i, '_, K>,
-    keywords: &'q [K],
-    matching: &mut T,
-    questions: &mut Vec<Question<'q, 'i>>,
-) -> Result<bool, AllocError>
-    requires known { AreReady K.knows K.shape (T.matches matching.old) here.now.graph.now.nodes.items }
-    requires keywords { keywords.now ≡ keywords_at here.now.graph.now.nodes.items here.now.node }
-    requires led { LedHere (T.matches matching.old) here.now }
-    requires right { InEach (T.matches matching.old) (λ m.
-        all_true (map (λ k. is_right (rule m (value_at here.now.place) (K.shape k))) keywords.now) ≡ true) }
-    ensures matches { OnOk result (T.matches matching.new ≡ T.matches matching.old) }
-    ensures stays { OnErr result (T.matches matching.new ≡ T.matches matching.old) }
-    ensures questions { OnOk result (questions.new.items ≡ questions.old.items) }
-    ensures verdict { let nodes = here.now.graph.now.nodes.items in IfOk result (λ b. InEach (T.matches matching.old) (λ m.
-        let r = reading_of K.shape m nodes in
-        TellsFrom nodes here.now.node here.now.place (numbers_in here.now.progress.now)
-        (λ x. all_true (map (λ k. rule_in r (rule m (value_at here.now.place) (K.shape k)) x) keywords.now)) b)) }
-{
     for keyword in keywords {
-        if !accepts_keyword(here, keyword, matching, questions)? {
+        if !accepts_keyword(&here, keyword, matching, questions)? {
             return Ok(false);
         }
     }
     Ok(true)
 }
 
-// The same, where two of them are asked together, before the others.
+// Whether each keyword of a node accepts what is at a place, where nothing is wrong with the value itself. Two of them are asked together,
+// before the others.
 #[cycle(verdict)]
 fn accepts_paired<'q, 'i: 'q, K: Validate, T: Matching>(
     here: &Here<'q, 'i, '_, K>,

@@ -1,4 +1,5 @@
+use Rattle.serde_json.specs.View.{view}
 use Rattle.compiled_keywords.proofs.reasons.reason_of.Goals as goal
 
-pub returns-clause-noted : goal.returns-clause-noted
-returns-clause-noted g c rest = record { kind = c.in_ok-kind.ensures.stands rest; value = c.value_of-value.ensures }
+pub returns : goal.returns
+returns c m so = record { kind = c.in_ok-kind.ensures m (view c.args.situation.now.value.now) so; value = c.value_of-value.ensures }

@@ -1,4 +1,5 @@
-use Rattle.std.proofs.Common.{rules, ◌≡◌, ◌<◌, ◌≤◌, ◌+◌, ◌∙◌, ◌++◌, ◌∷◌, List, true, false, map, drop, length, get_or, [], refl, sym, ap, subst, arith, string_bytes, suc}
+use Rattle.std.proofs.Common.{rules, IfSome, ◌≡◌, ◌<◌, ◌≤◌, ◌+◌, ◌-◌, ◌∙◌, ◌++◌, ◌∷◌, List, true, false, map, take, drop, length, get_or, [], refl, sym, ap, subst, arith, string_bytes, suc}
+use Rattle.std.proofs.lemmas.List.{take-append-drop}
 use Rattle.std.proofs.lemmas.Result.{on_ok_weaker}
 use Rattle.serde_json.specs.Data.{string}
 use Rattle.serde_json.specs.View.{view}
@@ -16,6 +17,7 @@ use Rattle.schema_engine.specs.declared.place.Asked.TheVariants as asked
 use Rattle.schema_engine.specs.declared.place.Question.{Question}
 use Rattle.schema_engine.specs.declared.place.Place.TheVariants as place
 use Rattle.schema_engine.specs.Matches.{Answers, Matches, completed, none_matched}
+use Rattle.schema_engine.specs.Pairs.{ArePaired}
 use Rattle.schema_engine.specs.Places.{value_at, step_of}
 use Rattle.schema_engine.specs.Progress.{numbers_in, is_among}
 use Rattle.schema_engine.specs.Entries.{parts_of}
@@ -23,16 +25,16 @@ use Rattle.schema_engine.specs.Hearing.{HearsMore}
 use Rattle.schema_engine.specs.Questions.{call_of, question_by}
 use Rattle.schema_engine.specs.Refusals.{own_notes, has_one_fault, IsReason}
 use Rattle.schema_engine.specs.Situations.{spot_in}
-use Rattle.schema_engine.specs.Rules.{combination_of}
+use Rattle.schema_engine.specs.Rules.{combination_of, AreOf}
 use Rattle.schema_engine.specs.Graphs.{keywords_at, path_at, rank_at, reading_of}
 use Rattle.schema_engine.specs.Led.{LedTo, AreReady}
 use Rattle.schema_engine.specs.Verdicts.{EachMayAsk, GoesDown, size}
-use Rattle.engine_faults.specs.Faults.{AreAsked, AreErrorsOf, Hearing, node_faults, rule_faults, one_told, question_faults, faults_beside}
+use Rattle.engine_faults.specs.Faults.{AreAsked, AreErrorsOf, Hearing, node_faults, keywords_faults, rule_faults, one_told, question_faults, faults_beside}
 use Rattle.schema_engine.specs.Standing.{size_of}
 use Rattle.engine_faults.specs.Telling.{stand_of, HearsAt}
 use Rattle.engine_faults.proofs.KeywordFaults.{one_of_others, every_told, named_told, conditional_told, no_condition, condition_told, combined_accepted, combined_unwanted, combined_told}
 use Rattle.schema_engine.proofs.HearsLemmas.{hears_absorbed}
-use Rattle.engine_faults.proofs.NodeFaults.{path_here, keywords_faults, node_heard, keyword_next, keywords_done}
+use Rattle.engine_faults.proofs.NodeFaults.{path_here, node_heard, keyword_next, keywords_done, together_heard, paired_heard, settled_heard, parted, kept_long, rest_whole, in_take, in_drop}
 use Rattle.engine_faults.proofs.QuestionFaults.{beside_next, beside_skipped, beside_done, named_next, named_done, branches_next, branches_done}
 use Rattle.engine_faults.proofs.RefusalFaults.{some_told, one_branch_told, counted_told, reason_told}
 use Rattle.engine_faults.proofs.RuleFaults.{one_is_right}
@@ -50,27 +52,79 @@ tell_value-tell_node-requires g t c κs within =
 
 -- ---- a node
 
-pub tell_node-loop-keyword-init : goal.tell_node-loop-keyword-init
-tell_node-loop-keyword-init g t c = record { matches = refl; questions = refl; left = λ rest. all_to_tell _ _ _ c.args.observer.now }
-
-pub tell_node-tell_keyword-requires : goal.tell_node-tell_keyword-requires
-tell_node-tell_keyword-requires g t c κs within =
+pub tell_node-tell_paired-requires : goal.tell_node-tell_paired-requires
+tell_node-tell_paired-requires g t c κs within =
     let h = c.args.there.now.here in
     let nodes = h.graph.now.nodes.items in
-    let l = c.loop-keyword in
-    let items : c.deref-keyword-items.result.now ≡ c.index.result.now.keywords.items = c.deref-keyword-items.ensures.value in
-    let here : keywords_at nodes h.node ≡ c.deref-keyword-items.result.now = keywords_here nodes h.node c.index.result.now c.requires.there c.index.ensures ∙ sym items in (
+    let here : keywords_at nodes h.node ≡ c.as_slice-keywords.result.now = keywords_here nodes h.node c.index-compiled.result.now c.requires.there c.index-compiled.ensures ∙ sym c.as_slice-keywords.ensures.value in (
       omega arith,
       (
         within.0,
         (
           within.1,
           (
-            subst (λ m. AreReady g.K.Validate.knows g.K.Validate.shape m nodes) (sym l.invariant.matches) c.requires.known,
+            c.requires.known,
+            (
+              c.requires.right,
+              (λ k i. subst (In k) (sym here) i, (c.requires.led, subst (λ o. IfSome o (ArePaired g.K.Validate.pairs c.as_slice-keywords.result.now)) c.in-Some-paired.is c.paired.ensures)),
+            ),
+          ),
+        ),
+      ),
+    )
+
+pub tell_node-tell_keywords-requires : goal.tell_node-tell_keywords-requires
+tell_node-tell_keywords-requires g t c κs within =
+    let h = c.args.there.now.here in
+    let nodes = h.graph.now.nodes.items in
+    let here : keywords_at nodes h.node ≡ c.as_slice-keywords.result.now = keywords_here nodes h.node c.index-compiled.result.now c.requires.there c.index-compiled.ensures ∙ sym c.as_slice-keywords.ensures.value in
+    (omega arith, (within.0, (within.1, (c.requires.known, (c.requires.right, (λ k i. subst (In k) (sym here) i, c.requires.led))))))
+
+pub tell_node-returns-in-Some-paired-clause-heard : goal.tell_node-returns-in-Some-paired-clause-heard
+tell_node-returns-in-Some-paired-clause-heard g t c =
+    let h = c.args.there.now.here in
+    let nodes = h.graph.now.nodes.items in
+    let here : keywords_at nodes h.node ≡ c.as_slice-keywords.result.now = keywords_here nodes h.node c.index-compiled.result.now c.requires.there c.index-compiled.ensures ∙ sym c.as_slice-keywords.ensures.value in
+    let s = stand_of c.args.there.now in
+    let told = λ (rest : Answers). keywords_faults g.K.Validate.shape (completed (g.T.Matching.matches c.args.matching.now) rest) nodes h.node s in
+    on_ok_weaker c.tell_paired.result
+    (λ heard rest. node_heard g.K.Validate.shape _ nodes h.node s (size_of h) c.args.observer.now c.tell_paired.new.observer
+    (subst (λ ks. Hearing s (size_of h) (told rest ks) c.args.observer.now c.tell_paired.new.observer) (sym here) (heard rest)))
+    c.tell_paired.ensures.heard
+
+pub tell_node-returns-clause-heard : goal.tell_node-returns-clause-heard
+tell_node-returns-clause-heard g t c =
+    let h = c.args.there.now.here in
+    let nodes = h.graph.now.nodes.items in
+    let here : keywords_at nodes h.node ≡ c.as_slice-keywords.result.now = keywords_here nodes h.node c.index-compiled.result.now c.requires.there c.index-compiled.ensures ∙ sym c.as_slice-keywords.ensures.value in
+    let s = stand_of c.args.there.now in
+    let told = λ (rest : Answers). keywords_faults g.K.Validate.shape (completed (g.T.Matching.matches c.args.matching.now) rest) nodes h.node s in
+    on_ok_weaker c.tell_keywords.result
+    (λ heard rest. node_heard g.K.Validate.shape _ nodes h.node s (size_of h) c.args.observer.now c.tell_keywords.new.observer
+    (subst (λ ks. Hearing s (size_of h) (told rest ks) c.args.observer.now c.tell_keywords.new.observer) (sym here) (heard rest)))
+    c.tell_keywords.ensures.heard
+
+-- ---- some keywords
+
+pub tell_keywords-loop-keyword-init : goal.tell_keywords-loop-keyword-init
+tell_keywords-loop-keyword-init g t c = record { matches = refl; questions = refl; left = λ rest. all_to_tell _ _ _ c.args.observer.now }
+
+pub tell_keywords-tell_keyword-requires : goal.tell_keywords-tell_keyword-requires
+tell_keywords-tell_keyword-requires g t c κs within =
+    let h = c.args.there.now.here in
+    let l = c.loop-keyword in
+    let k = c.keyword-item.result in (
+      omega arith,
+      (
+        within.0,
+        (
+          within.1,
+          (
+            subst (λ m. AreReady g.K.Validate.knows g.K.Validate.shape m h.graph.now.nodes.items) (sym l.invariant.matches) c.requires.known,
             (
               c.requires.right,
               (
-                subst (In c.keyword-item.result) (sym here) (keyword_stands l.keyword-index c.deref-keyword-items.result.now c.keyword-item.result c.loop-keyword-test.true c.keyword-item.is),
+                c.requires.stand k (keyword_stands l.keyword-index c.args.keywords.now k c.loop-keyword-test.true c.keyword-item.is),
                 subst (λ m. LedTo m h.node (value_at h.place)) (sym l.invariant.matches) c.requires.led,
               ),
             ),
@@ -79,47 +133,267 @@ tell_node-tell_keyword-requires g t c κs within =
       ),
     )
 
-pub tell_node-returns-then-is_settled-clause-heard : goal.tell_node-returns-then-is_settled-clause-heard
-tell_node-returns-then-is_settled-clause-heard g t c =
-    let h = c.args.there.now.here in
-    let nodes = h.graph.now.nodes.items in
+pub tell_keywords-returns-then-is_settled-clause-heard : goal.tell_keywords-returns-then-is_settled-clause-heard
+tell_keywords-returns-then-is_settled-clause-heard g t c =
     let l = c.loop-keyword in
-    let s = stand_of c.args.there.now in
-    let told = λ (rest : Answers). keywords_faults g.K.Validate.shape (completed (g.T.Matching.matches c.args.matching.now) rest) nodes h.node s in
-    λ rest. node_heard g.K.Validate.shape _ nodes h.node s (size_of h) c.args.observer.now l.observer
-    (settled_to_tell s (size_of h) (told rest (keywords_at nodes h.node)) (told rest (drop l.keyword-index (keywords_at nodes h.node))) c.args.observer.now l.observer
-    (λ kept fs gs. c.is_settled.ensures c.if-is_settled.true kept fs gs) (l.invariant.left rest))
+    λ rest. settled_to_tell _ _ _ _ c.args.observer.now l.observer (λ kept fs gs. c.is_settled.ensures c.if-is_settled.true kept fs gs) (l.invariant.left rest)
 
-pub tell_node-loop-keyword-preserved : goal.tell_node-loop-keyword-preserved
-tell_node-loop-keyword-preserved g t c =
+pub tell_keywords-loop-keyword-preserved : goal.tell_keywords-loop-keyword-preserved
+tell_keywords-loop-keyword-preserved g t c =
     let h = c.args.there.now.here in
     let nodes = h.graph.now.nodes.items in
     let l = c.loop-keyword in
-    let i = l.keyword-index in
+    let ks = c.args.keywords.now in
     let k = c.keyword-item.result in
     let s = stand_of c.args.there.now in
-    let items : c.deref-keyword-items.result.now ≡ c.index.result.now.keywords.items = c.deref-keyword-items.ensures.value in
-    let here : keywords_at nodes h.node ≡ c.deref-keyword-items.result.now = keywords_here nodes h.node c.index.result.now c.requires.there c.index.ensures ∙ sym items in
-    let high : i < length (keywords_at nodes h.node) = subst (λ ks. i < length ks) (sym here) c.loop-keyword-test.true in
+    let m = g.T.Matching.matches c.args.matching.now in
     let heard = λ (rest : Answers). subst (λ (m : Matches). Hearing s (size_of h) (rule_faults (reading_of g.K.Validate.shape (completed m rest) nodes) h.node (rule (completed m rest) (value_at h.place) (g.K.Validate.shape k))) l.observer c.tell_keyword.new.observer)
     l.invariant.matches (c.in_ok-tell_keyword.ensures.heard rest) in
     record {
       matches = c.in_ok-tell_keyword.ensures.matches ∙ l.invariant.matches;
       questions = c.in_ok-tell_keyword.ensures.questions ∙ l.invariant.questions;
-      left = λ rest. keyword_next g.K.Validate.shape _ nodes h.node s (size_of h) i (keywords_at nodes h.node) k c.args.observer.now l.observer c.tell_keyword.new.observer high
-          (subst (λ ks. k ≡ get_or ks i k) (sym here) c.keyword-item.is) (heard rest) (l.invariant.left rest);
+      left = λ rest. keyword_next g.K.Validate.shape _ nodes h.node s (size_of h) (keywords_faults g.K.Validate.shape (completed m rest) nodes h.node s ks) l.keyword-index ks k c.args.observer.now l.observer c.tell_keyword.new.observer
+          c.loop-keyword-test.true c.keyword-item.is (heard rest) (l.invariant.left rest);
     }
 
-pub tell_node-returns-clause-heard : goal.tell_node-returns-clause-heard
-tell_node-returns-clause-heard g t c =
+pub tell_keywords-returns-clause-heard : goal.tell_keywords-returns-clause-heard
+tell_keywords-returns-clause-heard g t c =
     let h = c.args.there.now.here in
     let nodes = h.graph.now.nodes.items in
     let l = c.loop-keyword in
-    let items : c.deref-keyword-items.result.now ≡ c.index.result.now.keywords.items = c.deref-keyword-items.ensures.value in
-    let here : keywords_at nodes h.node ≡ c.deref-keyword-items.result.now = keywords_here nodes h.node c.index.result.now c.requires.there c.index.ensures ∙ sym items in
-    let past : length (keywords_at nodes h.node) ≤ l.keyword-index = (let e = ap length here in omega arith) in
-    λ rest. keywords_done g.K.Validate.shape _ nodes h.node (stand_of c.args.there.now) (size_of h) l.keyword-index (keywords_at nodes h.node) c.args.observer.now l.observer
-    past (l.invariant.left rest)
+    let ks = c.args.keywords.now in
+    let s = stand_of c.args.there.now in
+    let m = g.T.Matching.matches c.args.matching.now in
+    let past : length ks ≤ l.keyword-index = omega arith in
+    λ rest. keywords_done g.K.Validate.shape _ nodes h.node s (size_of h) (keywords_faults g.K.Validate.shape (completed m rest) nodes h.node s ks) l.keyword-index ks c.args.observer.now l.observer past (l.invariant.left rest)
+
+-- ---- all keywords, two of them together
+
+pub tell_paired-tell_keywords-requires : goal.tell_paired-tell_keywords-requires
+tell_paired-tell_keywords-requires g t c κs within =
+    (omega arith, (within.0, (within.1, (c.requires.known, (c.requires.right, (λ k i. c.requires.stand k (in_take c.args.pair.second c.args.keywords.now k i), c.requires.led))))))
+
+pub tell_paired-returns-then-is_settled-clause-heard : goal.tell_paired-returns-then-is_settled-clause-heard
+tell_paired-returns-then-is_settled-clause-heard g t c =
+    let h = c.args.there.now.here in
+    let ks = c.args.keywords.now in
+    let i = c.args.pair.second in
+    λ rest. settled_heard g.K.Validate.shape _ h.graph.now.nodes.items h.node (stand_of c.args.there.now) (size_of h) ks (take i ks) (drop i ks) (sym (take-append-drop i ks)) c.args.observer.now c.tell_keywords.new.observer
+    (λ kept fs gs. c.is_settled.ensures c.if-is_settled.true kept fs gs) (c.in_ok-tell_keywords.ensures.heard rest)
+
+pub tell_paired-tell_together-requires : goal.tell_paired-tell_together-requires
+tell_paired-tell_together-requires g t c κs within =
+    let h = c.args.there.now.here in
+    let ks = c.args.keywords.now in
+    let i = c.args.pair.second in
+    let one = c.index-keywords-pair.result in
+    let other = c.index-keywords-pair-2.result in
+    let same = c.in_ok-tell_keywords.ensures.matches in (
+      omega arith,
+      (
+        within.0,
+        (
+          within.1,
+          (
+            subst (λ m. AreReady g.K.Validate.knows g.K.Validate.shape m h.graph.now.nodes.items) (sym same) c.requires.known,
+            (
+              c.requires.right,
+              (
+                c.requires.pair.pairs other one c.index-keywords-pair-2.is c.index-keywords-pair.is,
+                (
+                  c.requires.stand one (keyword_stands i ks one c.requires.pair.second c.index-keywords-pair.is),
+                  (
+                    λ k j. c.requires.stand k (in_drop (i + 1) ks k (in_take (c.args.pair.first - (i + 1)) (drop (i + 1) ks) k j)),
+                    (
+                      c.requires.stand other (keyword_stands c.args.pair.first ks other c.requires.pair.first c.index-keywords-pair-2.is),
+                      subst (λ m. LedTo m h.node (value_at h.place)) (sym same) c.requires.led,
+                    ),
+                  ),
+                ),
+              ),
+            ),
+          ),
+        ),
+      ),
+    )
+
+pub tell_paired-tell_keywords-requires-2 : goal.tell_paired-tell_keywords-requires-2
+tell_paired-tell_keywords-requires-2 g t c κs within =
+    let h = c.args.there.now.here in
+    let ks = c.args.keywords.now in
+    let i = c.args.pair.first in
+    let same = c.in_ok-tell_together.ensures.matches ∙ c.in_ok-tell_keywords.ensures.matches in (
+      omega arith,
+      (
+        within.0,
+        (
+          within.1,
+          (
+            subst (λ m. AreReady g.K.Validate.knows g.K.Validate.shape m h.graph.now.nodes.items) (sym same) c.requires.known,
+            (
+              c.requires.right,
+              (
+                λ k j. c.requires.stand k (in_drop (i + 1) ks k (in_take (length ks - (i + 1)) (drop (i + 1) ks) k j)),
+                subst (λ m. LedTo m h.node (value_at h.place)) (sym same) c.requires.led,
+              ),
+            ),
+          ),
+        ),
+      ),
+    )
+
+pub tell_paired-returns-clause-heard : goal.tell_paired-returns-clause-heard
+tell_paired-returns-clause-heard g t c =
+    let h = c.args.there.now.here in
+    let nodes = h.graph.now.nodes.items in
+    let s = stand_of c.args.there.now in
+    let m = g.T.Matching.matches c.args.matching.now in
+    let ks = c.args.keywords.now in
+    let i = c.args.pair.second in
+    let j = c.args.pair.first in
+    let one = c.index-keywords-pair.result in
+    let other = c.index-keywords-pair-2.result in
+    let middle = one ∷ (take (j - (i + 1)) (drop (i + 1) ks) ++ other ∷ []) in
+    let last = take (length ks - (j + 1)) (drop (j + 1) ks) in
+    let same = c.in_ok-tell_keywords.ensures.matches in
+    let told = λ (m : Matches) (rest : Answers). keywords_faults g.K.Validate.shape (completed m rest) nodes h.node s in
+    on_ok_weaker c.tell_keywords-2.result
+    (λ heard rest. paired_heard g.K.Validate.shape _ nodes h.node s (size_of h) ks (take i ks) middle last
+    (parted ks i j one other c.requires.pair.rises c.requires.pair.first c.index-keywords-pair.is c.index-keywords-pair-2.is)
+    c.args.observer.now c.tell_keywords.new.observer c.tell_together.new.observer c.tell_keywords-2.new.observer
+    (c.in_ok-tell_keywords.ensures.heard rest)
+    (subst (λ (n : Matches). Hearing s (size_of h) (told n rest middle) c.tell_keywords.new.observer c.tell_together.new.observer) same (c.in_ok-tell_together.ensures.heard rest))
+    (subst (λ (n : Matches). Hearing s (size_of h) (told n rest last) c.tell_together.new.observer c.tell_keywords-2.new.observer) (c.in_ok-tell_together.ensures.matches ∙ same) (heard rest)))
+    c.tell_keywords-2.ensures.heard
+
+-- ---- two of them together
+
+pub tell_together-questions-requires : goal.tell_together-questions-requires
+tell_together-questions-requires g t c =
+    let h = c.args.there.now.here in
+    let k = c.args.first.now in
+    record {
+      known = c.requires.known.known.each h.node k c.requires.first;
+      asked = may_ask_for g.K.Validate.knows g.K.Validate.shape h.graph.now.nodes.items h.node k _ (value_at h.place) c.requires.known c.requires.led c.requires.first;
+    }
+
+pub tell_together-tell_by_rule-requires : goal.tell_together-tell_by_rule-requires
+tell_together-tell_by_rule-requires g t c κs within =
+    let h = c.args.there.now.here in
+    let nodes = h.graph.now.nodes.items in
+    let d = value_at h.place in
+    let k = c.args.second.now in
+    let m = g.T.Matching.matches c.args.matching.now in
+    let same = c.in_ok-questions.ensures.same in
+    let before = c.questions.new.into.items in
+    let now = c.questions_beside.new.into.items in
+    let start : c.len-start.result ≡ length c.args.questions.now.items = omega arith in
+    let held : c.len-held.result ≡ length before = omega arith in
+    let are : (rest : Answers) → AreOf (rule (completed m rest) d (g.K.Validate.shape c.args.first.now)) (drop c.len-start.result before) =
+    λ rest. ap (λ n. map call_of (drop n before)) start ∙ (c.in_ok-questions.ensures.pushed rest).pushed in
+    let asked : (rest : Answers) → AreAsked (g.K.Validate.added k) (rule (completed m rest) d (g.K.Validate.shape k)) (drop c.len-held.result now) = λ rest. record {
+      calls = ap (λ n. map call_of (drop n now)) held ∙ (c.in_ok-questions_beside.ensures.pushed (completed m rest) (are rest)).pushed;
+      asked = ap (λ n. map (question_by (g.K.Validate.added k)) (drop n now)) held ∙ (c.in_ok-questions_beside.ensures.asked (completed m rest) (are rest)).pushed;
+    } in
+    let long = kept_long before now (c.in_ok-questions_beside.ensures.pushed (completed m none_matched) (are none_matched)).kept in (
+      omega arith,
+      (
+        within.0,
+        (
+          within.1,
+          (
+            subst (λ m. AreReady g.K.Validate.knows g.K.Validate.shape m nodes) (sym same) c.requires.known,
+            (
+              c.requires.right,
+              (
+                c.requires.second,
+                (
+                  subst (λ m. LedTo m h.node d) (sym same) c.requires.led,
+                  (omega arith, λ rest. subst (λ (m : Matches). AreAsked (g.K.Validate.added k) (rule (completed m rest) d (g.K.Validate.shape k)) (drop c.len-held.result now)) (sym same) (asked rest)),
+                ),
+              ),
+            ),
+          ),
+        ),
+      ),
+    )
+
+pub tell_together-tell_unless_settled-requires : goal.tell_together-tell_unless_settled-requires
+tell_together-tell_unless_settled-requires g t c κs within =
+    let h = c.args.there.now.here in
+    let nodes = h.graph.now.nodes.items in
+    let d = value_at h.place in
+    let k = c.args.first.now in
+    let m = g.T.Matching.matches c.args.matching.now in
+    let same = c.in_ok-tell_keywords.ensures.matches ∙ c.in_ok-tell_by_rule.ensures.matches ∙ c.in_ok-questions.ensures.same in
+    let before = c.questions.new.into.items in
+    let now = c.questions_beside.new.into.items in
+    let start : c.len-start.result ≡ length c.args.questions.now.items = omega arith in
+    let held : c.len-held.result ≡ length before = omega arith in
+    let are : (rest : Answers) → AreOf (rule (completed m rest) d (g.K.Validate.shape c.args.first.now)) (drop c.len-start.result before) =
+    λ rest. ap (λ n. map call_of (drop n before)) start ∙ (c.in_ok-questions.ensures.pushed rest).pushed in
+    let again : c.tell_keywords.new.questions.items ≡ before = c.in_ok-tell_keywords.ensures.questions ∙ c.truncate.ensures.items ∙ ap (take c.len-held.result) c.in_ok-tell_by_rule.ensures.questions
+    ∙ ap (λ n. take n now) held ∙ (c.in_ok-questions_beside.ensures.pushed (completed m none_matched) (are none_matched)).kept in
+    let asked : (rest : Answers) → AreAsked (g.K.Validate.added k) (rule (completed m rest) d (g.K.Validate.shape k)) (drop c.len-start.result before) = λ rest. record {
+      calls = are rest;
+      asked = ap (λ n. map (question_by (g.K.Validate.added k)) (drop n before)) start ∙ (c.in_ok-questions.ensures.asked rest).pushed;
+    } in
+    let long = kept_long c.args.questions.now.items before (c.in_ok-questions.ensures.pushed none_matched).kept in
+    let short : c.len-start.result ≤ length before = omega arith in (
+      omega arith,
+      (
+        within.0,
+        (
+          within.1,
+          (
+            subst (λ m. AreReady g.K.Validate.knows g.K.Validate.shape m nodes) (sym same) c.requires.known,
+            (
+              c.requires.right,
+              (
+                c.requires.first,
+                (
+                  subst (λ m. LedTo m h.node d) (sym same) c.requires.led,
+                  (
+                    subst (λ qs. c.len-start.result ≤ length qs) (sym again) short,
+                    λ rest. subst (λ qs. AreAsked (g.K.Validate.added k) (rule (completed (g.T.Matching.matches c.tell_keywords.new.matching) rest) d (g.K.Validate.shape k)) (drop c.len-start.result qs)) (sym again)
+                        (subst (λ (m : Matches). AreAsked (g.K.Validate.added k) (rule (completed m rest) d (g.K.Validate.shape k)) (drop c.len-start.result before)) (sym same) (asked rest)),
+                  ),
+                ),
+              ),
+            ),
+          ),
+        ),
+      ),
+    )
+
+pub tell_together-returns-clause-questions : goal.tell_together-returns-clause-questions
+tell_together-returns-clause-questions g t c =
+    let d = value_at c.args.there.now.here.place in
+    let m = g.T.Matching.matches c.args.matching.now in
+    let before = c.questions.new.into.items in
+    let now = c.questions_beside.new.into.items in
+    let start : c.len-start.result ≡ length c.args.questions.now.items = omega arith in
+    let held : c.len-held.result ≡ length before = omega arith in
+    let are : (rest : Answers) → AreOf (rule (completed m rest) d (g.K.Validate.shape c.args.first.now)) (drop c.len-start.result before) =
+    λ rest. ap (λ n. map call_of (drop n before)) start ∙ (c.in_ok-questions.ensures.pushed rest).pushed in
+    let again : c.tell_keywords.new.questions.items ≡ before = c.in_ok-tell_keywords.ensures.questions ∙ c.truncate.ensures.items ∙ ap (take c.len-held.result) c.in_ok-tell_by_rule.ensures.questions
+    ∙ ap (λ n. take n now) held ∙ (c.in_ok-questions_beside.ensures.pushed (completed m none_matched) (are none_matched)).kept in
+    c.truncate-2.ensures.items ∙ ap (take c.len-start.result) (c.in_ok-tell_unless_settled.ensures.questions ∙ again) ∙ ap (λ n. take n before) start ∙ (c.in_ok-questions.ensures.pushed none_matched).kept
+
+pub tell_together-returns-clause-heard : goal.tell_together-returns-clause-heard
+tell_together-returns-clause-heard g t c =
+    let h = c.args.there.now.here in
+    let nodes = h.graph.now.nodes.items in
+    let s = stand_of c.args.there.now in
+    let one = c.args.second.now in
+    let other = c.args.first.now in
+    let asked = c.in_ok-questions.ensures.same in
+    let told = c.in_ok-tell_by_rule.ensures.matches ∙ asked in
+    let heard = λ (k : _) (m : Matches) (rest : Answers). rule_faults (reading_of g.K.Validate.shape (completed m rest) nodes) h.node (rule (completed m rest) (value_at h.place) (g.K.Validate.shape k)) in
+    λ rest. together_heard g.K.Validate.shape _ nodes h.node s (size_of h) one c.args.between.now other c.args.observer.now c.tell_by_rule.new.observer c.tell_keywords.new.observer c.tell_unless_settled.new.observer
+    (subst (λ (m : Matches). Hearing s (size_of h) (heard one m rest) c.args.observer.now c.tell_by_rule.new.observer) asked (c.in_ok-tell_by_rule.ensures.heard rest))
+    (subst (λ (m : Matches). Hearing s (size_of h) (keywords_faults g.K.Validate.shape (completed m rest) nodes h.node s c.args.between.now) c.tell_by_rule.new.observer c.tell_keywords.new.observer) told (c.in_ok-tell_keywords.ensures.heard rest))
+    (subst (λ (m : Matches). Hearing s (size_of h) (heard other m rest) c.tell_keywords.new.observer c.tell_unless_settled.new.observer) (c.in_ok-tell_keywords.ensures.matches ∙ told) (c.in_ok-tell_unless_settled.ensures.heard rest))
 
 -- ---- a keyword
 
@@ -143,7 +417,8 @@ tell_keyword-tell_by_rule-requires g t c κs within =
     let asked : (rest : Answers) → AreAsked (g.K.Validate.added k) (rule (completed (g.T.Matching.matches c.args.matching.now) rest) (value_at h.place) (g.K.Validate.shape k)) (drop c.len-start.result now) = λ rest. record {
       calls = ap (λ n. map call_of (drop n now)) start ∙ (c.in_ok-questions.ensures.pushed rest).pushed;
       asked = ap (λ n. map (question_by (g.K.Validate.added k)) (drop n now)) start ∙ (c.in_ok-questions.ensures.asked rest).pushed;
-    } in (
+    } in
+    let long = kept_long c.args.questions.now.items now (c.in_ok-questions.ensures.pushed none_matched).kept in (
       omega arith,
       (
         within.0,
@@ -157,7 +432,7 @@ tell_keyword-tell_by_rule-requires g t c κs within =
                 c.requires.stands,
                 (
                   subst (λ m. LedTo m h.node (value_at h.place)) (sym same) c.requires.led,
-                  λ rest. subst (λ (m : Matches). AreAsked (g.K.Validate.added k) (rule (completed m rest) (value_at h.place) (g.K.Validate.shape k)) (drop c.len-start.result now)) (sym same) (asked rest),
+                  (omega arith, λ rest. subst (λ (m : Matches). AreAsked (g.K.Validate.added k) (rule (completed m rest) (value_at h.place) (g.K.Validate.shape k)) (drop c.len-start.result now)) (sym same) (asked rest)),
                 ),
               ),
             ),
@@ -262,7 +537,7 @@ tell_by_rule-tell_combined-requires g t c κs within = (
               c.requires.led,
               (
                 (λ rest. c.combination-combination.ensures _),
-                (one_of_others c.combination-combination.result c.in_default.not-Every c.in_default.not-EachNamed c.in_default.not-Conditional, c.requires.asked),
+                (one_of_others c.combination-combination.result c.in_default.not-Every c.in_default.not-EachNamed c.in_default.not-Conditional, (c.requires.start, c.requires.asked)),
               ),
             ),
           ),
@@ -506,8 +781,11 @@ tell_combined-tell_refusal-requires g t c κs within =
                     (λ rest. subst (λ (m : Matches). c.args.combination ≡ combination_of (rule (completed m rest) (value_at h.place) (g.K.Validate.shape k))) (sym same) (c.requires.combination rest)),
                     (
                       c.requires.once,
-                      λ rest. subst (λ qs. AreAsked (g.K.Validate.added k) (rule (completed (g.T.Matching.matches c.accepts_combined.new.matching) rest) (value_at h.place) (g.K.Validate.shape k)) (drop c.args.start qs)) (sym c.in_ok-accepts_combined.ensures.questions)
-                          (subst (λ (m : Matches). AreAsked (g.K.Validate.added k) (rule (completed m rest) (value_at h.place) (g.K.Validate.shape k)) (drop c.args.start c.args.questions.now.items)) (sym same) (c.requires.asked rest)),
+                      (
+                        subst (λ qs. c.args.start ≤ length qs) (sym c.in_ok-accepts_combined.ensures.questions) c.requires.start,
+                        λ rest. subst (λ qs. AreAsked (g.K.Validate.added k) (rule (completed (g.T.Matching.matches c.accepts_combined.new.matching) rest) (value_at h.place) (g.K.Validate.shape k)) (drop c.args.start qs)) (sym c.in_ok-accepts_combined.ensures.questions)
+                            (subst (λ (m : Matches). AreAsked (g.K.Validate.added k) (rule (completed m rest) (value_at h.place) (g.K.Validate.shape k)) (drop c.args.start c.args.questions.now.items)) (sym same) (c.requires.asked rest)),
+                      ),
                     ),
                   ),
                 ),
@@ -671,7 +949,10 @@ tell_refusal-returns-in_ok-reason-in_default-clause-heard g t c =
     let m = g.T.Matching.matches c.args.matching.now in
     let shape = g.K.Validate.shape c.args.keyword.now in
     let xs = drop c.args.start c.args.questions.now.items in
-    let says = λ (rest : Answers). subst (λ d. IsReason (rule (completed m rest) d shape) (view there.situation.value.now) c.in_ok-reason-in_default.reason) c.requires.right.value (c.in_ok-reason-in_default.ensures.stated rest) in
+    let own = ap (λ (ys : List Question). take (length ys - c.args.start) (drop c.args.start ys)) c.deref.ensures.value ∙ rest_whole c.args.start c.args.questions.now.items in
+    let are = λ (rest : Answers). subst (λ d. AreOf (rule (completed m rest) d shape) (take (length c.deref.result.now - c.args.start) (drop c.args.start c.deref.result.now))) (sym c.requires.right.value)
+    (ap (map call_of) own ∙ (c.requires.asked rest).calls) in
+    let says = λ (rest : Answers). subst (λ d. IsReason (rule (completed m rest) d shape) (view there.situation.value.now) c.in_ok-reason-in_default.reason) c.requires.right.value (c.in_ok-reason-in_default.ensures (completed m rest) (are rest)) in
     on_ok_weaker c.tell-in_default.result
     (λ told rest. reason_told (reading_of g.K.Validate.shape (completed m rest) nodes) h.node (rule (completed m rest) (value_at h.place) shape) there.situation (stand_of there) (size_of h) refl refl c.requires.right.path c.requires.right.value
     (g.K.Validate.added c.args.keyword.now) xs (c.requires.asked rest) c.refused_name-in_default.result.now c.args.observer.now c.tell-in_default.new.observer c.args.combination c.in_ok-reason-in_default.reason

@@ -452,7 +452,7 @@ accepts_node-accepts_paired-requires g t c κs within =
               sym here,
               (
                 subst (λ m. LedTo m c.args.node (value_at c.args.place)) (sym same) c.requires.led,
-                (λ rest. subst (λ (m : Matches). all_true (map (λ k. is_right (rule (completed m rest) (value_at c.args.place) (g.K.Validate.shape k))) c.as_slice-keywords.result.now) ≡ true) (sym same) (right rest), subst (λ o. IfSome o (ArePaired g.K.Validate.pairs c.as_slice-keywords.result.now)) c.in-Some.is c.paired.ensures),
+                (λ rest. subst (λ (m : Matches). all_true (map (λ k. is_right (rule (completed m rest) (value_at c.args.place) (g.K.Validate.shape k))) c.as_slice-keywords.result.now) ≡ true) (sym same) (right rest), subst (λ o. IfSome o (ArePaired g.K.Validate.pairs c.as_slice-keywords.result.now)) c.in-Some-paired.is c.paired.ensures),
               ),
             ),
           ),
@@ -460,34 +460,8 @@ accepts_node-accepts_paired-requires g t c κs within =
       ),
     )
 
-pub accepts_node-accepts_all-requires : goal.accepts_node-accepts_all-requires
-accepts_node-accepts_all-requires g t c κs within =
-    let nodes = c.args.graph.now.nodes.items in
-    let here = keywords_here nodes c.args.node c.index-compiled.result.now c.requires.there c.index-compiled.ensures ∙ sym c.as_slice-keywords.ensures.value in
-    let same = c.in_ok-accept_itself.ensures.matches in
-    let accepted : c.in_ok-accept_itself.field-0 ≡ true = search rules in
-    let right = λ (rest : Answers). sym (c.in_ok-accept_itself.ensures.right rest) ∙ accepted in (
-      omega arith,
-      (
-        within.0,
-        (
-          within.1,
-          (
-            subst (λ m. AreReady g.K.Validate.knows g.K.Validate.shape m nodes) (sym same) c.requires.known,
-            (
-              sym here,
-              (
-                subst (λ m. LedTo m c.args.node (value_at c.args.place)) (sym same) c.requires.led,
-                λ rest. subst (λ (m : Matches). all_true (map (λ k. is_right (rule (completed m rest) (value_at c.args.place) (g.K.Validate.shape k))) c.as_slice-keywords.result.now) ≡ true) (sym same) (right rest),
-              ),
-            ),
-          ),
-        ),
-      ),
-    )
-
-pub accepts_node-returns-in-Some-clause-verdict : goal.accepts_node-returns-in-Some-clause-verdict
-accepts_node-returns-in-Some-clause-verdict g t c =
+pub accepts_node-returns-in-Some-paired-clause-verdict : goal.accepts_node-returns-in-Some-paired-clause-verdict
+accepts_node-returns-in-Some-paired-clause-verdict g t c =
     let nodes = c.args.graph.now.nodes.items in
     let here = keywords_here nodes c.args.node c.index-compiled.result.now c.requires.there c.index-compiled.ensures ∙ sym c.as_slice-keywords.ensures.value in
     let place = c.args.place in
@@ -500,29 +474,24 @@ accepts_node-returns-in-Some-clause-verdict g t c =
     (λ x. all_true (map (λ k. rule_in (reading_of g.K.Validate.shape (completed m rest) nodes) (rule (completed m rest) (value_at place) (g.K.Validate.shape k)) x) c.as_slice-keywords.result.now)) b) c.in_ok-accept_itself.ensures.matches (told rest))))
     c.accepts_paired.ensures.verdict
 
-pub accepts_node-returns-in-None-clause-verdict : goal.accepts_node-returns-in-None-clause-verdict
-accepts_node-returns-in-None-clause-verdict g t c =
-    let nodes = c.args.graph.now.nodes.items in
-    let here = keywords_here nodes c.args.node c.index-compiled.result.now c.requires.there c.index-compiled.ensures ∙ sym c.as_slice-keywords.ensures.value in
-    let place = c.args.place in
-    let progress = numbers_in c.args.progress.now in
-    IfOk-weaker c.accepts_all.result _ _
-    (λ b told rest. node_by_keywords g.K.Validate.shape _ nodes c.args.node place progress b
-    (subst (λ ks. Tells place progress (size nodes (value_at place) progress (rank_at nodes c.args.node))
-    (λ x. all_true (map (λ k. rule_in (reading_of g.K.Validate.shape (completed (g.T.Matching.matches c.args.matching.now) rest) nodes) (rule (completed (g.T.Matching.matches c.args.matching.now) rest) (value_at place) (g.K.Validate.shape k)) x) ks)) b) (sym here)
-    (subst (λ m. Tells place progress (size nodes (value_at place) progress (rank_at nodes c.args.node))
-    (λ x. all_true (map (λ k. rule_in (reading_of g.K.Validate.shape (completed m rest) nodes) (rule (completed m rest) (value_at place) (g.K.Validate.shape k)) x) c.as_slice-keywords.result.now)) b) c.in_ok-accept_itself.ensures.matches (told rest))))
-    c.accepts_all.ensures.verdict
-
 -- ---- the keywords of a node
 
-pub accepts_all-accepts_keyword-requires : goal.accepts_all-accepts_keyword-requires
-accepts_all-accepts_keyword-requires g t c κs within =
-    let h = c.args.here.now in
-    let nodes = h.graph.now.nodes.items in
+pub accepts_node-loop-keyword-init : goal.accepts_node-loop-keyword-init
+accepts_node-loop-keyword-init g t c = record {
+  matches = c.in_ok-accept_itself.ensures.matches;
+  questions = refl;
+  left = λ rest. record { left = λ x fits deep. refl };
+}
+
+pub accepts_node-accepts_keyword-requires : goal.accepts_node-accepts_keyword-requires
+accepts_node-accepts_keyword-requires g t c κs within =
+    let nodes = c.args.graph.now.nodes.items in
+    let here = keywords_here nodes c.args.node c.index-compiled.result.now c.requires.there c.index-compiled.ensures ∙ sym c.as_slice-keywords.ensures.value in
     let l = c.loop-keyword in
     let k = c.keyword-item.result in
-    let stands = keyword_stands l.keyword-index c.args.keywords.now k c.loop-keyword-test.true c.keyword-item.is in (
+    let accepted : c.in_ok-accept_itself.field-0 ≡ true = search rules in
+    let right = λ (rest : Answers). sym (c.in_ok-accept_itself.ensures.right rest) ∙ accepted in
+    let stands = keyword_stands l.keyword-index c.as_slice-keywords.result.now k c.loop-keyword-test.true c.keyword-item.is in (
       omega arith,
       (
         within.0,
@@ -531,11 +500,11 @@ accepts_all-accepts_keyword-requires g t c κs within =
           (
             subst (λ m. AreReady g.K.Validate.knows g.K.Validate.shape m nodes) (sym l.invariant.matches) c.requires.known,
             (
-              subst (In k) c.requires.keywords stands,
+              subst (In k) (sym here) stands,
               (
-                subst (λ m. LedTo m h.node (value_at h.place)) (sym l.invariant.matches) c.requires.led,
-                λ rest. subst (λ (m : Matches). is_right (rule (completed m rest) (value_at h.place) (g.K.Validate.shape k)) ≡ true) (sym l.invariant.matches)
-                    (each_right g.K.Validate.shape _ nodes h.node h.place (numbers_in h.progress.now) c.args.keywords.now k stands (c.requires.right rest)),
+                subst (λ m. LedTo m c.args.node (value_at c.args.place)) (sym l.invariant.matches) c.requires.led,
+                λ rest. subst (λ (m : Matches). is_right (rule (completed m rest) (value_at c.args.place) (g.K.Validate.shape k)) ≡ true) (sym l.invariant.matches)
+                    (each_right g.K.Validate.shape _ nodes c.args.node c.args.place (numbers_in c.args.progress.now) c.as_slice-keywords.result.now k stands (right rest)),
               ),
             ),
           ),
@@ -543,41 +512,51 @@ accepts_all-accepts_keyword-requires g t c κs within =
       ),
     )
 
-pub accepts_all-returns-then-not-branch-clause-verdict : goal.accepts_all-returns-then-not-branch-clause-verdict
-accepts_all-returns-then-not-branch-clause-verdict g t c =
-    let h = c.args.here.now in
-    let nodes = h.graph.now.nodes.items in
-    let progress = numbers_in h.progress.now in
+pub accepts_node-returns-then-not-branch-2-clause-verdict : goal.accepts_node-returns-then-not-branch-2-clause-verdict
+accepts_node-returns-then-not-branch-2-clause-verdict g t c =
+    let nodes = c.args.graph.now.nodes.items in
+    let here = keywords_here nodes c.args.node c.index-compiled.result.now c.requires.there c.index-compiled.ensures ∙ sym c.as_slice-keywords.ensures.value in
+    let place = c.args.place in
+    let progress = numbers_in c.args.progress.now in
     let l = c.loop-keyword in
     let k = c.keyword-item.result in
     let refused : c.in_ok-accepts_keyword.field-0 ≡ false = search rules in
-    let verdict = λ (rest : Answers). subst (λ m. Tells h.place progress (size nodes (value_at h.place) progress (rank_at nodes h.node))
-    (rule_in (reading_of g.K.Validate.shape (completed m rest) nodes) (rule (completed m rest) (value_at h.place) (g.K.Validate.shape k))) c.in_ok-accepts_keyword.field-0) l.invariant.matches (c.in_ok-accepts_keyword.ensures.verdict rest) in
-    λ rest. keywords_no g.K.Validate.shape _ nodes h.node h.place progress l.keyword-index _ c.args.keywords.now k c.loop-keyword-test.true c.keyword-item.is (l.invariant.left rest)
-    (subst (Tells h.place progress _ _) refused (verdict rest))
+    let verdict = λ (rest : Answers). subst (λ m. Tells place progress (size nodes (value_at place) progress (rank_at nodes c.args.node))
+    (rule_in (reading_of g.K.Validate.shape (completed m rest) nodes) (rule (completed m rest) (value_at place) (g.K.Validate.shape k))) c.in_ok-accepts_keyword.field-0) l.invariant.matches (c.in_ok-accepts_keyword.ensures.verdict rest) in
+    λ rest. node_by_keywords g.K.Validate.shape _ nodes c.args.node place progress false
+    (subst (λ ks. Tells place progress (size nodes (value_at place) progress (rank_at nodes c.args.node))
+    (λ x. all_true (map (λ k. rule_in (reading_of g.K.Validate.shape (completed (g.T.Matching.matches c.args.matching.now) rest) nodes) (rule (completed (g.T.Matching.matches c.args.matching.now) rest) (value_at place) (g.K.Validate.shape k)) x) ks)) false) (sym here)
+    (keywords_no g.K.Validate.shape _ nodes c.args.node place progress l.keyword-index _ c.as_slice-keywords.result.now k c.loop-keyword-test.true c.keyword-item.is (l.invariant.left rest)
+    (subst (Tells place progress _ _) refused (verdict rest))))
 
-pub accepts_all-loop-keyword-preserved : goal.accepts_all-loop-keyword-preserved
-accepts_all-loop-keyword-preserved g t c =
-    let h = c.args.here.now in
-    let nodes = h.graph.now.nodes.items in
-    let progress = numbers_in h.progress.now in
+pub accepts_node-loop-keyword-preserved : goal.accepts_node-loop-keyword-preserved
+accepts_node-loop-keyword-preserved g t c =
+    let nodes = c.args.graph.now.nodes.items in
+    let place = c.args.place in
+    let progress = numbers_in c.args.progress.now in
     let l = c.loop-keyword in
     let k = c.keyword-item.result in
     let taken : c.in_ok-accepts_keyword.field-0 ≡ true = search rules in
-    let verdict = λ (rest : Answers). subst (λ m. Tells h.place progress (size nodes (value_at h.place) progress (rank_at nodes h.node))
-    (rule_in (reading_of g.K.Validate.shape (completed m rest) nodes) (rule (completed m rest) (value_at h.place) (g.K.Validate.shape k))) c.in_ok-accepts_keyword.field-0) l.invariant.matches (c.in_ok-accepts_keyword.ensures.verdict rest) in
+    let verdict = λ (rest : Answers). subst (λ m. Tells place progress (size nodes (value_at place) progress (rank_at nodes c.args.node))
+    (rule_in (reading_of g.K.Validate.shape (completed m rest) nodes) (rule (completed m rest) (value_at place) (g.K.Validate.shape k))) c.in_ok-accepts_keyword.field-0) l.invariant.matches (c.in_ok-accepts_keyword.ensures.verdict rest) in
     record {
       matches = c.in_ok-accepts_keyword.ensures.matches ∙ l.invariant.matches;
       questions = c.in_ok-accepts_keyword.ensures.questions ∙ l.invariant.questions;
-      left = λ rest. keywords_yes g.K.Validate.shape _ nodes h.node h.place progress l.keyword-index _ c.args.keywords.now k c.loop-keyword-test.true c.keyword-item.is (l.invariant.left rest) (subst (Tells h.place progress _ _) taken (verdict rest));
+      left = λ rest. keywords_yes g.K.Validate.shape _ nodes c.args.node place progress l.keyword-index _ c.as_slice-keywords.result.now k c.loop-keyword-test.true c.keyword-item.is (l.invariant.left rest) (subst (Tells place progress _ _) taken (verdict rest));
     }
 
-pub accepts_all-returns-clause-verdict : goal.accepts_all-returns-clause-verdict
-accepts_all-returns-clause-verdict g t c =
-    let h = c.args.here.now in
+pub accepts_node-returns-clause-verdict : goal.accepts_node-returns-clause-verdict
+accepts_node-returns-clause-verdict g t c =
+    let nodes = c.args.graph.now.nodes.items in
+    let here = keywords_here nodes c.args.node c.index-compiled.result.now c.requires.there c.index-compiled.ensures ∙ sym c.as_slice-keywords.ensures.value in
+    let place = c.args.place in
+    let progress = numbers_in c.args.progress.now in
     let l = c.loop-keyword in
-    let past : length c.args.keywords.now ≤ l.keyword-index = omega arith in
-    λ rest. keywords_end g.K.Validate.shape _ h.graph.now.nodes.items h.node h.place _ l.keyword-index _ c.args.keywords.now past (l.invariant.left rest)
+    let past : length c.as_slice-keywords.result.now ≤ l.keyword-index = omega arith in
+    λ rest. node_by_keywords g.K.Validate.shape _ nodes c.args.node place progress true
+    (subst (λ ks. Tells place progress (size nodes (value_at place) progress (rank_at nodes c.args.node))
+    (λ x. all_true (map (λ k. rule_in (reading_of g.K.Validate.shape (completed (g.T.Matching.matches c.args.matching.now) rest) nodes) (rule (completed (g.T.Matching.matches c.args.matching.now) rest) (value_at place) (g.K.Validate.shape k)) x) ks)) true) (sym here)
+    (keywords_end g.K.Validate.shape _ nodes c.args.node place _ l.keyword-index _ c.as_slice-keywords.result.now past (l.invariant.left rest)))
 
 -- ---- two of them together
 

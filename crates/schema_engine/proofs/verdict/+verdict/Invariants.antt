@@ -13,9 +13,6 @@ use Rattle.schema_engine.proofs.verdict.+verdict.Given as goal
 abbrev pub decreases-accepts_node : goal.decreases-accepts_node
 decreases-accepts_node g l = 9 * size l.graph.now.nodes.items (value_at l.place) (numbers_in l.progress.now) (rank_at l.graph.now.nodes.items l.node) + 8
 
-abbrev pub decreases-accepts_all : goal.decreases-accepts_all
-decreases-accepts_all g l = 9 * size l.here.now.graph.now.nodes.items (value_at l.here.now.place) (numbers_in l.here.now.progress.now) (rank_at l.here.now.graph.now.nodes.items l.here.now.node) + 7
-
 abbrev pub decreases-accepts_paired : goal.decreases-accepts_paired
 decreases-accepts_paired g l = 9 * size l.here.now.graph.now.nodes.items (value_at l.here.now.place) (numbers_in l.here.now.progress.now) (rank_at l.here.now.graph.now.nodes.items l.here.now.node) + 7
 
@@ -49,13 +46,13 @@ decreases-accepts_question g l = 9 * size l.here.now.graph.now.nodes.items (valu
 abbrev pub decreases-accepts_target : goal.decreases-accepts_target
 decreases-accepts_target g l = 9 * size l.here.now.graph.now.nodes.items (value_at l.here.now.place) (numbers_in l.here.now.progress.now) (rank_at l.here.now.graph.now.nodes.items l.here.now.node) + 0
 
-abbrev pub invariant-accepts_all-loop-keyword : goal.invariant-accepts_all-loop-keyword
-invariant-accepts_all-loop-keyword g l =
+abbrev pub invariant-accepts_node-loop-keyword : goal.invariant-accepts_node-loop-keyword
+invariant-accepts_node-loop-keyword g l =
     let entry = g.T.Matching.matches l.fn.matching in
     record {
       matches : g.T.Matching.matches l.matching ≡ entry;
       questions : l.questions.items ≡ l.fn.questions.items;
-      left : InEach entry (λ m. KeywordsLeft g.K.Validate.shape m l.here.graph.now.nodes.items l.here.node l.here.place (numbers_in l.here.progress.now) l.keywords (drop l.keyword-index l.keywords));
+      left : InEach entry (λ m. KeywordsLeft g.K.Validate.shape m l.graph.nodes.items l.node l.place (numbers_in l.progress) l.keywords (drop l.keyword-index l.keywords));
     }
 
 abbrev pub invariant-accepts_paired-loop-position : goal.invariant-accepts_paired-loop-position
