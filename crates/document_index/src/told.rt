@@ -57,12 +57,30 @@ fn one_more<'d>(
     })
 }
 
-// One stage more than that many, or the first at rest.
+// The first stage.
+fn first_stage<'d>(alloc: Global, documents: &'d [Document<'_>]) -> Result<Stage<'d>, AllocError>
+    ensures told { IfOk result (λ s. Tells s.told.meta_schemas
+        (bearers.dialects (map document_of documents.now) 1)) }
+    ensures anew { IfOk result (λ s. option_map causes.circular_metaschema s.told.anew
+        ≡ slice_get (laws.anew_after (map document_of documents.now) 0) 0) }
+    ensures rests { IfOk result (λ s. s.told.anew ≡ None
+        → AreUnder s.told.meta_schemas (map document_of documents.now) s.places.items) }
+{
+    one_more(alloc, documents, &MetaSchemas::none(alloc))
+}
+
+// From the first stage on, one stage more than that many, or the first at rest.
 fn stage_after<'d>(
     alloc: Global,
     documents: &'d [Document<'_>],
+    first: Stage<'d>,
     stages: usize,
 ) -> Result<Stage<'d>, AllocError>
+    requires told { Tells first.told.meta_schemas (bearers.dialects (map document_of documents.now) 1) }
+    requires anew { option_map causes.circular_metaschema first.told.anew
+        ≡ slice_get (laws.anew_after (map document_of documents.now) 0) 0 }
+    requires rests { first.told.anew ≡ None
+        → AreUnder first.told.meta_schemas (map document_of documents.now) first.places.items }
     ensures told { IfOk result (λ s. Tells s.told.meta_schemas
         (bearers.dialects (map document_of documents.now) (suc stages))) }
     ensures anew { IfOk result (λ s. option_map causes.circular_metaschema s.told.anew
@@ -70,7 +88,7 @@ fn stage_after<'d>(
     ensures rests { IfOk result (λ s. s.told.anew ≡ None
         → AreUnder s.told.meta_schemas (map document_of documents.now) s.places.items) }
 {
-    let mut next = one_more(alloc, documents, &MetaSchemas::none(alloc))?;
+    let mut next = first;
     let mut stage: usize = 0;
     while stage < stages && next.told.anew.is_some() {
         next = one_more(alloc, documents, &next.told.meta_schemas)?;
@@ -79,7 +97,7 @@ fn stage_after<'d>(
     Ok(next)
 }
 
-// The last of the stages.
+// The last of the stages. The members named `$schema` are counted only where the first is not at rest.
 pub(crate) fn last_stage<'d>(
     alloc: Global,
     documents: &'d [Document<'_>],
@@ -90,8 +108,12 @@ pub(crate) fn last_stage<'d>(
     ensures rests { IfOk result (λ s. s.told.anew ≡ None
         → AreUnder s.told.meta_schemas (map document_of documents.now) s.places.items) }
 {
+    let first = first_stage(alloc, documents)?;
+    if first.told.anew.is_none() {
+        return Ok(first);
+    }
     match how_many(documents) {
-        Some(stages) => stage_after(alloc, documents, stages),
+        Some(stages) => stage_after(alloc, documents, first, stages),
         None => Err(AllocError),
     }
 }
@@ -115,16 +137,17 @@ pub fn told_after(
     ensures anew { IfOk result (λ t. option_map causes.circular_metaschema t.anew
         ≡ slice_get (laws.anew_after (map document_of documents.now) stages) 0) }
 {
-    Ok(stage_after(alloc, documents, stages)?.told)
+    let first = first_stage(alloc, documents)?;
+    Ok(stage_after(alloc, documents, first, stages)?.told)
 }
 
 /// What documents tell of meta-schemas: the dialect of each, and one that is told anew where there are some.
 ///
-/// It takes at most one stage more than there are members named `$schema`.
+/// It takes at most one stage more than there are members named `$schema`, and counts these where the first stage is not at rest.
 ///
 /// # Errors
 ///
-/// Where memory was refused, a count of owners is full, or a `usize` does not count the members named `$schema`.
+/// Where memory was refused, a count of owners is full, or a `usize` does not count the members named `$schema` where that is asked.
 pub fn meta_schemas(alloc: Global, documents: &[Document<'_>]) -> Result<Told, AllocError>
     ensures told { IfOk result (λ t. (uri : List ℕ)
         → dialects_in t.meta_schemas uri ≡ bearers.meta (map document_of documents.now) uri) }

@@ -5,15 +5,12 @@ use Rattle.schema_definitions.specs.DocumentCauses.{circular_metaschema}
 use Rattle.document_index.specs.Seen.{document_of}
 use Rattle.document_laws.specs.Stages.{anew_after}
 use Rattle.document_index.specs.Told.{Tells}
-use Rattle.document_index.proofs.StageLemmas.{none_told, not_some, later_told, later_none}
+use Rattle.document_index.proofs.StageLemmas.{not_some, later_told, later_none}
 use Rattle.document_index.proofs.told.stage_after.Goals.{then-loop-stage-test+else-is_some, else-loop-stage-test}
 use Rattle.document_index.proofs.told.stage_after.Goals as goal
 
 pub loop-stage-init : goal.loop-stage-init
-loop-stage-init c =
-    let docs = map document_of c.args.documents.now in
-    let none = none_told c.none.result docs c.none.ensures in
-    record { within = omega arith; told = c.in_ok-next.ensures.next 0 none; anew = c.in_ok-next.ensures.anew 0 none; rests = c.in_ok-next.ensures.rests }
+loop-stage-init c = record { within = omega arith; told = c.requires.told; anew = c.requires.anew; rests = c.requires.rests }
 
 pub loop-stage-preserved : goal.loop-stage-preserved
 loop-stage-preserved c =
@@ -22,7 +19,7 @@ loop-stage-preserved c =
     let k = c.loop-stage.next.told.meta_schemas in
     let one : suc c.loop-stage.stage ≡ n = omega arith in
     let tells : Tells k (dialects docs n) = subst (λ (i : ℕ). Tells k (dialects docs i)) one c.loop-stage.invariant.told in
-    record { within = omega (arith, c.loop-stage-test.true); told = c.in_ok-next-2.ensures.next n tells; anew = c.in_ok-next-2.ensures.anew n tells; rests = c.in_ok-next-2.ensures.rests }
+    record { within = omega (arith, c.loop-stage-test.true); told = c.in_ok-next.ensures.next n tells; anew = c.in_ok-next.ensures.anew n tells; rests = c.in_ok-next.ensures.rests }
 
 pub returns-clause-told : goal.returns-clause-told
 returns-clause-told c =
