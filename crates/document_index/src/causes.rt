@@ -15,7 +15,6 @@ use crate::{Index, Standing};
 use document_sources::error::Error;
 use document_sources::named::{circular_metaschema, invalid_uri, not_borne, unknown_specification};
 use schema_dialects::bases::resolved;
-use schema_dialects::identifiers::{identifier_text, schema_in_force, text_at};
 use std::alloc::Global;
 use uri_grammar::components::split_fragment;
 use uri_grammar::grammar::is_uri_reference;
@@ -85,8 +84,8 @@ fn check_settled(alloc: Global, index: &Index, standing: &Standing<'_>) -> Resul
     ensures refused { IfErr result (NamesOne (spec.settled_causes (borne_in index.now) (standing_of standing.now))) }
 {
     let place = &standing.place;
-    check_text(alloc, identifier_text(place.dialect, place.contents))?;
-    check_reference(alloc, index, &place.base, text_at(place.contents, "$ref"))
+    check_text(alloc, place.identifier_text())?;
+    check_reference(alloc, index, &place.base, place.reference())
 }
 
 fn unsettled(alloc: Global, why: Unsettled) -> Error
@@ -140,10 +139,7 @@ fn check_place(
     ensures refused { IfErr result (λ e. (docs : Documents) → AwaitedIn docs (map standing_of standings.now)
         → NamesOne (spec.causes_at (borne_in index.now) (unknown_by docs) (standing_of standing.now)) e) }
 {
-    let place = &standing.place;
-    let siblings = place.dialect.siblings;
-    let text = schema_in_force(siblings, place.path.is_root(), place.contents);
-    check_text(alloc, text)?;
+    check_text(alloc, standing.place.schema_in_force())?;
     check_awaited(alloc, index, standings, standing)
 }
 

@@ -15,7 +15,6 @@ ghost use Rattle.document_index.specs.Indexes.{bearer_of, named, anchor_named};
 use crate::names::dynamic_names;
 use crate::standing::Standing;
 use schema_dialects::Dialect;
-use schema_places::{anchor, dynamic_anchor, identifier};
 use schema_steps::Path;
 use std::alloc::{AllocError, Global};
 use std::collections::BTreeMap;
@@ -96,7 +95,7 @@ fn put_base(
         (view standing.now.place.contents.now)) && bytes_eq standing.now.place.base.value q then Some
         (kept_of (located_of standing.now)) else named by_uri.old q)) }
 {
-    if identifier(standing.place.dialect, standing.place.contents).is_some() {
+    if standing.place.identifier().is_some() {
         put(alloc, by_uri, standing.place.base.as_str(), standing)?;
     }
     Ok(())
@@ -171,9 +170,9 @@ fn put_anchors(
     if place.awaits.is_some() {
         return Ok(());
     }
-    let name = anchor(place.dialect, place.contents);
+    let name = place.anchor();
     put_anchor(alloc, by_anchor, name, standing)?;
-    let dynamic_name = dynamic_anchor(place.dialect, place.contents);
+    let dynamic_name = place.dynamic_anchor();
     put_anchor(alloc, by_anchor, dynamic_name, standing)
 }
 
@@ -190,7 +189,7 @@ fn put_dynamic_anchor(
     if place.awaits.is_some() {
         return Ok(());
     }
-    let name = dynamic_anchor(place.dialect, place.contents);
+    let name = place.dynamic_anchor();
     put_anchor(alloc, by_anchor, name, standing)
 }
 

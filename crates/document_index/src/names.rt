@@ -6,7 +6,6 @@ ghost use Rattle.document_index.specs.Seen.{standing_of};
 ghost use Rattle.document_index.specs.Indexes.{dynamic_names_among};
 
 use crate::standing::Standing;
-use schema_places::dynamic_anchor;
 use std::alloc::{AllocError, Global};
 use std::collections::BTreeSet;
 
@@ -30,7 +29,7 @@ pub fn dynamic_names(alloc: Global, standings: &[Standing<'_>]) -> Result<Vec<St
     let mut seen = BTreeSet::new(alloc);
     let mut names = Vec::new(alloc);
     for standing in standings {
-        if let Some(name) = dynamic_anchor(standing.place.dialect, standing.place.contents) {
+        if let Some(name) = standing.place.dynamic_anchor() {
             if !seen.contains(name) {
                 note(alloc, &mut seen, name)?;
                 names.push(String::from_str(alloc, name)?)?;

@@ -13,8 +13,6 @@ ghost use Rattle.document_index.specs.Seen.{standing_of};
 ghost use Rattle.document_laws.specs.Stages as laws;
 
 use crate::standing::Standing;
-use schema_dialects::bases::named_meta_schema;
-use schema_dialects::identifiers::identifier;
 use schema_dialects::{Dialect, KnownVocabularies, MetaSchemas};
 use std::alloc::{AllocError, Global};
 use uri_references::uri::Uri;
@@ -62,7 +60,7 @@ fn put_base(
         (view standing.now.place.contents.now)) && bytes_eq standing.now.place.base.value q then Some
         (bearers.dialect_by (standing_of standing.now)) else dialects_in borne.old q)) }
 {
-    if identifier(standing.place.dialect, standing.place.contents).is_some() {
+    if standing.place.identifier().is_some() {
         put(alloc, borne, standing.place.base.as_str(), standing)?;
     }
     Ok(())
@@ -141,13 +139,7 @@ fn anew_at(
     ensures { IfOk result (λ u. listed (option_map causes.circular_metaschema u)
         ≡ laws.anew_at (dialects_in told.now) (dialects_in after.now) (standing_of standing.now)) }
 {
-    let place = &standing.place;
-    match named_meta_schema(
-        alloc,
-        place.dialect.siblings,
-        place.path.is_root(),
-        place.contents,
-    )? {
+    match standing.place.named_meta_schema(alloc)? {
         Some(uri) => Ok(unless_alike(told, after, uri)),
         None => Ok(None),
     }

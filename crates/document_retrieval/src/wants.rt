@@ -13,7 +13,6 @@ use document_index::index::Index;
 use document_index::standing::Standing;
 use document_index::told::told_standings;
 use schema_dialects::bases::resolved;
-use schema_dialects::identifiers::text_at;
 use std::alloc::{AllocError, Global};
 use std::rc::Rc;
 use uri_grammar::components::split_fragment;
@@ -40,7 +39,7 @@ fn referred(alloc: Global, standing: &Standing<'_>) -> Result<Option<Uri>, Alloc
     ensures { IfOk result (λ u. u ≡ rounds.referred (standing_of standing.now)) }
 {
     let place = &standing.place;
-    match text_at(place.contents, "$ref") {
+    match place.reference() {
         Some(reference) => resolved(alloc, &place.base, split_fragment(reference).0),
         None => Ok(None),
     }
@@ -106,7 +105,7 @@ fn names_of(alloc: Global, documents: &[Document<'_>]) -> Result<Names, AllocErr
 
 /// What documents want and is not at hand, each URI once, in the order met. They are read under all that they tell of meta-schemas.
 ///
-/// It costs what [`told_standings`] costs, and takes a few look-ups in maps for each schema place.
+/// It costs what [`told_standings`] costs, and takes a few look-ups in maps for each schema place that is not plain.
 ///
 /// # Errors
 ///

@@ -39,6 +39,7 @@ fn standing_at<'r>(
             base: bearer.base.clone()?,
             dialect: bearer.dialect,
             awaits: None,
+            is_plain: false,
         },
     }))
 }

@@ -1,4 +1,5 @@
 pub mod Seen
+pub mod Plain
 pub mod Causes
 pub mod Held
 pub mod Walks

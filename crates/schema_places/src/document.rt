@@ -9,7 +9,6 @@ ghost use Rattle.schema_places.specs.Seen.{place_of};
 ghost use Rattle.schema_dialects.specs.Dialects.{dialect_of, dialects_in};
 
 use crate::place::{Place, enter, is_schema, root};
-use schema_dialects::identifiers::is_hidden;
 use schema_dialects::{Dialect, MetaSchemas};
 use schema_drafts::subschemas::{Subschemas, held_by};
 use schema_steps::Path;
@@ -152,7 +151,7 @@ fn push_children<'d>(
         return Ok(());
     }
     if let Value::Object(members) = outer.contents {
-        let hidden = is_hidden(outer.dialect, outer.contents);
+        let hidden = outer.is_hidden();
         for (name, part) in members.iter() {
             push_member(alloc, known, found, outer, hidden, name.as_str(), part)?;
         }

@@ -8,7 +8,6 @@ ghost use Rattle.schema_places.specs.Seen.{place_of};
 ghost use Rattle.schema_places.specs.Held.{within_of};
 
 use crate::place::{Place, is_schema};
-use schema_dialects::identifiers::is_hidden;
 use schema_drafts::subschemas::{Subschemas, held_by};
 use serde_json::Value;
 
@@ -35,10 +34,7 @@ impl Within {
         ensures { holds_of result ≡ spec.in_member (place_of last.now) (within_of self) name.now }
     {
         match self {
-            Within::AtPlace => {
-                let hidden = is_hidden(last.dialect, last.contents);
-                held_by(last.dialect.draft, hidden, name)
-            }
+            Within::AtPlace => { held_by(last.dialect.draft, last.is_hidden(), name) }
             Within::PartOf(Subschemas::ByName) => Subschemas::One,
             Within::PartOf(_) => Subschemas::None,
         }
