@@ -4,6 +4,7 @@ pub mod RuleLemmas
 pub mod SeenLemmas
 pub mod AskLemmas
 pub mod AcceptLemmas
+pub mod RequiredLemmas
 pub mod MemberLemmas
 pub mod TellLemmas
 pub mod PushLemmas

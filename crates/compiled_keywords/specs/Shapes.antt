@@ -21,7 +21,7 @@ abbrev pub assertion_of : Assertion → told.Assertion
 assertion_of (assertion.Plain a) = plain.assertion_of a
 assertion_of (assertion.Enumeration options) = told.enumeration (items_view options.list.items)
 assertion_of (assertion.Constant expected) = told.constant (view expected)
-assertion_of (assertion.Required names) = told.required (map string_bytes names.items)
+assertion_of (assertion.Required names) = told.required (map string_bytes names.listed.items)
 assertion_of (assertion.DependentRequired entries) = told.dependent_required (map needed_by entries.items)
 
 abbrev pub reference_of : ReferenceKind → told.Reference

@@ -12,12 +12,16 @@ ghost use Rattle.compiled_keywords.specs.Owned.{needed_by, depending};
 ghost use Rattle.compiled_keywords.specs.Shapes.{assertion_of};
 
 use crate::options::Options;
+use crate::required::RequiredNames;
 use crate::subschemas::{Dependency, NamedDependency, NeededNames};
 use assertions::assertion as plain;
 use schema_engine::place::Place;
 use serde_json::Value;
 use std::alloc::{AllocError, Global};
 use value_checks::equality::equal;
+
+// In an object of no more members than these, the names of `required` are sought by a walk.
+const MOST_WALKED: usize = 16;
 
 /// A keyword that only asserts, `pattern` left aside, with what its value says.
 #[derive(Drop)]
@@ -26,7 +30,7 @@ pub enum Assertion {
     Plain(plain::Assertion<'static>),
     Enumeration(Options),
     Constant(Value),
-    Required(Vec<String>),
+    Required(RequiredNames),
     DependentRequired(Vec<NeededNames>),
 }
 
@@ -71,6 +75,22 @@ fn has_all_beside(name: &str, names: &[String], value: &Value) -> bool
         true
     } else {
         has_all(names, value)
+    }
+}
+
+// Whether an object has members of all the names of `required`. The members of a small one are walked.
+fn has_required(names: &RequiredNames, value: &Value) -> bool
+    ensures { result ≡ is_empty (missing (map string_bytes names.now.listed.items) (view value.now)) }
+{
+    match value {
+        Value::Object(members) => {
+            if members.len() <= MOST_WALKED {
+                names.are_in(members)
+            } else {
+                lacks_none(&names.listed, value)
+            }
+        }
+        _ => true,
     }
 }
 
@@ -124,7 +144,7 @@ impl Assertion {
             Assertion::Plain(assertion) => assertion.accept(alloc, value),
             Assertion::Enumeration(options) => Ok(options.contains(value)),
             Assertion::Constant(expected) => Ok(equal(value, expected)),
-            Assertion::Required(names) => Ok(has_all(names, value)),
+            Assertion::Required(names) => Ok(has_required(names, value)),
             Assertion::DependentRequired(entries) => Ok(has_needed(entries, value)),
         }
     }

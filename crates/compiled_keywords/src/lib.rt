@@ -15,6 +15,7 @@ mod notes;
 pub mod options;
 mod patterns;
 mod reasons;
+pub mod required;
 mod rules;
 pub mod subschemas;
 pub mod together;

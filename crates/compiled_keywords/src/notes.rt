@@ -252,7 +252,9 @@ pub(crate) fn tell_assertion<'o>(
                 observer,
             )
         }
-        Assertion::Required(names) => tell_missing(situation, "required", names, observer),
+        Assertion::Required(names) => {
+            tell_missing(situation, "required", &names.listed, observer)
+        }
         Assertion::DependentRequired(entries) => {
             tell_missing_beside(situation, "dependentRequired", entries, observer)
         }
