@@ -8,6 +8,7 @@ use crate::names::{needed, texts};
 use assertions::assertion::Assertion as Read;
 use compiled_keywords::assertion::Assertion;
 use compiled_keywords::options::Options;
+use compiled_keywords::required::RequiredNames;
 use serde_json::Value;
 use std::alloc::{AllocError, Global};
 
@@ -47,7 +48,10 @@ pub(crate) fn assertion(alloc: Global, read: &Read<'_>) -> Result<Assertion, All
             limit: *limit,
         })),
         Read::UniqueItems => Ok(Assertion::Plain(Read::UniqueItems)),
-        Read::Required(names) => Ok(Assertion::Required(texts(alloc, names)?)),
+        Read::Required(names) => {
+            let listed = texts(alloc, names)?;
+            Ok(Assertion::Required(RequiredNames::of(alloc, listed)?))
+        }
         Read::DependentRequired(entries) => {
             Ok(Assertion::DependentRequired(needed(alloc, entries)?))
         }
