@@ -2,4 +2,5 @@ mod ObjectLemmas
 mod Lines
 mod Orders
 mod Sorting
-mod Listed
+mod PlainTexts
+mod Growing

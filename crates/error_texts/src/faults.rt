@@ -2,22 +2,22 @@
 ghost use Rattle.std.specs.Prelude.{◌≡◌, ◌++◌, ◌∷◌, [], map, reverse, string_bytes, IfOk, OnOk, OnErr};
 ghost use Rattle.json_values.specs.Pointers.{pointer_text};
 ghost use Rattle.serde_json.specs.Data.{array};
-ghost use Rattle.serde_json.specs.View.{view};
+ghost use Rattle.serde_json.specs.Written.{compact_text};
+ghost use Rattle.json_pointers.specs.Buffers.{Grows};
 ghost use Rattle.schema_definitions.specs.Lines.{paths_of, in_order, pairs_data, faults_text};
 ghost use Rattle.schema_reports.specs.Left.{errors_left};
 ghost use Rattle.schema_reports.specs.Told.{fault_of, faults_of};
 ghost use Rattle.error_texts.specs.Pairs.{pair_bytes, pair_data, paths_in};
 
+use crate::quoted::write_quoted;
 use schema_reports::{ErrorIterator, ValidationError};
 use schema_steps::Path;
-use serde_json::Value;
 use std::alloc::{AllocError, Global};
 
 /// Appends where errors stand: a JSON list, with no space, of a pair for each error, of its path in the instance and its evaluation path as
 /// pointers' texts. The pairs are in the order of their bytes, by the first text and then by the second.
 ///
-/// It sorts the pairs, and writes the list as a text of its own before it appends it. The error comes where memory was refused; the text is
-/// then as it was.
+/// It sorts the pairs, and is linear in what it appends. The error comes where memory was refused; the text is then as it was.
 pub fn write_faults(
     alloc: Global,
     errors: ErrorIterator<'_>,
@@ -28,8 +28,12 @@ pub fn write_faults(
     ensures unchanged { OnErr result (string_bytes text.new ≡ string_bytes text.old) }
 {
     let pairs = pairs_in_order(alloc, errors)?;
-    let written = pairs_value(alloc, pairs)?.to_string(alloc)?;
-    text.push_str(written.as_str())
+    let start = text.len();
+    if let Err(error) = write_pairs(alloc, pairs.as_slice(), text) {
+        text.truncate(start);
+        return Err(error);
+    }
+    Ok(())
 }
 
 fn pairs_in_order(
@@ -89,18 +93,36 @@ fn path_pairs(alloc: Global, errors: ErrorIterator<'_>) -> Result<Vec<(String, S
     Ok(pairs)
 }
 
-fn pairs_value(alloc: Global, pairs: Vec<(String, String)>) -> Result<Value, AllocError>
-    ensures { IfOk result (λ v. view v ≡ array (pairs_data (map pair_bytes pairs.items))) }
+// Appends the list of the pairs.
+fn write_pairs(
+    alloc: Global,
+    pairs: &[(String, String)],
+    text: &mut String,
+) -> Result<(), AllocError>
+    ensures ok { OnOk result (string_bytes text.new
+        ≡ string_bytes text.old ++ compact_text (array (pairs_data (map pair_bytes pairs.now)))) }
+    ensures grows { Grows text.old text.new }
 {
-    let mut values = Vec::new(alloc);
-    for (instance, evaluation) in pairs {
-        values.push(pair_value(alloc, instance, evaluation)?)?;
+    let Some((first, rest)) = pairs.split_first() else {
+        return text.push_str("[]");
+    };
+    text.push_str("[")?;
+    write_pair(alloc, first, text)?;
+    for pair in rest {
+        text.push_str(",")?;
+        write_pair(alloc, pair, text)?;
     }
-    Ok(Value::Array(values))
+    text.push_str("]")
 }
 
-fn pair_value(alloc: Global, instance: String, evaluation: String) -> Result<Value, AllocError>
-    ensures { IfOk result (λ v. view v ≡ pair_data (string_bytes instance, string_bytes evaluation)) }
+fn write_pair(alloc: Global, pair: &(String, String), text: &mut String) -> Result<(), AllocError>
+    ensures ok { OnOk result (string_bytes text.new
+        ≡ string_bytes text.old ++ compact_text (pair_data (pair_bytes pair.now))) }
+    ensures grows { Grows text.old text.new }
 {
-    Ok(Value::Array(vec![in alloc; Value::String(instance), Value::String(evaluation)]?))
+    text.push_str("[")?;
+    write_quoted(alloc, pair.0.as_str(), text)?;
+    text.push_str(",")?;
+    write_quoted(alloc, pair.1.as_str(), text)?;
+    text.push_str("]")
 }

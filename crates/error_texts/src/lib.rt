@@ -4,6 +4,7 @@
 mod faults;
 mod fields;
 mod objects;
+mod quoted;
 mod sentences;
 mod unread;
 
