@@ -16,6 +16,8 @@ mod described;
 #[cfg(test)]
 mod drafts;
 #[cfg(test)]
+mod faults;
+#[cfg(test)]
 mod keywords;
 #[cfg(test)]
 mod locations;
