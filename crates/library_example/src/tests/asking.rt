@@ -11,28 +11,36 @@ use std::alloc::Global;
 use std::cell::Cell;
 use std::process::Abort;
 
-// Matches every text, and counts how often it is asked.
+// Matches every text, or none, and counts how often it is asked.
 #[derive(Drop)]
 struct Counting<'c> {
     asked: &'c Cell<u32>,
+    matches: bool,
 }
 
 impl PatternMatcher for Counting<'_> {
-    ghost finds = { λ _ _. Some true };
+    ghost finds = { λ m _. Some m.matches };
 
     fn is_match(&self, _text: &str) -> MatchAnswer {
         self.asked.set(self.asked.get().wrapping_add(1));
-        MatchAnswer::Yes
+        if self.matches {
+            MatchAnswer::Yes
+        } else {
+            MatchAnswer::No
+        }
     }
 }
 
 impl<'c> PatternMaker for Counting<'c> {
     type Matcher = Counting<'c>;
 
-    ghost patterns = { λ _. record { makes = λ _. true; finished = λ _ _. Some true } };
+    ghost patterns = { λ m. record { makes = λ _. true; finished = λ _ _. Some m.matches } };
 
     fn make(&self, _alloc: Global, _pattern: &str) -> Result<Counting<'c>, PatternError> {
-        Ok(Counting { asked: self.asked })
+        Ok(Counting {
+            asked: self.asked,
+            matches: self.matches,
+        })
     }
 }
 
@@ -40,10 +48,11 @@ impl<'c> PatternMaker for Counting<'c> {
 fn asked_by(rt: &impl Abort, alloc: Global, schema: &str, input: &str) -> u32 {
     let asked = Cell::new(0);
     let schema = Value::from_str(alloc, schema).expect(rt, "JSON");
-    let validator = Validator::new(alloc, schema, Counting { asked: &asked }).expect(
-        rt,
-        "a validator",
-    );
+    let maker = Counting {
+        asked: &asked,
+        matches: true,
+    };
+    let validator = Validator::new(alloc, schema, maker).expect(rt, "a validator");
     let value = json(rt, alloc, input);
     validator.is_valid(&value).expect(rt, "memory");
     asked.get()
@@ -106,6 +115,61 @@ fn no_more_than_decides(rt: HostRuntime) {
     for (schema, input, want) in &ASKED {
         let asked = asked_by(&rt, alloc, schema, input);
         assert_eq!(rt; asked, *want, "{schema}");
+    }
+}
+
+// The faults of a value, where all texts match or none, and how many matches were asked for them.
+fn told_by(
+    rt: &impl Abort,
+    alloc: Global,
+    matches: bool,
+    schema: &str,
+    input: &str,
+) -> (String, u32) {
+    let asked = Cell::new(0);
+    let schema = Value::from_str(alloc, schema).expect(rt, "JSON");
+    let maker = Counting {
+        asked: &asked,
+        matches,
+    };
+    let validator = Validator::new(alloc, schema, maker).expect(rt, "a validator");
+    let value = json(rt, alloc, input);
+    let errors = validator.iter_errors(&value).expect(rt, "memory");
+    (faults(rt, alloc, errors), asked.get())
+}
+
+// Whether each text matches, a schema, a value, its faults, and how many matches are asked for them.
+const TOLD: [(bool, &str, &str, &str, u32); 3] = [
+    (
+        true,
+        r#"{"patternProperties":{"a+":{"type":"string"},"b+":{}},"additionalProperties":false}"#,
+        r#"{"x":1,"y":"2","z":3}"#,
+        "#/x #/patternProperties/a+/type, #/z #/patternProperties/a+/type",
+        6,
+    ),
+    (
+        false,
+        r#"{"patternProperties":{"a+":{"type":"string"},"b+":{}},"additionalProperties":false}"#,
+        r#"{"x":1,"y":"2","z":3}"#,
+        "# #/additionalProperties",
+        6,
+    ),
+    (
+        false,
+        r#"{"additionalProperties":{"type":"string"},"maxProperties":2,"patternProperties":{"a+":{}}}"#,
+        r#"{"x":1,"y":"2","z":3}"#,
+        "#/x #/additionalProperties/type, #/z #/additionalProperties/type, # #/maxProperties",
+        3,
+    ),
+];
+
+#[test]
+fn faults_ask_each_match_once(rt: HostRuntime) {
+    let alloc = rt.alloc();
+    for (matches, schema, input, want, count) in &TOLD {
+        let (found, asked) = told_by(&rt, alloc, *matches, schema, input);
+        assert_eq!(rt; found.as_str(), *want, "{schema}");
+        assert_eq!(rt; asked, *count, "{schema}");
     }
 }
 
