@@ -1,5 +1,5 @@
 -- Names that rise, met among members that rise.
-use Rattle.std.proofs.Common.{◌≡◌, ◌≤◌, ◌<◌, ◌∙◌, ℕ, List, [], ◌∷◌, Bool, true, false, ◌&&◌, ◌||◌, cond, length, map, Option, None, Some, Ordering, Less, Equal, Greater, String, Global, nat_cmp, arith, string_bytes, bytes_eq, refl, sym, ap, ap₂}
+use Rattle.std.proofs.Common.{◌≡◌, ◌≤◌, ◌<◌, ◌∙◌, ℕ, List, [], ◌∷◌, Bool, true, false, ◌||◌, cond, length, map, Option, None, Some, Ordering, Less, Equal, Greater, String, Global, nat_cmp, arith, string_bytes, bytes_eq, refl, sym, ap, ap₂}
 use Rattle.std.proofs.lemmas.Cmp.{nat_list_cmp_total}
 use Rattle.std.proofs.lemmas.List.{length-map}
 use Rattle.std.proofs.lemmas.Slice.Eq.{bytes_eq-Decides}
@@ -19,7 +19,7 @@ use Rattle.json_values.proofs.Names.{both, name_same, get_same, get_less, get_gr
 use Rattle.json_values.proofs.Kept.{first_rise, behind_none}
 use Rattle.schema_meaning.specs.Keywords.{none_there}
 use Rattle.schema_meaning.specs.Members.{is_empty, is_listed}
-use Rattle.compiled_keywords.specs.Sorted.{rise_behind, names_rise, ListTheSame}
+use Rattle.compiled_keywords.specs.Sorted.{rise_behind, names_rise}
 
 -- whether each name is a member's
 abbrev pub are_there : Members → List (List ℕ) → Bool
@@ -181,7 +181,7 @@ alike_by false true f g = g refl
 alike_by false false f g = refl
 
 -- no name of the one passes a test just where none of the other does
-pub alike : (test : List ℕ → Bool) (ks ls : List (List ℕ)) → ListTheSame ks ls → is_empty (filter test ks) ≡ is_empty (filter test ls)
+pub alike : (test : List ℕ → Bool) (ks ls : List (List ℕ)) → ((k : List ℕ) → is_listed k ks ≡ is_listed k ls) → is_empty (filter test ks) ≡ is_empty (filter test ls)
 alike test ks ls same = alike_by (is_empty (filter test ks)) (is_empty (filter test ls))
     (λ h. none_in test ls (λ k there. found_in test k ks h (same k ∙ there)))
     (λ h. none_in test ks (λ k there. found_in test k ls h (sym (same k) ∙ there)))

@@ -1,4 +1,5 @@
 pub mod Sorted
+pub mod Required
 pub mod Options
 pub mod Owned
 pub mod Asked

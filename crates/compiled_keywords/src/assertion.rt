@@ -21,7 +21,7 @@ use std::alloc::{AllocError, Global};
 use value_checks::equality::equal;
 
 // In an object of no more members than these, the names of `required` are sought by a walk.
-const MOST_WALKED: usize = 16;
+const MOST_WALKED: usize = 8;
 
 /// A keyword that only asserts, `pattern` left aside, with what its value says.
 #[derive(Drop)]

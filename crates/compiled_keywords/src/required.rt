@@ -1,11 +1,8 @@
 //! The names of `required`, sought among an object's members.
-ghost use Rattle.std.specs.Prelude.{◌≡◌, ℕ, List, IfOk, true, map, string_bytes};
-ghost use Rattle.std.specs.List.{filter};
-ghost use Rattle.serde_json.specs.Find.{get_member};
+ghost use Rattle.std.specs.Prelude.{◌≡◌, IfOk, true, map, string_bytes};
 ghost use Rattle.serde_json.specs.View.{members_view};
-ghost use Rattle.schema_meaning.specs.Keywords.{none_there};
-ghost use Rattle.schema_meaning.specs.Members.{is_empty};
-ghost use Rattle.compiled_keywords.specs.Sorted.{names_rise, ListTheSame};
+ghost use Rattle.compiled_keywords.specs.Required.{ListTheSame, are_members};
+ghost use Rattle.compiled_keywords.specs.Sorted.{names_rise};
 
 use crate::names::SortedNames;
 use serde_json::{Map, Value};
@@ -17,7 +14,7 @@ pub struct RequiredNames {
     /// The names, in the schema's order.
     pub listed: Vec<String>,
     rising: SortedNames,
-    ghost same: { ListTheSame (map string_bytes rising.list.items) (map string_bytes listed.items) },
+    ghost same: { ListTheSame rising.list.items listed.items },
 }
 
 impl RequiredNames {
@@ -35,8 +32,7 @@ impl RequiredNames {
 
     /// Whether each is a member's name. The members are walked once, and each is compared with one name.
     pub(crate) fn are_in(&self, members: &Map<String, Value>) -> bool
-        ensures { result ≡ is_empty (filter (λ k. none_there (get_member k (members_view members.now.entries)))
-            (map string_bytes self.now.listed.items)) }
+        ensures { result ≡ are_members self.now.listed.items (members_view members.now.entries) }
     {
         are_met(self.rising.list.as_slice(), members)
     }
@@ -44,7 +40,7 @@ impl RequiredNames {
 
 // Copies of names in the order of their bytes, each once.
 fn sorted(alloc: Global, names: &[String]) -> Result<SortedNames, AllocError>
-    ensures { IfOk result (λ sorted. ListTheSame (map string_bytes sorted.list.items) (map string_bytes names.now)) }
+    ensures { IfOk result (λ sorted. ListTheSame sorted.list.items names.now) }
 {
     let mut list = names.to_vec(alloc)?;
     list.sort_unstable();
@@ -57,8 +53,7 @@ fn sorted(alloc: Global, names: &[String]) -> Result<SortedNames, AllocError>
 #[inline(never)]
 fn are_met(names: &[String], members: &Map<String, Value>) -> bool
     requires { names_rise (map string_bytes names.now) ≡ true }
-    ensures { result ≡ is_empty (filter (λ k. none_there (get_member k (members_view members.now.entries)))
-        (map string_bytes names.now)) }
+    ensures { result ≡ are_members names.now (members_view members.now.entries) }
 {
     if members.len() < names.len() {
         return false;

@@ -1,4 +1,4 @@
-use Rattle.std.proofs.Common.{◌≡◌, ◌∙◌, List, length, map, string_bytes, bytes_eq, arith, sym, ap, ap₂}
+use Rattle.std.proofs.Common.{◌≡◌, ◌∙◌, length, map, string_bytes, bytes_eq, arith, sym, ap, ap₂}
 use Rattle.serde_json.specs.View.{members_view}
 use Rattle.json_values.specs.Rising.{are_rising}
 use Rattle.json_values.proofs.Walked.{entries_rise}

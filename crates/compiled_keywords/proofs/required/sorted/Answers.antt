@@ -1,4 +1,4 @@
-use Rattle.std.proofs.Common.{◌≡◌, ◌∙◌, List, String, Global, string_bytes, bytes_eq, sym, ap}
+use Rattle.std.proofs.Common.{◌≡◌, ◌∙◌, String, Global, string_bytes, bytes_eq, sym, ap}
 use Rattle.std.proofs.lemmas.List.Filters.{dedup_is}
 use Rattle.std.proofs.lemmas.List.Kept.{IsStrictlySortedBy-dedup}
 use Rattle.std.proofs.lemmas.List.Sorted.{list_any-IsPermutation}
