@@ -1,5 +1,5 @@
 -- Texts that are gathered in a set.
-use Rattle.std.proofs.Common.{◌≡◌, ◌∙◌, ◌||◌, ℕ, List, [], ◌∷◌, Bool, true, false, Option, Some, None, Ordering, Less, Equal, Greater, String, Global, nat_cmp, is_eq, refl, sym, ap, string_bytes}
+use Rattle.std.proofs.Common.{◌≡◌, ◌||◌, ℕ, List, [], ◌∷◌, Bool, true, false, Some, None, Ordering, Less, Equal, Greater, String, Global, nat_cmp, is_eq, refl, ap, string_bytes}
 use Rattle.std.proofs.lemmas.Map.Text.{is_eq-slice_cmp}
 use Rattle.std.specs.BTreeSet.{insert_key}
 use Rattle.std.specs.Cmp.Lexicographic.{slice_cmp}
@@ -8,7 +8,7 @@ use Rattle.std.specs.String.{string_cmp}
 use Rattle.serde_json.specs.Data.{Data, null, boolean, number, string, array, object}
 use Rattle.serde_json.specs.Find.{as_str}
 use Rattle.json_values.proofs.Names.{name_same}
-use Rattle.json_values.specs.Equality.{equal, is_among}
+use Rattle.json_values.specs.Equality.{equal}
 use Rattle.compiled_keywords.specs.Options.{beside}
 
 abbrev pub Text : Type 0

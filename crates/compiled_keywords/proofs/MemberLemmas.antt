@@ -1,14 +1,14 @@
 -- Entries of compiled keywords, and what is asked of members, one after another.
-use Rattle.std.proofs.Common.{◌≡◌, ◌<◌, ◌+◌, ◌∙◌, ◌++◌, ℕ, List, [], ◌∷◌, map, drop, codes, length, get_or, Bool, true, false, Option, None, Some, is_some, option_map, refl, sym, ap, append_assoc}
+use Rattle.std.proofs.Common.{◌≡◌, ◌<◌, ◌+◌, ◌∙◌, ◌++◌, ℕ, List, [], ◌∷◌, map, drop, codes, length, get_or, true, false, Option, None, Some, is_some, option_map, refl, ap}
 use Rattle.std.proofs.lemmas.Option.{slice_get_read, slice_get-map}
 use Rattle.serde_json.specs.Data.{Data}
 use Rattle.serde_json.specs.Find.{get}
 use Rattle.schema_meaning.specs.Keywords.{Dependency, needs, applies, applied}
 use Rattle.schema_meaning.specs.Places.{stay, to_member}
-use Rattle.schema_meaning.specs.Questions.{question, at_name, if_member, each_declared, each_triggered, Declared, is_declared}
+use Rattle.schema_meaning.specs.Questions.{question, at_name, if_member, each_declared, each_triggered}
 use Rattle.applicators.specs.Questions.{each_dependency}
 use Rattle.compiled_keywords.specs.Forms.{alone, name_at, named_part}
-use Rattle.compiled_keywords.specs.Members.{applied_node, others_among}
+use Rattle.compiled_keywords.specs.Members.{applied_node}
 use Rattle.compiled_keywords.specs.Owned.{named, depending}
 use Rattle.compiled_keywords.specs.declared.subschemas.NamedNode.{NamedNode}
 use Rattle.compiled_keywords.specs.declared.subschemas.NamedDependency.{NamedDependency}

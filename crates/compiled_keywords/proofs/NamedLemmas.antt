@@ -16,8 +16,8 @@ use Rattle.schema_meaning.specs.Places.{to_member}
 use Rattle.schema_meaning.specs.Questions as told
 use Rattle.schema_meaning.specs.Questions.{Declared, is_declared, members_of, names_of, each_member, each_matching, other_members}
 use Rattle.schema_engine.specs.Matches.{Answers}
-use Rattle.schema_engine.specs.Questions.{Call, call, call_of}
-use Rattle.schema_engine.specs.Rules.{questions_of, AreOf}
+use Rattle.schema_engine.specs.Questions.{Call, call}
+use Rattle.schema_engine.specs.Rules.{AreOf}
 use Rattle.schema_engine.specs.Places.{step_of}
 use Rattle.schema_engine.specs.declared.place.Asked.{Asked}
 use Rattle.schema_engine.specs.declared.place.Asked.TheVariants as asked

@@ -10,7 +10,7 @@ use Rattle.serde_json.specs.Data.{Data}
 use Rattle.json_values.specs.Patterns.{matched}
 use Rattle.schema_meaning.specs.Members.{is_listed}
 use Rattle.schema_meaning.specs.Places.{Step, stay, to_item, to_member, to_name}
-use Rattle.schema_meaning.specs.Questions.{Declared, members_of, names_of, other_members}
+use Rattle.schema_meaning.specs.Questions.{Declared, names_of, other_members}
 use Rattle.schema_engine.specs.Matches.{Answers}
 use Rattle.schema_engine.specs.Questions.{Call, call_of}
 use Rattle.schema_engine.specs.declared.place.Question.{Question}

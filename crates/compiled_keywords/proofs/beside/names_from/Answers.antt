@@ -1,4 +1,4 @@
-use Rattle.std.proofs.Common.{◌≡◌, ◌||◌, ◌∷◌, ◌+◌, ◌∙◌, ◌<◌, ◌≤◌, Bool, drop, length, sym, ap, is_eq, bytes_eq, arith}
+use Rattle.std.proofs.Common.{◌≡◌, ◌||◌, ◌∷◌, ◌+◌, ◌∙◌, ◌≤◌, Bool, drop, length, sym, ap, is_eq, bytes_eq, arith}
 use Rattle.std.proofs.lemmas.List.{drop_more, drop_all}
 use Rattle.std.specs.List.{list_any}
 use Rattle.schema_meaning.specs.Members.{is_listed}

@@ -1,4 +1,4 @@
-use Rattle.std.proofs.Common.{◌≡◌, ◌∙◌, List, map, drop, ap, subst}
+use Rattle.std.proofs.Common.{◌∙◌, List, map, drop, ap, subst}
 use Rattle.std.proofs.lemmas.Result.{on_ok_weaker}
 use Rattle.schema_meaning.specs.Questions.{each_member}
 use Rattle.schema_engine.specs.Places.{value_at}

@@ -1,4 +1,4 @@
-use Rattle.std.proofs.Common.{drop, subst, sym}
+use Rattle.std.proofs.Common.{drop, subst}
 use Rattle.std.proofs.lemmas.Result.{on_ok_weaker}
 use Rattle.schema_engine.specs.Places.{value_at}
 use Rattle.compiled_keywords.specs.Forms.{form_of}

@@ -1,12 +1,10 @@
 use Rattle.std.proofs.Common.{drop, subst}
 use Rattle.std.proofs.lemmas.Result.{on_ok_weaker}
 use Rattle.schema_meaning.specs.Keywords.{rule}
-use Rattle.schema_engine.specs.Matches.{Answers}
 use Rattle.schema_engine.specs.Places.{value_at}
 use Rattle.compiled_keywords.specs.Applied.{name_of}
 use Rattle.compiled_keywords.specs.Paired.{Pairs}
 use Rattle.compiled_keywords.specs.Shapes.{shape_of, added_by}
-use Rattle.compiled_keywords.specs.declared.keyword.Keyword.{Keyword}
 use Rattle.compiled_keywords.proofs.NamedLemmas.{leaves_beside, only_applicators, puts_left}
 use Rattle.compiled_keywords.proofs.SeenLemmas.{puts_calls, puts_asks}
 use Rattle.compiled_keywords.proofs.keyword.KeywordValidate.questions_beside.Goals as goal
