@@ -42,7 +42,7 @@ use Rattle.compiled_graphs.proofs.Growing.{visited-later}
 use Rattle.compiled_graphs.proofs.Positions.{in-place, within}
 use Rattle.compiled_graphs.proofs.Walks.{begun-walks}
 use Rattle.compiled_graphs.proofs.Stepping.{alone-steps}
-use Rattle.compiled_graphs.specs.Nearest.{IsInOrder, RefusesNearest}
+use Rattle.compiled_graphs.specs.First.{IsInOrder, RefusesFirst}
 
 -- ---- roots
 
@@ -59,9 +59,9 @@ refuses-one makes own root limit e (inl h) = inl (record { named = h.named; exce
 refuses-one makes own root limit e (inr (inl h)) = inr (inr (h.cause, h.named, subst (λ r. IsCauseOf own makes r h.cause) (in-one h.listed) h.stands))
 refuses-one makes own root limit e (inr (inr m)) = inr (inl m)
 
-pub refuses-nearest : (makes : List ℕ → Bool) (own : List Document) (root : Site) (limit : ℕ) (e : refused.BuildCause) → RefusesInOrder makes own (root ∷ []) limit e → RefusesNearest own makes root limit e
-refuses-nearest makes own root limit e (inl h) = inl (record { named = h.named; exceeds = h.exceeds })
-refuses-nearest makes own root limit e (inr h) = inr h
+pub refuses-first : (makes : List ℕ → Bool) (own : List Document) (root : Site) (limit : ℕ) (e : refused.BuildCause) → RefusesInOrder makes own (root ∷ []) limit e → RefusesFirst own makes root limit e
+refuses-first makes own root limit e (inl h) = inl (record { named = h.named; exceeds = h.exceeds })
+refuses-first makes own root limit e (inr h) = inr h
 
 -- ---- once all nodes are filled
 
@@ -194,7 +194,7 @@ module _ {M : Type 0} (finds : M → List ℕ → Option Bool) (p : Patterns) (o
   walks-from-root = begun-walks finds p own (root_site root ∷ []) begun visits b (s.graph p.makes)
 
   pub ordered-from-root : length visits ≡ 1 → IsInOrder own p.makes (root_site root ∷ []) begun
-  ordered-from-root one = (zero ∷ [], rw (b.visits_are, b.edges, b.nodes) (alone-steps own p.makes (root_site root) visits one s.visited_first))
+  ordered-from-root one = ((0 ∷ []) ∷ [], rw (b.visits_are, b.nodes) (alone-steps own p.makes (root_site root) visits one s.visited_first))
 
   pub built-of : (w : Walk M) → IsFront begun.visits.list.items w.visits.list.items
       → ((o : List Document) (roots : List Site) → ArePlaced o roots → Walks finds p o roots begun → IsWalked finds p o roots limit Stop w) → IsBuilt finds p own root limit w

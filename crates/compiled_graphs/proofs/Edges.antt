@@ -7,6 +7,7 @@ use Rattle.reached_sites.specs.Growing.{AddsOne, StandsAt}
 use Rattle.reached_sites.specs.declared.visit.Visit.{Visit}
 use Rattle.reached_sites.proofs.Listing.{in-before, in-behind, in-either, in-one, none-in}
 use Rattle.compiled_graphs.specs.Linked.{edge, Extends, IsLinked, LeadsOn, Links, StandsFor}
+use Rattle.compiled_graphs.specs.Linked as put
 use Rattle.compiled_graphs.proofs.Positions.{kept-place}
 
 pub stands-still : (vs added : List Visit) (i : ℕ) (v : Visit) → StandsAt vs i v → StandsAt (vs ++ added) i v
@@ -36,7 +37,7 @@ extends-more old next fin lead rest (inr known) g = record {
 
 module _ (i : ℕ) where
   pub links-none : (vs : List Visit) (edges : List Edge) → Links i vs vs [] edges edges
-  links-none vs edges = record { extends = extends-none vs; kept = λ e j. j; there = λ v j. none-in j; new_ones = λ e j. inl j }
+  links-none vs edges = record { extends = extends-none vs; puts = put.none; kept = λ e j. j; there = λ v j. none-in j; new_ones = λ e j. inl j }
 
   leads-later : (vs : List Visit) (lead : Visit) (rest : List Visit) (e : Edge) → LeadsOn i vs rest e → LeadsOn i vs (lead ∷ rest) e
   leads-later vs lead rest e h = record { from = h.from; visit = h.visit; listed = later h.listed; stands = h.stands }
@@ -76,6 +77,7 @@ module _ (i : ℕ) where
     pub links-more : Links i now fin (lead ∷ rest) before last
     links-more = record {
       extends = extends-more now next fin lead rest one l.extends;
+      puts = put.one lead one l.puts;
       kept = kept-too;
       there = linked-now;
       new_ones = λ e j. any-edge e (l.new_ones e j);

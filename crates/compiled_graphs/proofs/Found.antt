@@ -1,5 +1,5 @@
 -- What is found of the members of a schema.
-use Rattle.std.proofs.Common.{◌≡◌, ◌∙◌, ◌⊎◌, ◌+◌, ℕ, List, [], ◌∷◌, ◌++◌, Bool, true, Option, Some, None, IfSome, refl, sym, ap, subst, inl, inr, arith, length, append-nil, append_assoc}
+use Rattle.std.proofs.Common.{◌≡◌, ◌∙◌, ◌⊎◌, ◌+◌, ℕ, List, [], ◌∷◌, ◌++◌, Bool, true, Option, Some, None, IfSome, map, refl, sym, ap, subst, inl, inr, arith, length, append-nil, append_assoc}
 use Rattle.std.proofs.lemmas.List.{length-append}
 use Rattle.serde_json.specs.Data.{Data, Members, no_members, member}
 use Rattle.schema_meaning.specs.Members.{In, is_listed}
@@ -32,7 +32,7 @@ use Rattle.reached_sites.proofs.Putting.{in-texts}
 use Rattle.reached_sites.proofs.Walking.{own_of, context_of, row_here}
 use Rattle.reached_sites.proofs.Writing.{every_text, all-made, member-shown}
 use Rattle.compiled_graphs.specs.Asked.{beside_of, asked_by, IsAnswered}
-use Rattle.compiled_graphs.specs.Read.{ReadAs, none, asks, wrong, TellsFirst, RowRead, RowsRead, IsUnmade, written_at}
+use Rattle.compiled_graphs.specs.Read.{ReadAs, none, asks, wrong, TellsOne, IsOfFirst, TellsOfFirst, RowRead, RowsRead, IsUnmade, written_at}
 use Rattle.compiled_graphs.specs.declared.asking.Asking.{Asking}
 use Rattle.compiled_graphs.specs.declared.asking.Asking.TheVariants.{Keyword}
 use Rattle.compiled_graphs.specs.declared.reading.Found.{Found}
@@ -128,6 +128,13 @@ member-written v all k d table w reads holds p i = holds p (member-shown (contex
 
 -- ---- all members
 
+abbrev causes_each : List Row → List (List rows.BuildCause)
+causes_each rs = map (λ r. r.causes) rs
+
+pub of-here : (c : rows.BuildCause) (cs : List rows.BuildCause) (lists : List (List rows.BuildCause)) → In c cs → IsOfFirst c (cs ∷ lists)
+of-here c [] lists i = none-in i
+of-here c (b ∷ bs) lists i = i
+
 -- the members behind some of all, and what was found of those
 pub record Going (v : Visit) (makes : List ℕ → Bool) (all rest : Members) (old now : Found) (cause : Option refused.BuildCause) : Type 0 where
   pub askings : List Asking
@@ -139,6 +146,8 @@ pub record Going (v : Visit) (makes : List ℕ → Bool) (all rest : Members) (o
   pub right : cause ≡ None → causes_in (rows_of (context_of v makes all) rest) ≡ [] → causes_in (rows_of (context_of v makes all) all) ≡ []
   pub wrong_one : IfSome cause (λ e. (c : rows.BuildCause) × NamesCause c e × In c (causes_in (rows_of (context_of v makes all) all)))
   pub causes : (c : rows.BuildCause) → In c (causes_in (rows_of (context_of v makes all) rest)) → In c (causes_in (rows_of (context_of v makes all) all))
+  pub first_one : TellsOfFirst cause (map (λ r. r.causes) (rows_of (context_of v makes all) all))
+  pub firsts : cause ≡ None → (c : rows.BuildCause) → IsOfFirst c (map (λ r. r.causes) (rows_of (context_of v makes all) rest)) → IsOfFirst c (map (λ r. r.causes) (rows_of (context_of v makes all) all))
 
 pub going-begins : (v : Visit) (makes : List ℕ → Bool) (all : Members) (old : Found) → Going v makes all all old old None
 going-begins v makes all old = record {
@@ -150,6 +159,8 @@ going-begins v makes all old = record {
   right = λ none c. c;
   wrong_one = tt;
   causes = λ c i. i;
+  first_one = tt;
+  firsts = λ none c i. i;
 }
 
 pub both-none : (one other : Option refused.BuildCause) → or_else one other ≡ None → (one ≡ None) × (other ≡ None)
@@ -170,17 +181,27 @@ module _ (v : Visit) (makes : List ℕ → Bool) (all : Members) (k : List ℕ) 
   abbrev IsAmong : refused.BuildCause → Type 0
   IsAmong e = (c : rows.BuildCause) × NamesCause c e × In c (causes_in every)
 
-  no-causes : (o : Option refused.BuildCause) → o ≡ None → TellsFirst o row.causes → causes_in left ≡ [] → causes_in (row ∷ left) ≡ []
+  no-causes : (o : Option refused.BuildCause) → o ≡ None → TellsOne o row.causes → causes_in left ≡ [] → causes_in (row ∷ left) ≡ []
   no-causes None e t f = ap (λ (cs : List rows.BuildCause). cs ++ causes_in left) t ∙ f
   no-causes (Some x) e t f = absurd (cc (e))
 
-  its-own : (o : Option refused.BuildCause) → TellsFirst o row.causes → IfSome o IsAmong
+  its-own : (o : Option refused.BuildCause) → TellsOne o row.causes → IfSome o IsAmong
   its-own None t = tt
   its-own (Some e) t = (t.0, t.1, g.causes t.0 (in-before row.causes (causes_in left) t.2))
 
   a-cause : (one other : Option refused.BuildCause) → IfSome one IsAmong → IfSome other IsAmong → IfSome (or_else one other) IsAmong
   a-cause None other h w = w
   a-cause (Some e) other h w = h
+
+  pass-first : (o : Option refused.BuildCause) → o ≡ None → TellsOne o row.causes → (c : rows.BuildCause) → IsOfFirst c (causes_each left) → IsOfFirst c (causes_each (row ∷ left))
+  pass-first None e t c i = subst (λ (l : List rows.BuildCause). IsOfFirst c (l ∷ causes_each left)) (sym t) i
+  pass-first (Some x) e t c i = absurd (cc (e))
+
+  first-goes : (one other : Option refused.BuildCause) → TellsOfFirst one (causes_each every) → (one ≡ None → (c : rows.BuildCause) → IsOfFirst c (causes_each (row ∷ left)) → IsOfFirst c (causes_each every))
+      → TellsOne other row.causes → TellsOfFirst (or_else one other) (causes_each every)
+  first-goes None None f on t = tt
+  first-goes None (Some e) f on t = (t.0, t.1, on refl t.0 (of-here t.0 row.causes (causes_each left) t.2))
+  first-goes (Some e) other f on t = f
 
   read-on : (ys : List Asking) (vs : List Visit) → ReadAs (own_of v) (site_of v) left ys vs → ReadAs (own_of v) (site_of v) every ((g.askings ++ h.adds.askings) ++ ys) ((g.visits ++ h.adds.visits) ++ vs)
   read-on ys vs r =
@@ -198,10 +219,12 @@ module _ (v : Visit) (makes : List ℕ → Bool) (all : Members) (k : List ℕ) 
     right = λ e f. (let both = both-none cause more e in g.right both.0 (no-causes more both.1 h.tells f));
     wrong_one = a-cause cause more g.wrong_one (its-own more h.tells);
     causes = λ c i. g.causes c (in-behind row.causes (causes_in left) i);
+    first_one = first-goes cause more g.first_one g.firsts h.tells;
+    firsts = λ e c i. (let both = both-none cause more e in g.firsts both.0 c (pass-first more both.1 h.tells c i));
   }
 
 module _ (v : Visit) (makes : List ℕ → Bool) (all : Members) (old now : Found) where
-  told : (o : Option refused.BuildCause) → Going v makes all no_members old now o → TellsFirst o (causes_in (rows_of (context_of v makes all) all))
+  told : (o : Option refused.BuildCause) → Going v makes all no_members old now o → TellsOne o (causes_in (rows_of (context_of v makes all) all))
   told None g = g.right refl refl
   told (Some e) g = g.wrong_one
 
@@ -214,6 +237,7 @@ module _ (v : Visit) (makes : List ℕ → Bool) (all : Members) (old now : Foun
     reads = subst (λ l. ReadAs (own_of v) (site_of v) (rows_of (context_of v makes all) all) l g.visits) (append-nil g.askings)
         (subst (λ l. ReadAs (own_of v) (site_of v) (rows_of (context_of v makes all) all) (g.askings ++ []) l) (append-nil g.visits) (g.reads [] [] none));
     tells = told o g;
+    first = g.first_one;
   }
 
 -- ---- the patterns that members write

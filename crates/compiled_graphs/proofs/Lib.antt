@@ -17,5 +17,8 @@ pub mod Compiling
 pub mod Others
 pub mod Running
 pub mod Sorting
+pub mod Roads
+pub mod Taking
+pub mod Ordered
 pub mod Stepping
 pub mod Told

@@ -5,7 +5,7 @@ use Rattle.schema_definitions.specs.Bearers.{Document}
 use Rattle.schema_definitions.specs.Sites.{Site}
 use Rattle.reached_sites.specs.Patterns.{IsFront}
 use Rattle.reached_sites.specs.declared.cause.BuildCause as refused
-use Rattle.compiled_graphs.specs.Nearest.{IsNearest}
+use Rattle.compiled_graphs.specs.First.{IsFirstCause}
 use Rattle.compiled_graphs.specs.Walked.{IsFromOne, MayGoOn, IsStopped, NoneWrong, StopsAt}
 use Rattle.compiled_graphs.specs.declared.walk.AtCause.{AtCause}
 use Rattle.compiled_graphs.specs.declared.walk.AtCause.TheVariants.{Stop, GoOn}
@@ -22,10 +22,10 @@ pub stops-there : (a : AtCause) (cause : Option refused.BuildCause) (e : refused
     → IfSome cause (IsFromOne own makes roots) → StopsAt a makes own roots e
 stops-there a cause e makes own roots h from = rw h.stops (subst (λ o. IfSome o (IsFromOne own makes roots)) h.is from)
 
-pub nearest-there : (a : AtCause) (cause : Option refused.BuildCause) (e : refused.BuildCause) (makes : List ℕ → Bool) (own : List Document) (roots : List Site) (wrong : List ℕ) → IsStopped a cause e → NoneWrong a wrong
-    → (wrong ≡ [] → IfSome cause (IsNearest own makes roots)) → IsNearest own makes roots e
-nearest-there a cause e makes own roots wrong h none near =
-    subst (λ o. IfSome o (IsNearest own makes roots)) h.is (near (subst (λ x. NoneWrong x wrong) h.stops none))
+pub first-there : (a : AtCause) (cause : Option refused.BuildCause) (e : refused.BuildCause) (makes : List ℕ → Bool) (own : List Document) (roots : List Site) (wrong : List ℕ) → IsStopped a cause e → NoneWrong a wrong
+    → (wrong ≡ [] → IfSome cause (IsFirstCause own makes roots)) → IsFirstCause own makes roots e
+first-there a cause e makes own roots wrong h none near =
+    subst (λ o. IfSome o (IsFirstCause own makes roots)) h.is (near (subst (λ x. NoneWrong x wrong) h.stops none))
 
 both-up : (a b : ℕ) → (a ≤ b) ⊎ (b < a) → (suc a ≤ suc b) ⊎ (suc b < suc a)
 both-up a b (inl h) = inl (omega (arith, h))

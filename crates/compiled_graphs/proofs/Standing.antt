@@ -1,5 +1,5 @@
 -- What is found at a visit, at the sites for which it stands.
-use Rattle.std.proofs.Common.{◌≡◌, ◌∙◌, ◌⊎◌, ℕ, List, [], ◌++◌, Bool, true, false, true≢false, Option, Some, None, IfSome, is_none, option_map, codes, sym, subst, inl, inr}
+use Rattle.std.proofs.Common.{◌≡◌, ◌∙◌, ◌⊎◌, ℕ, List, [], ◌∷◌, ◌++◌, Bool, true, false, true≢false, Option, Some, None, IfSome, is_none, map, option_map, codes, refl, sym, subst, inl, inr}
 use Rattle.std.specs.List.{AllByRecursion, AllZip}
 use Rattle.std.specs.Borrow.{Bor}
 use Rattle.serde_json.specs.View.{view}
@@ -13,7 +13,7 @@ use Rattle.schema_definitions.specs.Sites.{Site}
 use Rattle.reading_laws.proofs.Asked.{Holds}
 use Rattle.reading_laws.proofs.Elements.{each_in}
 use Rattle.reading_laws.proofs.Reached.{shapes_led}
-use Rattle.reading_laws.proofs.Reaching.{in_step, same_causes}
+use Rattle.reading_laws.proofs.Reaching.{in_step, same_causes, same_identifiers}
 use Rattle.reading_laws.proofs.Reading.{read_alike}
 use Rattle.reading_laws.proofs.Alike.{turned}
 use Rattle.reading_laws.specs.SiteLaws.{AreAlike, RowsAgree}
@@ -29,7 +29,8 @@ use Rattle.reached_sites.proofs.Matching.{visit-of, site-of, belongs-of}
 use Rattle.reached_sites.proofs.Mirrored.{alike-leads}
 use Rattle.compiled_graphs.specs.Asked.{site_beside, beside_of, asked_by}
 use Rattle.compiled_graphs.specs.Graphs.{IsLed}
-use Rattle.compiled_graphs.specs.Read.{ReadAs, none, refuses, asks, wrong, TellsFirst, IsFound}
+use Rattle.compiled_graphs.specs.Read.{ReadAs, none, refuses, asks, wrong, TellsOne, IsFound}
+use Rattle.compiled_graphs.specs.Told.{causes_apart}
 use Rattle.compiled_graphs.specs.declared.asking.Asking.{Asking}
 use Rattle.compiled_graphs.specs.declared.reading.Found.{Found}
 use Rattle.compiled_graphs.proofs.Visits.{met-among}
@@ -140,11 +141,11 @@ module _ (own : List Document) (makes : List ℕ → Bool) (v : Visit) (found : 
             (shapes_led own makes (site_of v) (λ t. In t (leads_in here)) (λ r t j k. led r t j k)) row i,
       )
 
-  first-tells : (o : Option refused.BuildCause) (causes : List rows.BuildCause) → TellsFirst o causes → is_none o ≡ false → (c : rows.BuildCause) × In c causes
+  first-tells : (o : Option refused.BuildCause) (causes : List rows.BuildCause) → TellsOne o causes → is_none o ≡ false → (c : rows.BuildCause) × In c causes
   first-tells None causes h e = absurd (true≢false e)
   first-tells (Some x) causes h e = (h.0, h.2)
 
-  none-tells : (o : Option refused.BuildCause) (causes : List rows.BuildCause) → TellsFirst o causes → is_none o ≡ true → causes ≡ []
+  none-tells : (o : Option refused.BuildCause) (causes : List rows.BuildCause) → TellsOne o causes → is_none o ≡ true → causes ≡ []
   none-tells None causes h e = h
   none-tells (Some x) causes h e = absurd (true≢false (sym e))
 
@@ -181,3 +182,15 @@ module _ (own : List Document) (makes : List ℕ → Bool) (v : Visit) (found : 
       right = λ e. all-causes ∙ none-tells cause (causes_at own makes (site_of v)) f.tells e;
       wrong = λ e. (let c = first-tells cause (causes_at own makes (site_of v)) f.tells e in (c.0, subst (λ cs. In c.0 cs) (sym all-causes) c.1));
     }
+
+-- ---- what is wrong, apart
+
+same-apart : (own : List Document) (rs qs : List Row) → AllZip (RowsAgree own) rs qs → map (λ (r : Row). r.causes) rs ≡ map (λ (r : Row). r.causes) qs
+same-apart own [] [] z = refl
+same-apart own [] (q ∷ qs) z = absurd z
+same-apart own (r ∷ rs) [] z = absurd z
+same-apart own (r ∷ rs) (q ∷ qs) z = cc (z.0.causes, same-apart own rs qs z.1)
+
+module _ (own : List Document) (makes : List ℕ → Bool) where
+  pub alike-apart : (s t : Site) → AreAlike own s t → causes_apart own makes s ≡ causes_apart own makes t
+  alike-apart s t a = cc (same_identifiers own s t a, same-apart own (rows_at own makes s) (rows_at own makes t) (read_alike own makes s t a).rows)

@@ -1,6 +1,6 @@
 -- What is told of all that is wrong.
 use Rattle.std.proofs.Common.{◌≡◌, ◌∙◌, ◌⊎◌, ◌<◌, ℕ, zero, suc, List, [], ◌∷◌, ◌++◌, Bool, true, false, Option, Some, None, map, refl, sym, ap, subst, inl, inr, arith, length, slice_get, append-nil, append_assoc}
-use Rattle.std.specs.List.{All, AllZip}
+use Rattle.std.specs.List.{All}
 use Rattle.serde_json.specs.Data.{Data, null, boolean, number, string, array, object}
 use Rattle.serde_json.specs.Find.{as_object}
 use Rattle.schema_meaning.specs.Members.{In, first, later}
@@ -12,9 +12,8 @@ use Rattle.schema_definitions.specs.Rows.{Row, rows_at, rows_in, reads, identifi
 use Rattle.schema_definitions.specs.Lookup.{Target}
 use Rattle.schema_definitions.specs.Sites.{Site, root_site}
 use Rattle.schema_patterns.specs.Makers.{Patterns}
-use Rattle.reading_laws.specs.SiteLaws.{AreAlike, RowsAgree}
-use Rattle.reading_laws.proofs.Reaching.{same_causes, same_identifiers}
-use Rattle.reading_laws.proofs.Reading.{read_alike}
+use Rattle.reading_laws.specs.SiteLaws.{AreAlike}
+use Rattle.reading_laws.proofs.Reaching.{same_causes}
 use Rattle.referencing.specs.Resolved.{documents_in}
 use Rattle.reached_sites.specs.Causes.{NamesCause}
 use Rattle.reached_sites.specs.Led.{causes_in}
@@ -28,7 +27,7 @@ use Rattle.reached_sites.proofs.Walking.{contexts}
 use Rattle.marked_nodes.specs.declared.graph.Edge.{Edge}
 use Rattle.compiled_graphs.specs.Filled.{listed}
 use Rattle.compiled_graphs.specs.Graphs.{IsVisited, IsGraph}
-use Rattle.compiled_graphs.specs.Read.{TellsFirst}
+use Rattle.compiled_graphs.specs.Read.{TellsOne}
 use Rattle.compiled_graphs.specs.Told.{causes_apart, IsTold, AreCausesOf, RefusesTelling, TellsEach, TellsVisits, apart_at}
 use Rattle.compiled_graphs.specs.Walked.{Walks, IsBegun, RefusesWalk}
 use Rattle.compiled_graphs.specs.declared.walk.AtCause.TheVariants.{GoOn}
@@ -36,6 +35,7 @@ use Rattle.compiled_graphs.specs.declared.walk.Walk.{Walk}
 use Rattle.compiled_graphs.proofs.Ending.{read-at, is-visited}
 use Rattle.compiled_graphs.proofs.Growing.{visited-later}
 use Rattle.compiled_graphs.proofs.Positions.{all-of, in-place, one-there, within}
+use Rattle.compiled_graphs.proofs.Standing.{alike-apart}
 use Rattle.compiled_graphs.proofs.Walks.{begun-walks}
 
 in-map : {A B : Type 0} (f : A → B) (xs : List A) (x : A) → In x xs → In (f x) (map f xs)
@@ -74,7 +74,7 @@ module _ (gs hs : List (List rows.BuildCause)) (old now new : List refused.Build
     every = λ cs i c j. any-told cs (in-either gs hs i) c j;
   }
 
-pub tells-one : (o : Option refused.BuildCause) (cs : List rows.BuildCause) (old new : List refused.BuildCause) → TellsFirst o cs → new ≡ old ++ listed o → TellsEach (cs ∷ []) old new
+pub tells-one : (o : Option refused.BuildCause) (cs : List rows.BuildCause) (old new : List refused.BuildCause) → TellsOne o cs → new ≡ old ++ listed o → TellsEach (cs ∷ []) old new
 tells-one None cs old new t grown = record {
   added = [];
   grown = grown;
@@ -89,7 +89,7 @@ tells-one (Some e) cs old new t grown = record {
 }
 
 -- none of nothing
-tells-nothing : (o : Option refused.BuildCause) (old new : List refused.BuildCause) → TellsFirst o [] → new ≡ old ++ listed o → TellsEach [] old new
+tells-nothing : (o : Option refused.BuildCause) (old new : List refused.BuildCause) → TellsOne o [] → new ≡ old ++ listed o → TellsEach [] old new
 tells-nothing None old new t grown = subst (λ l. TellsEach [] old l) (sym (grown ∙ append-nil old)) (tells-none old)
 tells-nothing (Some e) old new t grown = none-in t.2
 
@@ -112,28 +112,19 @@ module _ (own : List Document) (makes : List ℕ → Bool) (s : Site) where
   one-row (array ds) e n = inr (_, other-rows own makes s (array ds) e tt)
   one-row (object ms) e n = absurd (cc (n))
 
-  tells-row : (rs : List Row) → AtMostOne rs → (o : Option refused.BuildCause) (old new : List refused.BuildCause) → TellsFirst o (causes_in rs) → new ≡ old ++ listed o
+  tells-row : (rs : List Row) → AtMostOne rs → (o : Option refused.BuildCause) (old new : List refused.BuildCause) → TellsOne o (causes_in rs) → new ≡ old ++ listed o
       → TellsEach (map (λ (r : Row). r.causes) rs) old new
-  tells-row rs (inl none) o old new t grown = rw none (tells-nothing o old new (subst (λ (l : List Row). TellsFirst o (causes_in l)) none t) grown)
+  tells-row rs (inl none) o old new t grown = rw none (tells-nothing o old new (subst (λ (l : List Row). TellsOne o (causes_in l)) none t) grown)
   tells-row rs (inr h) o old new t grown =
-      rw (h.1) (tells-one o h.0.causes old new (subst (λ cs. TellsFirst o cs) (append-nil h.0.causes) (subst (λ (l : List Row). TellsFirst o (causes_in l)) h.1 t)) grown)
+      rw (h.1) (tells-one o h.0.causes old new (subst (λ cs. TellsOne o cs) (append-nil h.0.causes) (subst (λ (l : List Row). TellsOne o (causes_in l)) h.1 t)) grown)
 
-  pub tells-other : as_object s.contents ≡ None → (o : Option refused.BuildCause) (old new : List refused.BuildCause) → TellsFirst o (causes_in (rows_at own makes s)) → new ≡ old ++ listed o
+  pub tells-other : as_object s.contents ≡ None → (o : Option refused.BuildCause) (old new : List refused.BuildCause) → TellsOne o (causes_in (rows_at own makes s)) → new ≡ old ++ listed o
       → TellsEach (map (λ (r : Row). r.causes) (rows_at own makes s)) old new
   tells-other n o old new t grown = tells-row (rows_at own makes s) (one-row s.contents refl n) o old new t grown
 
 -- ---- at sites that are alike
 
-same-apart : (own : List Document) (rs qs : List Row) → AllZip (RowsAgree own) rs qs → map (λ (r : Row). r.causes) rs ≡ map (λ (r : Row). r.causes) qs
-same-apart own [] [] z = refl
-same-apart own [] (q ∷ qs) z = absurd z
-same-apart own (r ∷ rs) [] z = absurd z
-same-apart own (r ∷ rs) (q ∷ qs) z = cc (z.0.causes, same-apart own rs qs z.1)
-
 module _ (own : List Document) (makes : List ℕ → Bool) where
-  alike-apart : (s t : Site) → AreAlike own s t → causes_apart own makes s ≡ causes_apart own makes t
-  alike-apart s t a = cc (same_identifiers own s t a, same-apart own (rows_at own makes s) (rows_at own makes t) (read_alike own makes s t a).rows)
-
   in-rows : (cs : List rows.BuildCause) (c : rows.BuildCause) (rs : List Row) → In cs (map (λ (r : Row). r.causes) rs) → In c cs → In c (causes_in rs)
   in-rows cs c [] i j = none-in i
   in-rows _ c (r ∷ rs) first j = in-before r.causes (causes_in rs) j

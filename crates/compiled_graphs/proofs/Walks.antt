@@ -1,14 +1,15 @@
 -- A walk whose next node is filled.
-use Rattle.std.proofs.Common.{◌≡◌, ◌∙◌, ◌⊎◌, ◌+◌, ℕ, zero, suc, List, [], ◌∷◌, ◌++◌, Bool, true, false, true≢false, Option, Some, None, IfSome, is_some, is_none, not, refl, sym, ap, subst, inl, inr, arith, length, slice_get}
+use Rattle.std.proofs.Common.{◌≡◌, ◌∙◌, ◌⊎◌, ◌+◌, ℕ, List, [], ◌∷◌, ◌++◌, Bool, true, false, true≢false, Option, Some, None, IfSome, is_some, is_none, not, refl, sym, ap, subst, inl, inr, arith, length, slice_get}
 use Rattle.std.proofs.lemmas.List.{length-append}
 use Rattle.schema_definitions.specs.Bearers.{Document}
 use Rattle.schema_definitions.specs.BuildCauses.{causes_at}
-use Rattle.schema_definitions.specs.Rows.{identifier_causes, rows_at}
+use Rattle.schema_definitions.specs.Rows.{BuildCause, identifier_causes, rows_at}
 use Rattle.schema_definitions.specs.Sites.{Site}
 use Rattle.schema_meaning.specs.Members.{In, first}
 use Rattle.schema_patterns.specs.Makers.{Patterns}
 use Rattle.schema_patterns.specs.Tables.{texts_of_table}
 use Rattle.reading_laws.specs.SiteLaws.{AreAlike}
+use Rattle.reading_laws.proofs.Reading.{read_alike}
 use Rattle.schema_engine.specs.declared.node.Node.{Node}
 use Rattle.compiled_keywords.specs.declared.keyword.Keyword.{Keyword}
 use Rattle.referencing.specs.Resolved.{documents_in}
@@ -21,38 +22,23 @@ use Rattle.reached_sites.specs.declared.visit.Visit.{Visit}
 use Rattle.reached_sites.proofs.Filling.{empty-filled}
 use Rattle.reached_sites.proofs.Listing.{in-behind}
 use Rattle.compiled_graphs.specs.Filled.{Compiled, IsRank, HasNode, HasNodes}
-use Rattle.compiled_graphs.specs.Graphs.{IsReachedFrom, IsGraph, IsLed}
+use Rattle.compiled_graphs.specs.Graphs.{IsReachedFrom, IsGraph, IsLed, asked_from}
 use Rattle.compiled_graphs.specs.Linked.{Links, StandsFor}
-use Rattle.compiled_graphs.specs.Nearest.{AreSteps, IsNearest, IsInOrder}
-use Rattle.compiled_graphs.specs.Read.{StaysFilled, VisitReads, TellsFirst, IsFound}
+use Rattle.compiled_graphs.specs.First.{IsFirstCause, IsInOrder}
+use Rattle.compiled_graphs.specs.Read.{StaysFilled, VisitReads, TellsOne, IsOfFirst, TellsOfFirst, IsFound}
+use Rattle.compiled_graphs.specs.Roads.{AreRoads}
+use Rattle.compiled_graphs.specs.Told.{causes_apart}
 use Rattle.compiled_graphs.specs.Walked.{ArePlaced, Notes, Walks, IsFromOne, IsBegun}
 use Rattle.compiled_graphs.specs.declared.asking.Asking.{Asking}
 use Rattle.compiled_graphs.specs.declared.reading.Found.{Found}
 use Rattle.compiled_graphs.specs.declared.walk.Walk.{Walk}
 use Rattle.compiled_graphs.proofs.Meant.{no-first, all-held, means-of, means-stays}
 use Rattle.compiled_graphs.proofs.Growing.{kept-at, noted_wrong, wrong-before, stands-for, graph-goes, notes-go}
-use Rattle.compiled_graphs.proofs.Standing.{is-led, all-causes}
-use Rattle.compiled_graphs.proofs.Positions.{in-place}
-use Rattle.compiled_graphs.proofs.Stepping.{further, d, steps-go, deep-here, right-nearer}
+use Rattle.compiled_graphs.proofs.Ordered.{asked-there}
+use Rattle.compiled_graphs.proofs.Standing.{is-led, all-causes, alike-apart}
+use Rattle.compiled_graphs.proofs.Positions.{in-place, front-or-last}
+use Rattle.compiled_graphs.proofs.Stepping.{later_roads, roads-later, here, its-along, its-right}
 use Rattle.std.specs.List.{AllZip}
-
--- ---- a list with one more at its end
-
-module _ {A : Type 0} where
-  at-end : (xs : List A) (x : A) → slice_get (xs ++ x ∷ []) (length xs) ≡ Some x
-  at-end [] x = refl
-  at-end (y ∷ xs) x = at-end xs x
-
-  -- what stands there stood there, or is the last
-  pub front-or-last : (xs : List A) (x y : A) (i : ℕ) → slice_get (xs ++ x ∷ []) i ≡ Some y → (slice_get xs i ≡ Some y) ⊎ ((i ≡ length xs) × (x ≡ y))
-  front-or-last [] x y zero e = inr (refl, cc (e))
-  front-or-last [] x y (suc i) e = absurd (cc (e))
-  front-or-last (z ∷ xs) x y zero e = inl e
-  front-or-last (z ∷ xs) x y (suc i) e = one-up (front-or-last xs x y i e)
-    where
-      one-up : (slice_get xs i ≡ Some y) ⊎ ((i ≡ length xs) × (x ≡ y)) → (slice_get xs i ≡ Some y) ⊎ ((suc i ≡ suc (length xs)) × (x ≡ y))
-      one-up (inl h) = inl h
-      one-up (inr h) = inr (ap suc h.0, h.1)
 
 -- ---- one step
 
@@ -162,7 +148,7 @@ module _ {M : Type 0} (finds : M → List ℕ → Option Bool) (p : Patterns) (o
   clear : b ≡ true → causes_in (rows_at own p.makes (site_of v)) ≡ []
   clear e = by cause found-here.tells (none-is cause e)
     where
-      by : (o : Option refused.BuildCause) → TellsFirst o (causes_at own p.makes (site_of v)) → o ≡ None → causes_in (rows_at own p.makes (site_of v)) ≡ []
+      by : (o : Option refused.BuildCause) → TellsOne o (causes_at own p.makes (site_of v)) → o ≡ None → causes_in (rows_at own p.makes (site_of v)) ≡ []
       by None t e = (no-first (identifier_causes (site_of v)) (causes_in (rows_at own p.makes (site_of v))) t).1
       by (Some x) t e = absurd (cc (e))
 
@@ -201,45 +187,48 @@ module _ {M : Type 0} (finds : M → List ℕ → Option Bool) (p : Patterns) (o
         nodes = subst (λ ws. HasNodes own p.makes us new.edges.items ws (texts_of_table new.table) new.nodes.items) (sym step.noted) nodes;
       }
 
-  -- ---- the order of the steps
+  -- ---- the order of the roads
+
+  asks : (s : Site) → Met v s → AllZip Met found.visits.items (asked_from own p.makes s)
+  asks s m =
+      asked-there own (site_of v) (rows_at own p.makes s) (rows_at own p.makes (site_of v)) found.askings.items found.visits.items found-here.reads
+      (read_alike own p.makes s (site_of v) (alike-here s m)).rows
 
   pub orders : IsInOrder own p.makes roots old → IsInOrder own p.makes roots new
   orders h = (
-    further own p.makes roots vs us found.visits.items i v old.edges.items new.edges.items old.wrong.items b step.at step.links led w.graph h.0 h.1,
-    subst (λ n. AreSteps own p.makes roots us new.edges.items n (further own p.makes roots vs us found.visits.items i v old.edges.items new.edges.items old.wrong.items b step.at step.links led w.graph h.0 h.1)) (sym one-more)
-        (steps-go own p.makes roots vs us found.visits.items i v old.edges.items new.edges.items old.wrong.items b step.at step.links led w.graph h.0 h.1),
+    later_roads own p.makes roots placed vs us found.visits.items i v old.edges.items new.edges.items old.wrong.items b step.at step.links led w.graph asks h.0 h.1,
+    subst (λ n. AreRoads (asked_from own p.makes) roots Met us n (later_roads own p.makes roots placed vs us found.visits.items i v old.edges.items new.edges.items old.wrong.items b step.at step.links led w.graph asks h.0 h.1)) (sym one-more)
+        (roads-later own p.makes roots placed vs us found.visits.items i v old.edges.items new.edges.items old.wrong.items b step.at step.links led w.graph asks h.0 h.1),
   )
 
   module _ (h : IsInOrder own p.makes roots old) (none : old.wrong.items ≡ []) where
-    nearest-here : (e : refused.BuildCause) → TellsFirst (Some e) (causes_at own p.makes (site_of v)) → IsNearest own p.makes roots e
-    nearest-here e t =
-        let deep = deep-here own p.makes roots vs us found.visits.items i v old.edges.items new.edges.items old.wrong.items b step.at step.links led w.graph h.0 h.1 none in
-        let same = all-causes own p.makes v found cause found-here deep.site (alike-here deep.site deep.met) in
+    first-here : (e : refused.BuildCause) → TellsOfFirst (Some e) (causes_apart own p.makes (site_of v)) → IsFirstCause own p.makes roots e
+    first-here e t =
+        let along = its-along own p.makes roots placed vs us found.visits.items i v old.edges.items new.edges.items old.wrong.items b step.at step.links led w.graph asks h.0 h.1 in
+        let same = alike-apart own p.makes along.site (site_of v) (alike-here along.site along.met) in
         record {
-          root = deep.root;
-          listed = deep.listed;
-          steps = d own p.makes roots vs us found.visits.items i v old.edges.items new.edges.items old.wrong.items b step.at step.links led w.graph h.0 h.1;
-          site = deep.site;
-          reached = deep.reached;
+          road = (here own p.makes roots placed vs us found.visits.items i v old.edges.items new.edges.items old.wrong.items b step.at step.links led w.graph asks h.0 h.1).0;
+          site = along.site;
+          goes = along.goes;
           cause = t.0;
           named = t.1;
-          wrong = subst (λ cs. In t.0 cs) (sym same) t.2;
-          nearer = right-nearer own p.makes roots vs us found.visits.items i v old.edges.items new.edges.items old.wrong.items b step.at step.links led w.graph h.0 h.1 none;
+          first = subst (λ (lists : List (List BuildCause)). IsOfFirst t.0 lists) (sym same) t.2;
+          before = its-right own p.makes roots placed vs us found.visits.items i v old.edges.items new.edges.items old.wrong.items b step.at step.links led w.graph asks h.0 h.1 none;
         }
 
-    pub nearest-first : IfSome cause (IsNearest own p.makes roots)
-    nearest-first = by cause found-here.tells
+    pub first-told : IfSome cause (IsFirstCause own p.makes roots)
+    first-told = by cause found-here.first
       where
-        by : (o : Option refused.BuildCause) → TellsFirst o (causes_at own p.makes (site_of v)) → IfSome o (IsNearest own p.makes roots)
+        by : (o : Option refused.BuildCause) → TellsOfFirst o (causes_apart own p.makes (site_of v)) → IfSome o (IsFirstCause own p.makes roots)
         by None t = tt
-        by (Some e) t = nearest-here e t
+        by (Some e) t = first-here e t
 
-  -- ---- the first cause
+  -- ---- a cause that is told
 
   its : IsReachedFrom own p.makes roots v
   its = w.graph.reached v (in-place vs i v step.at)
 
-  from-here : (e : refused.BuildCause) → TellsFirst (Some e) (causes_at own p.makes (site_of v)) → IsFromOne own p.makes roots e
+  from-here : (e : refused.BuildCause) → TellsOne (Some e) (causes_at own p.makes (site_of v)) → IsFromOne own p.makes roots e
   from-here e t =
       let same = all-causes own p.makes v found cause found-here its.site (alike-here its.site its.met) in
       record { root = its.root; listed = its.listed; cause = t.0; named = t.1; stands = record { site = its.site; reached = its.reached; wrong = subst (λ cs. In t.0 cs) (sym same) t.2 } }
@@ -247,7 +236,7 @@ module _ {M : Type 0} (finds : M → List ℕ → Option Bool) (p : Patterns) (o
   pub first-from : IfSome cause (IsFromOne own p.makes roots)
   first-from = by cause found-here.tells
     where
-      by : (o : Option refused.BuildCause) → TellsFirst o (causes_at own p.makes (site_of v)) → IfSome o (IsFromOne own p.makes roots)
+      by : (o : Option refused.BuildCause) → TellsOne o (causes_at own p.makes (site_of v)) → IfSome o (IsFromOne own p.makes roots)
       by None t = tt
       by (Some e) t = from-here e t
 

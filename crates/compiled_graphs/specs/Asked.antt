@@ -1,9 +1,13 @@
 -- The sites that a keyword asks: those that it leads to, and behind an `if` those beside it.
 use Rattle.std.specs.Prelude.{◌≡◌, List, [], ◌∷◌, ◌++◌, ℕ, codes, true, Option, Some, None}
 use Rattle.std.specs.Borrow.{Bor}
+use Rattle.std.specs.List.{flat_map}
 use Rattle.serde_json.specs.View.{view}
 use Rattle.schema_definitions.specs.Bearers.{Documents}
 use Rattle.schema_definitions.specs.Sites.{Site}
+use Rattle.schema_definitions.specs.Rows.{Row}
+use Rattle.schema_definitions.specs.Words.{listed}
+use Rattle.schema_meaning.specs.Keywords.{Shape, condition}
 use Rattle.applicators.specs.Combined.{is_by_answers}
 use Rattle.schema_sites.specs.Read.{site_at, leads_of}
 use Rattle.schema_sites.specs.declared.keyword.Keyword.{Keyword}
@@ -31,3 +35,18 @@ asked_by docs s k = leads_of docs s k ++ beside_of docs s k
 abbrev pub IsAnswered : Keyword → Type 0
 IsAnswered (Applicator a) = is_by_answers a ≡ true
 IsAnswered k = Unit {0}
+
+-- ---- in the meaning's words
+
+-- the schemas beside an `if`
+abbrev pub beside_if : Shape Site → List Site
+beside_if (condition s then_site else_site) = listed then_site ++ listed else_site
+beside_if shape = []
+
+abbrev pub asked_in_row : List Site → List (Shape Site) → List Site
+asked_in_row [] shapes = []
+asked_in_row (s ∷ ss) shapes = (s ∷ ss) ++ flat_map beside_if shapes
+
+-- the sites that rows ask, in order: those that each leads to, and behind an `if` those of `then` and `else`, which lead there too
+abbrev pub asked_in : List Row → List Site
+asked_in rows = flat_map (λ r. asked_in_row r.leads r.shapes) rows

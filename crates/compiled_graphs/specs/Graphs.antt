@@ -9,6 +9,7 @@ use Rattle.marked_nodes.specs.declared.graph.Edge.{Edge}
 use Rattle.reached_sites.specs.Led.{leads_in}
 use Rattle.reached_sites.specs.Visits.{Met, Belongs}
 use Rattle.reached_sites.specs.declared.visit.Visit.{Visit}
+use Rattle.compiled_graphs.specs.Asked.{asked_in}
 use Rattle.compiled_graphs.specs.Linked.{edge}
 
 -- a site that is visited at a position
@@ -20,6 +21,10 @@ pub record IsVisited (vs : List Visit) (i : ℕ) (s : Site) : Type 0 where
 module _ (own : List Document) (makes : List ℕ → Bool) where
   abbrev pub led_from : Site → List Site
   led_from s = leads_in (rows_at own makes s)
+
+  -- the sites that are asked there, in the order in which a walk goes on to them
+  abbrev pub asked_from : Site → List Site
+  asked_from s = asked_in (rows_at own makes s)
 
   abbrev pub wrong_at : Site → List BuildCause
   wrong_at s = causes_at own makes s

@@ -1,10 +1,11 @@
 pub mod Linked
 pub mod Starts
+pub mod Roads
 pub mod Graphs
 pub mod Asked
 pub mod Read
 pub mod Filled
-pub mod Nearest
+pub mod First
 pub mod Walked
 pub mod Causes
 pub mod Told

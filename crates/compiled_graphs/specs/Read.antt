@@ -1,5 +1,5 @@
 -- What stands at a schema, as it is read: each row with its keyword and the visits of what that asks, or with a cause.
-use Rattle.std.specs.Prelude.{◌≡◌, ℕ, List, [], ◌∷◌, ◌++◌, Bool, false, Option, Some, None, length}
+use Rattle.std.specs.Prelude.{◌≡◌, ℕ, List, [], ◌∷◌, ◌++◌, map, Bool, false, Option, Some, None, length}
 use Rattle.serde_json.specs.Data.{Data, Members}
 use Rattle.serde_json.specs.View.{view, members_view}
 use Rattle.schema_meaning.specs.Members.{In}
@@ -27,6 +27,7 @@ use Rattle.reached_sites.specs.declared.pattern.Pattern.{Pattern}
 use Rattle.reached_sites.specs.declared.visit.Visit.{Visit}
 use Rattle.compiled_graphs.specs.Asked.{asked_by, IsAnswered}
 use Rattle.compiled_graphs.specs.Filled.{total}
+use Rattle.compiled_graphs.specs.Told.{causes_apart}
 use Rattle.compiled_graphs.specs.declared.asking.Asking.{Asking}
 use Rattle.compiled_graphs.specs.declared.asking.Asking.TheVariants.{Never, Keyword}
 use Rattle.compiled_graphs.specs.declared.reading.Found.{Found}
@@ -45,10 +46,21 @@ pub data ReadAs (own : List Document) (s : Site) : List Row → List Asking → 
 abbrev pub IsCounted : Found → Type 0
 IsCounted found = total found.askings.items ≡ length found.visits.items
 
--- the first cause, if there is any
-abbrev pub TellsFirst : Option refused.BuildCause → List BuildCause → Type 0
-TellsFirst None causes = causes ≡ []
-TellsFirst (Some e) causes = (c : BuildCause) × NamesCause c e × In c causes
+-- one of some causes is told, if there is any
+abbrev pub TellsOne : Option refused.BuildCause → List BuildCause → Type 0
+TellsOne None causes = causes ≡ []
+TellsOne (Some e) causes = (c : BuildCause) × NamesCause c e × In c causes
+
+-- a cause is one of the first of some lists that has any
+abbrev pub IsOfFirst : BuildCause → List (List BuildCause) → Type 0
+IsOfFirst c [] = ⊥
+IsOfFirst c ([] ∷ lists) = IsOfFirst c lists
+IsOfFirst c ((b ∷ bs) ∷ lists) = In c (b ∷ bs)
+
+-- the cause that is told, if any is, is one of these
+abbrev pub TellsOfFirst : Option refused.BuildCause → List (List BuildCause) → Type 0
+TellsOfFirst None lists = Unit {0}
+TellsOfFirst (Some e) lists = (c : BuildCause) × NamesCause c e × IsOfFirst c lists
 
 -- what was found of one row was put behind others
 pub record AddsRow (own : List Document) (s : Site) (row : Row) (old new : Found) : Type 0 where
@@ -60,7 +72,7 @@ pub record AddsRow (own : List Document) (s : Site) (row : Row) (old new : Found
 
 pub record RowRead (own : List Document) (s : Site) (row : Row) (old new : Found) (cause : Option refused.BuildCause) : Type 0 where
   pub adds : AddsRow own s row old new
-  pub tells : TellsFirst cause row.causes
+  pub tells : TellsOne cause row.causes
 
 -- what was found of some rows was put behind others
 pub record RowsRead (own : List Document) (s : Site) (rows : List Row) (old new : Found) (cause : Option refused.BuildCause) : Type 0 where
@@ -69,12 +81,14 @@ pub record RowsRead (own : List Document) (s : Site) (rows : List Row) (old new 
   pub asked : new.askings.items ≡ old.askings.items ++ askings
   pub visited : new.visits.items ≡ old.visits.items ++ visits
   pub reads : ReadAs own s rows askings visits
-  pub tells : TellsFirst cause (causes_in rows)
+  pub tells : TellsOne cause (causes_in rows)
+  pub first : TellsOfFirst cause (map (λ r. r.causes) rows)
 
 -- all that stands at a site was found
 pub record IsFound (own : List Document) (makes : List ℕ → Bool) (s : Site) (found : Found) (cause : Option refused.BuildCause) : Type 0 where
   pub reads : ReadAs own s (rows_at own makes s) found.askings.items found.visits.items
-  pub tells : TellsFirst cause (causes_at own makes s)
+  pub tells : TellsOne cause (causes_at own makes s)
+  pub first : TellsOfFirst cause (causes_apart own makes s)
 
 -- all rows of a visit whose schema is no object
 abbrev pub OtherReads : (List ℕ → Bool) → Visit → Found → Found → Option refused.BuildCause → Type 0

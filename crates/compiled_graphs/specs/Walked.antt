@@ -21,7 +21,7 @@ use Rattle.reached_sites.specs.declared.visit.Visit.{Visit}
 use Rattle.compiled_graphs.specs.Causes.{AreExceeded}
 use Rattle.compiled_graphs.specs.Filled.{HasNodes}
 use Rattle.compiled_graphs.specs.Graphs.{IsGraph}
-use Rattle.compiled_graphs.specs.Nearest.{IsNearest, IsInOrder}
+use Rattle.compiled_graphs.specs.First.{IsFirstCause, IsInOrder}
 use Rattle.compiled_graphs.specs.declared.walk.AtCause.{AtCause}
 use Rattle.compiled_graphs.specs.declared.walk.AtCause.TheVariants.{Stop, GoOn}
 use Rattle.compiled_graphs.specs.declared.walk.Walk.{Walk}
@@ -57,7 +57,7 @@ pub record Fills {M : Type 0} (finds : M → List ℕ → Option Bool) (p : Patt
   pub wrong : Walks finds p own roots old → IfSome cause (IsFromOne own p.makes roots)
   pub right : cause ≡ None → new.wrong.items ≡ old.wrong.items
   pub orders : Walks finds p own roots old → IsInOrder own p.makes roots old → IsInOrder own p.makes roots new
-  pub nearest : Walks finds p own roots old → IsInOrder own p.makes roots old → old.wrong.items ≡ [] → IfSome cause (IsNearest own p.makes roots)
+  pub first : Walks finds p own roots old → IsInOrder own p.makes roots old → old.wrong.items ≡ [] → IfSome cause (IsFirstCause own p.makes roots)
 
 -- whether a walk may go on behind what was found
 abbrev pub MayGoOn : AtCause → Option refused.BuildCause → Type 0
@@ -96,6 +96,6 @@ StopsAt GoOn makes own roots e = ⊥
 abbrev pub RefusesWalk : (List ℕ → Bool) → List Document → List Site → ℕ → AtCause → refused.BuildCause → Type 0
 RefusesWalk makes own roots limit at_cause e = AreExceeded own makes roots limit e ⊎ (StopsAt at_cause makes own roots e ⊎ (e ≡ Memory))
 
--- the same of a walk that has come by what it visits in the order of the steps that lead there: of its causes the nearest
+-- the same of a walk that has come by what it visits in the order of the roads that go there: of its causes the first
 abbrev pub RefusesInOrder : (List ℕ → Bool) → List Document → List Site → ℕ → refused.BuildCause → Type 0
-RefusesInOrder makes own roots limit e = AreExceeded own makes roots limit e ⊎ ((e ≡ Memory) ⊎ IsNearest own makes roots e)
+RefusesInOrder makes own roots limit e = AreExceeded own makes roots limit e ⊎ ((e ≡ Memory) ⊎ IsFirstCause own makes roots e)

@@ -11,7 +11,7 @@ ghost use Rattle.schema_patterns.specs.Tables.{texts_of_table, AreMadeBy};
 ghost use Rattle.reached_sites.specs.Causes.{RefusesWithin};
 ghost use Rattle.reached_sites.specs.Roots.{IsPlaced};
 ghost use Rattle.compiled_graphs.specs.Linking.{IsCompiledAt};
-ghost use Rattle.compiled_graphs.specs.Nearest.{RefusesNearest};
+ghost use Rattle.compiled_graphs.specs.First.{RefusesFirst};
 
 use crate::schemas::SchemaGraph;
 use crate::starting::start_at;
@@ -52,7 +52,7 @@ fn build_from<'r, P: PatternMaker>(
         (P.patterns maker.now).makes g.schemas.graph.nodes.items (root_site (target_in root.now)) g.start) }
     ensures refused { IfErr result (RefusesWithin (documents_in root.now.resolver) (P.patterns maker.now).makes
         (root_site (target_in root.now)) limit) }
-    ensures nearest { IfErr result (RefusesNearest (documents_in root.now.resolver) (P.patterns maker.now).makes
+    ensures first { IfErr result (RefusesFirst (documents_in root.now.resolver) (P.patterns maker.now).makes
         (root_site (target_in root.now)) limit) }
 {
     let visits = start_at(alloc, root, matches)?;
@@ -75,8 +75,8 @@ fn build_from<'r, P: PatternMaker>(
 ///
 /// # Errors
 ///
-/// A cause that stands at a place reached from the root, the first in the order of the nodes, so that no fewer steps lead to another; more
-/// compile keys than the limit, or want of memory.
+/// The first cause in the order of the nodes: nothing is wrong at what earlier roads from the root lead to, and there it is of the identifier,
+/// or else of the first member that has one. Or more compile keys than the limit, or want of memory.
 pub fn build<P: PatternMaker>(
     alloc: Global,
     root: &Resolved<'_>,
@@ -96,7 +96,7 @@ pub fn build<P: PatternMaker>(
         (P.patterns maker.now).makes g.schemas.graph.nodes.items (root_site (target_in root.now)) g.start) }
     ensures refused { IfErr result (RefusesWithin (documents_in root.now.resolver) (P.patterns maker.now).makes
         (root_site (target_in root.now)) limit) }
-    ensures nearest { IfErr result (RefusesNearest (documents_in root.now.resolver) (P.patterns maker.now).makes
+    ensures first { IfErr result (RefusesFirst (documents_in root.now.resolver) (P.patterns maker.now).makes
         (root_site (target_in root.now)) limit) }
 {
     let matches = Matches::none(alloc);

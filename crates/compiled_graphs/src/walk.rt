@@ -4,7 +4,7 @@ ghost use Rattle.std.specs.Prelude.{◌≡◌, ◌<◌, ◌+◌, List, [], IfOk,
 ghost use Rattle.schema_definitions.specs.Bearers.{Document};
 ghost use Rattle.schema_definitions.specs.Sites.{Site};
 ghost use Rattle.reached_sites.specs.Patterns.{IsFront};
-ghost use Rattle.compiled_graphs.specs.Nearest.{IsInOrder};
+ghost use Rattle.compiled_graphs.specs.First.{IsInOrder};
 ghost use Rattle.compiled_graphs.specs.Walked.{ArePlaced, Walks, IsWalked, Fills, IsBegun, MayGoOn};
 ghost use Rattle.compiled_graphs.specs.Walked.{IsStopped, RefusesWalk, RefusesInOrder};
 
@@ -131,7 +131,7 @@ impl<'r, M: PatternMatcher> Walk<'r, M> {
         ensures walked { IfOk result (λ w. (own : List Document) (roots : List Site) → ArePlaced own roots
             → Walks M.finds (P.patterns maker.now) own roots self.entry
             → IsWalked M.finds (P.patterns maker.now) own roots limit at_cause w) }
-        ensures nearest { IfErr result (λ e. (own : List Document) (roots : List Site) → ArePlaced own roots
+        ensures first { IfErr result (λ e. (own : List Document) (roots : List Site) → ArePlaced own roots
             → Walks M.finds (P.patterns maker.now) own roots self.entry
             → IsInOrder own (P.patterns maker.now).makes roots self.entry
             → RefusesInOrder (P.patterns maker.now).makes own roots limit e) }

@@ -30,7 +30,7 @@ use Rattle.schema_validators.specs.Made.{IsMadeBy}
 use Rattle.schema_validators.specs.Refused.{RefusesBuild, RefusesValue, RefusesAt, RefusesRoot}
 use Rattle.schema_validators.specs.Seen.{root_of}
 use Rattle.schema_validators.proofs.Certifying.{verdict_certified, fault_certified}
-use Rattle.schema_validators.proofs.Nearest.{nearest_is_cause}
+use Rattle.schema_validators.proofs.First.{first_is_cause}
 use Rattle.schema_validators.specs.declared.error.BuildError.{BuildError}
 use Rattle.schema_validators.specs.declared.error.BuildError.TheVariants as error
 use Rattle.schema_validators.specs.declared.validator.Validator.{Validator}
@@ -68,7 +68,7 @@ module _ (p : Patterns) (limit : ℕ) where
   not_refused r (error.Schema e) sound within h =
       elim h.2 [
         | inl exceeded ↦ (let most = within h.0 h.1 exceeded.exceeds.keys exceeded.exceeds.are in let more = exceeded.exceeds.more in absurd (omega arith))
-        | inr near ↦ (let cause = nearest_is_cause r.documents p.makes (site_of_root r h.0) e near in absurd (sound.right h.0 h.1 cause.0 cause.2))
+        | inr first ↦ (let cause = first_is_cause r.documents p.makes (site_of_root r h.0) e first in absurd (sound.right h.0 h.1 cause.0 cause.2))
       ]
   not_refused r (error.MetaSchema e) sound within h = absurd h
   not_refused r error.Memory sound within h = refl

@@ -3,7 +3,7 @@ mod ByNodes
 mod Hearing
 mod Certifying
 pub mod MissingLemmas
-mod Nearest
+mod First
 mod Agreeing
 mod Asking
 mod Owning

@@ -12,7 +12,7 @@ use Rattle.reached_sites.specs.Causes.{IsExceeded}
 use Rattle.reached_sites.specs.Places.{place_in}
 use Rattle.reached_sites.specs.declared.cause.BuildCause.{BuildCause}
 use Rattle.reached_sites.specs.declared.cause.BuildCause.TheVariants as reached
-use Rattle.compiled_graphs.specs.Nearest.{IsNearest}
+use Rattle.compiled_graphs.specs.First.{IsFirstCause}
 use Rattle.schema_reports.specs.Told.{fault_of, error_is_proper}
 use Rattle.schema_reports.specs.declared.error.ValidationError.{ValidationError}
 use Rattle.schema_registries.specs.Passed.{Asking, Stops, HasCause}
@@ -77,14 +77,14 @@ pub record LeadsNowhere (r : Root) (e : RefusedRoot) : Type 0 where
   pub base : e.base ≡ r.base
   pub reference : string_bytes e.reference ≡ r.reference
 
--- a root is refused because its reference leads nowhere, for a nearest cause at what is reached from it, or because that is too much
+-- a root is refused because its reference leads nowhere, for the first cause at what is reached from it, or because that is too much
 abbrev pub RefusesBuild : Patterns → ℕ → Root → BuildError → Type 0
 RefusesBuild p limit r (error.Document e) = ⊥
 RefusesBuild p limit r (error.Registry e) = ⊥
 RefusesBuild p limit r (error.Root e) = LeadsNowhere r e
 RefusesBuild p limit r (error.Schema e) =
     (target : Target) × Finds r target
-    × (IsExceeded r.documents p.makes (site_of_root r target) limit e ⊎ IsNearest r.documents p.makes (site_of_root r target ∷ []) e)
+    × (IsExceeded r.documents p.makes (site_of_root r target) limit e ⊎ IsFirstCause r.documents p.makes (site_of_root r target ∷ []) e)
 RefusesBuild p limit r (error.MetaSchema e) = ⊥
 RefusesBuild p limit r error.Memory = Unit {0}
 

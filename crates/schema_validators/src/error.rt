@@ -3,7 +3,7 @@
 ghost use Rattle.std.specs.Prelude.{◌≡◌, ℕ, IfOk, string_bytes};
 ghost use Rattle.schema_definitions.specs.Lookup.{Target, lookup};
 ghost use Rattle.document_sources.specs.Causes.{RefusesLookup};
-ghost use Rattle.compiled_graphs.specs.Nearest.{RefusesNearest};
+ghost use Rattle.compiled_graphs.specs.First.{RefusesFirst};
 ghost use Rattle.schema_registries.specs.Roots.{Root, Patterns, Finds, site_of_root};
 ghost use Rattle.schema_validators.specs.Refused.{IsOfRegistry, RefusesBuild};
 ghost use Rattle.schema_validators.specs.New.{IsOfDocument};
@@ -180,10 +180,10 @@ impl BuildError {
         }
     }
 
-    /// The error of a root that leads to a cause, the nearest one, or to too much.
+    /// The error of a root that leads to a cause, the first one, or to too much.
     pub(crate) fn of_schema(cause: BuildCause) -> BuildError
         ensures { (p : Patterns) (limit : ℕ) (root : Root) (target : Target) → Finds root target
-            → RefusesNearest root.documents p.makes (site_of_root root target) limit cause
+            → RefusesFirst root.documents p.makes (site_of_root root target) limit cause
             → RefusesBuild p limit root result }
     {
         match cause {

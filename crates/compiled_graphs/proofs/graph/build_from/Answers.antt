@@ -2,7 +2,7 @@ use Rattle.std.proofs.Common.{[], ◌∷◌}
 use Rattle.std.proofs.lemmas.Result.{err_from_is_err_and}
 use Rattle.referencing.specs.Resolved.{documents_in, target_in}
 use Rattle.schema_definitions.specs.Sites.{root_site}
-use Rattle.compiled_graphs.proofs.Built.{IsBuilt, IsStarted, one-placed, refuses-one, refuses-nearest, walks-from-root, ordered-from-root, built-of, accepted, within-limit, patterns-among, made, sound, compiled-at, forms, knows}
+use Rattle.compiled_graphs.proofs.Built.{IsBuilt, IsStarted, one-placed, refuses-one, refuses-first, walks-from-root, ordered-from-root, built-of, accepted, within-limit, patterns-among, made, sound, compiled-at, forms, knows}
 use Rattle.compiled_graphs.proofs.graph.build_from.Goals as goal
 
 pub returns-in_err-walk-clause-refused : goal.returns-in_err-walk-clause-refused
@@ -18,8 +18,8 @@ returns-in_err-walk-clause-refused g c =
     let e = err_from_is_err_and c.from_residual-in_err-walk.result c.from_residual-in_err-walk.ensures.1 in
     rw (e.1, e.2) (refuses-one p.makes own (root_site root) limit _ (c.in_err-walk.ensures.refused own (root_site root ∷ []) (one-placed own root c.requires.placed) walks))
 
-pub returns-in_err-walk-clause-nearest : goal.returns-in_err-walk-clause-nearest
-returns-in_err-walk-clause-nearest g c =
+pub returns-in_err-walk-clause-first : goal.returns-in_err-walk-clause-first
+returns-in_err-walk-clause-first g c =
     let own = documents_in c.args.root.now.resolver in
     let root = target_in c.args.root.now in
     let p = g.P.PatternMaker.patterns c.args.maker.now in
@@ -30,7 +30,7 @@ returns-in_err-walk-clause-nearest g c =
     let walks = walks-from-root finds p own root limit c.new-begun.result c.in_ok-visits.visits.list.items c.requires.placed c.new-begun.ensures started in
     let ordered = ordered-from-root finds p own root limit c.new-begun.result c.in_ok-visits.visits.list.items c.requires.placed c.new-begun.ensures started s.one in
     let e = err_from_is_err_and c.from_residual-in_err-walk.result c.from_residual-in_err-walk.ensures.1 in
-    rw (e.1, e.2) (refuses-nearest p.makes own (root_site root) limit _ (c.in_err-walk.ensures.nearest own (root_site root ∷ []) (one-placed own root c.requires.placed) walks ordered))
+    rw (e.1, e.2) (refuses-first p.makes own (root_site root) limit _ (c.in_err-walk.ensures.first own (root_site root ∷ []) (one-placed own root c.requires.placed) walks ordered))
 
 pub invariant_of-result : goal.invariant_of-result
 invariant_of-result g c =

@@ -6,7 +6,7 @@ use Rattle.document_sources.specs.Causes.{RefusesLookup}
 use Rattle.schema_patterns.specs.Tables.{texts_of_table}
 use Rattle.reached_sites.specs.Passed.{documents_in, base_of, target_in}
 use Rattle.schema_registries.specs.Seen.{documents_shared}
-use Rattle.compiled_graphs.specs.Nearest.{RefusesNearest}
+use Rattle.compiled_graphs.specs.First.{RefusesFirst}
 use Rattle.schema_registries.specs.Roots.{Root}
 use Rattle.document_laws.specs.TargetLaws.{are_apart, contents_rise, by_reference}
 use Rattle.schema_validators.specs.Seen.{root_of}
@@ -34,7 +34,7 @@ returns-clause-refused g c =
     let target = target_in c.in-Ok.found in
     let there : documents_in c.in-Ok.found.resolver ≡ documents_shared c.args.registry.now = c.in-Ok.ensures.documents ∙ documents in
     c.of_schema.ensures p c.args.node_limit r target (sym same ∙ c.in-Ok.ensures.ok)
-    (subst (λ own. RefusesNearest own p.makes (root_site target) c.args.node_limit c.in-Err-build.cause) there c.in-Err-build.ensures.nearest)
+    (subst (λ own. RefusesFirst own p.makes (root_site target) c.args.node_limit c.in-Err-build.cause) there c.in-Err-build.ensures.first)
 
 pub build-requires : goal.build-requires
 build-requires g c =

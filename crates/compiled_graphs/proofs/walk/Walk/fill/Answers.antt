@@ -12,7 +12,7 @@ use Rattle.compiled_graphs.specs.Filled.{Compiled, IsRank}
 use Rattle.compiled_graphs.proofs.Compiling.{zip-length}
 use Rattle.compiled_graphs.proofs.Growing.{kept-at, noted_wrong}
 use Rattle.compiled_graphs.proofs.Positions.{one-there, within}
-use Rattle.compiled_graphs.proofs.Walks.{told-none, Step, IsFitting, fits-compiled, fits-empty, step-walks, first-from, orders, nearest-first}
+use Rattle.compiled_graphs.proofs.Walks.{told-none, Step, IsFitting, fits-compiled, fits-empty, step-walks, first-from, orders, first-told}
 use Rattle.compiled_graphs.proofs.walk.Walk.fill.Goals.{then-is_none+in_ok-keywords, else-is_none}
 use Rattle.compiled_graphs.proofs.walk.Walk.fill.Goals as goal
 
@@ -91,6 +91,6 @@ returns-clause-fills g c = λ own roots placed.
       walks = λ w. step-walks finds p own roots placed old _ v found cause ns node step w;
       wrong = λ w. first-from finds p own roots placed old _ v found cause ns node step w;
       orders = λ w h. orders finds p own roots placed old _ v found cause ns node step w h;
-      nearest = λ w h none. nearest-first finds p own roots placed old _ v found cause ns node step w h none;
+      first = λ w h none. first-told finds p own roots placed old _ v found cause ns node step w h none;
       right = λ none. noted ∙ ap (λ (o : Option BuildCause). noted_wrong (is_none o) old.wrong.items (length old.nodes.items)) none;
     })

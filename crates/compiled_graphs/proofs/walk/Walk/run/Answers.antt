@@ -3,7 +3,7 @@ use Rattle.std.proofs.lemmas.Result.{err_from_is_err_and}
 use Rattle.reached_sites.proofs.Filing.{keys-apart}
 use Rattle.reached_sites.proofs.Filling.{same-front, further-front}
 use Rattle.compiled_graphs.proofs.Ending.{keys-exceed}
-use Rattle.compiled_graphs.proofs.Running.{none-wrong, still-none, stops-there, nearest-there, few-where, few-at-end, front-length}
+use Rattle.compiled_graphs.proofs.Running.{none-wrong, still-none, stops-there, first-there, few-where, few-at-end, front-length}
 use Rattle.compiled_graphs.proofs.walk.Walk.run.Goals as goal
 
 pub loop-alloc-init : goal.loop-alloc-init
@@ -27,8 +27,8 @@ returns-then-len-limit-clause-refused g c = λ own roots placed w.
     let more : c.args.limit < length now.visits.list.items = omega (arith, c.if-len-limit.true, count) in
     inl (record { named = refl; exceeds = keys-exceed own makes roots now.visits.list.items now.edges.items now.wrong.items (length now.nodes.items) known.graph (keys-apart now.visits) c.args.limit more })
 
-pub returns-then-len-limit-clause-nearest : goal.returns-then-len-limit-clause-nearest
-returns-then-len-limit-clause-nearest g c = λ own roots placed w h.
+pub returns-then-len-limit-clause-first : goal.returns-then-len-limit-clause-first
+returns-then-len-limit-clause-first g c = λ own roots placed w h.
     let now = c.loop-alloc.self in
     let known = (c.loop-alloc.invariant.walks own roots placed w).0 in
     let makes = (g.P.PatternMaker.patterns c.args.maker.now).makes in
@@ -68,15 +68,15 @@ returns-in_err-stopped-clause-refused g c =
     let was = (c.loop-alloc.invariant.walks own roots placed w).0 in
     inr (inl (stops-there c.args.at_cause c.in_ok-cause.cause _ makes own roots c.in_err-stopped.ensures.stops ((c.in_ok-cause.ensures.fills own roots placed).wrong was))))
 
-pub returns-in_err-stopped-clause-nearest : goal.returns-in_err-stopped-clause-nearest
-returns-in_err-stopped-clause-nearest g c =
+pub returns-in_err-stopped-clause-first : goal.returns-in_err-stopped-clause-first
+returns-in_err-stopped-clause-first g c =
     let makes = (g.P.PatternMaker.patterns c.args.maker.now).makes in
     let e = err_from_is_err_and c.from_residual-in_err-stopped.result c.from_residual-in_err-stopped.ensures.1 in
     rw (e.1, e.2) (λ own roots placed w h.
     let known = c.loop-alloc.invariant in
     let was = known.walks own roots placed w in
-    inr (inr (nearest-there c.args.at_cause c.in_ok-cause.cause _ makes own roots c.loop-alloc.self.wrong.items c.in_err-stopped.ensures.stops was.1
-    (λ none. (c.in_ok-cause.ensures.fills own roots placed).nearest was.0 (known.ordered own roots placed w h) none))))
+    inr (inr (first-there c.args.at_cause c.in_ok-cause.cause _ makes own roots c.loop-alloc.self.wrong.items c.in_err-stopped.ensures.stops was.1
+    (λ none. (c.in_ok-cause.ensures.fills own roots placed).first was.0 (known.ordered own roots placed w h) none))))
 
 pub returns-clause-walked : goal.returns-clause-walked
 returns-clause-walked g c = λ own roots placed w.

@@ -2,7 +2,7 @@ use Rattle.std.proofs.Common.{◌≤◌, ◌-◌, List, length}
 use Rattle.schema_definitions.specs.Bearers.{Document}
 use Rattle.schema_definitions.specs.Sites.{Site}
 use Rattle.reached_sites.specs.Patterns.{IsFront}
-use Rattle.compiled_graphs.specs.Nearest.{IsInOrder}
+use Rattle.compiled_graphs.specs.First.{IsInOrder}
 use Rattle.compiled_graphs.specs.Walked.{ArePlaced, Walks, NoneWrong}
 use Rattle.compiled_graphs.proofs.Running.{FewOrMore}
 use Rattle.compiled_graphs.proofs.walk.Walk.run.Given as goal
