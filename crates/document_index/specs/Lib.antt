@@ -7,3 +7,4 @@ pub mod Awaited
 pub mod Named
 pub mod Checked
 pub mod Standings
+pub mod Surveys

@@ -11,6 +11,7 @@ pub mod names;
 pub mod prepared;
 mod stages;
 pub mod standing;
+pub mod survey;
 pub mod told;
 
 pub use document::Document;

@@ -33,13 +33,15 @@ fn push_standings<'d>(
     ensures { OnOk result (map located_of found.new.items ≡ map located_of found.old.items
         ++ standings_at (dialects_in known.now) (position, document_of document.now)) }
 {
-    for place in places(
+    let own = places(
         alloc,
         known,
         &document.name.uri,
         document.default,
         document.contents.value(),
-    )? {
+    )?;
+    found.reserve(own.len())?;
+    for place in own {
         found.push(Standing {
             document: position,
             name: document.name.clone()?,

@@ -98,10 +98,7 @@ fn stage_after<'d>(
 }
 
 // The last of the stages. The members named `$schema` are counted only where the first is not at rest.
-pub(crate) fn last_stage<'d>(
-    alloc: Global,
-    documents: &'d [Document<'_>],
-) -> Result<Stage<'d>, AllocError>
+fn last_stage<'d>(alloc: Global, documents: &'d [Document<'_>]) -> Result<Stage<'d>, AllocError>
     ensures told { IfOk result (λ s. Tells s.told.meta_schemas (bearers.meta (map document_of documents.now))) }
     ensures anew { IfOk result (λ s. option_map causes.circular_metaschema s.told.anew
         ≡ slice_get (causes.told_anew (map document_of documents.now)) 0) }
@@ -158,6 +155,24 @@ pub fn meta_schemas(alloc: Global, documents: &[Document<'_>]) -> Result<Told, A
     Ok(last_stage(alloc, documents)?.told)
 }
 
+// All that documents tell of meta-schemas, and their schema places under that.
+pub(crate) fn told_stage<'d>(
+    alloc: Global,
+    documents: &'d [Document<'_>],
+) -> Result<Stage<'d>, AllocError>
+    ensures told { IfOk result (λ s. Tells s.told.meta_schemas (bearers.meta (map document_of documents.now))) }
+    ensures anew { IfOk result (λ s. option_map causes.circular_metaschema s.told.anew
+        ≡ slice_get (causes.told_anew (map document_of documents.now)) 0) }
+    ensures places { IfOk result (λ s. AreTold (map document_of documents.now) s.places.items) }
+{
+    let Stage { told, places } = last_stage(alloc, documents)?;
+    if told.anew.is_none() {
+        return Ok(Stage { told, places });
+    }
+    let places = standings(alloc, &told.meta_schemas, documents)?;
+    Ok(Stage { told, places })
+}
+
 /// The schema places of documents under all that they tell of meta-schemas, in the order of [`standings`].
 ///
 /// They are those of the last stage where that is at rest, and cost what [`meta_schemas`] costs. Only where a meta-schema is told anew
@@ -172,9 +187,5 @@ pub fn told_standings<'d>(
 ) -> Result<Vec<Standing<'d>>, AllocError>
     ensures { IfOk result (λ v. AreTold (map document_of documents.now) v.items) }
 {
-    let stage = last_stage(alloc, documents)?;
-    match stage.told.anew {
-        None => Ok(stage.places),
-        Some(_) => standings(alloc, &stage.told.meta_schemas, documents),
-    }
+    Ok(told_stage(alloc, documents)?.places)
 }

@@ -4,6 +4,7 @@ ghost use Rattle.std.specs.Prelude.{◌≡◌, ◌++◌, [], ◌∷◌, ℕ, Lis
 ghost use Rattle.std.specs.List.{list_any};
 ghost use Rattle.schema_definitions.specs.Words.{listed};
 ghost use Rattle.document_index.specs.Seen.{document_of, standing_of};
+ghost use Rattle.document_index.specs.Surveys.{Surveys};
 ghost use Rattle.schema_definitions.specs.Rounds as rounds;
 ghost use Rattle.document_retrieval.specs.Known.{want_of, has_name, is_known_by};
 
@@ -11,7 +12,7 @@ use crate::names::Names;
 use document_index::document::Document;
 use document_index::index::Index;
 use document_index::standing::Standing;
-use document_index::told::told_standings;
+use document_index::survey::Survey;
 use schema_dialects::bases::resolved;
 use std::alloc::{AllocError, Global};
 use std::rc::Rc;
@@ -103,22 +104,20 @@ fn names_of(alloc: Global, documents: &[Document<'_>]) -> Result<Names, AllocErr
     Ok(names)
 }
 
-/// What documents want and is not at hand, each URI once, in the order met. They are read under all that they tell of meta-schemas.
-///
-/// It costs what [`told_standings`] costs, and takes a few look-ups in maps for each schema place that is not plain.
-///
-/// # Errors
-///
-/// As [`told_standings`].
-pub fn wants_of(alloc: Global, documents: &[Document<'_>]) -> Result<Vec<Want>, AllocError>
+// What documents want and is not at hand, each URI once, in the order met. They are read under all that they tell of meta-schemas. It takes
+// a few look-ups in maps for each schema place that is not plain.
+pub(crate) fn wants_of(
+    alloc: Global,
+    documents: &[Document<'_>],
+    survey: &Survey<'_>,
+) -> Result<Vec<Want>, AllocError>
+    requires { Surveys survey.now (map document_of documents.now) }
     ensures { IfOk result (λ v. map want_of v.items ≡ rounds.wants (map document_of documents.now)) }
 {
-    let places = told_standings(alloc, documents)?;
-    let index = Index::of(alloc, &places)?;
     let mut names = names_of(alloc, documents)?;
     let mut wants = Vec::new(alloc);
-    for standing in &places {
-        push_wanted(alloc, &index, &mut names, &mut wants, standing)?;
+    for standing in &survey.places {
+        push_wanted(alloc, &survey.index, &mut names, &mut wants, standing)?;
     }
     Ok(wants)
 }

@@ -1,7 +1,7 @@
 // Documents that are retrieved, and registries that begin with the documents of another.
 use crate::registries::{Prepared, assert_asked, assert_retrieved, assert_rows, prepared_with};
 use crate::scripts::{assert_last_row, documents_of, limit, set_by, text_of, topics};
-use document_retrieval::rounds::retrieve_wanted;
+use document_retrieval::rounds::prepare_wanted;
 use document_sources::error::{Error, RetrieveError};
 use document_sources::layer::Layer;
 use document_sources::{DefaultRetriever, MapRetriever, Retrieve};
@@ -46,8 +46,8 @@ pub(crate) fn assert_gathered<R: Retrieve>(
         draft: Draft::Draft202012,
         siblings: false,
     };
-    let told = match retrieve_wanted(alloc, documents, layer, retriever, limit) {
-        Ok(retrieved) => uris(rt, alloc, &retrieved.uris),
+    let told = match prepare_wanted(alloc, documents, layer, retriever, limit) {
+        Ok(gathered) => uris(rt, alloc, &gathered.retrieved.uris),
         Err(error) => text_of(rt, alloc, &error),
     };
     assert_last_row(rt, topic, &told);

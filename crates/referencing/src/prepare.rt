@@ -6,6 +6,7 @@ ghost use Rattle.schema_definitions.specs.DocumentCauses.{document_causes};
 ghost use Rattle.document_index.specs.Seen.{document_of};
 ghost use Rattle.document_laws.specs.ListedLaws.{AreAsListed, AreOne, ListOnce};
 ghost use Rattle.document_index.specs.Named.{NamesOne};
+ghost use Rattle.document_index.specs.Surveys.{Prepares};
 ghost use Rattle.referencing.specs.Stands.{contents_rise};
 ghost use Rattle.referencing.specs.Seen.{documents_of, retrieved_by};
 
@@ -29,29 +30,28 @@ fn check_names(documents: &[Document<'_>])
 }
 
 impl<'a> Registry<'a> {
-    // The registry of documents, with the URIs of those that were retrieved.
+    // The registry of documents that were prepared, with the URIs of those that were retrieved.
     pub(crate) fn with_retrieved(
         alloc: Global,
         siblings: bool,
         documents: Vec<Document<'a>>,
         retrieved: Vec<Rc<Uri>>,
-    ) -> Result<Registry<'a>, Error>
-        ensures documents { IfOk result (λ r. documents_of r ≡ map document_of documents.entry.items) }
-        ensures siblings { IfOk result (λ r. r.siblings ≡ siblings) }
-        ensures retrieved { IfOk result (λ r. retrieved_by r ≡ map (λ u. u.value) retrieved.items) }
-        ensures accepted { OnOk result (document_causes (map document_of documents.entry.items) ≡ []) }
-        ensures refused { IfErr result (NamesOne (document_causes (map document_of documents.entry.items))) }
+        prepared: Prepared,
+    ) -> Registry<'a>
+        requires { Prepares prepared (map document_of documents.items) }
+        ensures documents { documents_of result ≡ map document_of documents.entry.items }
+        ensures siblings { result.siblings ≡ siblings }
+        ensures retrieved { retrieved_by result ≡ map (λ u. u.value) retrieved.items }
     {
-        let Prepared { known, index } = prepared::prepare(alloc, &documents)?;
         check_names(&documents);
-        Ok(Registry {
+        Registry {
             alloc,
             siblings,
             documents,
             retrieved,
-            known,
-            index,
-        })
+            known: prepared.known,
+            index: prepared.index,
+        }
     }
 
     /// The registry of documents, where they have no cause to be refused. The last document of a URI counts, and none is retrieved.
@@ -74,7 +74,8 @@ impl<'a> Registry<'a> {
         ensures accepted { OnOk result (document_causes (map document_of documents.entry.items) ≡ []) }
         ensures refused { IfErr result (NamesOne (document_causes (map document_of documents.entry.items))) }
     {
-        Registry::with_retrieved(alloc, siblings, documents, Vec::new(alloc))
+        let prepared = prepared::prepare(alloc, &documents)?;
+        Ok(Registry::with_retrieved(alloc, siblings, documents, Vec::new(alloc), prepared))
     }
 
     /// Whether what stands beside `$ref` is read in Drafts 6 and 7.

@@ -15,7 +15,7 @@ use crate::registry::Registry;
 use document_index::document::Document;
 use document_retrieval::given::with_drafts;
 use document_retrieval::layers::layer_above;
-use document_retrieval::rounds::{Retrieved, retrieve_wanted};
+use document_retrieval::rounds::{Gathered, Retrieved, prepare_wanted};
 use document_sources::Retrieve;
 use document_sources::error::Error;
 use document_sources::layer::Layer;
@@ -33,7 +33,7 @@ fn documents_or_none<'a>(alloc: Global, parent: Option<Vec<Document<'a>>>) -> Ve
 
 impl<'a> Registry<'a> {
     /// The registry of documents and of those that they want, as [`RegistryBuilder::prepare`] has it: an answer is a document of the
-    /// layer, and read by its draft where it names none.
+    /// layer, and read by its draft where it names none. It costs what [`prepare_wanted`] costs, and walks each document once more.
     ///
     /// # Errors
     ///
@@ -59,10 +59,12 @@ impl<'a> Registry<'a> {
             (asking R.may_answer R.may_refuse retriever.now (layer_of layer)) limit
             (map document_of documents.entry.items)) }
     {
-        let Retrieved { documents, uris } = retrieve_wanted(
-            alloc, documents, layer, retriever, limit,
-        )?;
-        Registry::with_retrieved(alloc, layer.siblings, documents, uris)
+        let Gathered {
+            retrieved,
+            prepared,
+        } = prepare_wanted(alloc, documents, layer, retriever, limit)?;
+        let Retrieved { documents, uris } = retrieved;
+        Ok(Registry::with_retrieved(alloc, layer.siblings, documents, uris, prepared))
     }
 }
 
@@ -74,8 +76,8 @@ impl<'a, R: Retrieve + Drop> RegistryBuilder<'a, R> {
     /// All documents are walked, and then what their `$ref`s and meta-schemas want and is not there is asked of the retriever, in the
     /// order met and each URI once; then their answers are walked with them, until nothing is wanted any more. An answer is read as the
     /// documents added are, by the builder's draft where it names none. It finds the schema places of the documents once for each round,
-    /// and more often where they name meta-schemas of their own, and then costs what [`Registry::of`] costs. No document is copied: what
-    /// is owned is moved and shared.
+    /// and more often where they name meta-schemas of their own; what the registry keeps comes from the last round, so where nothing is
+    /// retrieved it costs what [`Registry::of`] costs. No document is copied: what is owned is moved and shared.
     ///
     /// # Errors
     ///

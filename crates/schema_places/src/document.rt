@@ -44,6 +44,7 @@ fn push_list<'d>(
     ensures { OnOk result (map place_of found.new.items ≡ map place_of found.old.items ++ spec.in_list (dialects_in known.now) (place_of outer.now) path.now (view part.now)) }
 {
     if let Value::Array(items) = part {
+        found.reserve(items.len())?;
         for (position, item) in items.iter().enumerate() {
             push_schema(
                 alloc,
@@ -69,6 +70,7 @@ fn push_map<'d>(
     ensures { OnOk result (map place_of found.new.items ≡ map place_of found.old.items ++ spec.in_map (dialects_in known.now) (place_of outer.now) path.now (view part.now)) }
 {
     if let Value::Object(members) = part {
+        found.reserve(members.len())?;
         for (name, member) in members.iter() {
             push_schema(
                 alloc,

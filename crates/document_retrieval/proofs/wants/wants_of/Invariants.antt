@@ -7,5 +7,5 @@ use Rattle.document_retrieval.proofs.wants.wants_of.Given as goal
 
 abbrev pub invariant-loop-standing : goal.invariant-loop-standing
 invariant-loop-standing l =
-    map want_of l.wants.items ++ further (is_known_by l.index l.names) (flat_map wanted_at (map standing_of (drop l.standing-index l.standing-items)))
-    ≡ further (is_known_by l.index l.initial.names) (flat_map wanted_at (map standing_of l.standing-items))
+    map want_of l.wants.items ++ further (is_known_by l.survey.index l.names) (flat_map wanted_at (map standing_of (drop l.standing-index l.standing-items)))
+    ≡ further (is_known_by l.survey.index l.initial.names) (flat_map wanted_at (map standing_of l.standing-items))

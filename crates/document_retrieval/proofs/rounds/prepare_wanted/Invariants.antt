@@ -2,7 +2,7 @@ use Rattle.std.proofs.Common.{map, length, ◌-◌}
 use Rattle.document_index.specs.Seen.{document_of}
 use Rattle.document_sources.specs.Seen.{layer_of}
 use Rattle.document_retrieval.specs.Stages.{asking, documents_in, uris_in, IsGathered}
-use Rattle.document_retrieval.proofs.rounds.retrieve_wanted.Given as goal
+use Rattle.document_retrieval.proofs.rounds.prepare_wanted.Given as goal
 
 abbrev pub invariant-loop-gathered : goal.invariant-loop-gathered
 invariant-loop-gathered g l =
