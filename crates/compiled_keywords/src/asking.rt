@@ -2,8 +2,7 @@
 ghost use Rattle.std.specs.Prelude.{◌≡◌, ◌++◌, ℕ, List, [], ◌∷◌, Bool, OnOk, map, true, false, codes};
 ghost use Rattle.serde_json.specs.View.{items_view};
 ghost use Rattle.schema_meaning.specs.Questions.{here, each_branch, items_of, items_from, each_item, item_by_item};
-ghost use Rattle.schema_meaning.specs.Keywords.{consequent};
-ghost use Rattle.schema_meaning.specs.Keywords.{rule};
+ghost use Rattle.schema_meaning.specs.Keywords.{consequent, rule};
 ghost use Rattle.schema_engine.specs.Asking.{AsksSo};
 ghost use Rattle.schema_engine.specs.Places.{value_at};
 ghost use Rattle.applicators.specs.Forms.{shape_by};
@@ -18,6 +17,7 @@ use schema_engine::asking::Asking;
 use schema_engine::place::{Asked, Place, Question};
 use serde_json::Value;
 use std::alloc::AllocError;
+use std::slice;
 
 // The items of a list, and none of another value.
 fn items_at<'i>(place: Place<'i>) -> &'i [Value]
@@ -32,19 +32,41 @@ fn items_at<'i>(place: Place<'i>) -> &'i [Value]
     }
 }
 
-/// What an applicator asks: each item by one node, or else what its questions say.
-pub(crate) fn asking_of<'i>(applicator: &Applicator, place: Place<'i>) -> Asking<'i>
+/// What an applicator asks: each item by one node, or the place by branches, or else what its questions say.
+pub(crate) fn asking_of<'q, 'i>(applicator: &'q Applicator, place: Place<'i>) -> Asking<'q, 'i>
     ensures { (matches : List ℕ → List ℕ → Bool)
         → AsksSo result (rule matches (value_at place.entry)
         (shape_by (name_of applicator.now) (combining_of applicator.now)
         (form_of (asks_of applicator.now)))) }
 {
-    match applicator.combining {
-        Combining::Every => match applicator.asks {
-            Asks::ItemsFrom { start, node } => Asking::Items {
-                start,
-                node,
+    match &applicator.asks {
+        Asks::ItemsFrom { start, node } => match applicator.combining {
+            Combining::Every => Asking::Items {
+                start: *start,
+                node: *node,
                 items: items_at(place),
+            },
+            _ => Asking::Listed,
+        },
+        Asks::Branches(branches) => match applicator.combining {
+            Combining::Every => Asking::Each(branches),
+            Combining::SomeBranch => Asking::Counted {
+                branches,
+                least: 1,
+                most: None,
+            },
+            Combining::OneBranch => Asking::Counted {
+                branches,
+                least: 1,
+                most: Some(1),
+            },
+            _ => Asking::Listed,
+        },
+        Asks::Value(shown) => match applicator.combining {
+            Combining::Refusal => Asking::Counted {
+                branches: slice::from_ref(&shown.node),
+                least: 0,
+                most: Some(0),
             },
             _ => Asking::Listed,
         },

@@ -38,6 +38,7 @@ use crate::together::{are_beside, push_both};
 use schema_engine::asking::Asking;
 use schema_engine::combination::Combination;
 use schema_engine::entry::Entry;
+use schema_engine::itself::Itself;
 use schema_engine::matching::Matching;
 use schema_engine::place::{Asked, Place, Question};
 use schema_engine::reason::Reason;
@@ -218,7 +219,7 @@ impl Validate for Keyword {
         }
     }
 
-    fn asking<'i>(&self, place: Place<'i>) -> Asking<'i> {
+    fn asking<'q, 'i>(&'q self, place: Place<'i>) -> Asking<'q, 'i> {
         match self {
             Keyword::Applicator(applicator) => asking_of(applicator, place),
             Keyword::Reference { node, .. } => Asking::Target(*node),
@@ -230,13 +231,19 @@ impl Validate for Keyword {
         &self,
         place: Place<'_>,
         matching: &mut T,
-    ) -> Result<bool, AllocError> {
+    ) -> Result<Itself, AllocError> {
         match self {
-            Keyword::Never => Ok(false),
-            Keyword::Assertion { alloc, assertion } => assertion.accept_at(*alloc, place),
-            Keyword::Pattern(pattern) => is_matched(pattern, place, matching),
-            Keyword::Applicator(applicator) => Ok(accepts_asked(&applicator.asks, place)),
-            Keyword::Reference { .. } => Ok(true),
+            Keyword::Never => Ok(Itself::Wrong),
+            Keyword::Assertion { alloc, assertion } => {
+                Ok(Itself::settled_if(assertion.accept_at(*alloc, place)?))
+            }
+            Keyword::Pattern(pattern) => {
+                Ok(Itself::settled_if(is_matched(pattern, place, matching)?))
+            }
+            Keyword::Applicator(applicator) => {
+                Ok(Itself::asks_if(accepts_asked(&applicator.asks, place)))
+            }
+            Keyword::Reference { .. } => Ok(Itself::Asks),
         }
     }
 

@@ -38,6 +38,9 @@ fn tell_wrong<'o>(
     ensures { OnOk result (TellsEach situation.now keyword.now
         (note_of (view situation.now.value.now) wrong.entry ∷ []) observer.old observer.new) }
 {
+    if situation.tell_paths(keyword, observer)? {
+        return Ok(());
+    }
     if !observer.hear() {
         return Ok(());
     }
@@ -271,6 +274,9 @@ fn tell_unmatched<'o>(
         (record { kind = faults.Pattern (text_of pattern.now); value = view situation.now.value.now }
         ∷ []) observer.old observer.new) }
 {
+    if situation.tell_paths("pattern", observer)? {
+        return Ok(());
+    }
     if !observer.hear() {
         return Ok(());
     }

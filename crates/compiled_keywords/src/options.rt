@@ -1,5 +1,5 @@
 //! The values of `enum`, to be searched.
-ghost use Rattle.std.specs.Prelude.{◌≡◌, IfOk};
+ghost use Rattle.std.specs.Prelude.{◌≡◌, IfOk, is_some};
 ghost use Rattle.std.specs.Option.{ForSome};
 ghost use Rattle.serde_json.specs.View.{view, items_view};
 ghost use Rattle.json_values.specs.Equality.{is_among as is_equal_to_some};
@@ -37,6 +37,13 @@ impl Options {
             None
         };
         Ok(Options { list, texts })
+    }
+
+    /// Whether a text is sought by halves: where there are more than eight values.
+    pub fn are_sought(&self) -> bool
+        ensures { result ≡ is_some self.now.texts }
+    {
+        self.texts.is_some()
     }
 
     /// Whether a value equals one of them (Validation 6.1.2). A text is compared with as many of many texts as their number can be halved, and

@@ -44,7 +44,7 @@ const SEVERAL_ROOTS: &str = r##"{"rows": [
     [{"http://a.test/r": {"properties": {"a": {"properties": {"b": true}}}}}, ["", "#/properties/a"], "5/3: 0 1"]
 ]}"##;
 
-fn prepared(rt: &impl Abort, alloc: Global, documents: &Value) -> SharedRegistry {
+pub(crate) fn prepared(rt: &impl Abort, alloc: Global, documents: &Value) -> SharedRegistry {
     let mut added = Documents::new(alloc);
     for (uri, document) in documents.as_object().expect(rt, "documents").iter() {
         let text = format!(in alloc; "{document}").expect(rt, "memory");
@@ -69,7 +69,7 @@ fn texts_of(rt: &impl Abort, alloc: Global, texts: &Value) -> Vec<String> {
     found
 }
 
-fn graphs_of(
+pub(crate) fn graphs_of(
     rt: &impl Abort,
     alloc: Global,
     registry: &SharedRegistry,

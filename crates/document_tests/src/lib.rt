@@ -32,6 +32,8 @@ mod rows;
 #[cfg(test)]
 mod scripts;
 #[cfg(test)]
+mod shapes;
+#[cfg(test)]
 mod stages;
 #[cfg(test)]
 mod walks;

@@ -8,7 +8,7 @@ use Rattle.json_values.specs.Parts.{Part}
 use Rattle.schema_meaning.specs.Members.{count_true}
 use Rattle.schema_meaning.specs.Faults as told
 use Rattle.schema_meaning.specs.Questions.{at}
-use Rattle.schema_meaning.specs.Rules.{Rule, every, together, each_named, some_branch, one_branch, refusal, counted, conditional, asks, own_fault, verdicts_of, count_refused_at, one_of_kind}
+use Rattle.schema_meaning.specs.Rules.{Rule, every, together, each_named, some_branch, one_branch, refusal, counted, conditional, Note, asks, own_fault, verdicts_of, count_refused_at, one_of_kind}
 use Rattle.schema_meaning.specs.Readings.{Reading}
 use Rattle.schema_reports.specs.Kinds.{StandsFor}
 use Rattle.location_texts.specs.Locations.{location_of}
@@ -47,7 +47,7 @@ module _ (d : Data) (answers : List told.Faults) (name : List ℕ) where
   some_refuses (some_branch p qs) context kind e under stands branches = record { under = sym under; stands = stands _ branches; at_fault = refl }
   some_refuses k context kind e under stands branches = absurd (cc)
 
-  pub one_refuses : (k : Rule ℕ) (n : ℕ) (context : List (Vec ValidationError Global)) (kind : ValidationErrorKind) → combination_of k ≡ combination.OneBranch → IsRefusedUnder k n name
+  pub one_refuses : (k : Rule ℕ) (n : ℕ) (context : List (Vec ValidationError Global)) (kind : ValidationErrorKind) → combination_of k ≡ combination.OneBranch → IsRefusedUnder k 0 name
       → n ≡ count_true (verdicts_of answers) → ((branches : told.Branches) → AreBranches context branches → StandsFor kind (one_of_kind n branches))
       → AreBranches context (told.branches_of answers) → Refuses k d answers name kind d
   one_refuses (one_branch p qs) n context kind e under is stands branches = record {
@@ -77,6 +77,18 @@ module _ (d : Data) (answers : List told.Faults) (name : List ℕ) where
   reason_refuses (counted l m qs) c r e once not_some not_one not_counted under says = absurd (not_counted _ _ e)
   reason_refuses (conditional q cs) c r e once not_some not_one not_counted under says = absurd (let h : has_one_fault combination.Conditional ≡ true = ap has_one_fault (sym e) ∙ once in cc)
 
+-- a rule that does not count refuses under one name, whatever the answers
+refused_alike : (k : Rule ℕ) (c : Combination) (name : List ℕ) (n : ℕ) → c ≡ combination_of k → has_one_fault c ≡ true → ((least : ℕ) (most : Option ℕ) → c ≡ combination.Counted least most → ⊥)
+    → IsRefusedUnder k 0 name → at name ≡ refused_at k n
+refused_alike (every p notes qs) c name n e once not_counted under = absurd (let h : has_one_fault combination.Every ≡ true = ap has_one_fault (sym e) ∙ once in cc)
+refused_alike (together p note qs) c name n e once not_counted under = sym under
+refused_alike (each_named p s names) c name n e once not_counted under = absurd (let h : has_one_fault combination.EachNamed ≡ true = ap has_one_fault (sym e) ∙ once in cc)
+refused_alike (some_branch p qs) c name n e once not_counted under = sym under
+refused_alike (one_branch p qs) c name n e once not_counted under = sym under
+refused_alike (refusal p schema q) c name n e once not_counted under = sym under
+refused_alike (counted l m qs) c name n e once not_counted under = absurd (not_counted _ _ e)
+refused_alike (conditional q cs) c name n e once not_counted under = absurd (let h : has_one_fault combination.Conditional ≡ true = ap has_one_fault (sym e) ∙ once in cc)
+
 -- one fault, however its parts were come by
 same_fault : (kind : told.Kind) (d e : Data) (path path' parts parts' above above' road road' : List Part) → d ≡ e → path ≡ path' → parts ≡ parts' → above ≡ above' → road ≡ road'
     → told.fault kind d path (parts ++ above) (parts ++ road) ≡ told.fault kind e path' (parts' ++ above') (parts' ++ road')
@@ -85,17 +97,34 @@ same_fault kind d e path path' parts parts' above above' road road' a b c f g =
     ∙ ap (λ p. told.fault kind e path' (p ++ above) (p ++ road)) c
     ∙ ap₂ (λ x y. told.fault kind e path' (parts' ++ x) (parts' ++ y)) f g
 
+its_fault : (r : Reading ℕ) (n : ℕ) (k : Rule ℕ) (s : Situation) (stand : Stand) (x : Setting) (name : List ℕ) (value : Data)
+    → IsAt stand x → stand.path ≡ location_of s.instance.now → stand.road ≡ location_of s.evaluation.now → s.schema.now ≡ r.schema_path n
+    → value ≡ (refused k x.spot.value (map (asked_faults r x) (asks k))).value → at name ≡ refused_at k (count_true (verdicts_of (map (asked_faults r x) (asks k))))
+    → told.also (own_fault (spot_in s) s.schema.now (at name) (record { kind = (refused k x.spot.value (map (asked_faults r x) (asks k))).kind; value = value })) told.none ≡ one_told r n k x
+its_fault r n k s stand x name value here path road above at_fault under =
+    let answers = map (asked_faults r x) (asks k) in
+    let note = refused k x.spot.value answers in
+    ap (λ f. told.also f told.none)
+    (same_fault note.kind value note.value (location_of s.instance.now) x.spot.path (at name) (refused_at k (count_true (verdicts_of answers))) s.schema.now (r.schema_path n) (location_of s.evaluation.now) x.spot.road
+    at_fault (sym (here.path ∙ path)) under above (sym (here.road ∙ road)))
+
 pub refusal_heard : (r : Reading ℕ) (n : ℕ) (k : Rule ℕ) (s : Situation) (stand : Stand) (x : Setting) (name : List ℕ) (kind : ValidationErrorKind) (value : Data) (old new : Observer)
     → IsAt stand x → stand.path ≡ location_of s.instance.now → stand.road ≡ location_of s.evaluation.now → s.schema.now ≡ r.schema_path n
     → Refuses k x.spot.value (map (asked_faults r x) (asks k)) name kind value → TellsOf s (at name) kind value old new → HearsMore (one_told r n k x) old new
 refusal_heard r n k s stand x name kind value old new here path road above refuses tells =
-    let answers = map (asked_faults r x) (asks k) in
-    let note = refused k x.spot.value answers in
+    let note = refused k x.spot.value (map (asked_faults r x) (asks k)) in
     hears_same (told.also (own_fault (spot_in s) s.schema.now (at name) (record { kind = note.kind; value = value })) told.none) (one_told r n k x) old new
-    (ap (λ f. told.also f told.none)
-    (same_fault note.kind value note.value (location_of s.instance.now) x.spot.path (at name) (refused_at k (count_true (verdicts_of answers))) s.schema.now (r.schema_path n) (location_of s.evaluation.now) x.spot.road
-    refuses.at_fault (sym (here.path ∙ path)) refuses.under above (sym (here.road ∙ road))))
-    (tells.told note.kind refuses.stands)
+    (its_fault r n k s stand x name value here path road above refuses.at_fault refuses.under) (tells.told note.kind refuses.stands)
+
+-- by its paths alone
+pub paths_heard : (r : Reading ℕ) (n : ℕ) (k : Rule ℕ) (s : Situation) (stand : Stand) (x : Setting) (name : List ℕ) (old new : Observer)
+    → IsAt stand x → stand.path ≡ location_of s.instance.now → stand.road ≡ location_of s.evaluation.now → s.schema.now ≡ r.schema_path n
+    → at name ≡ refused_at k (count_true (verdicts_of (map (asked_faults r x) (asks k))))
+    → ((note : Note) → HearsMore (told.also (own_fault (spot_in s) s.schema.now (at name) note) told.none) old new) → HearsMore (one_told r n k x) old new
+paths_heard r n k s stand x name old new here path road above under tells =
+    let note = refused k x.spot.value (map (asked_faults r x) (asks k)) in
+    hears_same (told.also (own_fault (spot_in s) s.schema.now (at name) note) told.none) (one_told r n k x) old new
+    (its_fault r n k s stand x name note.value here path road above refl under) (tells note)
 
 -- ---- it is told
 
@@ -123,7 +152,7 @@ module _ (r : Reading ℕ) (n : ℕ) (k : Rule ℕ) (s : Situation) (stand : Sta
   its_count : (m : ℕ) → Counts stand.place stand.progress enough (λ x. count_true (map (asked_in r x) (map call_of xs))) m → (x : Setting) → IsAt stand x → enough ≤ x.depth → m ≡ count_true (verdicts_of (answers_at x))
   its_count m counts x at deep = counts.same x at.fits deep ∙ count_agrees r x added k xs are
 
-  pub one_branch_told : (m : ℕ) (context : List (Vec ValidationError Global)) (kind : ValidationErrorKind) → combination_of k ≡ combination.OneBranch → IsRefusedUnder k m name
+  pub one_branch_told : (m : ℕ) (context : List (Vec ValidationError Global)) (kind : ValidationErrorKind) → combination_of k ≡ combination.OneBranch → IsRefusedUnder k 0 name
       → Counts stand.place stand.progress enough (λ x. count_true (map (asked_in r x) (map call_of xs))) m
       → ((branches : told.Branches) → AreBranches context branches → StandsFor kind (one_of_kind m branches)) → AreErrorsOf stand enough (question_faults r added) xs context
       → TellsOf s (at name) kind (view s.value.now) old new → Hearing stand enough (one_told r n k) old new
@@ -151,4 +180,10 @@ module _ (r : Reading ℕ) (n : ℕ) (k : Rule ℕ) (s : Situation) (stand : Sta
     hears = λ x here deep.
         refusal_heard r n k s stand x name reason.kind (view reason.value.now) old new here path road above
         (reason_refuses x.spot.value (answers_at x) name k c reason e once not_some not_one not_counted under (subst (λ d. IsReason k d reason) (its_value x here) says)) tells;
+  }
+
+  pub paths_told : (c : Combination) → c ≡ combination_of k → has_one_fault c ≡ true → ((least : ℕ) (most : Option ℕ) → c ≡ combination.Counted least most → ⊥) → IsRefusedUnder k 0 name
+      → ((note : Note) → HearsMore (told.also (own_fault (spot_in s) s.schema.now (at name) note) told.none) old new) → Hearing stand enough (one_told r n k) old new
+  paths_told c e once not_counted under tells = record {
+    hears = λ x here deep. paths_heard r n k s stand x name old new here path road above (refused_alike k c name _ e once not_counted under) tells;
   }

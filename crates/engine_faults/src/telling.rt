@@ -516,36 +516,31 @@ fn tell_refusal<'q, 'i: 'q, K: Validate, T: Matching>(
         (rule m (value_at there.now.here.place) (K.shape keyword.now))) observer.old observer.new)) }
 {
     let situation = &there.situation;
+    if let Combination::Counted { .. } = combination {
+        let accepted = count_accepted(&there.here, start, matching, questions)?;
+        let name = keyword.refused_name(accepted);
+        let kind = ValidationErrorKind::Contains;
+        return situation.tell(name, kind, situation.value, observer);
+    }
+    // only a count's name depends on how many accept
+    let name = keyword.refused_name(0);
+    if situation.tell_paths(name, observer)? {
+        return Ok(());
+    }
     match combination {
         Combination::SomeBranch => {
             let context = tell_branches(there, keyword, start, matching, questions)?;
-            let kind = any_of(context);
-            situation.tell(keyword.refused_name(0), kind, situation.value, observer)
+            situation.tell(name, any_of(context), situation.value, observer)
         }
         Combination::OneBranch => {
             let accepted = count_accepted(&there.here, start, matching, questions)?;
             let context = tell_branches(there, keyword, start, matching, questions)?;
             let kind = one_of(accepted, context);
-            situation.tell(
-                keyword.refused_name(accepted),
-                kind,
-                situation.value,
-                observer,
-            )
-        }
-        Combination::Counted { .. } => {
-            let accepted = count_accepted(&there.here, start, matching, questions)?;
-            let name = keyword.refused_name(accepted);
-            situation.tell(
-                name,
-                ValidationErrorKind::Contains,
-                situation.value,
-                observer,
-            )
+            situation.tell(name, kind, situation.value, observer)
         }
         _ => {
             let reason = keyword.reason(situation, &questions[start..])?;
-            situation.tell(keyword.refused_name(0), reason.kind, reason.value, observer)
+            situation.tell(name, reason.kind, reason.value, observer)
         }
     }
 }

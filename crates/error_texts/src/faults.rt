@@ -4,10 +4,12 @@ ghost use Rattle.json_values.specs.Pointers.{pointer_text};
 ghost use Rattle.serde_json.specs.Data.{array};
 ghost use Rattle.serde_json.specs.Written.{compact_text};
 ghost use Rattle.json_pointers.specs.Buffers.{Grows};
+ghost use Rattle.schema_meaning.specs.Faults.{Faults};
 ghost use Rattle.schema_definitions.specs.Lines.{paths_of, in_order, pairs_data, faults_text};
 ghost use Rattle.schema_reports.specs.Left.{errors_left};
+ghost use Rattle.schema_reports.specs.Pairs.{pair_bytes, paths_in};
 ghost use Rattle.schema_reports.specs.Told.{fault_of, faults_of};
-ghost use Rattle.error_texts.specs.Pairs.{pair_bytes, pair_data, paths_in};
+ghost use Rattle.error_texts.specs.Pairs.{pair_data};
 
 use crate::quoted::write_quoted;
 use schema_reports::{ErrorIterator, ValidationError};
@@ -27,7 +29,23 @@ pub fn write_faults(
         ++ faults_text (faults_of (errors_left errors.entry))) }
     ensures unchanged { OnErr result (string_bytes text.new ≡ string_bytes text.old) }
 {
-    let pairs = pairs_in_order(alloc, errors)?;
+    let pairs = path_pairs(alloc, errors)?;
+    write_paths(alloc, pairs, text)
+}
+
+/// Appends the same list, for faults of which these are the pairs.
+///
+/// It costs and fails as [`write_faults`].
+pub fn write_paths(
+    alloc: Global,
+    pairs: Vec<(String, String)>,
+    text: &mut String,
+) -> Result<(), AllocError>
+    ensures ok { OnOk result ((fs : Faults) → map pair_bytes pairs.items ≡ paths_of fs
+        → string_bytes text.new ≡ string_bytes text.old ++ faults_text fs) }
+    ensures unchanged { OnErr result (string_bytes text.new ≡ string_bytes text.old) }
+{
+    let pairs = sorted(pairs)?;
     let start = text.len();
     if let Err(error) = write_pairs(alloc, pairs.as_slice(), text) {
         text.truncate(start);
@@ -36,13 +54,9 @@ pub fn write_faults(
     Ok(())
 }
 
-fn pairs_in_order(
-    alloc: Global,
-    errors: ErrorIterator<'_>,
-) -> Result<Vec<(String, String)>, AllocError>
-    ensures { IfOk result (λ v. map pair_bytes v.items ≡ in_order (paths_of (faults_of (errors_left errors.entry)))) }
+fn sorted(mut pairs: Vec<(String, String)>) -> Result<Vec<(String, String)>, AllocError>
+    ensures { IfOk result (λ v. map pair_bytes v.items ≡ in_order (map pair_bytes pairs.items)) }
 {
-    let mut pairs = path_pairs(alloc, errors)?;
     pairs.sort()?;
     Ok(pairs)
 }

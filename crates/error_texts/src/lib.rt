@@ -8,7 +8,7 @@ mod quoted;
 mod sentences;
 mod unread;
 
-pub use faults::write_faults;
+pub use faults::{write_faults, write_paths};
 pub use objects::{is_accepted_line, write_accepted, write_refused};
 pub use sentences::{write_reason, write_sentences};
 pub use unread::{TextPlace, write_unread};

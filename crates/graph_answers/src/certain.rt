@@ -300,6 +300,7 @@ pub fn first_certain<'i, K: Validate, M: PatternMatcher>(
         Telling::Told(Observer::First(kept)) => Ok(kept.into_error()),
         Telling::Told(Observer::Verdict(_verdict)) => unreachable!(),
         Telling::Told(Observer::All(_all)) => unreachable!(),
+        Telling::Told(Observer::Paths(_paths)) => unreachable!(),
         Telling::Stopped(stopped) => {
             Ok(first_of(tell_open(alloc, graph, start, table, value, stopped)?))
         }

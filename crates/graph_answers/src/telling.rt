@@ -79,6 +79,7 @@ pub(crate) fn judge_once<K: Validate, M: PatternMatcher>(
         Telling::Told(Observer::Verdict(verdict)) => Ok(Run::Answered(verdict.accepts())),
         Telling::Told(Observer::First(_first)) => unreachable!(),
         Telling::Told(Observer::All(_all)) => unreachable!(),
+        Telling::Told(Observer::Paths(_paths)) => unreachable!(),
         Telling::Stopped(stopped) => Ok(Run::Stopped(stopped)),
     }
 }

@@ -1,18 +1,19 @@
 //! What is written for a line.
-ghost use Rattle.std.specs.Prelude.{◌≡◌, ◌++◌, ℕ, List, Some, None, true, IfOk, IfSome, OnOk, option_map, string_bytes};
+ghost use Rattle.std.specs.Prelude.{◌≡◌, ◌++◌, ℕ, List, Some, None, true, false, IfOk, IfSome, OnOk, option_map, string_bytes};
 ghost use Rattle.serde_json.specs.View.{view};
 ghost use Rattle.graph_answers.specs.Tables.{matches_of};
 ghost use Rattle.line_cuts.specs.Runs.{is_refused};
 ghost use Rattle.regex_patterns.specs.Matchers.{finds_by_regex};
 ghost use Rattle.schema_registries.specs.Whole.{only_whole};
 ghost use Rattle.schema_validators.specs.Seen.{table_in};
+ghost use Rattle.schema_validators.specs.Told.{verdict_by};
 ghost use Rattle.line_runs.specs.Forms.{IsCertainText, IsLineToldBy, IsToldBy, refuses_in};
 ghost use Rattle.line_runs.specs.Counts.{IsLabel};
 ghost use Rattle.line_runs.specs.Runs.{IsLineTextCertain};
 
 use crate::counts::{LineCounts, LineVerdict};
 use crate::form::LineForm;
-use error_texts::write_faults;
+use error_texts::{write_faults, write_paths};
 use line_cuts::LineAnswers;
 use regex_patterns::kept::Kept;
 use schema_engine::matching::Matching;
@@ -212,10 +213,36 @@ impl<M: PatternMatcher> LineTask<'_, M> {
             self.form.write_accepted(text)?;
             return Ok(LineVerdict::Valid);
         }
-        let errors = self.validator.errors_by(matching, value)?;
-        self.form
-            .write_refused(self.alloc, self.label, errors, text)?;
+        self.answer_refused(matching, value, text)?;
         Ok(LineVerdict::Refused)
+    }
+
+    // What is written for a value that is refused. Where that is pairs of paths, its faults are told by these alone.
+    fn answer_refused<T: Matching>(
+        &self,
+        matching: &mut T,
+        value: &Value,
+        text: &mut String,
+    ) -> Result<(), AllocError>
+        requires whole { only_whole (view value.now) ≡ true }
+        requires meant { T.matches matching.old ≡ matches_of M.finds (table_in self.now.validator.now) }
+        requires refused { verdict_by self.now.validator.now (view value.now) ≡ false }
+        ensures matches { OnOk result (T.matches matching.new ≡ T.matches matching.old) }
+        ensures answered { OnOk result ((written : List ℕ)
+            × IsToldBy self.now.form self.now.validator.now (Some (view value.now)) written
+            × (string_bytes text.new ≡ string_bytes text.old ++ written)) }
+    {
+        match self.form {
+            LineForm::Pairs => {
+                let pairs = self.validator.pairs_by(matching, value)?;
+                write_paths(self.alloc, pairs, text)
+            }
+            LineForm::Objects | LineForm::Sentences => {
+                let errors = self.validator.errors_by(matching, value)?;
+                self.form
+                    .write_refused(self.alloc, self.label, errors, text)
+            }
+        }
     }
 
     // What is written for a line that has no value.

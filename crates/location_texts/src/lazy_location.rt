@@ -1,9 +1,11 @@
 //! Paths as linked, borrowed parts.
-ghost use Rattle.std.specs.Prelude.{◌≡◌, ◌∷◌, [], IfOk};
+ghost use Rattle.std.specs.Prelude.{◌≡◌, ◌++◌, ◌∷◌, [], reverse, string_bytes, IfOk, OnOk};
 ghost use Rattle.json_values.specs.Parts.{name, index};
+ghost use Rattle.json_values.specs.Pointers.{pointer_text};
 ghost use Rattle.schema_meaning.specs.Cut.{same_part, same_path};
 ghost use Rattle.location_texts.specs.Locations.{part_of};
 
+use json_pointers::{write_escaped_str, write_index};
 use schema_steps::Path;
 use std::alloc::{AllocError, Global};
 
@@ -70,6 +72,25 @@ impl<'a, 'b> LazyLocation<'a, 'b> {
         match self.part {
             LazyPart::Name(text) => path.push_name(alloc, text),
             LazyPart::Index(position) => path.push_item(alloc, position),
+        }
+    }
+
+    /// Appends this path as a pointer's text, from the root on: a `/` and the part for each step (RFC 6901, section 3).
+    ///
+    /// It is linear in the text, takes a stack frame for each part, and allocates only where the text has to grow. The error
+    /// comes where memory is out; what was appended till then may stay.
+    pub fn write_to(&self, text: &mut String) -> Result<(), AllocError>
+        ensures { OnOk result (string_bytes text.new
+            ≡ string_bytes text.old ++ pointer_text (reverse (location_of self.now))) }
+    {
+        let Some(above) = self.above else {
+            return Ok(());
+        };
+        above.write_to(text)?;
+        text.push('/')?;
+        match self.part {
+            LazyPart::Name(name) => write_escaped_str(text, name),
+            LazyPart::Index(position) => write_index(text, position),
         }
     }
 

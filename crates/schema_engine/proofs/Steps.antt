@@ -1,8 +1,8 @@
 -- The steps of the engine.
-use Rattle.std.proofs.Common.{◌≡◌, ◌<◌, ◌≤◌, ◌+◌, ◌⊎◌, inl, inr, ℕ, zero, suc, List, [], ◌∷◌, Bool, true, false, ◌&&◌, map, drop, length, get_or, Option, Some, None, IfSome, refl, sym, ap, ◌∙◌, subst, arith, add-one}
+use Rattle.std.proofs.Common.{◌≡◌, ◌<◌, ◌≤◌, ◌+◌, ◌⊎◌, inl, inr, ℕ, zero, suc, List, [], ◌∷◌, Bool, true, false, ◌&&◌, map, drop, length, get_or, Option, Some, None, IfSome, refl, sym, ap, ap₂, ◌∙◌, subst, arith, add-one}
 use Rattle.std.proofs.lemmas.Option.{slice_get_read}
 use Rattle.serde_json.specs.Data.{Data}
-use Rattle.schema_meaning.specs.Members.{In, first, later, all_true}
+use Rattle.schema_meaning.specs.Members.{In, first, later, all_true, count_true}
 use Rattle.schema_meaning.specs.Places.{stay, value_after}
 use Rattle.schema_meaning.specs.Matches.{match_sites}
 use Rattle.schema_meaning.specs.Questions.{Question}
@@ -20,8 +20,8 @@ use Rattle.schema_engine.specs.Places.{value_at}
 use Rattle.schema_engine.specs.Progress.{is_among}
 use Rattle.schema_engine.specs.Questions.{Call, call, call_of}
 use Rattle.schema_engine.specs.declared.combination.Combination.TheVariants as combination
-use Rattle.schema_engine.specs.Asking.{AsksEach, target_call}
-use Rattle.schema_engine.specs.Rules.{combination_of, is_right, questions_of, combined, all_beside}
+use Rattle.schema_engine.specs.Asking.{AsksEach, AsksCounted, target_call}
+use Rattle.schema_engine.specs.Rules.{combination_of, is_right, is_counted, questions_of, combined, all_beside}
 use Rattle.schema_engine.specs.Leads.{leads_of}
 use Rattle.schema_engine.specs.Graphs.{keywords_at, keywords_or_none, rank_at, reading_of, IsSound}
 use Rattle.schema_engine.specs.Verdicts.{Setting, Fits, Tells, MayAsk, EachMayAsk, node_in, asked_in, rule_in, key_in, size}
@@ -31,7 +31,7 @@ use Rattle.schema_engine.proofs.Settings.{stepped, entered, target_fits}
 
 -- ---- elements of lists
 
-in_map : {A B : Type 0} (f : A → B) (x : A) (xs : List A) → In x xs → In (f x) (map f xs)
+pub in_map : {A B : Type 0} (f : A → B) (x : A) (xs : List A) → In x xs → In (f x) (map f xs)
 in_map f x [] i = elim i [ ]
 in_map f x (y ∷ xs) first = first
 in_map f x (y ∷ xs) (later i) = later (in_map f x xs i)
@@ -180,6 +180,12 @@ keywords_here nodes n x there is = ap keywords_or_none (slice_get_read nodes (le
 pub keyword_stands : {K : Type 0} (i : ℕ) (ks : List K) (k : K) → i < length ks → k ≡ get_or ks i k → In k ks
 keyword_stands i ks k high is = in_drop 0 i ks k (omega arith) high is
 
+-- what is right and asks nothing accepts
+rule_settled : (r : Reading ℕ) (x : Setting) (k : Rule ℕ) → is_right k ≡ true → AsksEach k [] → rule_in r k x ≡ true
+rule_settled r x k right asks =
+    rule_combined r x k
+    ∙ ap₂ (λ b c. b && c) right (ap (λ c. combined c (asked_in r x) (questions_of k)) asks.combination ∙ ap (all_beside (asked_in r x) true) asks.questions)
+
 module _ {K : Type 0} (shape : K → Shape ℕ) (matches : List ℕ → List ℕ → Bool) (nodes : List (Node K)) (n : ℕ) (p : Place) (progress : List ℕ) where
   told_by : K → Setting → Bool
   told_by k x = rule_in (reading_of shape matches nodes) (rule matches (value_at p) (shape k)) x
@@ -256,6 +262,24 @@ module _ {K : Type 0} (shape : K → Shape ℕ) (matches : List ℕ → List ℕ
   others_right true c e = e
   others_right false c e = absurd (cc)
 
+  all_settled : (x : Setting) (ks : List K) → all_true (map (λ k. is_right (rule matches (value_at p) (shape k))) ks) ≡ true
+      → ((k : K) → In k ks → AsksEach (rule matches (value_at p) (shape k)) [])
+      → all_true (map (λ k. rule_in (reading_of shape matches nodes) (rule matches (value_at p) (shape k)) x) ks) ≡ true
+  all_settled x [] e settled = refl
+  all_settled x (k ∷ ks) e settled =
+      ap₂ (λ b c. b && c)
+      (rule_settled (reading_of shape matches nodes) x (rule matches (value_at p) (shape k)) (one_right _ _ e) (settled k first))
+      (all_settled x ks (others_right _ _ e) (λ j i. settled j (later i)))
+
+  -- a node whose keywords are right and ask nothing
+  pub node_settled : (ks : List K) → ks ≡ keywords_at nodes n → all_true (map (λ k. is_right (rule matches (value_at p) (shape k))) ks) ≡ true
+      → ((k : K) → In k ks → AsksEach (rule matches (value_at p) (shape k)) [])
+      → Tells p progress (suc (size nodes (value_at p) progress (rank_at nodes n))) (node_in (reading_of shape matches nodes) n) true
+  node_settled ks is right settled = node_by_keywords true (record {
+    same = λ x fits deep.
+        sym (ap (λ js. all_true (map (λ k. rule_in (reading_of shape matches nodes) (rule matches (value_at p) (shape k)) x) js)) (sym is) ∙ all_settled x ks right settled);
+  })
+
   pub each_right : (ks : List K) (k : K) → In k ks → all_true (map (λ k. is_right (rule matches (value_at p) (shape k))) ks) ≡ true → is_right (rule matches (value_at p) (shape k)) ≡ true
   each_right [] k i e = elim i [ ]
   each_right (j ∷ ks) k first e = one_right _ _ e
@@ -279,6 +303,14 @@ module _ (r : Reading ℕ) (p : Place) (progress : List ℕ) (enough : ℕ) (k :
   pub keyword_each : (b right : Bool) (calls : List Call) → right ≡ is_right k → right ≡ true → AsksEach k calls
       → Tells p progress enough (λ x. all_beside (asked_in r x) true calls) b → Tells p progress enough (rule_in r k) b
   keyword_each b right calls is good asks tells = keyword_told b right combination.Every calls is good (sym asks.combination) (sym asks.questions) tells
+
+  -- whose questions are these, of which so many have to be answered yes
+  pub keyword_counted : (b right : Bool) (least : ℕ) (most : Option ℕ) (calls : List Call) → right ≡ is_right k → right ≡ true → AsksCounted k least most calls
+      → Tells p progress enough (λ x. is_counted least most (count_true (map (asked_in r x) calls))) b → Tells p progress enough (rule_in r k) b
+  keyword_counted b right least most calls is good asks tells = record {
+    same = λ x fits deep.
+        tells.same x fits deep ∙ sym (rule_combined r x k ∙ rw (sym is ∙ good) refl ∙ asks.verdict (asked_in r x));
+  }
 
   pub keyword_alone : (right : Bool) → right ≡ is_right k → right ≡ true → AsksEach k [] → Tells p progress enough (rule_in r k) true
   keyword_alone right is good asks = keyword_each true right [] is good asks (record { same = λ x fits deep. refl })

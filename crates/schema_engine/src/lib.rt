@@ -9,7 +9,7 @@ pub mod counting;
 pub mod entry;
 pub mod graph;
 pub mod here;
-mod itself;
+pub mod itself;
 pub mod matching;
 pub mod node;
 pub mod pairing;

@@ -1,8 +1,11 @@
 //! Where a keyword tells of a value.
-ghost use Rattle.std.specs.Prelude.{[], OnOk};
+ghost use Rattle.std.specs.Prelude.{◌≡◌, [], true, false, OnOk, IfOk};
 ghost use Rattle.serde_json.specs.View.{view};
+ghost use Rattle.schema_meaning.specs.Faults.{none, also};
 ghost use Rattle.schema_meaning.specs.Questions.{at};
-ghost use Rattle.schema_engine.specs.Situations.{TellsOf};
+ghost use Rattle.schema_meaning.specs.Rules.{Note, own_fault};
+ghost use Rattle.schema_engine.specs.Hearing.{HearsMore, HearsSame};
+ghost use Rattle.schema_engine.specs.Situations.{TellsOf, spot_in};
 
 use schema_reports::{
     LazyLocation, Observer, SchemaLocation, ValidationError, ValidationErrorKind,
@@ -28,6 +31,24 @@ pub struct Situation<'p, 'o> {
 }
 
 impl<'o> Situation<'_, 'o> {
+    /// Tells an observer of an error under a keyword's name where it keeps the paths of one alone, and says whether it does.
+    /// Where it does not, it is told nothing.
+    ///
+    /// It takes a stack frame for each part of the paths, and makes their texts, where the observer keeps these.
+    ///
+    /// # Errors
+    ///
+    /// Where memory was refused.
+    pub fn tell_paths(&self, keyword: &str, observer: &mut Observer<'o>) -> Result<bool, AllocError>
+        ensures told { IfOk result (λ b. b ≡ true → (note : Note)
+            → HearsMore (also (own_fault (spot_in self.now) self.now.schema.now (at keyword.now) note) none)
+            observer.old observer.new) }
+        ensures untold { IfOk result (λ b. b ≡ false → HearsSame observer.old observer.new) }
+    {
+        let evaluation = self.evaluation.push_name(keyword);
+        observer.keep_paths(self.alloc, self.instance, &evaluation)
+    }
+
     /// Tells an observer of an error under a keyword's name. `value` is the value at fault.
     ///
     /// It takes a push for each part of the paths, where the observer wants the error.
@@ -44,6 +65,9 @@ impl<'o> Situation<'_, 'o> {
     ) -> Result<(), AllocError>
         ensures { OnOk result (TellsOf self.now (at keyword.now) kind.entry (view value.now) observer.old observer.new) }
     {
+        if self.tell_paths(keyword, observer)? {
+            return Ok(());
+        }
         if !observer.hear() {
             return Ok(());
         }
@@ -64,6 +88,9 @@ impl<'o> Situation<'_, 'o> {
     ) -> Result<(), AllocError>
         ensures { OnOk result (TellsOf self.now [] kind.entry (view value.now) observer.old observer.new) }
     {
+        if observer.keep_paths(self.alloc, self.instance, self.evaluation)? {
+            return Ok(());
+        }
         if !observer.hear() {
             return Ok(());
         }

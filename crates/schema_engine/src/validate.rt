@@ -7,6 +7,7 @@ ghost use Rattle.schema_meaning.specs.Keywords.{Shape, rule};
 ghost use Rattle.schema_meaning.specs.Rules.{asks};
 ghost use Rattle.schema_engine.specs.Asking.{AsksSo};
 ghost use Rattle.schema_engine.specs.Entries.{parts_of};
+ghost use Rattle.schema_engine.specs.Itself.{is_fine, SettlesSo};
 ghost use Rattle.schema_engine.specs.Places.{value_at};
 ghost use Rattle.schema_engine.specs.Questions.{Pushes, PushesAsked};
 ghost use Rattle.schema_engine.specs.Refusals.{IsReason, IsRefusedUnder};
@@ -19,6 +20,7 @@ ghost use Rattle.schema_engine.specs.Matches.{Answers, InEach};
 use crate::asking::Asking;
 use crate::combination::Combination;
 use crate::entry::Entry;
+use crate::itself::Itself;
 use crate::matching::Matching;
 use crate::place::{Place, Question};
 use crate::reason::Reason;
@@ -46,12 +48,12 @@ pub trait Validate: Drop {
         ensures { (matches : List ℕ → List ℕ → Bool)
             → result ≡ combination_of (rule matches (value_at place.entry) (shape self.now)) };
 
-    /// What it asks, where that is simple: then each answer has to be yes.
-    fn asking<'i>(&self, place: Place<'i>) -> Asking<'i>
+    /// What it asks, where that is simple.
+    fn asking<'q, 'i>(&'q self, place: Place<'i>) -> Asking<'q, 'i>
         ensures { (matches : List ℕ → List ℕ → Bool)
             → AsksSo result (rule matches (value_at place.entry) (shape self.now)) };
 
-    /// Whether nothing is wrong with the value itself.
+    /// Whether nothing is wrong with the value itself, and whether anything is asked beside.
     ///
     /// # Errors
     ///
@@ -60,13 +62,15 @@ pub trait Validate: Drop {
         &self,
         place: Place<'_>,
         matching: &mut T,
-    ) -> Result<bool, AllocError>
+    ) -> Result<Itself, AllocError>
         requires known { knows self.now (T.matches matching.old).pattern }
         requires asked { MayAskFor (T.matches matching.old) (shape self.now) (value_at place) }
         ensures same { OnOk result (T.matches matching.new ≡ T.matches matching.old) }
         ensures stays { OnErr result (T.matches matching.new ≡ T.matches matching.old) }
-        ensures right { IfOk result (λ b. InEach (T.matches matching.old) (λ m.
-            b ≡ is_right (rule m (value_at place.entry) (shape self.now)))) };
+        ensures right { IfOk result (λ s. InEach (T.matches matching.old) (λ m.
+            is_fine s ≡ is_right (rule m (value_at place.entry) (shape self.now)))) }
+        ensures settled { IfOk result (λ s. InEach (T.matches matching.old) (λ m.
+            SettlesSo s (rule m (value_at place.entry) (shape self.now)))) };
 
     /// Pushes its questions behind those that are there, in the rule's order.
     ///

@@ -7,7 +7,7 @@ ghost use Rattle.schema_meaning.specs.Keywords.{rule};
 ghost use Rattle.schema_engine.specs.Places.{value_at};
 ghost use Rattle.schema_engine.specs.Progress.{numbers_in};
 ghost use Rattle.schema_engine.specs.Questions.{call_of};
-ghost use Rattle.schema_engine.specs.Asking.{item_calls};
+ghost use Rattle.schema_engine.specs.Asking.{branch_call, item_calls};
 ghost use Rattle.schema_engine.specs.Rules.{is_counted, is_right, all_beside, chosen_by_first, combined};
 ghost use Rattle.schema_engine.specs.Graphs.{keywords_at, rank_at, reading_of};
 ghost use Rattle.schema_engine.specs.Verdicts.{node_in, asked_in, rule_in, size, Tells, TellsFrom};
@@ -20,7 +20,7 @@ use crate::asking::Asking;
 use crate::combination::{Combination, is_within, settled};
 use crate::graph::Graph;
 use crate::here::Here;
-use crate::itself::accept_itself;
+use crate::itself::{Itself, accept_itself};
 use crate::matching::Matching;
 use crate::node::Together;
 use crate::pairing::paired;
@@ -64,8 +64,10 @@ pub fn accepts_node<'q, 'i: 'q, K: Validate, T: Matching>(
     };
     let compiled = &graph.nodes[node];
     let keywords = compiled.keywords.as_slice();
-    if !accept_itself(keywords, place, matching)? {
-        return Ok(false);
+    match accept_itself(keywords, place, matching)? {
+        Itself::Wrong => return Ok(false),
+        Itself::Settled => return Ok(true),
+        Itself::Asks => {}
     }
     if let Some(hint) = compiled.together {
         if let Some(pair) = paired(keywords, hint) {
@@ -179,6 +181,12 @@ fn accepts_keyword<'q, 'i: 'q, K: Validate, T: Matching>(
         Asking::Items { start, node, items } => accepts_items(
             here, start, node, items, matching, questions,
         ),
+        Asking::Each(branches) => accepts_each_branch(here, branches, matching, questions),
+        Asking::Counted {
+            branches,
+            least,
+            most,
+        } => accepts_counted_branches(here, branches, least, most, matching, questions),
         Asking::Listed => accepts_listed(here, keyword, matching, questions),
     }
 }
@@ -249,6 +257,93 @@ fn accepts_items<'q, 'i: 'q, K: Validate, T: Matching>(
         }
     }
     Ok(true)
+}
+
+// Whether each of some nodes accepts the place itself.
+#[cycle(verdict)]
+fn accepts_each_branch<'q, 'i: 'q, K: Validate, T: Matching>(
+    here: &Here<'q, 'i, '_, K>,
+    branches: &[usize],
+    matching: &mut T,
+    questions: &mut Vec<Question<'q, 'i>>,
+) -> Result<bool, AllocError>
+    requires known { AreReady K.knows K.shape (T.matches matching.old) here.now.graph.now.nodes.items }
+    requires asked { EachMayAskAt (T.matches matching.old) here.now (map branch_call branches.now) }
+    ensures matches { OnOk result (T.matches matching.new ≡ T.matches matching.old) }
+    ensures stays { OnErr result (T.matches matching.new ≡ T.matches matching.old) }
+    ensures questions { OnOk result (questions.new.items ≡ questions.old.items) }
+    ensures verdict { let nodes = here.now.graph.now.nodes.items in IfOk result (λ b. InEach (T.matches matching.old) (λ m.
+        let r = reading_of K.shape m nodes in
+        TellsFrom nodes here.now.node here.now.place (numbers_in here.now.progress.now)
+        (λ x. all_beside (asked_in r x) true (map branch_call branches.now)) b)) }
+{
+    for branch in branches {
+        if !accepts_branch(here, *branch, matching, questions)? {
+            return Ok(false);
+        }
+    }
+    Ok(true)
+}
+
+// Whether the number of some nodes that accept the place itself is within bounds.
+#[cycle(verdict)]
+fn accepts_counted_branches<'q, 'i: 'q, K: Validate, T: Matching>(
+    here: &Here<'q, 'i, '_, K>,
+    branches: &[usize],
+    least: usize,
+    most: Option<usize>,
+    matching: &mut T,
+    questions: &mut Vec<Question<'q, 'i>>,
+) -> Result<bool, AllocError>
+    requires known { AreReady K.knows K.shape (T.matches matching.old) here.now.graph.now.nodes.items }
+    requires asked { EachMayAskAt (T.matches matching.old) here.now (map branch_call branches.now) }
+    ensures matches { OnOk result (T.matches matching.new ≡ T.matches matching.old) }
+    ensures stays { OnErr result (T.matches matching.new ≡ T.matches matching.old) }
+    ensures questions { OnOk result (questions.new.items ≡ questions.old.items) }
+    ensures verdict { let nodes = here.now.graph.now.nodes.items in IfOk result (λ b. InEach (T.matches matching.old) (λ m.
+        let r = reading_of K.shape m nodes in
+        TellsFrom nodes here.now.node here.now.place (numbers_in here.now.progress.now)
+        (λ x. is_counted least most (count_true
+        (map (asked_in r x) (map branch_call branches.now)))) b)) }
+{
+    let mut count = 0;
+    for branch in branches {
+        if let Some(verdict) = settled(count, least, most) {
+            return Ok(verdict);
+        }
+        if accepts_branch(here, *branch, matching, questions)? {
+            count += 1;
+        }
+    }
+    Ok(is_within(count, least, most))
+}
+
+// Whether a node accepts the place itself, where no reference is followed.
+#[cycle(verdict)]
+fn accepts_branch<'q, 'i: 'q, K: Validate, T: Matching>(
+    here: &Here<'q, 'i, '_, K>,
+    branch: usize,
+    matching: &mut T,
+    questions: &mut Vec<Question<'q, 'i>>,
+) -> Result<bool, AllocError>
+    requires known { AreReady K.knows K.shape (T.matches matching.old) here.now.graph.now.nodes.items }
+    requires asked { MayAskAt (T.matches matching.old) here.now (branch_call branch) }
+    ensures matches { OnOk result (T.matches matching.new ≡ T.matches matching.old) }
+    ensures stays { OnErr result (T.matches matching.new ≡ T.matches matching.old) }
+    ensures questions { OnOk result (questions.new.items ≡ questions.old.items) }
+    ensures verdict { let nodes = here.now.graph.now.nodes.items in IfOk result (λ b. InEach (T.matches matching.old) (λ m.
+        let r = reading_of K.shape m nodes in
+        TellsFrom nodes here.now.node here.now.place (numbers_in here.now.progress.now)
+        (λ x. asked_in r x (branch_call branch)) b)) }
+{
+    accepts_node(
+        here.graph,
+        branch,
+        here.place,
+        here.progress,
+        matching,
+        questions,
+    )
 }
 
 /// The verdict by the answers to the questions from `start` on, each of which is asked once at most.

@@ -1,4 +1,5 @@
 pub mod FaultLemmas
 pub mod KindLemmas
+pub mod PairLemmas
 pub mod PathLemmas
 pub mod PhraseLemmas

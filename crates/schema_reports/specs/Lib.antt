@@ -6,6 +6,7 @@ pub mod Kinds
 pub mod LastNames
 pub mod Left
 pub mod Observers
+pub mod Pairs
 pub mod Phrases
 pub mod Readable
 pub mod References

@@ -1,16 +1,19 @@
 //! Who hears of what is wrong.
-ghost use Rattle.std.specs.Prelude.{◌≡◌, true, false, OnOk};
+ghost use Rattle.std.specs.Prelude.{◌≡◌, true, false, map, IfOk, OnOk};
 ghost use Rattle.serde_json.specs.View.{view};
-ghost use Rattle.schema_meaning.specs.Faults.{Fault, Faults, none, also, joined, is_none};
+ghost use Rattle.schema_meaning.specs.Faults.{Fault, Faults, none, also, joined, is_none, instance_path, evaluation_path};
 ghost use Rattle.schema_meaning.specs.Rules.{each_of_object};
 ghost use Rattle.location_texts.specs.Locations.{location_of};
-ghost use Rattle.schema_reports.specs.Observers.{Hears, wants};
+ghost use Rattle.schema_definitions.specs.Lines.{paths_of};
+ghost use Rattle.schema_reports.specs.Observers.{Hears, wants, keeps_paths};
+ghost use Rattle.schema_reports.specs.Pairs.{pair_bytes};
 ghost use Rattle.schema_reports.specs.Stands.{is_kept_of};
 ghost use Rattle.schema_reports.specs.Told.{AreAll, spot_of, fault_of, error_is_proper};
 
 use crate::all_faults::AllFaults;
 use crate::error::ValidationError;
 use crate::first_fault::FirstFault;
+use crate::path_pairs::PathPairs;
 use crate::verdict::Verdict;
 use location_texts::LazyLocation;
 use serde_json::Value;
@@ -25,6 +28,8 @@ pub enum Observation {
     First,
     /// Each, in order.
     All,
+    /// The two paths of each, in order, as pointers' texts.
+    Paths,
 }
 
 /// One that hears of the faults of a value, one after another.
@@ -33,6 +38,7 @@ pub enum Observer<'i> {
     Verdict(Verdict),
     First(FirstFault<'i>),
     All(AllFaults<'i>),
+    Paths(PathPairs),
 }
 
 impl<'i> Observer<'i> {
@@ -43,7 +49,7 @@ impl<'i> Observer<'i> {
         match self {
             Observer::Verdict(verdict) => verdict.is_settled(),
             Observer::First(first) => first.is_settled(),
-            Observer::All(_) => false,
+            Observer::All(_) | Observer::Paths(_) => false,
         }
     }
 
@@ -60,7 +66,35 @@ impl<'i> Observer<'i> {
                 false
             }
             Observer::First(first) => first.wants(),
-            Observer::All(_) => true,
+            Observer::All(_) | Observer::Paths(_) => true,
+        }
+    }
+
+    /// Hears of a fault by its two paths, where it keeps no more of one, and says whether it does. Where it does not, it heard nothing.
+    ///
+    /// # Errors
+    ///
+    /// Where memory was refused.
+    pub fn keep_paths(
+        &mut self,
+        alloc: Global,
+        instance: &LazyLocation<'_, '_>,
+        evaluation: &LazyLocation<'_, '_>,
+    ) -> Result<bool, AllocError>
+        ensures asked { IfOk result (λ b. b ≡ keeps_paths self.old) }
+        ensures heard { IfOk result (λ b. b ≡ true → (kept : Observation) (fs : Faults) (f : Fault)
+            → instance_path f ≡ location_of instance.now
+            → evaluation_path f ≡ location_of evaluation.now
+            → Hears kept self.old fs → Hears kept self.new (joined fs (also f none))) }
+        ensures unheard { IfOk result (λ b. b ≡ false → (kept : Observation) (fs : Faults)
+            → Hears kept self.old fs → Hears kept self.new fs) }
+    {
+        match self {
+            Observer::Paths(paths) => {
+                paths.add(alloc, instance, evaluation)?;
+                Ok(true)
+            }
+            _ => Ok(false),
         }
     }
 
@@ -80,6 +114,7 @@ impl<'i> Observer<'i> {
             }
             Observer::First(first) => first.add(alloc, error),
             Observer::All(all) => all.add(error),
+            Observer::Paths(paths) => paths.add_error(alloc, error),
         }
     }
 
@@ -91,6 +126,7 @@ impl<'i> Observer<'i> {
             Observer::Verdict(_) => Observer::Verdict(Verdict::new()),
             Observer::First(_) => Observer::First(FirstFault::new()),
             Observer::All(_) => Observer::All(AllFaults::new(alloc)),
+            Observer::Paths(_) => Observer::Paths(PathPairs::new(alloc)),
         }
     }
 
@@ -110,6 +146,7 @@ impl<'i> Observer<'i> {
             }
             Observer::First(first) => first.absorb(alloc, other.into_first()),
             Observer::All(all) => all.absorb(alloc, other.into_all(alloc)),
+            Observer::Paths(paths) => paths.absorb(other.into_pairs(alloc)),
         }
     }
 
@@ -136,6 +173,7 @@ impl<'i> Observer<'i> {
             }
             Observer::First(first) => first.absorb_names(alloc, other.into_first(), object, at),
             Observer::All(all) => all.absorb_names(alloc, other.into_all(alloc), object, at),
+            Observer::Paths(paths) => paths.absorb_names(alloc, other.into_pairs(alloc), at),
         }
     }
 
@@ -145,8 +183,7 @@ impl<'i> Observer<'i> {
     {
         match self {
             Observer::Verdict(verdict) => verdict.accepts(),
-            Observer::First(_) => true,
-            Observer::All(_) => true,
+            Observer::First(_) | Observer::All(_) | Observer::Paths(_) => true,
         }
     }
 
@@ -155,9 +192,8 @@ impl<'i> Observer<'i> {
         ensures { (fs : Faults) → Hears Observation.First self.entry fs → is_kept_of result fs }
     {
         match self {
-            Observer::Verdict(_) => None,
             Observer::First(first) => first.into_kept(),
-            Observer::All(_) => None,
+            Observer::Verdict(_) | Observer::All(_) | Observer::Paths(_) => None,
         }
     }
 
@@ -166,9 +202,19 @@ impl<'i> Observer<'i> {
         ensures { (fs : Faults) → Hears Observation.All self.entry fs → AreAll result.items fs }
     {
         match self {
-            Observer::Verdict(_) => Vec::new(alloc),
-            Observer::First(_) => Vec::new(alloc),
             Observer::All(all) => all.into_errors(),
+            Observer::Verdict(_) | Observer::First(_) | Observer::Paths(_) => Vec::new(alloc),
+        }
+    }
+
+    // The pairs of one that keeps the two paths of each.
+    fn into_pairs(self, alloc: Global) -> Vec<(String, String)>
+        ensures { (fs : Faults) → Hears Observation.Paths self.entry fs
+            → map pair_bytes result.items ≡ paths_of fs }
+    {
+        match self {
+            Observer::Paths(paths) => paths.into_pairs(),
+            Observer::Verdict(_) | Observer::First(_) | Observer::All(_) => Vec::new(alloc),
         }
     }
 }

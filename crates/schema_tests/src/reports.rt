@@ -1,9 +1,11 @@
 // Paths, references, and what each observer hears.
-use crate::rows::assert_text;
+use crate::rows::{assert_answer, assert_text};
 use assertions::read;
+use error_texts::write_paths;
+use schema_reports::heard::pairs_heard;
 use schema_reports::{
-    AllFaults, ErrorIterator, FirstFault, LazyLocation, Observation, Observer, Reference,
-    ValidationError, ValidationErrorKind, Verdict,
+    AllFaults, ErrorIterator, FirstFault, LazyLocation, Observation, Observer, PathPairs,
+    Reference, ValidationError, ValidationErrorKind, Verdict,
 };
 use schema_steps::Path;
 use serde_json::Value;
@@ -19,6 +21,9 @@ fn assert_path(rt: &impl Abort, alloc: Global, path: Path, want: &str) {
 fn assert_location(rt: &impl Abort, alloc: Global, location: &LazyLocation<'_, '_>) {
     let path = location.to_path(alloc).expect(rt, "memory");
     assert_path(rt, alloc, path, "/a~1b/2");
+    let mut text = String::from_str(alloc, "at ").expect(rt, "memory");
+    location.write_to(&mut text).expect(rt, "memory");
+    assert_text(rt, "behind a text", text, "at /a~1b/2");
 }
 
 #[test]
@@ -46,8 +51,9 @@ fn references_begin_paths(rt: HostRuntime) {
 }
 
 // What each observer is told, and what it has heard then: whether more can change it, its verdict, and its errors.
-// An error is shown by its paths in the instance, in the schema and of evaluation, its value, its kind, and its own text.
-const HEARD: [(Observation, &str, &str); 11] = [
+// An error is shown by its paths in the instance, in the schema and of evaluation, its value, its kind, and its own text; where no more
+// is kept, by its paths in the instance and of evaluation.
+const HEARD: [(Observation, &str, &str); 16] = [
     (Observation::Verdict, "", "open accepted"),
     (Observation::Verdict, "null", "settled refused"),
     (Observation::Verdict, "text", "settled refused"),
@@ -83,6 +89,19 @@ const HEARD: [(Observation, &str, &str); 11] = [
         "kinds",
         "open;    null MinItems: MinItems;    null Pattern: Pattern;    null Types: Types;    null Not: Not",
     ),
+    (Observation::Paths, "", "open"),
+    (Observation::Paths, "null", "open; /0/a /not; /0/b /items"),
+    (
+        Observation::Paths,
+        "null text",
+        "open; /0/a /not; /0/b /items; /0/a /not; /0/b /items",
+    ),
+    (
+        Observation::Paths,
+        "null name",
+        "open; /0/a /not; /0/b /items;  /not;  /items",
+    ),
+    (Observation::Paths, "kinds", "open;  ;  ;  ;  "),
 ];
 
 const VALUES: &str =
@@ -276,17 +295,25 @@ fn write_errors(rt: &impl Abort, output: &mut String, errors: &[ValidationError<
     }
 }
 
-fn errors_of<'i>(
-    rt: &impl Abort,
-    alloc: Global,
-    observer: Observer<'i>,
-) -> Vec<ValidationError<'i>> {
-    let errors = match observer {
-        Observer::Verdict(_) => Ok(Vec::new(alloc)),
-        Observer::First(first) => first.into_error().into_iter().collect(alloc),
-        Observer::All(all) => ErrorIterator::of(all.into_errors()).collect(alloc),
-    };
-    errors.expect(rt, "memory")
+fn write_pairs(rt: &impl Abort, output: &mut String, pairs: &[(String, String)]) {
+    for (instance, evaluation) in pairs {
+        write!(output, "; {instance} {evaluation}").expect(rt, "memory");
+    }
+}
+
+fn write_heard(rt: &impl Abort, alloc: Global, output: &mut String, observer: Observer<'_>) {
+    match observer {
+        Observer::Verdict(_) => (),
+        Observer::First(first) => {
+            let errors: Result<Vec<_>, _> = first.into_error().into_iter().collect(alloc);
+            write_errors(rt, output, &errors.expect(rt, "memory"));
+        }
+        Observer::All(all) => {
+            let errors: Result<Vec<_>, _> = ErrorIterator::of(all.into_errors()).collect(alloc);
+            write_errors(rt, output, &errors.expect(rt, "memory"));
+        }
+        Observer::Paths(paths) => write_pairs(rt, output, &paths.into_pairs()),
+    }
 }
 
 fn observing<'i>(alloc: Global, kept: Observation) -> Observer<'i> {
@@ -294,6 +321,7 @@ fn observing<'i>(alloc: Global, kept: Observation) -> Observer<'i> {
         Observation::Verdict => Observer::Verdict(Verdict::new()),
         Observation::First => Observer::First(FirstFault::new()),
         Observation::All => Observer::All(AllFaults::new(alloc)),
+        Observation::Paths => Observer::Paths(PathPairs::new(alloc)),
     }
 }
 
@@ -302,7 +330,7 @@ fn heard(rt: &impl Abort, alloc: Global, kept: Observation, told: &str, values: 
     let mut observer = observing(alloc, kept);
     tell(rt, alloc, &mut observer, told, values);
     write_state(rt, &mut output, &observer);
-    write_errors(rt, &mut output, &errors_of(rt, alloc, observer));
+    write_heard(rt, alloc, &mut output, observer);
     output
 }
 
@@ -313,4 +341,89 @@ fn observers_hear(rt: HostRuntime) {
         let found = heard(&rt, rt.alloc(), *kept, told, &values);
         assert_text(&rt, told, found, want);
     }
+}
+
+// Whether each observer keeps faults by their paths, and what it has heard then: of two faults, of a member whose name has escapes and
+// of an item of it, and of the same two as faults of a name of that item.
+const KEPT: [(Observation, bool, &str); 4] = [
+    (Observation::Verdict, false, "open accepted"),
+    (Observation::First, false, "open"),
+    (Observation::All, false, "open"),
+    (
+        Observation::Paths,
+        true,
+        "open; /a~0~1b /not; /a~0~1b/2 /items/a~0~1b/10; /a~0~1b/2 /not; /a~0~1b/2 /items/a~0~1b/10",
+    ),
+];
+
+fn assert_kept(
+    rt: &impl Abort,
+    alloc: Global,
+    observer: &mut Observer<'_>,
+    at: &LazyLocation<'_, '_>,
+    road: &LazyLocation<'_, '_>,
+    want: bool,
+) {
+    let kept = observer.keep_paths(alloc, at, road).expect(rt, "memory");
+    assert_answer(rt, "keeps the paths", kept, want);
+}
+
+// The member is refused, and then the item.
+fn refuse_by_paths(
+    rt: &impl Abort,
+    alloc: Global,
+    observer: &mut Observer<'_>,
+    member: &LazyLocation<'_, '_>,
+    want: bool,
+) {
+    let top = LazyLocation::new();
+    let road = top.push_name("not");
+    assert_kept(rt, alloc, observer, member, &road, want);
+    let items = top.push_name("items");
+    let name = items.push_name("a~/b");
+    let item = member.push_index(2);
+    assert_kept(rt, alloc, observer, &item, &name.push_index(10), want);
+}
+
+fn kept(
+    rt: &impl Abort,
+    alloc: Global,
+    observation: Observation,
+    want: bool,
+    object: &Value,
+) -> String {
+    let mut output = String::new(alloc);
+    let mut observer = observing(alloc, observation);
+    let top = LazyLocation::new();
+    let member = top.push_name("a~/b");
+    refuse_by_paths(rt, alloc, &mut observer, &member, want);
+    let mut named = observer.fresh(alloc);
+    refuse_by_paths(rt, alloc, &mut named, &member, want);
+    let item = member.push_index(2);
+    let absorbed = observer.absorb_names(alloc, named, object, &item);
+    absorbed.expect(rt, "memory");
+    write_state(rt, &mut output, &observer);
+    write_pairs(rt, &mut output, &pairs_heard(alloc, observer));
+    output
+}
+
+#[test]
+fn observers_keep_paths(rt: HostRuntime) {
+    let values = Value::from_str(rt.alloc(), VALUES).expect(&rt, "JSON");
+    for (observation, want, text) in &KEPT {
+        let found = kept(&rt, rt.alloc(), *observation, *want, &values);
+        assert_text(&rt, text, found, text);
+    }
+}
+
+#[test]
+fn pairs_are_written_in_order(rt: HostRuntime) {
+    let alloc = rt.alloc();
+    let null = Value::Null;
+    let mut observer = observing(alloc, Observation::Paths);
+    refuse(&rt, alloc, &mut observer, &null, "b", "items");
+    refuse(&rt, alloc, &mut observer, &null, "a", "not");
+    let mut text = String::new(alloc);
+    write_paths(alloc, pairs_heard(alloc, observer), &mut text).expect(&rt, "memory");
+    assert_text(&rt, "pairs", text, r#"[["/0/a","/not"],["/0/b","/items"]]"#);
 }

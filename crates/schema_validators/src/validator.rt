@@ -1,10 +1,12 @@
 //! Validators.
 
-ghost use Rattle.std.specs.Prelude.{◌≡◌, ◌<◌, length, OnOk, IfOk, IfErr, is_ok, codes, None, true, false};
+ghost use Rattle.std.specs.Prelude.{◌≡◌, ◌<◌, length, map, OnOk, IfOk, IfErr, is_ok, codes, None, true, false};
 ghost use Rattle.serde_json.specs.View.{view};
 ghost use Rattle.schema_drafts.specs.Drafts as drafts;
 ghost use Rattle.schema_meaning.specs.Faults.{Faults, Told, is_none};
+ghost use Rattle.schema_definitions.specs.Lines.{paths_of};
 ghost use Rattle.schema_reports.specs.Left.{errors_left};
+ghost use Rattle.schema_reports.specs.Pairs.{pair_bytes};
 ghost use Rattle.schema_reports.specs.Stands.{is_one_of};
 ghost use Rattle.schema_reports.specs.Told.{fault_of, faults_of, error_is_proper, are_proper};
 ghost use Rattle.schema_validators.specs.Heard.{SaysOne};
@@ -23,7 +25,8 @@ use schema_drafts::draft::Draft;
 use schema_engine::matching::Matching;
 use schema_patterns::{PatternMaker, PatternMatcher, PatternTable};
 use schema_registries::{DefaultRetriever, Documents, Retrieve, has_only_whole, other_number};
-use schema_reports::{AllFaults, ErrorIterator, Observer, ValidationError};
+use schema_reports::heard::pairs_heard;
+use schema_reports::{AllFaults, ErrorIterator, Observer, PathPairs, ValidationError};
 use serde_json::Value;
 use std::alloc::{AllocError, Global};
 use std::rc::Rc;
@@ -314,6 +317,33 @@ impl<M: PatternMatcher> Validator<M> {
         self.all_faults_by(matching, value)
     }
 
+    /// The two paths of each fault of a value, in the order in which they are met, as pointers' texts: that in the instance, and that of
+    /// evaluation.
+    ///
+    /// They are those of [`Self::errors_by`], and nothing else is made of a fault. The value's numbers are whole numbers of 64 bits.
+    ///
+    /// # Errors
+    ///
+    /// Where memory was refused or a count of owners is full.
+    pub fn pairs_by<T: Matching>(
+        &self,
+        matching: &mut T,
+        value: &Value,
+    ) -> Result<Vec<(String, String)>, AllocError>
+        requires whole { only_whole (view value.now) ≡ true }
+        requires meant { T.matches matching.old ≡ matches_of M.finds (table_in self.now) }
+        ensures matches { OnOk result (T.matches matching.new ≡ T.matches matching.old) }
+        ensures cut { IfOk result (λ pairs. map pair_bytes pairs.items ≡ paths_of (faults_by self.now (view value.now))) }
+        ensures agree { OnOk result (is_none (faults_by self.now (view value.now)) ≡ verdict_by self.now (view value.now)) }
+        ensures faults { OnOk result (AreFaultsOf self.now (view value.now) (faults_by self.now (view value.now))) }
+        ensures certified { OnOk result (HaveCertificatesOf self.now (view value.now) (faults_by self.now
+            (view value.now))) }
+    {
+        let observer = Observer::Paths(PathPairs::new(self.alloc));
+        let observer = self.told(matching, value, observer)?;
+        Ok(pairs_heard(self.alloc, observer))
+    }
+
     // All faults of any value that the JSON reader gives.
     pub(crate) fn all_faults<'i>(&self, value: &'i Value) -> Result<ErrorIterator<'i>, AllocError>
         ensures each { IfOk result (λ errors. TellsBy self.now (view value.now) (faults_of (errors_left errors))) }
@@ -354,6 +384,7 @@ impl<M: PatternMatcher> Validator<M> {
             Observer::All(all) => Ok(ErrorIterator::of(all.into_errors())),
             Observer::Verdict(_verdict) => unreachable!(),
             Observer::First(_first) => unreachable!(),
+            Observer::Paths(_paths) => unreachable!(),
         }
     }
 

@@ -82,6 +82,42 @@ fn causes(rt: HostRuntime) {
     assert_cases(&rt, rt.alloc(), FROM_R, CAUSES);
 }
 
+// Where there are several causes, the first of the walk: next to the root first, then by the order of the keywords and of what they
+// ask. Behind an `if` stands the `then` that it asks.
+const FIRST: &str = r##"
+document <http://a.test/r> {"not":{"type":5},"type":6}
+build => Keyword value at 'http://a.test/r#/type': expected type name
+
+document <http://a.test/r> {"allOf":[{"items":{"type":5}}],"not":{"type":6}}
+build => Keyword value at 'http://a.test/r#/not/type': expected type name
+
+document <http://a.test/r> {"properties":{"b":{"type":5},"a":{"type":6}}}
+build => Keyword value at 'http://a.test/r#/properties/a/type': expected type name
+
+document <http://a.test/r> {"$ref":"#/$defs/x","$defs":{"x":{"type":5}},"items":{"type":6}}
+build => Keyword value at 'http://a.test/r#/$defs/x/type': expected type name
+
+document <http://a.test/r> {"else":{"type":5},"if":{"type":6},"then":{"type":7}}
+build => Keyword value at 'http://a.test/r#/else/type': expected type name
+
+document <http://a.test/r> {"if":{"type":5},"then":{"type":6}}
+build => Keyword value at 'http://a.test/r#/if/type': expected type name
+
+document <http://a.test/r> {"if":true,"not":{"type":5},"then":{"type":6}}
+build => Keyword value at 'http://a.test/r#/then/type': expected type name
+
+document <http://a.test/r> {"contains":{"type":5},"else":{"type":6},"if":true}
+build => Keyword value at 'http://a.test/r#/contains/type': expected type name
+
+document <http://a.test/r> {"if":{"items":{"type":5}},"then":{"type":6}}
+build => Keyword value at 'http://a.test/r#/then/type': expected type name
+"##;
+
+#[test]
+fn first_of_several(rt: HostRuntime) {
+    assert_cases(&rt, rt.alloc(), FROM_R, FIRST);
+}
+
 // Patterns: their values, and those that are refused.
 const PATTERNS: &str = r##"
 document <http://a.test/r> {"items":{"pattern":"a"}}

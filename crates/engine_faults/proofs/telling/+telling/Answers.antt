@@ -9,6 +9,7 @@ use Rattle.json_values.specs.Parts.{name, index}
 use Rattle.schema_meaning.specs.Members.{In}
 use Rattle.schema_meaning.specs.Places.{stay, value_after}
 use Rattle.schema_meaning.specs.Keywords.{rule}
+use Rattle.schema_meaning.specs.Questions.{at}
 use Rattle.location_texts.specs.Locations.{location_of}
 use Rattle.schema_reports.specs.declared.kind.ValidationErrorKind.TheVariants as kind
 use Rattle.schema_reports.specs.declared.observer.Observer.TheVariants as observer
@@ -33,10 +34,10 @@ use Rattle.engine_faults.specs.Faults.{AreAsked, AreErrorsOf, Hearing, node_faul
 use Rattle.schema_engine.specs.Standing.{size_of}
 use Rattle.engine_faults.specs.Telling.{stand_of, HearsAt}
 use Rattle.engine_faults.proofs.KeywordFaults.{one_of_others, every_told, named_told, conditional_told, no_condition, condition_told, combined_accepted, combined_unwanted, combined_told}
-use Rattle.schema_engine.proofs.HearsLemmas.{hears_absorbed}
+use Rattle.schema_engine.proofs.HearsLemmas.{hears_absorbed, tells_after}
 use Rattle.engine_faults.proofs.NodeFaults.{path_here, node_heard, keyword_next, keywords_done, together_heard, paired_heard, settled_heard, parted, kept_long, rest_whole, in_take, in_drop}
 use Rattle.engine_faults.proofs.QuestionFaults.{beside_next, beside_skipped, beside_done, named_next, named_done, branches_next, branches_done}
-use Rattle.engine_faults.proofs.RefusalFaults.{some_told, one_branch_told, counted_told, reason_told}
+use Rattle.engine_faults.proofs.RefusalFaults.{some_told, one_branch_told, counted_told, reason_told, paths_told}
 use Rattle.engine_faults.proofs.RuleFaults.{one_is_right}
 use Rattle.schema_engine.proofs.Sizes.{size_inside, size_down, size_target}
 use Rattle.engine_faults.proofs.StepFaults.{leads_inside, leads_to_item, leads_to_member, leads_to_name, follows_none, hears_as, step_heard, back_heard, target_heard}
@@ -870,7 +871,7 @@ tell_refusal-tell_branches-requires-in-OneBranch g t c κs within =
             subst (λ m. AreReady g.K.Validate.knows g.K.Validate.shape m nodes) (sym c.in_ok-accepted-in-OneBranch.ensures.matches) c.requires.known,
             (
               c.requires.right,
-              subst (λ qs. EachMayAsk (g.T.Matching.matches c.count_accepted.new.matching) nodes (rank_at nodes h.node) (value_at h.place) (map call_of (drop c.args.start qs))) (sym c.in_ok-accepted-in-OneBranch.ensures.questions)
+              subst (λ qs. EachMayAsk (g.T.Matching.matches c.count_accepted-in-OneBranch.new.matching) nodes (rank_at nodes h.node) (value_at h.place) (map call_of (drop c.args.start qs))) (sym c.in_ok-accepted-in-OneBranch.ensures.questions)
                   (subst (λ m. EachMayAsk m nodes (rank_at nodes h.node) (value_at h.place) (map call_of (drop c.args.start c.args.questions.now.items))) (sym c.in_ok-accepted-in-OneBranch.ensures.matches)
                   (each_may_ask g.K.Validate.knows g.K.Validate.shape nodes h.node k (g.T.Matching.matches c.args.matching.now) (value_at h.place) c.requires.known c.requires.led c.requires.stands h.graph.now.sound
                   (map call_of (drop c.args.start c.args.questions.now.items)) (λ rest. (c.requires.asked rest).calls))),
@@ -888,13 +889,36 @@ tell_refusal-count_accepted-requires-clause-asked g t c =
     each_may_ask g.K.Validate.knows g.K.Validate.shape nodes h.node k (g.T.Matching.matches c.args.matching.now) (value_at h.place) c.requires.known c.requires.led c.requires.stands h.graph.now.sound
     (map call_of (drop c.args.start c.args.questions.now.items)) (λ rest. (c.requires.asked rest).calls)
 
-pub tell_refusal-count_accepted-requires-in-Counted-clause-asked : goal.tell_refusal-count_accepted-requires-in-Counted-clause-asked
-tell_refusal-count_accepted-requires-in-Counted-clause-asked g t c =
+pub tell_refusal-count_accepted-requires-in-OneBranch-clause-asked : goal.tell_refusal-count_accepted-requires-in-OneBranch-clause-asked
+tell_refusal-count_accepted-requires-in-OneBranch-clause-asked g t c =
     let h = c.args.there.now.here in
     let nodes = h.graph.now.nodes.items in
     let k = c.args.keyword.now in
     each_may_ask g.K.Validate.knows g.K.Validate.shape nodes h.node k (g.T.Matching.matches c.args.matching.now) (value_at h.place) c.requires.known c.requires.led c.requires.stands h.graph.now.sound
     (map call_of (drop c.args.start c.args.questions.now.items)) (λ rest. (c.requires.asked rest).calls)
+
+pub tell_refusal-returns-in-Counted-clause-heard : goal.tell_refusal-returns-in-Counted-clause-heard
+tell_refusal-returns-in-Counted-clause-heard g t c =
+    let there = c.args.there.now in
+    let h = there.here in
+    let nodes = h.graph.now.nodes.items in
+    let m = g.T.Matching.matches c.args.matching.now in
+    let added = g.K.Validate.added c.args.keyword.now in
+    let xs = drop c.args.start c.args.questions.now.items in
+    on_ok_weaker c.tell.result
+    (λ told rest. counted_told (reading_of g.K.Validate.shape (completed m rest) nodes) h.node (rule (completed m rest) (value_at h.place) (g.K.Validate.shape c.args.keyword.now)) there.situation (stand_of there) (size_of h) refl refl c.requires.right.path c.requires.right.value
+    added xs (c.requires.asked rest) c.refused_name-name.result.now c.args.observer.now c.tell.new.observer c.in_ok-accepted.accepted _ _ kind.Contains
+    (sym (c.requires.combination rest) ∙ c.in-Counted.is) (c.refused_name-name.ensures (completed m rest) (value_at h.place)) (c.in_ok-accepted.ensures.counted rest) (record { kind = refl; proper = refl }) told)
+    c.tell.ensures
+
+pub tell_refusal-returns-then-branch-clause-heard : goal.tell_refusal-returns-then-branch-clause-heard
+tell_refusal-returns-then-branch-clause-heard g t c rest =
+    let there = c.args.there.now in
+    let h = there.here in
+    let m = g.T.Matching.matches c.args.matching.now in
+    paths_told (reading_of g.K.Validate.shape (completed m rest) h.graph.now.nodes.items) h.node (rule (completed m rest) (value_at h.place) (g.K.Validate.shape c.args.keyword.now)) there.situation (stand_of there) (size_of h) refl refl c.requires.right.path c.requires.right.value
+    (g.K.Validate.added c.args.keyword.now) (drop c.args.start c.args.questions.now.items) (c.requires.asked rest) c.refused_name-name-2.result.now c.args.observer.now c.tell_paths.new.observer c.args.combination
+    (c.requires.combination rest) c.requires.once c.in_default.not-Counted (c.refused_name-name-2.ensures (completed m rest) (value_at h.place)) (c.in_ok-tell_paths.ensures.told c.if-branch.true)
 
 pub tell_refusal-returns-in_ok-context-in-SomeBranch-clause-heard : goal.tell_refusal-returns-in_ok-context-in-SomeBranch-clause-heard
 tell_refusal-returns-in_ok-context-in-SomeBranch-clause-heard g t c =
@@ -904,11 +928,13 @@ tell_refusal-returns-in_ok-context-in-SomeBranch-clause-heard g t c =
     let m = g.T.Matching.matches c.args.matching.now in
     let added = g.K.Validate.added c.args.keyword.now in
     let xs = drop c.args.start c.args.questions.now.items in
-    on_ok_weaker c.tell.result
+    let unheard = c.in_ok-tell_paths.ensures.untold c.if-branch.false in
+    on_ok_weaker c.tell-in-SomeBranch.result
     (λ told rest. some_told (reading_of g.K.Validate.shape (completed m rest) nodes) h.node (rule (completed m rest) (value_at h.place) (g.K.Validate.shape c.args.keyword.now)) there.situation (stand_of there) (size_of h) refl refl c.requires.right.path c.requires.right.value
-    added xs (c.requires.asked rest) c.refused_name.result.now c.args.observer.now c.tell.new.observer c.in_ok-context-in-SomeBranch.context.items c.any_of-kind.result
-    (sym (c.requires.combination rest) ∙ c.in-SomeBranch.is) (c.refused_name.ensures (completed m rest) (value_at h.place)) c.any_of-kind.ensures (c.in_ok-context-in-SomeBranch.ensures.branches rest) told)
-    c.tell.ensures
+    added xs (c.requires.asked rest) c.refused_name-name-2.result.now c.args.observer.now c.tell-in-SomeBranch.new.observer c.in_ok-context-in-SomeBranch.context.items c.any_of.result
+    (sym (c.requires.combination rest) ∙ c.in-SomeBranch.is) (c.refused_name-name-2.ensures (completed m rest) (value_at h.place)) c.any_of.ensures (c.in_ok-context-in-SomeBranch.ensures.branches rest)
+    (tells_after there.situation (at c.refused_name-name-2.result.now) c.any_of.result (view there.situation.value.now) c.args.observer.now c.tell_paths.new.observer c.tell-in-SomeBranch.new.observer unheard told))
+    c.tell-in-SomeBranch.ensures
 
 pub tell_refusal-returns-in_ok-context-in-OneBranch-clause-heard : goal.tell_refusal-returns-in_ok-context-in-OneBranch-clause-heard
 tell_refusal-returns-in_ok-context-in-OneBranch-clause-heard g t c =
@@ -919,30 +945,18 @@ tell_refusal-returns-in_ok-context-in-OneBranch-clause-heard g t c =
     let added = g.K.Validate.added c.args.keyword.now in
     let xs = drop c.args.start c.args.questions.now.items in
     let errors = λ (rest : Answers). subst (λ (n : Matches). AreErrorsOf (stand_of there) (size_of h) (question_faults (reading_of g.K.Validate.shape (completed n rest) nodes) added) xs c.in_ok-context-in-OneBranch.context.items) c.in_ok-accepted-in-OneBranch.ensures.matches
-    (subst (λ qs. AreErrorsOf (stand_of there) (size_of h) (question_faults (reading_of g.K.Validate.shape (completed (g.T.Matching.matches c.count_accepted.new.matching) rest) nodes) added) (drop c.args.start qs) c.in_ok-context-in-OneBranch.context.items)
+    (subst (λ qs. AreErrorsOf (stand_of there) (size_of h) (question_faults (reading_of g.K.Validate.shape (completed (g.T.Matching.matches c.count_accepted-in-OneBranch.new.matching) rest) nodes) added) (drop c.args.start qs) c.in_ok-context-in-OneBranch.context.items)
     c.in_ok-accepted-in-OneBranch.ensures.questions (c.in_ok-context-in-OneBranch.ensures.branches rest)) in
+    let unheard = c.in_ok-tell_paths.ensures.untold c.if-branch.false in
     on_ok_weaker c.tell-in-OneBranch.result
     (λ told rest. one_branch_told (reading_of g.K.Validate.shape (completed m rest) nodes) h.node (rule (completed m rest) (value_at h.place) (g.K.Validate.shape c.args.keyword.now)) there.situation (stand_of there) (size_of h) refl refl c.requires.right.path c.requires.right.value
-    added xs (c.requires.asked rest) c.refused_name-in-OneBranch.result.now c.args.observer.now c.tell-in-OneBranch.new.observer c.in_ok-accepted-in-OneBranch.accepted c.in_ok-context-in-OneBranch.context.items c.one_of-kind.result
-    (sym (c.requires.combination rest) ∙ c.in-OneBranch.is) (c.refused_name-in-OneBranch.ensures (completed m rest) (value_at h.place)) (c.in_ok-accepted-in-OneBranch.ensures.counted rest) c.one_of-kind.ensures (errors rest) told)
+    added xs (c.requires.asked rest) c.refused_name-name-2.result.now c.args.observer.now c.tell-in-OneBranch.new.observer c.in_ok-accepted-in-OneBranch.accepted c.in_ok-context-in-OneBranch.context.items c.one_of-kind.result
+    (sym (c.requires.combination rest) ∙ c.in-OneBranch.is) (c.refused_name-name-2.ensures (completed m rest) (value_at h.place)) (c.in_ok-accepted-in-OneBranch.ensures.counted rest) c.one_of-kind.ensures (errors rest)
+    (tells_after there.situation (at c.refused_name-name-2.result.now) c.one_of-kind.result (view there.situation.value.now) c.args.observer.now c.tell_paths.new.observer c.tell-in-OneBranch.new.observer unheard told))
     c.tell-in-OneBranch.ensures
 
-pub tell_refusal-returns-in_ok-accepted-in-Counted-clause-heard : goal.tell_refusal-returns-in_ok-accepted-in-Counted-clause-heard
-tell_refusal-returns-in_ok-accepted-in-Counted-clause-heard g t c =
-    let there = c.args.there.now in
-    let h = there.here in
-    let nodes = h.graph.now.nodes.items in
-    let m = g.T.Matching.matches c.args.matching.now in
-    let added = g.K.Validate.added c.args.keyword.now in
-    let xs = drop c.args.start c.args.questions.now.items in
-    on_ok_weaker c.tell-in-Counted.result
-    (λ told rest. counted_told (reading_of g.K.Validate.shape (completed m rest) nodes) h.node (rule (completed m rest) (value_at h.place) (g.K.Validate.shape c.args.keyword.now)) there.situation (stand_of there) (size_of h) refl refl c.requires.right.path c.requires.right.value
-    added xs (c.requires.asked rest) c.refused_name-name.result.now c.args.observer.now c.tell-in-Counted.new.observer c.in_ok-accepted-in-Counted.accepted _ _ kind.Contains
-    (sym (c.requires.combination rest) ∙ c.in-Counted.is) (c.refused_name-name.ensures (completed m rest) (value_at h.place)) (c.in_ok-accepted-in-Counted.ensures.counted rest) (record { kind = refl; proper = refl }) told)
-    c.tell-in-Counted.ensures
-
-pub tell_refusal-returns-in_ok-reason-in_default-clause-heard : goal.tell_refusal-returns-in_ok-reason-in_default-clause-heard
-tell_refusal-returns-in_ok-reason-in_default-clause-heard g t c =
+pub tell_refusal-returns-in_ok-reason-in_default-combination-clause-heard : goal.tell_refusal-returns-in_ok-reason-in_default-combination-clause-heard
+tell_refusal-returns-in_ok-reason-in_default-combination-clause-heard g t c =
     let there = c.args.there.now in
     let h = there.here in
     let nodes = h.graph.now.nodes.items in
@@ -952,12 +966,15 @@ tell_refusal-returns-in_ok-reason-in_default-clause-heard g t c =
     let own = ap (λ (ys : List Question). take (length ys - c.args.start) (drop c.args.start ys)) c.deref.ensures.value ∙ rest_whole c.args.start c.args.questions.now.items in
     let are = λ (rest : Answers). subst (λ d. AreOf (rule (completed m rest) d shape) (take (length c.deref.result.now - c.args.start) (drop c.args.start c.deref.result.now))) (sym c.requires.right.value)
     (ap (map call_of) own ∙ (c.requires.asked rest).calls) in
-    let says = λ (rest : Answers). subst (λ d. IsReason (rule (completed m rest) d shape) (view there.situation.value.now) c.in_ok-reason-in_default.reason) c.requires.right.value (c.in_ok-reason-in_default.ensures (completed m rest) (are rest)) in
-    on_ok_weaker c.tell-in_default.result
+    let says = λ (rest : Answers). subst (λ d. IsReason (rule (completed m rest) d shape) (view there.situation.value.now) c.in_ok-reason-in_default-combination.reason) c.requires.right.value (c.in_ok-reason-in_default-combination.ensures (completed m rest) (are rest)) in
+    let unheard = c.in_ok-tell_paths.ensures.untold c.if-branch.false in
+    let reason = c.in_ok-reason-in_default-combination.reason in
+    on_ok_weaker c.tell-in_default-combination.result
     (λ told rest. reason_told (reading_of g.K.Validate.shape (completed m rest) nodes) h.node (rule (completed m rest) (value_at h.place) shape) there.situation (stand_of there) (size_of h) refl refl c.requires.right.path c.requires.right.value
-    (g.K.Validate.added c.args.keyword.now) xs (c.requires.asked rest) c.refused_name-in_default.result.now c.args.observer.now c.tell-in_default.new.observer c.args.combination c.in_ok-reason-in_default.reason
-    (c.requires.combination rest) c.requires.once c.in_default.not-SomeBranch c.in_default.not-OneBranch c.in_default.not-Counted (c.refused_name-in_default.ensures (completed m rest) (value_at h.place)) (says rest) told)
-    c.tell-in_default.ensures
+    (g.K.Validate.added c.args.keyword.now) xs (c.requires.asked rest) c.refused_name-name-2.result.now c.args.observer.now c.tell-in_default-combination.new.observer c.args.combination reason
+    (c.requires.combination rest) c.requires.once c.in_default-combination.not-SomeBranch c.in_default-combination.not-OneBranch c.in_default.not-Counted (c.refused_name-name-2.ensures (completed m rest) (value_at h.place)) (says rest)
+    (tells_after there.situation (at c.refused_name-name-2.result.now) reason.kind (view reason.value.now) c.args.observer.now c.tell_paths.new.observer c.tell-in_default-combination.new.observer unheard told))
+    c.tell-in_default-combination.ensures
 
 -- ---- the errors of branches
 

@@ -2,7 +2,7 @@ use Rattle.std.proofs.Common.{◌≡◌, ◌++◌, map}
 use Rattle.schema_definitions.specs.Lines.{paths_of}
 use Rattle.schema_reports.specs.Left.{errors_left}
 use Rattle.schema_reports.specs.Told.{faults_of}
-use Rattle.error_texts.specs.Pairs.{pair_bytes}
+use Rattle.schema_reports.specs.Pairs.{pair_bytes}
 use Rattle.error_texts.proofs.faults.path_pairs.Given as goal
 
 -- the pairs of the errors so far, and of those that are left

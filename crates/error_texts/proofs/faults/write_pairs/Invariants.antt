@@ -3,7 +3,7 @@ use Rattle.serde_json.specs.Data.{array}
 use Rattle.serde_json.specs.Written.{compact_text, items_text}
 use Rattle.json_pointers.specs.Buffers.{Grows}
 use Rattle.schema_definitions.specs.Lines.{pairs_data}
-use Rattle.error_texts.specs.Pairs.{pair_bytes}
+use Rattle.schema_reports.specs.Pairs.{pair_bytes}
 use Rattle.error_texts.proofs.faults.write_pairs.Given as goal
 
 -- the text, and the list's rest

@@ -27,6 +27,12 @@ unreachable-requires-in-Told-All g c =
     (c.in-Told-All.is ∙ ap telling.Told c.in-Told-All.field-0-is) c.in_ok-kept.ensures in
     (told none_matched).heard kept.First none c.new.ensures
 
+pub unreachable-requires-in-Told-Paths : goal.unreachable-requires-in-Told-Paths
+unreachable-requires-in-Told-Paths g c =
+    let told = subst (IsTelling g.K.Validate.shape c.args.graph.now.nodes.items c.args.start (view c.args.value.now) (matches_with g.M.PatternMatcher.finds c.args.table.now []) (observers.First c.new.result))
+    (c.in-Told-Paths.is ∙ ap telling.Told c.in-Told-Paths.field-0-is) c.in_ok-kept.ensures in
+    (told none_matched).heard kept.First none c.new.ensures
+
 pub returns-in-Told-First-clause-each : goal.returns-in-Told-First-clause-each
 returns-in-Told-First-clause-each g c =
     let told = subst (IsTelling g.K.Validate.shape c.args.graph.now.nodes.items c.args.start (view c.args.value.now) (matches_with g.M.PatternMatcher.finds c.args.table.now []) (observers.First c.new.result))

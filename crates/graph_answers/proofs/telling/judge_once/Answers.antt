@@ -23,6 +23,12 @@ unreachable-requires-in-Told-All g c =
     (c.in-Told-All.is ∙ ap telling.Told c.in-Told-All.field-0-is) c.in_ok-verdict.ensures in
     (told none_matched).heard kept.Verdict none c.new.ensures
 
+pub unreachable-requires-in-Told-Paths : goal.unreachable-requires-in-Told-Paths
+unreachable-requires-in-Told-Paths g c =
+    let told = subst (IsTelling g.K.Validate.shape c.args.graph.now.nodes.items c.args.start (view c.args.value.now) (matches_with g.M.PatternMatcher.finds c.args.table.now c.args.assumed.now) (observers.Verdict c.new.result))
+    (c.in-Told-Paths.is ∙ ap telling.Told c.in-Told-Paths.field-0-is) c.in_ok-verdict.ensures in
+    (told none_matched).heard kept.Verdict none c.new.ensures
+
 pub returns-in-Told-Verdict : goal.returns-in-Told-Verdict
 returns-in-Told-Verdict g c rest =
     let shape = g.K.Validate.shape in

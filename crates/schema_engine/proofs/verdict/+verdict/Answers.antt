@@ -9,24 +9,27 @@ use Rattle.schema_engine.specs.declared.combination.Combination.TheVariants as c
 use Rattle.schema_engine.specs.declared.place.Asked.{Asked}
 use Rattle.schema_engine.specs.declared.place.Question.{Question}
 use Rattle.schema_engine.specs.declared.place.Place.TheVariants as place
+use Rattle.schema_engine.specs.declared.itself.Itself.{Itself}
+use Rattle.schema_engine.specs.Itself.{is_fine, SettlesSo}
 use Rattle.schema_engine.specs.Matches.{Answers, Matches, completed, none_matched}
 use Rattle.schema_engine.specs.Pairs.{ArePaired}
 use Rattle.schema_engine.specs.Places.{value_at, step_of}
 use Rattle.schema_engine.specs.Progress.{numbers_in, is_among}
 use Rattle.schema_engine.specs.Questions.{Call, call_of}
-use Rattle.schema_engine.specs.Asking.{AsksEach, AsksSo, target_call, item_call, item_calls}
+use Rattle.schema_engine.specs.Asking.{AsksEach, AsksCounted, AsksSo, target_call, item_call, item_calls, branch_call}
 use Rattle.schema_engine.specs.Rules.{all_beside, combined, is_right}
 use Rattle.schema_engine.specs.Graphs.{rank_at, reading_of}
 use Rattle.schema_engine.specs.Led.{LedTo, AreReady}
 use Rattle.schema_engine.specs.Verdicts.{Setting, Fits, node_in, asked_in, rule_in, size, Tells, MayAsk, EachMayAsk, GoesDown}
 use Rattle.schema_engine.proofs.Items.{items_begin, items_yes, items_no, items_end, may_ask_item, may_ask_items}
+use Rattle.schema_engine.proofs.Branches.{BranchesCounted, branches_begin, branches_yes, branches_no, branches_end, counted_begin, counted_yes, counted_no, may_ask_branch}
 use Rattle.schema_engine.proofs.Left.{CountLeft}
 use Rattle.schema_engine.proofs.Loops.{each_yes, each_skipped, each_no, count_yes, count_no, chosen_by, combined_by}
 use Rattle.schema_engine.proofs.Sizes.{size_inside, size_down, size_target}
 use Rattle.schema_engine.proofs.Settings.{stepped, stay_fits, item_fits, member_fits, name_fits}
 use Rattle.schema_engine.proofs.Keywords.{keywords_yes, keywords_no, keywords_end, one_yes, other_yes, both_no, both_told, same_at}
-use Rattle.schema_engine.proofs.Steps.{may_ask_one, may_ask_rest, may_ask_for, each_may_ask, both_may_ask, keywords_here, keyword_stands, node_by_keywords, node_wrong, each_right, keyword_told, keyword_each, keyword_alone, keyword_targeted, question_told, follows_told, back_told, entered_told}
-use Rattle.schema_engine.proofs.verdict.+verdict.Goals.{accepts_paired-else-position-pair-via-then-position-pair+else-position-pair-2, accepts_paired-else-position-pair-via-else-position-pair, accepts_paired-then-position-pair+then-position-pair-2+in_ok-accepts_keyword+else-not-branch-2, accepts_paired-else-position-pair, accepts_each-then-question-beside+in_ok-accepts_question+else-not-branch, accepts_each-else-question-beside, accepts_counted-then-branch, accepts_counted-else-branch}
+use Rattle.schema_engine.proofs.Steps.{may_ask_one, may_ask_rest, may_ask_for, each_may_ask, both_may_ask, keywords_here, keyword_stands, node_by_keywords, node_wrong, node_settled, each_right, keyword_told, keyword_each, keyword_counted, keyword_alone, keyword_targeted, question_told, follows_told, back_told, entered_told}
+use Rattle.schema_engine.proofs.verdict.+verdict.Goals.{accepts_paired-else-position-pair-via-then-position-pair+else-position-pair-2, accepts_paired-else-position-pair-via-else-position-pair, accepts_paired-then-position-pair+then-position-pair-2+in_ok-accepts_keyword+else-not-branch-2, accepts_paired-else-position-pair, accepts_each-then-question-beside+in_ok-accepts_question+else-not-branch, accepts_each-else-question-beside, accepts_counted-then-branch, accepts_counted-else-branch, accepts_counted_branches-then-branch, accepts_counted_branches-else-branch}
 use Rattle.schema_engine.proofs.verdict.+verdict.Goals as goal
 
 -- ---- the target of a reference
@@ -270,6 +273,28 @@ accepts_keyword-accepts_items-requires g t c κs within =
     calls (λ rest. sym (asks rest)) in
     (omega arith, (within.0, (within.1, (c.requires.known, may))))
 
+pub accepts_keyword-accepts_each_branch-requires : goal.accepts_keyword-accepts_each_branch-requires
+accepts_keyword-accepts_each_branch-requires g t c κs within =
+    let nodes = c.args.here.now.graph.now.nodes.items in
+    let d = value_at c.args.here.now.place in
+    let m = g.T.Matching.matches c.args.matching.now in
+    let k = λ (rest : Answers). rule (completed m rest) d (g.K.Validate.shape c.args.keyword.now) in
+    let asks = λ (rest : Answers). AsksEach.questions (subst (λ a. AsksSo a (k rest)) c.in-Each.is (c.asking.ensures _)) in
+    let may = each_may_ask g.K.Validate.knows g.K.Validate.shape nodes c.args.here.now.node c.args.keyword.now m d c.requires.known c.requires.led c.requires.stands c.args.here.now.graph.now.sound
+    (map branch_call c.in-Each.branches.now) (λ rest. sym (asks rest)) in
+    (omega arith, (within.0, (within.1, (c.requires.known, may))))
+
+pub accepts_keyword-accepts_counted_branches-requires : goal.accepts_keyword-accepts_counted_branches-requires
+accepts_keyword-accepts_counted_branches-requires g t c κs within =
+    let nodes = c.args.here.now.graph.now.nodes.items in
+    let d = value_at c.args.here.now.place in
+    let m = g.T.Matching.matches c.args.matching.now in
+    let k = λ (rest : Answers). rule (completed m rest) d (g.K.Validate.shape c.args.keyword.now) in
+    let asks = λ (rest : Answers). AsksCounted.questions (subst (λ a. AsksSo a (k rest)) c.in-Counted.is (c.asking.ensures _)) in
+    let may = each_may_ask g.K.Validate.knows g.K.Validate.shape nodes c.args.here.now.node c.args.keyword.now m d c.requires.known c.requires.led c.requires.stands c.args.here.now.graph.now.sound
+    (map branch_call c.in-Counted.branches.now) (λ rest. sym (asks rest)) in
+    (omega arith, (within.0, (within.1, (c.requires.known, may))))
+
 pub accepts_keyword-returns-in-Nothing-clause-verdict :
     goal.accepts_keyword-returns-in-Nothing-clause-verdict
 accepts_keyword-returns-in-Nothing-clause-verdict g t c rest =
@@ -301,6 +326,30 @@ accepts_keyword-returns-in-Items-clause-verdict g t c =
     IfOk-weaker c.accepts_items.result _ _
     (λ b tells rest. keyword_each _ place progress enough (k rest) b true calls (sym (c.requires.right rest)) refl
     (subst (λ a. AsksSo a (k rest)) c.in-Items.is (c.asking.ensures _)) (tells rest)) c.accepts_items.ensures.verdict
+
+pub accepts_keyword-returns-in-Each-clause-verdict :
+    goal.accepts_keyword-returns-in-Each-clause-verdict
+accepts_keyword-returns-in-Each-clause-verdict g t c =
+    let nodes = c.args.here.now.graph.now.nodes.items in
+    let place = c.args.here.now.place in
+    let progress = numbers_in c.args.here.now.progress.now in
+    let enough = size nodes (value_at place) progress (rank_at nodes c.args.here.now.node) in
+    let k = λ (rest : Answers). rule (completed (g.T.Matching.matches c.args.matching.now) rest) (value_at place) (g.K.Validate.shape c.args.keyword.now) in
+    IfOk-weaker c.accepts_each_branch.result _ _
+    (λ b tells rest. keyword_each _ place progress enough (k rest) b true (map branch_call c.in-Each.branches.now) (sym (c.requires.right rest)) refl
+    (subst (λ a. AsksSo a (k rest)) c.in-Each.is (c.asking.ensures _)) (tells rest)) c.accepts_each_branch.ensures.verdict
+
+pub accepts_keyword-returns-in-Counted-clause-verdict :
+    goal.accepts_keyword-returns-in-Counted-clause-verdict
+accepts_keyword-returns-in-Counted-clause-verdict g t c =
+    let nodes = c.args.here.now.graph.now.nodes.items in
+    let place = c.args.here.now.place in
+    let progress = numbers_in c.args.here.now.progress.now in
+    let enough = size nodes (value_at place) progress (rank_at nodes c.args.here.now.node) in
+    let k = λ (rest : Answers). rule (completed (g.T.Matching.matches c.args.matching.now) rest) (value_at place) (g.K.Validate.shape c.args.keyword.now) in
+    IfOk-weaker c.accepts_counted_branches.result _ _
+    (λ b tells rest. keyword_counted _ place progress enough (k rest) b true c.in-Counted.least c.in-Counted.most (map branch_call c.in-Counted.branches.now) (sym (c.requires.right rest)) refl
+    (subst (λ a. AsksSo a (k rest)) c.in-Counted.is (c.asking.ensures _)) (tells rest)) c.accepts_counted_branches.ensures.verdict
 
 -- ---- one whose questions are listed
 
@@ -413,6 +462,130 @@ accepts_items-returns-clause-verdict g t c =
     let past : length c.args.items.now ≤ l.index = omega arith in
     λ rest. items_end _ c.args.here.now.place _ _ c.args.node c.args.start c.args.items.now l.index past (l.invariant.left rest)
 
+-- ---- branches
+
+pub accepts_branch-returns-clause-verdict : goal.accepts_branch-returns-clause-verdict
+accepts_branch-returns-clause-verdict g t c =
+    let h = c.args.here.now in
+    let nodes = h.graph.now.nodes.items in
+    let progress = numbers_in h.progress.now in
+    IfOk-weaker c.accepts_node.result _ _
+    (λ b told rest. question_told _ h.place h.place _ _ _ _ (branch_call c.args.branch) b
+    (size_inside nodes (value_at h.place) progress (rank_at nodes h.node) (rank_at nodes c.args.branch) (c.requires.asked.falls refl))
+    refl (λ x fits. stay_fits h.place _ x fits) (told rest))
+    c.accepts_node.ensures.verdict
+
+pub accepts_each_branch-loop-branch-init : goal.accepts_each_branch-loop-branch-init
+accepts_each_branch-loop-branch-init g t c = record { matches = refl; questions = refl; left = λ rest. branches_begin _ _ _ _ _ }
+
+pub accepts_each_branch-accepts_branch-requires : goal.accepts_each_branch-accepts_branch-requires
+accepts_each_branch-accepts_branch-requires g t c κs within =
+    let nodes = c.args.here.now.graph.now.nodes.items in
+    let l = c.loop-branch in
+    let may = may_ask_branch nodes (rank_at nodes c.args.here.now.node) (value_at c.args.here.now.place) c.args.branches.now l.branch-index c.loop-branch-test.true c.requires.asked in (
+      omega arith,
+      (
+        within.0,
+        (
+          within.1,
+          (
+            subst (λ m. AreReady g.K.Validate.knows g.K.Validate.shape m nodes) (sym l.invariant.matches) c.requires.known,
+            subst (λ m. MayAsk m nodes (rank_at nodes c.args.here.now.node) (value_at c.args.here.now.place) (branch_call (get_or c.args.branches.now l.branch-index 0))) (sym l.invariant.matches) may,
+          ),
+        ),
+      ),
+    )
+
+pub accepts_each_branch-loop-branch-preserved : goal.accepts_each_branch-loop-branch-preserved
+accepts_each_branch-loop-branch-preserved g t c =
+    let nodes = c.args.here.now.graph.now.nodes.items in
+    let l = c.loop-branch in
+    let place = c.args.here.now.place in
+    let progress = numbers_in c.args.here.now.progress.now in
+    let enough = size nodes (value_at place) progress (rank_at nodes c.args.here.now.node) in
+    let ns = c.args.branches.now in
+    let n = get_or ns l.branch-index 0 in
+    let taken : c.in_ok-accepts_branch.field-0 ≡ true = search rules in
+    let verdict = λ (rest : Answers). subst (λ (m : Matches). Tells place progress enough (λ x. asked_in (reading_of g.K.Validate.shape (completed m rest) nodes) x (branch_call n)) c.in_ok-accepts_branch.field-0)
+    l.invariant.matches (c.in_ok-accepts_branch.ensures.verdict rest) in
+    record {
+      matches = c.in_ok-accepts_branch.ensures.matches ∙ l.invariant.matches;
+      questions = c.in_ok-accepts_branch.ensures.questions ∙ l.invariant.questions;
+      left = λ rest. branches_yes _ place progress enough ns l.branch-index c.loop-branch-test.true (l.invariant.left rest) (subst (Tells place progress enough _) taken (verdict rest));
+    }
+
+pub accepts_each_branch-returns-then-not-branch-clause-verdict :
+    goal.accepts_each_branch-returns-then-not-branch-clause-verdict
+accepts_each_branch-returns-then-not-branch-clause-verdict g t c =
+    let nodes = c.args.here.now.graph.now.nodes.items in
+    let l = c.loop-branch in
+    let place = c.args.here.now.place in
+    let progress = numbers_in c.args.here.now.progress.now in
+    let enough = size nodes (value_at place) progress (rank_at nodes c.args.here.now.node) in
+    let ns = c.args.branches.now in
+    let n = get_or ns l.branch-index 0 in
+    let refused : c.in_ok-accepts_branch.field-0 ≡ false = search rules in
+    let verdict = λ (rest : Answers). subst (λ (m : Matches). Tells place progress enough (λ x. asked_in (reading_of g.K.Validate.shape (completed m rest) nodes) x (branch_call n)) c.in_ok-accepts_branch.field-0)
+    l.invariant.matches (c.in_ok-accepts_branch.ensures.verdict rest) in
+    λ rest. branches_no _ place progress enough ns l.branch-index c.loop-branch-test.true (l.invariant.left rest) (subst (Tells place progress enough _) refused (verdict rest))
+
+pub accepts_each_branch-returns-clause-verdict : goal.accepts_each_branch-returns-clause-verdict
+accepts_each_branch-returns-clause-verdict g t c =
+    let l = c.loop-branch in
+    let past : length c.args.branches.now ≤ l.branch-index = omega arith in
+    λ rest. branches_end _ c.args.here.now.place _ _ c.args.branches.now l.branch-index past (l.invariant.left rest)
+
+pub accepts_counted_branches-loop-branch-init : goal.accepts_counted_branches-loop-branch-init
+accepts_counted_branches-loop-branch-init g t c = record { matches = refl; questions = refl; few = omega arith; left = λ rest. counted_begin _ _ _ _ _ }
+
+pub accepts_counted_branches-accepts_branch-requires : goal.accepts_counted_branches-accepts_branch-requires
+accepts_counted_branches-accepts_branch-requires g t c κs within =
+    let nodes = c.args.here.now.graph.now.nodes.items in
+    let l = c.loop-branch in
+    let may = may_ask_branch nodes (rank_at nodes c.args.here.now.node) (value_at c.args.here.now.place) c.args.branches.now l.branch-index c.loop-branch-test.true c.requires.asked in (
+      omega arith,
+      (
+        within.0,
+        (
+          within.1,
+          (
+            subst (λ m. AreReady g.K.Validate.knows g.K.Validate.shape m nodes) (sym l.invariant.matches) c.requires.known,
+            subst (λ m. MayAsk m nodes (rank_at nodes c.args.here.now.node) (value_at c.args.here.now.place) (branch_call (get_or c.args.branches.now l.branch-index 0))) (sym l.invariant.matches) may,
+          ),
+        ),
+      ),
+    )
+
+pub accepts_counted_branches-loop-branch-preserved : goal.accepts_counted_branches-loop-branch-preserved
+accepts_counted_branches-loop-branch-preserved g t c =
+    let nodes = c.args.here.now.graph.now.nodes.items in
+    let l = c.loop-branch in
+    let place = c.args.here.now.place in
+    let progress = numbers_in c.args.here.now.progress.now in
+    let enough = size nodes (value_at place) progress (rank_at nodes c.args.here.now.node) in
+    let ns = c.args.branches.now in
+    let n = get_or ns l.branch-index 0 in
+    let verdict = λ (rest : Answers). subst (λ (m : Matches). Tells place progress enough (λ x. asked_in (reading_of g.K.Validate.shape (completed m rest) nodes) x (branch_call n)) c.in_ok-accepts_branch.field-0)
+    l.invariant.matches (c.in_ok-accepts_branch.ensures.verdict rest) in
+    let matches = c.in_ok-accepts_branch.ensures.matches ∙ l.invariant.matches in
+    let questions = c.in_ok-accepts_branch.ensures.questions ∙ l.invariant.questions in
+    elim c.if-branch.branch [
+      | accepts_counted_branches-then-branch w ↦ record {
+        matches = matches;
+        questions = questions;
+        few = (let e = w.count-is in let low = l.invariant.few in omega arith);
+        left = λ rest. subst (BranchesCounted (reading_of g.K.Validate.shape (completed (g.T.Matching.matches c.args.matching.now) rest) nodes) place progress enough ns (l.branch-index + 1)) (sym w.count-is)
+            (counted_yes _ place progress enough ns l.branch-index c.loop-branch-test.true l.count (l.invariant.left rest) (subst (Tells place progress enough _) w.if-branch.true (verdict rest)));
+      }
+      | accepts_counted_branches-else-branch w ↦ record {
+        matches = matches;
+        questions = questions;
+        few = (let e = w.count-is in let low = l.invariant.few in omega arith);
+        left = λ rest. subst (BranchesCounted (reading_of g.K.Validate.shape (completed (g.T.Matching.matches c.args.matching.now) rest) nodes) place progress enough ns (l.branch-index + 1)) (sym w.count-is)
+            (counted_no _ place progress enough ns l.branch-index c.loop-branch-test.true l.count (l.invariant.left rest) (subst (Tells place progress enough _) w.if-branch.false (verdict rest)));
+      }
+    ]
+
 -- ---- a node
 
 pub accepts_node-accept_itself-requires : goal.accepts_node-accept_itself-requires
@@ -424,22 +597,30 @@ accepts_node-accept_itself-requires g t c =
       asked = λ k i. may_ask_for g.K.Validate.knows g.K.Validate.shape nodes c.args.node k _ (value_at c.args.place) c.requires.known c.requires.led (subst (In k) (sym here) i);
     }
 
-pub accepts_node-returns-then-not-branch-clause-verdict :
-    goal.accepts_node-returns-then-not-branch-clause-verdict
-accepts_node-returns-then-not-branch-clause-verdict g t c =
+pub accepts_node-returns-in-Wrong-clause-verdict : goal.accepts_node-returns-in-Wrong-clause-verdict
+accepts_node-returns-in-Wrong-clause-verdict g t c =
     let nodes = c.args.graph.now.nodes.items in
     let here = keywords_here nodes c.args.node c.index-compiled.result.now c.requires.there c.index-compiled.ensures ∙ sym c.as_slice-keywords.ensures.value in
-    let refused : c.in_ok-accept_itself.field-0 ≡ false = search rules in
-    λ rest. node_wrong g.K.Validate.shape _ nodes c.args.node c.args.place (numbers_in c.args.progress.now) c.in_ok-accept_itself.field-0
-    (subst (λ ks. c.in_ok-accept_itself.field-0 ≡ all_true (map (λ k. is_right (rule (completed (g.T.Matching.matches c.args.matching.now) rest) (value_at c.args.place) (g.K.Validate.shape k))) ks)) (sym here) (c.in_ok-accept_itself.ensures.right rest))
-    refused
+    let said = c.in_ok-accept_itself.field-0 in
+    λ rest. node_wrong g.K.Validate.shape _ nodes c.args.node c.args.place (numbers_in c.args.progress.now) (is_fine said)
+    (subst (λ ks. is_fine said ≡ all_true (map (λ k. is_right (rule (completed (g.T.Matching.matches c.args.matching.now) rest) (value_at c.args.place) (g.K.Validate.shape k))) ks)) (sym here) (c.in_ok-accept_itself.ensures.right rest))
+    (ap is_fine c.in-Wrong.is)
+
+pub accepts_node-returns-in-Settled-clause-verdict : goal.accepts_node-returns-in-Settled-clause-verdict
+accepts_node-returns-in-Settled-clause-verdict g t c =
+    let nodes = c.args.graph.now.nodes.items in
+    let here = keywords_here nodes c.args.node c.index-compiled.result.now c.requires.there c.index-compiled.ensures ∙ sym c.as_slice-keywords.ensures.value in
+    let said = c.in_ok-accept_itself.field-0 in
+    λ rest. node_settled g.K.Validate.shape _ nodes c.args.node c.args.place (numbers_in c.args.progress.now) c.as_slice-keywords.result.now (sym here)
+    (sym (c.in_ok-accept_itself.ensures.right rest) ∙ ap is_fine c.in-Settled.is)
+    (λ k i. subst (λ (s : Itself). SettlesSo s (rule (completed (g.T.Matching.matches c.args.matching.now) rest) (value_at c.args.place) (g.K.Validate.shape k))) c.in-Settled.is (c.in_ok-accept_itself.ensures.settled rest k i))
 
 pub accepts_node-accepts_paired-requires : goal.accepts_node-accepts_paired-requires
 accepts_node-accepts_paired-requires g t c κs within =
     let nodes = c.args.graph.now.nodes.items in
     let here = keywords_here nodes c.args.node c.index-compiled.result.now c.requires.there c.index-compiled.ensures ∙ sym c.as_slice-keywords.ensures.value in
     let same = c.in_ok-accept_itself.ensures.matches in
-    let accepted : c.in_ok-accept_itself.field-0 ≡ true = search rules in
+    let accepted : is_fine c.in_ok-accept_itself.field-0 ≡ true = ap is_fine c.in-Asks.is in
     let right = λ (rest : Answers). sym (c.in_ok-accept_itself.ensures.right rest) ∙ accepted in (
       omega arith,
       (
@@ -489,7 +670,7 @@ accepts_node-accepts_keyword-requires g t c κs within =
     let here = keywords_here nodes c.args.node c.index-compiled.result.now c.requires.there c.index-compiled.ensures ∙ sym c.as_slice-keywords.ensures.value in
     let l = c.loop-keyword in
     let k = c.keyword-item.result in
-    let accepted : c.in_ok-accept_itself.field-0 ≡ true = search rules in
+    let accepted : is_fine c.in_ok-accept_itself.field-0 ≡ true = ap is_fine c.in-Asks.is in
     let right = λ (rest : Answers). sym (c.in_ok-accept_itself.ensures.right rest) ∙ accepted in
     let stands = keyword_stands l.keyword-index c.as_slice-keywords.result.now k c.loop-keyword-test.true c.keyword-item.is in (
       omega arith,
@@ -512,8 +693,8 @@ accepts_node-accepts_keyword-requires g t c κs within =
       ),
     )
 
-pub accepts_node-returns-then-not-branch-2-clause-verdict : goal.accepts_node-returns-then-not-branch-2-clause-verdict
-accepts_node-returns-then-not-branch-2-clause-verdict g t c =
+pub accepts_node-returns-then-not-branch-clause-verdict : goal.accepts_node-returns-then-not-branch-clause-verdict
+accepts_node-returns-then-not-branch-clause-verdict g t c =
     let nodes = c.args.graph.now.nodes.items in
     let here = keywords_here nodes c.args.node c.index-compiled.result.now c.requires.there c.index-compiled.ensures ∙ sym c.as_slice-keywords.ensures.value in
     let place = c.args.place in

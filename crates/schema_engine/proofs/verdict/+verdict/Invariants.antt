@@ -7,6 +7,7 @@ use Rattle.schema_engine.specs.Matches.{InEach}
 use Rattle.schema_engine.specs.Graphs.{rank_at, reading_of}
 use Rattle.schema_engine.specs.Verdicts.{size, EachMayAsk}
 use Rattle.schema_engine.proofs.Items.{ItemsLeft}
+use Rattle.schema_engine.proofs.Branches.{BranchesLeft, BranchesCounted}
 use Rattle.schema_engine.proofs.Left.{KeywordsLeft, EachLeft, CountLeft}
 use Rattle.schema_engine.proofs.verdict.+verdict.Given as goal
 
@@ -27,6 +28,15 @@ decreases-accepts_listed g l = 9 * size l.here.now.graph.now.nodes.items (value_
 
 abbrev pub decreases-accepts_items : goal.decreases-accepts_items
 decreases-accepts_items g l = 9 * size l.here.now.graph.now.nodes.items (value_at l.here.now.place) (numbers_in l.here.now.progress.now) (rank_at l.here.now.graph.now.nodes.items l.here.now.node) + 2
+
+abbrev pub decreases-accepts_each_branch : goal.decreases-accepts_each_branch
+decreases-accepts_each_branch g l = 9 * size l.here.now.graph.now.nodes.items (value_at l.here.now.place) (numbers_in l.here.now.progress.now) (rank_at l.here.now.graph.now.nodes.items l.here.now.node) + 2
+
+abbrev pub decreases-accepts_counted_branches : goal.decreases-accepts_counted_branches
+decreases-accepts_counted_branches g l = 9 * size l.here.now.graph.now.nodes.items (value_at l.here.now.place) (numbers_in l.here.now.progress.now) (rank_at l.here.now.graph.now.nodes.items l.here.now.node) + 2
+
+abbrev pub decreases-accepts_branch : goal.decreases-accepts_branch
+decreases-accepts_branch g l = 9 * size l.here.now.graph.now.nodes.items (value_at l.here.now.place) (numbers_in l.here.now.progress.now) (rank_at l.here.now.graph.now.nodes.items l.here.now.node) + 1
 
 abbrev pub decreases-accepts_combined : goal.decreases-accepts_combined
 decreases-accepts_combined g l = 9 * size l.here.now.graph.now.nodes.items (value_at l.here.now.place) (numbers_in l.here.now.progress.now) (rank_at l.here.now.graph.now.nodes.items l.here.now.node) + 4
@@ -93,4 +103,27 @@ invariant-accepts_items-loop-index g l =
       questions : l.questions.items ≡ l.fn.questions.items;
       asked : EachMayAsk entry nodes (rank_at nodes l.here.node) (value_at l.here.place) (item_calls l.node l.index (items_view (drop l.index l.items)));
       left : InEach entry (λ m. ItemsLeft (reading_of g.K.Validate.shape m nodes) l.here.place progress (size nodes (value_at l.here.place) progress (rank_at nodes l.here.node)) l.node l.start l.items l.index);
+    }
+
+abbrev pub invariant-accepts_each_branch-loop-branch : goal.invariant-accepts_each_branch-loop-branch
+invariant-accepts_each_branch-loop-branch g l =
+    let entry = g.T.Matching.matches l.fn.matching in
+    let nodes = l.here.graph.now.nodes.items in
+    let progress = numbers_in l.here.progress.now in
+    record {
+      matches : g.T.Matching.matches l.matching ≡ entry;
+      questions : l.questions.items ≡ l.fn.questions.items;
+      left : InEach entry (λ m. BranchesLeft (reading_of g.K.Validate.shape m nodes) l.here.place progress (size nodes (value_at l.here.place) progress (rank_at nodes l.here.node)) l.branches l.branch-index);
+    }
+
+abbrev pub invariant-accepts_counted_branches-loop-branch : goal.invariant-accepts_counted_branches-loop-branch
+invariant-accepts_counted_branches-loop-branch g l =
+    let entry = g.T.Matching.matches l.fn.matching in
+    let nodes = l.here.graph.now.nodes.items in
+    let progress = numbers_in l.here.progress.now in
+    record {
+      matches : g.T.Matching.matches l.matching ≡ entry;
+      questions : l.questions.items ≡ l.fn.questions.items;
+      few : l.count ≤ l.branch-index;
+      left : InEach entry (λ m. BranchesCounted (reading_of g.K.Validate.shape m nodes) l.here.place progress (size nodes (value_at l.here.place) progress (rank_at nodes l.here.node)) l.branches l.branch-index l.count);
     }

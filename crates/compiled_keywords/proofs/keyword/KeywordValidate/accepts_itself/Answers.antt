@@ -1,6 +1,6 @@
 use Rattle.std.proofs.Common.{◌≡◌, ◌∙◌, sym, subst}
-use Rattle.std.proofs.lemmas.Result.{IfOk-weaker}
 use Rattle.schema_meaning.specs.Keywords.{rule}
+use Rattle.schema_engine.specs.Itself.{is_fine}
 use Rattle.schema_engine.specs.Led.{MayAskFor}
 use Rattle.schema_engine.specs.Matches.{completed}
 use Rattle.schema_engine.specs.Places.{value_at}
@@ -19,10 +19,11 @@ is_matched-requires-clause-asked g c =
     text_asked m (text_of c.in-Pattern.pattern) d
     (subst (λ (k : Keyword). MayAskFor m (shape_of k) d) c.in-Pattern.is c.requires.asked)
 
-pub returns-in-Pattern-clause-right : goal.returns-in-Pattern-clause-right
-returns-in-Pattern-clause-right g c =
+pub returns-in_ok-is_matched-in-Pattern-clause-right :
+    goal.returns-in_ok-is_matched-in-Pattern-clause-right
+returns-in_ok-is_matched-in-Pattern-clause-right g c =
     let reads = completed (g.T.Matching.matches c.args.matching.now) in
     let d = value_at c.args.place in
-    IfOk-weaker c.is_matched.result _ _
-    (λ b read rest. subst (λ (k : Keyword). b ≡ is_right (rule (reads rest) d (shape_of k))) (sym c.in-Pattern.is) (read rest ∙ empty_unless _ _ d))
-    c.is_matched.ensures.read
+    let said = c.settled_if-in-Pattern.result in
+    λ rest. subst (λ (k : Keyword). is_fine said ≡ is_right (rule (reads rest) d (shape_of k))) (sym c.in-Pattern.is)
+    (c.settled_if-in-Pattern.ensures.fine ∙ c.in_ok-is_matched-in-Pattern.ensures.read rest ∙ empty_unless _ _ d)

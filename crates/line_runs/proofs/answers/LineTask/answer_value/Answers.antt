@@ -1,9 +1,7 @@
-use Rattle.std.proofs.Common.{◌∙◌, sym, ap, subst}
+use Rattle.std.proofs.Common.{◌∙◌, sym, subst}
 use Rattle.serde_json.specs.View.{view}
-use Rattle.schema_meaning.specs.Faults.{none, is_none}
+use Rattle.schema_meaning.specs.Faults.{none}
 use Rattle.schema_meaning.specs.Readings.{verdicts}
-use Rattle.schema_reports.specs.Left.{errors_left}
-use Rattle.schema_reports.specs.Told.{faults_of}
 use Rattle.schema_registries.specs.Answers.{IsAnswer}
 use Rattle.schema_validators.proofs.Accepting.{accepts_none, accepted_none}
 use Rattle.line_runs.specs.Forms.{Tells}
@@ -24,19 +22,5 @@ returns-then-branch-clause-answered g c =
       appended,
     )
 
-pub write_refused-requires-clause-some : goal.write_refused-requires-clause-some
-write_refused-requires-clause-some g c =
-    let errors = c.in_ok-errors.ensures in
-    ap is_none errors.cut ∙ errors.agree ∙ sym c.in_ok-is_valid_by.ensures.cut ∙ c.if-branch.false
-
-pub returns-clause-answered : goal.returns-clause-answered
-returns-clause-answered g c =
-    let errors = c.in_ok-errors in
-    let (written, told, appended) = c.in_ok-write_refused.ensures in (
-      written,
-      record {
-        nodes = subst (λ fs. Tells c.args.self.now.form fs written) errors.ensures.cut told;
-        root = λ p r made. (faults_of (errors_left errors.errors), errors.ensures.faults p r made, told);
-      },
-      appended,
-    )
+pub answer_refused-requires-clause-refused : goal.answer_refused-requires-clause-refused
+answer_refused-requires-clause-refused g c = sym c.in_ok-is_valid_by.ensures.cut ∙ c.if-branch.false

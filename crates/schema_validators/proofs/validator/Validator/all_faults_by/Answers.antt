@@ -18,6 +18,9 @@ unreachable-requires g c = (subst (HearsMore _ _) c.in-Verdict.is c.in_ok-observ
 pub unreachable-requires-in-First : goal.unreachable-requires-in-First
 unreachable-requires-in-First g c = (subst (HearsMore _ _) c.in-First.is c.in_ok-observer.ensures.heard).heard All none c.new.ensures
 
+pub unreachable-requires-in-Paths : goal.unreachable-requires-in-Paths
+unreachable-requires-in-Paths g c = (subst (HearsMore _ _) c.in-Paths.is c.in_ok-observer.ensures.heard).heard All none c.new.ensures
+
 pub returns-clause-cut : goal.returns-clause-cut
 returns-clause-cut g c =
     let fs = faults_by c.args.self.now (view c.args.value.now) in

@@ -1,6 +1,6 @@
 use Rattle.std.proofs.Common.{arith}
 use Rattle.json_pointers.proofs.GrowLemmas.{cut_back}
-use Rattle.error_texts.proofs.faults.write_faults.Goals as goal
+use Rattle.error_texts.proofs.faults.write_paths.Goals as goal
 
 pub truncate-requires : goal.truncate-requires
 truncate-requires c =
